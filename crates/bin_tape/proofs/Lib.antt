@@ -1,0 +1,5 @@
+pub mod FrameLemmas
+pub mod ItemLemmas
+pub mod FrontLemmas
+pub mod ReaderLemmas
+pub mod Scan

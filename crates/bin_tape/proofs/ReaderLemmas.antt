@@ -1,0 +1,162 @@
+-- What a reader knows behind one more frame.
+use Rattle.std.proofs.Common.{◌≡◌, ◌≢◌, ℕ, ◌%◌, inr, Result, Ok, Err, ◌∙◌, ap, refl, sym, subst, append_assoc, append-nil, zero-add, List, [], ◌∷◌, ◌++◌}
+use Rattle.bin_tape.specs.Frames.{kept, kept_after, ignore_count}
+use Rattle.bin_tape.specs.Items.{Item, Leader, Field, Origin, spelled, words_but_last}
+use Rattle.bin_tape.specs.Items as item
+use Rattle.bin_tape.specs.Tape.{IsTape}
+use Rattle.bin_tape.specs.Fault.{Refuses, IsRefused, IsFault, place_after}
+use Rattle.bin_tape.specs.Front.{Reads, Keeps, EndsTape}
+use Rattle.bin_tape.specs.Progress.{Progress}
+use Rattle.bin_tape.specs.Reading.{StateIs, IsGoing, IsWhole, Counts, HasRead, Answers, Comes, words_in}
+use Rattle.bin_tape.specs.declared.faults.TapeFault.{TapeFault}
+use Rattle.bin_tape.specs.declared.faults.TapeFault.TheVariants.{BadFrame, NoOrigin, CheckSum, NoTrailer, Memory}
+use Rattle.bin_tape.specs.declared.fronts.Front.{Front}
+use Rattle.bin_tape.specs.declared.readers.State.{State}
+use Rattle.bin_tape.specs.declared.readers.State.TheVariants.{Reading, Ended, Failed}
+use Rattle.bin_tape.specs.declared.readers.Tape.{Tape}
+use Rattle.bin_tape.specs.declared.readers.Tape.TheVariants.{Nothing, Word, End}
+use Rattle.bin_tape.proofs.FrameLemmas.{kept_after-append}
+
+-- a refused frame is the fault
+pub fault_of : (frames : List ℕ) (fault : TapeFault) → Refuses frames fault → IsFault frames fault
+fault_of frames (BadFrame at) r = r
+fault_of frames NoOrigin r = r
+fault_of frames (CheckSum found computed) r = r
+fault_of frames NoTrailer r = absurd r.refused
+fault_of frames Memory r = absurd r.refused
+
+-- more frames behind a refused one change nothing
+pub refuses_more : (frames rest : List ℕ) (fault : TapeFault) → Refuses frames fault → Refuses (frames ++ rest) fault
+refuses_more frames rest fault r = record {
+  before = r.before;
+  frame = r.frame;
+  after = r.after ++ rest;
+  items = r.items;
+  part = r.part;
+  split = ap (λ l. l ++ rest) r.split ∙ simp append_assoc;
+  not_ignore = r.not_ignore;
+  not_ignored = r.not_ignored;
+  is_open = r.is_open;
+  refused = r.refused;
+}
+
+-- more frames behind a tape mean nothing
+pub longer : (frames more : List ℕ) (items : List Item) → IsTape frames items → IsTape (frames ++ more) items
+longer frames more items t = record {
+  high = t.high;
+  low = t.low;
+  rest = t.rest ++ kept_after (ignore_count frames) more;
+  kept_frames =
+      kept_after-append 0 frames more
+      ∙ ap (λ n. kept frames ++ kept_after n more) (zero-add (ignore_count frames))
+      ∙ ap (λ l. l ++ kept_after (ignore_count frames) more) t.kept_frames
+      ∙ simp append_assoc;
+  is_front = t.is_front;
+  sum = t.sum;
+}
+
+-- what a front keeps may go on as a tape
+pub going : (front : Front) (frames : List ℕ) (out : List (ℕ × ℕ)) → Keeps front (kept frames) out → IsGoing frames out
+going front frames out k = record {
+  items = k.items;
+  part = k.part;
+  is_open = record { frames = k.frames; is_front = k.reads.is_front; begun = k.reads.begun };
+  words = k.words;
+}
+
+-- the trailer behind the check sum makes the frames a tape
+pub whole : (frames : List ℕ) (out : List (ℕ × ℕ)) (frame : ℕ) (items : List Item) (part : List ℕ) (front : Front)
+    → kept frames ≡ spelled items ++ part → kept (frames ++ frame ∷ []) ≡ kept frames ++ frame ∷ []
+    → out ≡ words_but_last items → Reads front items part → EndsTape items part frame → IsWhole (frames ++ frame ∷ []) out
+whole frames out frame [] part front here more words r ends = absurd ends
+whole frames out frame (Leader f ∷ older) part front here more words r ends = absurd ends
+whole frames out frame (Field n ∷ older) part front here more words r ends = absurd ends
+whole frames out frame (Origin high low ∷ older) part front here more words r ends = absurd ends
+whole frames out frame (item.Word high low ∷ older) part front here more words r ends = record {
+  items = older;
+  is_tape = record {
+    high = high;
+    low = low;
+    rest = [];
+    kept_frames = more ∙ ap (λ l. l ++ frame ∷ []) here ∙ rw (ends.0, ends.1) (simp (append_assoc, append-nil));
+    is_front = r.is_front;
+    sum = ends.2;
+  };
+  words = words;
+}
+
+-- a refused frame, at its place
+pub refused_here : (frames rest : List ℕ) (frame : ℕ) (items : List Item) (part : List ℕ) (front : Front) (fault : TapeFault)
+    → kept frames ≡ spelled items ++ part → Reads front items part → frame ≢ 255 → ignore_count frames % 2 ≡ 0
+    → IsRefused items part frame (place_after frames) fault → Refuses (frames ++ frame ∷ rest) fault
+refused_here frames rest frame items part front fault here r other even refused = record {
+  before = frames;
+  frame = frame;
+  after = rest;
+  items = items;
+  part = part;
+  split = refl;
+  not_ignore = other;
+  not_ignored = even;
+  is_open = record { frames = here; is_front = r.is_front; begun = r.begun };
+  refused = refused;
+}
+
+-- the front behind one more kept frame
+pub front_more : (frames : List ℕ) (out : List (ℕ × ℕ)) (frame : ℕ) (items : List Item) (part : List ℕ) (handed : List (ℕ × ℕ)) (front : Front)
+    → kept frames ≡ spelled items ++ part → kept (frames ++ frame ∷ []) ≡ kept frames ++ frame ∷ [] → out ≡ words_but_last items
+    → Keeps front (spelled items ++ part ++ frame ∷ []) (words_but_last items ++ handed)
+    → Keeps front (kept (frames ++ frame ∷ [])) (out ++ handed)
+front_more frames out frame items part handed front here more words k =
+    rw (more, here, words) k
+
+pub state_more : (frames : List ℕ) (out : List (ℕ × ℕ)) (frame : ℕ) (items : List Item) (part : List ℕ) (front : Front)
+    (result : Result Tape TapeFault) (state : State)
+    → kept frames ≡ spelled items ++ part → kept (frames ++ frame ∷ []) ≡ kept frames ++ frame ∷ [] → out ≡ words_but_last items
+    → Reads front items part → frame ≢ 255 → ignore_count frames % 2 ≡ 0
+    → Comes items part frame (place_after frames) result state
+    → StateIs state (frames ++ frame ∷ []) (out ++ words_in result) × Answers frames out frame result
+state_more frames out frame items part front (Ok Nothing) (Reading later) here more words r other even k =
+    let keeps : Keeps later (kept (frames ++ frame ∷ [])) (out ++ []) =
+    front_more frames out frame items part [] later here more words (rw append-nil k)
+    in (keeps, inr (going later (frames ++ frame ∷ []) out (rw append-nil at keeps)))
+state_more frames out frame items part front (Ok Nothing) Ended here more words r other even k = absurd k
+state_more frames out frame items part front (Ok Nothing) (Failed fault) here more words r other even k = absurd k
+state_more frames out frame items part front (Ok (Word cell word)) (Reading later) here more words r other even k =
+    let keeps : Keeps later (kept (frames ++ frame ∷ [])) (out ++ (cell, word) ∷ []) =
+    front_more frames out frame items part ((cell, word) ∷ []) later here more words k
+    in (keeps, going later (frames ++ frame ∷ []) (out ++ (cell, word) ∷ []) keeps)
+state_more frames out frame items part front (Ok (Word cell word)) Ended here more words r other even k = absurd k
+state_more frames out frame items part front (Ok (Word cell word)) (Failed fault) here more words r other even k = absurd k
+state_more frames out frame items part front (Ok End) state here more words r other even k =
+    let is_whole : IsWhole (frames ++ frame ∷ []) out = whole frames out frame items part front here more words r k.1
+    in (
+      subst (λ (s : State). StateIs s (frames ++ frame ∷ []) (out ++ [])) (sym k.0) (rw append-nil is_whole),
+      (record { items = items; part = part; is_open = record { frames = here; is_front = r.is_front; begun = r.begun }; words = words }, is_whole),
+    )
+state_more frames out frame items part front (Err fault) state here more words r other even k = (
+  subst (λ (s : State). StateIs s (frames ++ frame ∷ []) (out ++ [])) (sym k.0) (refused_here frames [] frame items part front fault here r other even k.1),
+  (λ rest. refused_here frames rest frame items part front fault here r other even k.1),
+)
+
+-- a reader that was reading, behind one more kept frame
+pub read_on : (old counted new : Progress) (front : Front) (frame place : ℕ) (result : Result Tape TapeFault) (frames : List ℕ) (out : List (ℕ × ℕ))
+    → old.state ≡ Reading front → place ≡ old.place → new ≡ record counted { state = new.state }
+    → frame ≢ 255 → ignore_count frames % 2 ≡ 0 → kept (frames ++ frame ∷ []) ≡ kept frames ++ frame ∷ []
+    → Counts counted.place counted.ignoring (frames ++ frame ∷ [])
+    → ((items : List Item) (part : List ℕ) → Reads front items part → Comes items part frame place result new.state)
+    → HasRead old frames out
+    → HasRead new (frames ++ frame ∷ []) (out ++ words_in result) × Answers frames out frame result
+read_on old counted new front frame place result frames out reading here same other even more counts comes read =
+    let keeps : Keeps front (kept frames) out = subst (λ (s : State). StateIs s frames out) reading read.state in
+    let came : Comes keeps.items keeps.part frame (place_after frames) result new.state =
+    subst (λ (p : ℕ). Comes keeps.items keeps.part frame p result new.state) (here ∙ read.counts.place_is) (comes keeps.items keeps.part keeps.reads) in
+    let both : StateIs new.state (frames ++ frame ∷ []) (out ++ words_in result) × Answers frames out frame result =
+    state_more frames out frame keeps.items keeps.part front result new.state keeps.frames more keeps.words keeps.reads other even came
+    in (
+      record {
+        counts = subst (λ (p : Progress). Counts p.place p.ignoring (frames ++ frame ∷ [])) (sym same) counts;
+        state = both.0;
+      },
+      both.1,
+    )

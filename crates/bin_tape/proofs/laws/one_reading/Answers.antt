@@ -1,0 +1,5 @@
+use Rattle.bin_tape.proofs.Scan.{reading_is_one}
+use Rattle.bin_tape.proofs.laws.one_reading.Goals as goal
+
+pub returns : goal.returns
+returns c = reading_is_one

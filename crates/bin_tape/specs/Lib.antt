@@ -1,0 +1,9 @@
+pub mod Frames
+pub mod Items
+pub mod Tape
+pub mod Fault
+pub mod Front
+pub mod Progress
+pub mod Handed
+pub mod Reading
+pub mod Laws

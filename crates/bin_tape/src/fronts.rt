@@ -1,0 +1,224 @@
+ghost use Rattle.std.specs.Prelude.{◌≡◌, ◌≢◌, ℕ, ◌+◌, ◌*◌, ◌<◌, List, [], ◌∷◌, true};
+ghost use Rattle.bin_tape.specs.Items as item;
+ghost use Rattle.bin_tape.specs.Items.{Item, Leader, Field, Origin, IsFront, has_origin};
+ghost use Rattle.bin_tape.specs.Tape.{IsPart};
+ghost use Rattle.bin_tape.specs.Front.{Reads, Takes, TakesWord};
+
+use crate::TapeFault;
+use word12::{Cell, Word};
+
+/// What a reader keeps of the kept frames so far.
+#[derive(Clone, Copy)]
+pub struct Front {
+    /// The cell of a word that comes next.
+    next: Cell,
+    /// The origin and word frames, added up.
+    sum: Word,
+    has_origin: bool,
+    /// Whether the newest item is a word.
+    ends_in_word: bool,
+    last: Option<LastWord>,
+    /// The first frame of a pair.
+    first: Option<u8>,
+}
+
+/// The last word, which may turn out to be the check sum.
+#[derive(Clone, Copy)]
+pub struct LastWord {
+    cell: Cell,
+    word: Word,
+    /// The origin and word frames before it, added up.
+    sum: Word,
+}
+
+/// What a kept frame comes to.
+pub enum Taken {
+    More(Front),
+    /// The same, and the word before the newest one is no check sum.
+    Handed(Front, Cell, Word),
+    End,
+}
+
+impl Front {
+    /// The front of no frame.
+    pub fn new() -> Front
+        ensures { Reads result [] [] }
+    {
+        Front {
+            next: Cell::at(0, Word::ZERO),
+            sum: Word::ZERO,
+            has_origin: false,
+            ends_in_word: false,
+            last: None,
+            first: None,
+        }
+    }
+
+    /// Takes a kept frame, which stands at this place.
+    pub fn take(self, frame: u8, place: u64) -> Result<Taken, TapeFault>
+        requires { frame ≢ 255 }
+        ensures { (items : List Item) (part : List ℕ) → Reads self items part → Takes items part frame place result }
+    {
+        match self.first {
+            Some(first) => self.take_second(first, frame, place),
+            None => self.take_first(frame, place),
+        }
+    }
+
+    /// Takes the second frame of a pair.
+    fn take_second(self, first: u8, frame: u8, place: u64) -> Result<Taken, TapeFault>
+        requires { self.first ≡ Some first }
+        ensures { (items : List Item) (part : List ℕ) → Reads self items part → Takes items part frame place result }
+    {
+        if frame >= 64 {
+            return Err(TapeFault::BadFrame(place));
+        }
+        if first < 64 {
+            return Ok(self.taken_word(first, frame));
+        }
+        if first < 128 {
+            return Ok(Taken::More(self.with_origin(first - 64, frame)));
+        }
+        Err(TapeFault::BadFrame(place))
+    }
+
+    /// Takes a word, by its two frames. The word before it is no check sum.
+    fn taken_word(self, high: u8, low: u8) -> Taken
+        requires high { high < 64 }
+        requires low { low < 64 }
+        ensures { (items : List Item) → Reads self items (high ∷ []) → TakesWord items high low result }
+    {
+        let last = self.last;
+        let later = self.with_word(high, low);
+        match last {
+            None => Taken::More(later),
+            Some(last) => Taken::Handed(later, last.cell, last.word),
+        }
+    }
+
+    /// Takes a frame that begins an item.
+    fn take_first(self, frame: u8, place: u64) -> Result<Taken, TapeFault>
+        requires first { self.first ≡ None }
+        requires frame { frame ≢ 255 }
+        ensures { (items : List Item) (part : List ℕ) → Reads self items part → Takes items part frame place result }
+    {
+        match frame {
+            0o000 if !self.has_origin => Ok(Taken::More(self.with_leader())),
+            0o000..=0o077 if !self.has_origin => Err(TapeFault::NoOrigin),
+            0o000..=0o177 => Ok(Taken::More(self.begun(frame))),
+            0o200 if !self.has_origin => Ok(Taken::More(self.with_leader())),
+            0o200 => self.take_trailer(place),
+            _ if frame >= 0o300 && frame % 8 == 0 => {
+                Ok(Taken::More(self.with_field((frame - 0o300) / 8)))
+            }
+            _ => Err(TapeFault::BadFrame(place)),
+        }
+    }
+
+    /// Takes a trailer frame, behind an origin.
+    fn take_trailer(self, place: u64) -> Result<Taken, TapeFault>
+        requires first { self.first ≡ None }
+        requires origin { self.has_origin ≡ true }
+        ensures { (items : List Item) (part : List ℕ) → Reads self items part → Takes items part 128 place result }
+    {
+        if !self.ends_in_word {
+            return Err(TapeFault::BadFrame(place));
+        }
+        match self.last {
+            None => Err(TapeFault::BadFrame(place)),
+            Some(last) => {
+                if last.word == last.sum {
+                    Ok(Taken::End)
+                } else {
+                    Err(TapeFault::CheckSum {
+                        found: last.word,
+                        computed: last.sum,
+                    })
+                }
+            }
+        }
+    }
+
+    /// One leader frame more.
+    fn with_leader(self) -> Front
+        ensures { (items : List Item) (frame : ℕ) → Reads self items [] → IsFront (Leader frame ∷ items)
+            → Reads result (Leader frame ∷ items) [] }
+    {
+        Front {
+            ends_in_word: false,
+            ..self
+        }
+    }
+
+    /// The first frame of a pair more.
+    fn begun(self, frame: u8) -> Front
+        ensures { (items : List Item) → Reads self items [] → IsPart items (frame ∷ []) → Reads result items (frame ∷ []) }
+    {
+        Front {
+            first: Some(frame),
+            ..self
+        }
+    }
+
+    /// One field setting more.
+    fn with_field(self, field: u8) -> Front
+        requires { field < 8 }
+        ensures { (items : List Item) → Reads self items [] → Reads result (Field field ∷ items) [] }
+    {
+        Front {
+            next: Cell::at(field, self.next.address()),
+            ends_in_word: false,
+            ..self
+        }
+    }
+
+    /// One origin more, by the low six bits of its frames.
+    fn with_origin(self, high: u8, low: u8) -> Front
+        requires high { high < 64 }
+        requires low { low < 64 }
+        ensures { (items : List Item) (part : List ℕ) → Reads self items part → Reads result (Origin high low ∷ items) [] }
+    {
+        Front {
+            next: Cell::at(self.next.field(), pair(high, low)),
+            sum: self
+                .sum
+                .plus(Word::low(64 + u16::from(high) + u16::from(low))),
+            has_origin: true,
+            ends_in_word: false,
+            last: self.last,
+            first: None,
+        }
+    }
+
+    /// One word more, by its two frames.
+    fn with_word(self, high: u8, low: u8) -> Front
+        requires high { high < 64 }
+        requires low { low < 64 }
+        ensures { (items : List Item) (part : List ℕ) → Reads self items part → has_origin items ≡ true
+            → Reads result (item.Word high low ∷ items) [] }
+    {
+        let word = pair(high, low);
+        Front {
+            next: Cell::at(self.next.field(), self.next.address().plus(Word::ONE)),
+            sum: self.sum.plus(Word::low(u16::from(high) + u16::from(low))),
+            has_origin: self.has_origin,
+            ends_in_word: true,
+            last: Some(LastWord {
+                cell: self.next,
+                word,
+                sum: self.sum,
+            }),
+            first: None,
+        }
+    }
+}
+
+/// The word of twelve bits that two frames of six bits spell.
+fn pair(high: u8, low: u8) -> Word
+    requires high { high < 64 }
+    requires low { low < 64 }
+    ensures value { result ≡ 64 * high + low }
+    ensures range { result < 4096 }
+{
+    Word::low(64 * u16::from(high) + u16::from(low))
+}

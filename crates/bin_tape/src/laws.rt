@@ -1,0 +1,47 @@
+//! Laws of BIN tapes: a tape has one reading, and what is no tape has one fault.
+
+ghost use Rattle.std.specs.Prelude.{◌≡◌, ℕ, List, ◌∷◌, ◌++◌};
+ghost use Rattle.bin_tape.specs.Frames.{kept};
+ghost use Rattle.bin_tape.specs.Items.{Item, words_of, words_but_last};
+ghost use Rattle.bin_tape.specs.Tape.{IsTape, IsOpen};
+ghost use Rattle.bin_tape.specs.Fault.{IsFault, Refuses};
+ghost use Rattle.bin_tape.specs.Laws.{IsClosed};
+ghost use Rattle.bin_tape.specs.Progress.{Progress};
+ghost use Rattle.bin_tape.specs.Reading.{HasRead};
+ghost use Rattle.bin_tape.specs.declared.faults.TapeFault.{TapeFault};
+
+/// Frames are a tape in one way only.
+pub fn one_reading()
+    ensures { (frames : List ℕ) (a b : List Item) → IsTape frames a → IsTape frames b → a ≡ b }
+{}
+
+/// What follows the trailer means nothing.
+pub fn longer_tape()
+    ensures { (frames more : List ℕ) (items : List Item) → IsTape frames items → IsTape (frames ++ more) items }
+{}
+
+/// A tape has no fault.
+pub fn no_fault()
+    ensures { (frames : List ℕ) (items : List Item) (fault : TapeFault) → IsTape frames items → IsFault frames fault → ⊥ }
+{}
+
+/// Frames have one fault at most.
+pub fn one_fault()
+    ensures { (frames : List ℕ) (a b : TapeFault) → IsFault frames a → IsFault frames b → a ≡ b }
+{}
+
+/// The frame that is refused is the first that closes what was open: whatever follows it, the frames are no tape and
+/// can't become one.
+pub fn first_closing()
+    ensures { (frames rest : List ℕ) (fault : TapeFault) (refused : Refuses frames fault)
+        → IsClosed (refused.before ++ refused.frame ∷ rest) }
+{}
+
+/// The words that a reader has handed out are those of the tape that it was given, or all but the last of what may go
+/// on as a tape.
+pub fn handed_words()
+    ensures of_tape { (reader : Progress) (frames : List ℕ) (out : List (ℕ × ℕ)) (items : List Item)
+        → HasRead reader frames out → IsTape frames items → out ≡ words_of items }
+    ensures of_front { (reader : Progress) (frames : List ℕ) (out : List (ℕ × ℕ)) (items : List Item) (part : List ℕ)
+        → HasRead reader frames out → IsOpen (kept frames) items part → out ≡ words_but_last items }
+{}

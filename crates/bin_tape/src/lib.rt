@@ -1,0 +1,16 @@
+//! BIN paper tapes: the grammar of a tape and of its first fault, and a reader that meets it frame by frame.
+//!
+//! A frame has eight bits. A tape is leader, then an origin and further origins, words and field settings, then a
+//! check sum and trailer; frames between two 0377 are ignored (PAL III Symbolic Assembler manual, BIN format).
+#![tactic(auto)]
+
+mod faults;
+mod fronts;
+pub mod laws;
+mod readers;
+
+pub use faults::TapeFault;
+pub use readers::{Tape, TapeReader};
+
+#[cfg(test)]
+mod tests;

@@ -1,0 +1,165 @@
+ghost use Rattle.std.specs.Prelude.{◌≡◌, ℕ, ◌%◌, List, [], ◌∷◌, ◌++◌, nat_eq, if◌then◌else◌, ◌≢◌, MatchResult};
+ghost use Rattle.std.specs.Bool.{OnTrue};
+ghost use Rattle.bin_tape.specs.Frames.{kept, ignore_count};
+ghost use Rattle.bin_tape.specs.Items.{Item};
+ghost use Rattle.bin_tape.specs.Fault.{IsFault};
+ghost use Rattle.bin_tape.specs.Front.{Reads};
+
+use crate::TapeFault;
+use crate::fronts::{Front, Taken};
+use std::marker::Model;
+use word12::{Cell, Word};
+
+/// What a frame brings.
+#[derive(Clone, Copy, PartialEq, Eq, Debug)]
+pub enum Tape {
+    Nothing,
+    /// A word for a cell: the last one but one, which a later word shows to be no check sum.
+    Word(Cell, Word),
+    /// The trailer: the frames are a tape.
+    End,
+}
+
+impl Tape {
+    ghost use Rattle.bin_tape.specs.Handed.{word_in};
+
+    /// The word that is handed out, with its cell.
+    #[inline]
+    pub fn word(self) -> Option<(Cell, Word)>
+        ensures { result ≡ word_in self }
+    {
+        match self {
+            Tape::Word(cell, word) => Some((cell, word)),
+            Tape::Nothing => None,
+            Tape::End => None,
+        }
+    }
+}
+
+#[derive(Clone, Copy)]
+enum State {
+    Reading(Front),
+    Ended,
+    Failed(TapeFault),
+}
+
+/// A frame that begins or ends a stretch that is ignored.
+const IGNORE: u8 = 0o377;
+
+/// Reads a tape frame by frame, and takes no memory.
+#[derive(Drop)]
+pub struct TapeReader {
+    place: u64,
+    ignoring: bool,
+    state: State,
+}
+
+impl Model for TapeReader {
+    ghost use Rattle.bin_tape.specs.Progress.{Progress};
+
+    ghost Value = { Progress };
+
+    ghost view = { λ r. record {
+      place = r.place;
+      ignoring = r.ignoring;
+      state = r.state;
+    } };
+}
+
+impl TapeReader {
+    ghost use Rattle.bin_tape.specs.Reading.{HasRead, Counts, Answers, IsWhole, Comes, words_in};
+
+    /// A reader of no frame.
+    pub fn new() -> TapeReader
+        ensures { HasRead result [] [] }
+    {
+        TapeReader {
+            place: 0,
+            ignoring: false,
+            state: State::Reading(Front::new()),
+        }
+    }
+
+    /// Takes the next frame. A word is handed out once a later word shows that it is no check sum.
+    ///
+    /// The frame that closes what may be a tape is answered its fault, and each later frame the same; after the end
+    /// each frame is answered `Nothing`.
+    pub fn push(&mut self, frame: u8) -> Result<Tape, TapeFault>
+        ensures read { (frames : List ℕ) (out : List (ℕ × ℕ)) → HasRead self.old frames out
+            → HasRead self.new (frames ++ frame ∷ []) (out ++ words_in result) }
+        ensures answer { (frames : List ℕ) (out : List (ℕ × ℕ)) → HasRead self.old frames out
+            → Answers frames out frame result }
+    {
+        let place = self.place;
+        let kept = self.count(frame);
+        match self.state {
+            State::Failed(fault) => Err(fault),
+            State::Ended => Ok(Tape::Nothing),
+            State::Reading(front) => {
+                if kept {
+                    self.take(front, frame, place)
+                } else {
+                    Ok(Tape::Nothing)
+                }
+            }
+        }
+    }
+
+    /// Whether the frames so far are a tape.
+    pub fn end(&self) -> Result<(), TapeFault>
+        ensures { (frames : List ℕ) (out : List (ℕ × ℕ)) → HasRead self.now frames out
+            → MatchResult result (λ _. IsWhole frames out) (λ fault. IsFault frames fault) }
+    {
+        match self.state {
+            State::Reading(_) => Err(TapeFault::NoTrailer),
+            State::Ended => Ok(()),
+            State::Failed(fault) => Err(fault),
+        }
+    }
+
+    /// Counts a frame, and answers whether it is kept.
+    fn count(&mut self, frame: u8) -> bool
+        ensures counts { (frames : List ℕ) → Counts self.old.place self.old.ignoring frames
+            → Counts self.new.place self.new.ignoring (frames ++ frame ∷ []) }
+        ensures kept { (frames : List ℕ) → Counts self.old.place self.old.ignoring frames
+            → kept (frames ++ frame ∷ []) ≡ kept frames ++ (if result then frame ∷ [] else []) }
+        ensures is_kept { OnTrue result ((frame ≢ 255) × ((frames : List ℕ)
+            → Counts self.old.place self.old.ignoring frames → ignore_count frames % 2 ≡ 0)) }
+        ensures same { self.new.state ≡ self.old.state }
+    {
+        self.place = self.place.saturating_add(1);
+        if frame == IGNORE {
+            self.ignoring = !self.ignoring;
+            return false;
+        }
+        !self.ignoring
+    }
+
+    /// Takes a kept frame behind a front.
+    fn take(&mut self, front: Front, frame: u8, place: u64) -> Result<Tape, TapeFault>
+        requires { frame ≢ 255 }
+        ensures comes { (items : List Item) (part : List ℕ) → Reads front items part
+            → Comes items part frame place result self.new.state }
+        ensures same { self.new ≡ record self.old { state = self.new.state } }
+    {
+        match front.take(frame, place) {
+            Ok(Taken::More(later)) => {
+                self.state = State::Reading(later);
+                Ok(Tape::Nothing)
+            }
+            Ok(Taken::Handed(later, cell, word)) => {
+                self.state = State::Reading(later);
+                Ok(Tape::Word(cell, word))
+            }
+            Ok(Taken::End) => {
+                self.state = State::Ended;
+                Ok(Tape::End)
+            }
+            Err(fault) => {
+                let again = fault;
+                self.state = State::Failed(fault);
+                Err(again)
+            }
+        }
+    }
+}

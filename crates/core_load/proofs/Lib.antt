@@ -1,0 +1,3 @@
+pub mod CoreLemmas
+pub mod LaidLemmas
+pub mod FedLemmas

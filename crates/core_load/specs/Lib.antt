@@ -1,0 +1,3 @@
+pub mod Core
+pub mod Loading
+pub mod Load

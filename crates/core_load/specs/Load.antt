@@ -1,0 +1,71 @@
+-- What loading a BIN tape does to core.
+use Rattle.std.specs.Prelude.{◌≡◌, ℕ, ◌+◌, ◌*◌, ◌<◌, IsSome, None, Result, Ok, Err, List, [], ◌∷◌, ◌++◌, ◌⊎◌, length, slice_index, slice_set}
+use Rattle.bin_tape.specs.Frames.{kept}
+use Rattle.bin_tape.specs.Items.{Item, Leader, Field, Origin, Word, cell_after, tape_map}
+use Rattle.bin_tape.specs.Tape.{IsTape, IsOpen}
+use Rattle.bin_tape.specs.Fault.{IsFault}
+use Rattle.bin_tape.specs.Reading.{HasRead}
+use Rattle.bin_tape.specs.declared.faults.TapeFault.{TapeFault}
+use Rattle.bin_tape.specs.declared.faults.TapeFault.TheVariants.{BadFrame, NoOrigin, CheckSum, NoTrailer, Memory}
+use Rattle.core_load.specs.Loading.{Loading}
+
+-- the tape gives the cell this word, perhaps among others
+abbrev pub Gives : List Item → ℕ → ℕ → Type 0
+Gives [] cell word = ⊥
+Gives (Word high low ∷ older) cell word = ((cell_after older ≡ cell) × (64 * high + low ≡ word)) ⊎ Gives older cell word
+Gives (Leader f ∷ older) cell word = Gives older cell word
+Gives (Field n ∷ older) cell word = Gives older cell word
+Gives (Origin high low ∷ older) cell word = Gives older cell word
+
+-- Each cell that the tape names has some word that the tape gives it, and the others are as before.
+pub record IsFilled (items : List Item) (old new : List ℕ) : Type 0 where
+  pub same_size : length new ≡ length old
+  pub named : (cell : ℕ) → cell < length old → IsSome (tape_map items cell) → Gives items cell (slice_index new cell)
+  pub others : (cell : ℕ) → cell < length old → tape_map items cell ≡ None → slice_index new cell ≡ slice_index old cell
+
+-- the frames are a tape, and the new core is the old one filled with its words
+pub record IsLoaded (frames old new : List ℕ) : Type 0 where
+  pub items : List Item
+  pub is_tape : IsTape frames items
+  pub filled : IsFilled items old new
+
+-- What loading frames over core answers: on a fault no cell is changed.
+abbrev pub Loads : List ℕ → List ℕ → List ℕ → Result (Unit {0}) TapeFault → Type 0
+Loads frames old new (Ok done) = IsLoaded frames old new
+Loads frames old new (Err Memory) = new ≡ old
+Loads frames old new (Err (BadFrame at)) = IsFault frames (BadFrame at) × (new ≡ old)
+Loads frames old new (Err NoOrigin) = IsFault frames NoOrigin × (new ≡ old)
+Loads frames old new (Err (CheckSum found computed)) = IsFault frames (CheckSum found computed) × (new ≡ old)
+Loads frames old new (Err NoTrailer) = IsFault frames NoTrailer × (new ≡ old)
+
+-- ## Frame by frame
+
+-- the loader was given these frames
+abbrev pub IsFed : Loading → List ℕ → Type 0
+IsFed loader frames = HasRead loader.reader frames loader.words
+
+-- the frames are a tape, or may go on as one
+abbrev pub IsFine : List ℕ → Type 0
+IsFine frames = ((items : List Item) × IsTape frames items) ⊎ ((items : List Item) × (part : List ℕ) × IsOpen (kept frames) items part)
+
+-- What further frames do to a loader that was given some: a fault is told by the first frame that is refused, and
+-- nothing is taken where memory ran out.
+abbrev pub Feeds : List ℕ → List ℕ → Loading → Loading → Result (Unit {0}) TapeFault → Type 0
+Feeds frames more old new (Ok done) = IsFed new (frames ++ more) × IsFine (frames ++ more)
+Feeds frames more old new (Err Memory) = new ≡ old
+Feeds frames more old new (Err (BadFrame at)) = IsFed new (frames ++ more) × ((rest : List ℕ) → IsFault (frames ++ more ++ rest) (BadFrame at))
+Feeds frames more old new (Err NoOrigin) = IsFed new (frames ++ more) × ((rest : List ℕ) → IsFault (frames ++ more ++ rest) NoOrigin)
+Feeds frames more old new (Err (CheckSum found computed)) = IsFed new (frames ++ more) × ((rest : List ℕ) → IsFault (frames ++ more ++ rest) (CheckSum found computed))
+Feeds frames more old new (Err NoTrailer) = ⊥
+
+-- the loader was given a whole tape
+pub record IsComplete (loader : Loading) : Type 0 where
+  pub frames : List ℕ
+  pub items : List Item
+  pub fed : IsFed loader frames
+  pub is_tape : IsTape frames items
+
+-- core after words are laid one after the other
+abbrev pub laid : List (ℕ × ℕ) → List ℕ → List ℕ
+laid [] core = core
+laid (word ∷ words) core = laid words (slice_set core word.0 word.1)

@@ -1,0 +1,103 @@
+ghost use Rattle.std.specs.Prelude.{◌≡◌, ℕ, List, [], ◌++◌, ◌∷◌, IfOk, MatchResult};
+ghost use Rattle.bin_tape.specs.Items.{Item};
+ghost use Rattle.bin_tape.specs.Tape.{IsTape};
+ghost use Rattle.bin_tape.specs.Fault.{IsFault};
+ghost use Rattle.bin_tape.specs.Reading.{IsWhole};
+ghost use Rattle.core_load.specs.Load.{Loads, IsFilled, laid};
+
+use crate::Core;
+use bin_tape::laws::{handed_words, longer_tape};
+use bin_tape::{TapeFault, TapeReader};
+use std::alloc::Global;
+use std::marker::Model;
+use word12::{Cell, Word};
+
+/// Takes the frames of a BIN tape, and lays its words over core once they are known to be a tape.
+#[derive(Drop)]
+pub struct Loader {
+    reader: TapeReader,
+    words: Vec<(Cell, Word)>,
+}
+
+impl Model for Loader {
+    ghost use Rattle.core_load.specs.Loading.{Loading};
+
+    ghost Value = { Loading };
+
+    ghost view = { λ l. record {
+      reader = l.reader;
+      words = l.words.items;
+    } };
+}
+
+impl Loader {
+    ghost use Rattle.core_load.specs.Load.{IsFed, Feeds, IsComplete};
+
+    /// A loader of no frame.
+    pub fn new(alloc: Global) -> Loader
+        ensures { IsFed result [] }
+    {
+        Loader {
+            reader: TapeReader::new(),
+            words: Vec::new(alloc),
+        }
+    }
+
+    /// Takes the next frame. Where memory runs out nothing is taken; another fault is answered for good.
+    pub fn push(&mut self, frame: u8) -> Result<(), TapeFault>
+        ensures { (frames : List ℕ) → IsFed self.old frames → Feeds frames (frame ∷ []) self.old self.new result }
+    {
+        longer_tape();
+        self.words.reserve(1)?;
+        match self.reader.push(frame) {
+            Ok(tape) => {
+                if let Some(word) = tape.word() {
+                    self.words.push_reserved(word);
+                }
+                Ok(())
+            }
+            Err(fault) => Err(fault),
+        }
+    }
+
+    /// Whether the frames so far are a tape.
+    pub fn end(&self) -> Result<(), TapeFault>
+        ensures { (frames : List ℕ) → IsFed self.now frames
+            → MatchResult result (λ _. IsWhole frames self.now.words) (λ fault. IsFault frames fault) }
+    {
+        self.reader.end()
+    }
+
+    /// Lays the tape over core.
+    pub fn lay(self, core: &mut Core)
+        requires { IsComplete self }
+        ensures { (frames : List ℕ) (items : List Item) → IsFed self frames → IsTape frames items → IsFilled items core.old core.new }
+    {
+        handed_words();
+        let mut words = self.words;
+        words.reverse();
+        lay_words(&words, core);
+    }
+}
+
+/// Lays the words of a tape over core. On a fault no cell is changed.
+pub fn load(alloc: Global, frames: &[u8], core: &mut Core) -> Result<(), TapeFault>
+    ensures { Loads frames.now core.old core.new result }
+{
+    let mut loader = Loader::new(alloc);
+    for frame in frames {
+        loader.push(*frame)?;
+    }
+    loader.end()?;
+    loader.lay(core);
+    Ok(())
+}
+
+/// Lays words one after the other.
+fn lay_words(words: &[(Cell, Word)], core: &mut Core)
+    ensures { core.new ≡ laid words.now core.old }
+{
+    for &(cell, word) in words {
+        core.set(cell, word);
+    }
+}

@@ -1,0 +1,10 @@
+use Rattle.std.proofs.Common.{◌<◌, ◌≤◌, vec_len}
+use Rattle.std.specs.Io.KnownBytes.{Consumes}
+use Rattle.monitor8.proofs.readings.read_all.Given as goal
+
+abbrev pub invariant-loop : goal.invariant-loop
+invariant-loop g l = record {
+  taken : Consumes (g.R.Read.remaining l.fn.reader) (g.R.Read.remaining l.reader) l.bytes.items;
+  within : vec_len l.bytes ≤ 16777216;
+  piece : 0 < vec_len l.piece;
+}

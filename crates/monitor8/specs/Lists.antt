@@ -1,0 +1,36 @@
+-- What listing a tape does to a reader and a writer.
+use Rattle.std.specs.Prelude.{◌≡◌, ℕ, Result, Ok, Err, Option, List}
+use Rattle.std.specs.Io.KnownBytes.{Appends, Keeps}
+use Rattle.bin_tape.specs.Items.{Item}
+use Rattle.bin_tape.specs.Tape.{IsTape}
+use Rattle.bin_tape.specs.Fault.{IsFault}
+use Rattle.core_load.specs.Core.{zeros}
+use Rattle.core_load.specs.Load.{IsFilled}
+use Rattle.monitor8.specs.Reading.{IsRead}
+use Rattle.monitor8.specs.Listing.{lines_below}
+use Rattle.monitor8.specs.declared.faults.SessionFault.{SessionFault}
+use Rattle.monitor8.specs.declared.faults.SessionFault.TheVariants.{Tape, Reader, Writer, Memory}
+
+-- the frames are a tape, and the text is the lines of its cells, each with a word that the tape gives it
+pub record IsListed (frames text : List ℕ) : Type 0 where
+  pub items : List Item
+  pub is_tape : IsTape frames items
+  pub core : List ℕ
+  pub filled : IsFilled items (zeros 32768) core
+  pub lines : text ≡ lines_below items core 32768
+
+-- the fault that ends the listing of frames
+abbrev pub IsListingFault : List ℕ → SessionFault → Type 0
+IsListingFault frames (Tape fault) = IsFault frames fault
+IsListingFault frames Memory = Unit {0}
+IsListingFault frames Reader = ⊥
+IsListingFault frames Writer = ⊥
+
+-- What listing a reader's tape comes to: its lines are written and nothing else; on a fault of the tape, of the reader
+-- or of memory nothing is written.
+abbrev pub ListsTape : Option (List ℕ) → Option (List ℕ) → Option (List ℕ) → Option (List ℕ) → Result (Unit {0}) SessionFault → Type 0
+ListsTape r r' w w' (Ok done) = (frames : List ℕ) × (text : List ℕ) × IsRead r r' frames × IsListed frames text × Appends w w' text
+ListsTape r r' w w' (Err (Tape fault)) = (frames : List ℕ) × IsRead r r' frames × IsFault frames fault × Keeps w w'
+ListsTape r r' w w' (Err Reader) = Keeps w w'
+ListsTape r r' w w' (Err Memory) = Keeps w w'
+ListsTape r r' w w' (Err Writer) = (frames : List ℕ) × (text : List ℕ) × IsRead r r' frames × IsListed frames text

@@ -1,0 +1,71 @@
+ghost use Rattle.std.specs.Prelude.{◌≡◌, ℕ, ◌+◌, ◌<◌, ◌≤◌, length, vec_len, IfOk, MatchResult};
+ghost use Rattle.monitor8.specs.Reading.{Reads, IsReadWithin, IsReadFault};
+
+use crate::SessionFault;
+use std::alloc::{AllocError, Global};
+use std::io::{self, ErrorKind, Read};
+
+/// How many bytes are read at most.
+pub const MOST: usize = 16_777_216;
+
+/// How many bytes are asked for at once.
+const PIECE: usize = 65_536;
+
+/// Reads to the reader's end. Of more than `MOST` bytes it takes one more, and answers `Reader`.
+pub fn read_all<R: Read>(alloc: Global, reader: &mut R) -> Result<Vec<u8>, SessionFault>
+    ensures { MatchResult result (λ bytes. IsReadWithin 16777216 (R.remaining reader.old) (R.remaining reader.new) bytes.items)
+        (λ fault. IsReadFault 16777216 (R.remaining reader.old) (R.remaining reader.new) fault) }
+{
+    let mut piece = zero_bytes(alloc, PIECE)?;
+    let mut bytes = Vec::new(alloc);
+    for _ in 0..u64::MAX {
+        if read_piece(reader, &mut piece, &mut bytes)? {
+            return Ok(bytes);
+        }
+    }
+    Err(SessionFault::Reader)
+}
+
+/// Reads once, and answers whether that was the reader's end.
+fn read_piece<R: Read>(
+    reader: &mut R,
+    piece: &mut [u8],
+    bytes: &mut Vec<u8>,
+) -> Result<bool, SessionFault>
+    requires piece { 0 < length piece.old }
+    requires bytes { vec_len bytes.old ≤ 16777216 }
+    ensures { Reads 16777216 (R.remaining reader.old) (R.remaining reader.new) bytes.old.items bytes.new.items result }
+{
+    let room = piece.len().min(MOST + 1 - bytes.len());
+    match reader.read(&mut piece[..room]) {
+        Ok(0) => Ok(true),
+        Ok(count) => {
+            if bytes.len() + count > MOST {
+                return Err(SessionFault::Reader);
+            }
+            bytes.extend_from_slice(&piece[..count])?;
+            Ok(false)
+        }
+        Err(error) => {
+            if is_interrupted(&error) {
+                Ok(false)
+            } else {
+                Err(SessionFault::Reader)
+            }
+        }
+    }
+}
+
+fn is_interrupted(error: &io::Error) -> bool {
+    match error.kind() {
+        ErrorKind::Interrupted => true,
+        _ => false,
+    }
+}
+
+fn zero_bytes(alloc: Global, count: usize) -> Result<Vec<u8>, AllocError>
+    ensures { IfOk result (λ bytes. vec_len bytes ≡ count) }
+{
+    let bytes = vec![in alloc; 0u8; count]?;
+    Ok(bytes)
+}

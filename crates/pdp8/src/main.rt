@@ -1,0 +1,24 @@
+//! `pdp8`: lists the BIN tape on standard input.
+#![tactic(auto)]
+
+use monitor8::{SessionFault, put_fault, tape_text};
+use std::io::{self, Write};
+use std::process::ExitCode;
+
+/// Prints a line `F AAAA WWWW` for each cell that the tape gives a word, or the line of its fault with status 1.
+fn main(rt: HostRuntime) -> ExitCode {
+    let mut line = match Vec::with_capacity(rt.alloc(), 80) {
+        Ok(line) => line,
+        Err(_) => return ExitCode::FAILURE,
+    };
+    let mut writer = io::writer(&rt);
+    match tape_text(rt.alloc(), &mut rt.reader(), &mut writer) {
+        Ok(()) => ExitCode::SUCCESS,
+        Err(SessionFault::Writer) => ExitCode::FAILURE,
+        Err(fault) => {
+            let _ = put_fault(&fault, &mut line);
+            let _ = writer.write_all(&line);
+            ExitCode::FAILURE
+        }
+    }
+}

@@ -1,0 +1,131 @@
+ghost use Rattle.std.specs.Prelude.{◌≡◌, ℕ, ◌+◌, ◌-◌, ◌%◌, ◌<◌, ◌≤◌, ◌↔◌, IsSome, IfSome, bit_and, bit_or, bit_xor};
+ghost use Rattle.word12.specs.Octal.{octal4, octal_number};
+
+use std::fmt;
+use std::marker::Model;
+
+/// A word of twelve bits, of which bit 0 is the most significant (Small Computer Handbook).
+///
+/// Sums and differences are modulo 4096.
+#[derive(Clone, Copy, PartialEq, Eq, PartialOrd, Ord, Hash, Debug)]
+pub struct Word {
+    bits: u16,
+}
+
+impl Model for Word {
+    ghost Value = { ℕ };
+
+    ghost view = { λ word. word.bits };
+
+    ghost invariant = { λ word. word.bits < 4096 };
+
+    ghost inverse = { λ number. record { bits = number } };
+}
+
+impl Word {
+    pub const ZERO: Word = Word { bits: 0 };
+
+    pub const ONE: Word = Word { bits: 1 };
+
+    /// The word of a number below 4096, else nothing.
+    #[inline]
+    pub fn new(number: u16) -> Option<Word>
+        ensures fits { IsSome result ↔ (number < 4096) }
+        ensures value { IfSome result (λ word. word ≡ number) }
+    {
+        if number < 4096 {
+            Some(Word { bits: number })
+        } else {
+            None
+        }
+    }
+
+    /// The low twelve bits of a number.
+    #[inline]
+    pub fn low(number: u16) -> Word
+        ensures value { result ≡ number % 4096 }
+        ensures range { result < 4096 }
+    {
+        Word {
+            bits: number % 4096,
+        }
+    }
+
+    /// The word as a number, 0 to 4095.
+    #[inline]
+    pub fn get(self) -> u16
+        ensures value { result ≡ self }
+        ensures range { result < 4096 }
+    {
+        self.bits
+    }
+
+    /// The sum modulo 4096.
+    #[inline]
+    pub fn plus(self, other: Word) -> Word
+        ensures value { result ≡ (self + other) % 4096 }
+        ensures range { result < 4096 }
+    {
+        Word::low(self.bits + other.bits)
+    }
+
+    /// The difference modulo 4096.
+    #[inline]
+    pub fn minus(self, other: Word) -> Word
+        ensures value { result ≡ (self + 4096 - other) % 4096 }
+        ensures range { result < 4096 }
+    {
+        Word::low(self.bits + 4096 - other.bits)
+    }
+
+    /// Inclusive or, bit by bit.
+    #[inline]
+    #[tactic(auto, using(crate::proofs::TwelveBits::or_of_12))]
+    pub fn or(self, other: Word) -> Word
+        ensures value { result ≡ bit_or self other }
+        ensures range { result < 4096 }
+    {
+        Word {
+            bits: self.bits | other.bits,
+        }
+    }
+
+    /// And, bit by bit.
+    #[inline]
+    pub fn and(self, other: Word) -> Word
+        ensures value { result ≡ bit_and self other }
+        ensures range { result < 4096 }
+    {
+        Word {
+            bits: self.bits & other.bits,
+        }
+    }
+
+    /// The complement: each of the twelve bits is the other one.
+    #[inline]
+    pub fn not(self) -> Word
+        ensures bits { result ≡ bit_xor self 4095 }
+        ensures value { result ≡ 4095 - self }
+        ensures range { result < 4096 }
+    {
+        Word {
+            bits: 4095 - self.bits,
+        }
+    }
+
+    /// The word as four octal digits in ASCII, zeros in front.
+    pub fn octal4(self) -> [u8; 4]
+        ensures digits { result ≡ octal4 self }
+        ensures number { octal_number result ≡ self }
+    {
+        let digit = |place: u16| (48 + self.bits / place % 8) as u8;
+        [digit(512), digit(64), digit(8), digit(1)]
+    }
+}
+
+/// Four octal digits, as the handbook writes words.
+impl fmt::Display for Word {
+    fn fmt<W: fmt::Write>(&self, f: &mut fmt::Formatter<W>) -> fmt::Result {
+        write!(f, "{:04o}", self.bits)
+    }
+}
