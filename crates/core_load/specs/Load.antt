@@ -1,7 +1,7 @@
 -- What loading a BIN tape does to core.
-use Rattle.std.specs.Prelude.{◌≡◌, ℕ, ◌+◌, ◌*◌, ◌<◌, IsSome, None, Result, Ok, Err, List, [], ◌∷◌, ◌++◌, ◌⊎◌, length, slice_index, slice_set}
+use Rattle.std.specs.Prelude.{◌≡◌, ℕ, ◌<◌, unwrap_or, Result, Ok, Err, List, [], ◌∷◌, ◌++◌, ◌⊎◌, length, slice_index, slice_set}
 use Rattle.bin_tape.specs.Frames.{kept}
-use Rattle.bin_tape.specs.Items.{Item, Leader, Field, Origin, Word, cell_after, tape_map}
+use Rattle.bin_tape.specs.Items.{Item, tape_map}
 use Rattle.bin_tape.specs.Tape.{IsTape, IsOpen}
 use Rattle.bin_tape.specs.Fault.{IsFault}
 use Rattle.bin_tape.specs.Reading.{HasRead}
@@ -9,25 +9,16 @@ use Rattle.bin_tape.specs.declared.faults.TapeFault.{TapeFault}
 use Rattle.bin_tape.specs.declared.faults.TapeFault.TheVariants.{BadFrame, NoOrigin, CheckSum, NoTrailer, Memory}
 use Rattle.core_load.specs.Loading.{Loading}
 
--- the tape gives the cell this word, perhaps among others
-abbrev pub Gives : List Item → ℕ → ℕ → Type 0
-Gives [] cell word = ⊥
-Gives (Word high low ∷ older) cell word = ((cell_after older ≡ cell) × (64 * high + low ≡ word)) ⊎ Gives older cell word
-Gives (Leader f ∷ older) cell word = Gives older cell word
-Gives (Field n ∷ older) cell word = Gives older cell word
-Gives (Origin high low ∷ older) cell word = Gives older cell word
-
--- Each cell that the tape names has some word that the tape gives it, and the others are as before.
-pub record IsFilled (items : List Item) (old new : List ℕ) : Type 0 where
+-- The new core has the tape's word where the tape has one, and is as before elsewhere.
+pub record IsOverlaid (items : List Item) (old new : List ℕ) : Type 0 where
   pub same_size : length new ≡ length old
-  pub named : (cell : ℕ) → cell < length old → IsSome (tape_map items cell) → Gives items cell (slice_index new cell)
-  pub others : (cell : ℕ) → cell < length old → tape_map items cell ≡ None → slice_index new cell ≡ slice_index old cell
+  pub cells : (cell : ℕ) → cell < length old → slice_index new cell ≡ unwrap_or (tape_map items cell) (slice_index old cell)
 
--- the frames are a tape, and the new core is the old one filled with its words
+-- the frames are a tape, and the new core is the old one overlaid with it
 pub record IsLoaded (frames old new : List ℕ) : Type 0 where
   pub items : List Item
   pub is_tape : IsTape frames items
-  pub filled : IsFilled items old new
+  pub overlaid : IsOverlaid items old new
 
 -- What loading frames over core answers: on a fault no cell is changed.
 abbrev pub Loads : List ℕ → List ℕ → List ℕ → Result (Unit {0}) TapeFault → Type 0

@@ -3,7 +3,7 @@ ghost use Rattle.bin_tape.specs.Items.{Item};
 ghost use Rattle.bin_tape.specs.Tape.{IsTape};
 ghost use Rattle.bin_tape.specs.Fault.{IsFault};
 ghost use Rattle.bin_tape.specs.Reading.{IsWhole};
-ghost use Rattle.core_load.specs.Load.{Loads, IsFilled, laid};
+ghost use Rattle.core_load.specs.Load.{Loads, IsOverlaid, laid};
 
 use crate::Core;
 use bin_tape::laws::{handed_words, longer_tape};
@@ -68,19 +68,17 @@ impl Loader {
         self.reader.end()
     }
 
-    /// Lays the tape over core.
+    /// Lays the tape over core: each cell that the tape names has the last word that the tape gives it.
     pub fn lay(self, core: &mut Core)
         requires { IsComplete self }
-        ensures { (frames : List ℕ) (items : List Item) → IsFed self frames → IsTape frames items → IsFilled items core.old core.new }
+        ensures { (frames : List ℕ) (items : List Item) → IsFed self frames → IsTape frames items → IsOverlaid items core.old core.new }
     {
         handed_words();
-        let mut words = self.words;
-        words.reverse();
-        lay_words(&words, core);
+        lay_words(&self.words, core);
     }
 }
 
-/// Lays the words of a tape over core. On a fault no cell is changed.
+/// Lays the words of a tape over core, the last word of a cell winning. On a fault no cell is changed.
 pub fn load(alloc: Global, frames: &[u8], core: &mut Core) -> Result<(), TapeFault>
     ensures { Loads frames.now core.old core.new result }
 {

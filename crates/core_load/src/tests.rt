@@ -70,7 +70,7 @@ fn loads_tapes(rt: HostRuntime) -> Result<(), Fail> {
     let mut core = patterned(rt.alloc())?;
     let twice = b"\x80\x42\x00\x00\x01\x42\x00\x00\x02\x02\x07\x80";
     load(rt.alloc(), twice, &mut core)?;
-    check(&rt, &core, cell(0, 0o200), 1);
+    check(&rt, &core, cell(0, 0o200), 2);
     assert_eq!(rt; changed(&core), 1);
     Ok(())
 }

@@ -1,5 +1,5 @@
 -- The lines that list the words of a tape.
-use Rattle.std.specs.Prelude.{◌≡◌, ℕ, zero, suc, ◌<◌, ◌/◌, ◌%◌, ◌||◌, Bool, false, nat_eq, is_some, if◌then◌else◌, List, [], ◌∷◌, ◌++◌, slice_index, slice_index_or}
+use Rattle.std.specs.Prelude.{◌≡◌, ℕ, zero, suc, ◌<◌, ◌/◌, ◌%◌, ◌||◌, Bool, false, nat_eq, Option, None, Some, is_some, List, [], ◌∷◌, ◌++◌, slice_index_or}
 use Rattle.word12.specs.Octal.{octal_digit, octal4}
 use Rattle.bin_tape.specs.Items.{Item, tape_map}
 use Rattle.bin_tape.specs.Progress.{Progress}
@@ -9,14 +9,15 @@ use Rattle.bin_tape.specs.Reading.{HasRead}
 abbrev pub cell_line : ℕ → ℕ → List ℕ
 cell_line cell word = octal_digit (cell / 4096) ∷ 32 ∷ octal4 (cell % 4096) ++ 32 ∷ octal4 word ++ 10 ∷ []
 
--- the line of a cell of core, where the tape names it
-abbrev pub line_of : List Item → List ℕ → ℕ → List ℕ
-line_of items core cell = if is_some (tape_map items cell) then cell_line cell (slice_index core cell) else []
+-- the line of a cell that a tape gives a word
+abbrev pub line_of : Option ℕ → ℕ → List ℕ
+line_of None cell = []
+line_of (Some word) cell = cell_line cell word
 
 -- the lines of the cells below a number, in rising order
-unfoldable pub lines_below : List Item → List ℕ → ℕ → List ℕ
-lines_below items core zero = []
-lines_below items core (suc cell) = lines_below items core cell ++ line_of items core cell
+unfoldable pub lines_below : List Item → ℕ → List ℕ
+lines_below items zero = []
+lines_below items (suc cell) = lines_below items cell ++ line_of (tape_map items cell) cell
 
 -- ## Marks
 

@@ -4,20 +4,16 @@ use Rattle.std.specs.Io.KnownBytes.{Appends, Keeps}
 use Rattle.bin_tape.specs.Items.{Item}
 use Rattle.bin_tape.specs.Tape.{IsTape}
 use Rattle.bin_tape.specs.Fault.{IsFault}
-use Rattle.core_load.specs.Core.{zeros}
-use Rattle.core_load.specs.Load.{IsFilled}
 use Rattle.monitor8.specs.Reading.{IsRead}
 use Rattle.monitor8.specs.Listing.{lines_below}
 use Rattle.monitor8.specs.declared.faults.SessionFault.{SessionFault}
 use Rattle.monitor8.specs.declared.faults.SessionFault.TheVariants.{Tape, Reader, Writer, Memory}
 
--- the frames are a tape, and the text is the lines of its cells, each with a word that the tape gives it
+-- the frames are a tape, and the text is the line of each cell that it gives a word, by rising cell
 pub record IsListed (frames text : List ℕ) : Type 0 where
   pub items : List Item
   pub is_tape : IsTape frames items
-  pub core : List ℕ
-  pub filled : IsFilled items (zeros 32768) core
-  pub lines : text ≡ lines_below items core 32768
+  pub lines : text ≡ lines_below items 32768
 
 -- the fault that ends the listing of frames
 abbrev pub IsListingFault : List ℕ → SessionFault → Type 0

@@ -2,7 +2,7 @@ ghost use Rattle.std.specs.Prelude.{◌≡◌, ℕ, ◌<◌, ◌≤◌, [], ◌�
 ghost use Rattle.std.specs.Io.KnownBytes.{Appends};
 ghost use Rattle.bin_tape.specs.Items.{Item, tape_map};
 ghost use Rattle.bin_tape.specs.Tape.{IsTape};
-ghost use Rattle.core_load.specs.Core.{IsCore};
+ghost use Rattle.core_load.specs.Load.{IsOverlaid};
 ghost use Rattle.monitor8.specs.Reading.{Takes};
 ghost use Rattle.monitor8.specs.Listing.{cell_line, lines_below, Marks, IsMarked};
 ghost use Rattle.monitor8.specs.Lists.{IsListed, IsListingFault, ListsTape};
@@ -18,7 +18,7 @@ use std::io::{Read, Write};
 use word12::{Cell, Word};
 
 /// Reads a BIN tape to the reader's end, and writes a line `F AAAA WWWW` for each cell that it gives a word, by rising
-/// field and address.
+/// field and address, with the last word that it gives it.
 ///
 /// At most 16,777,217 bytes are taken; where the last of these comes the answer is `Reader`.
 pub fn tape_text<R: Read, W: Write>(
@@ -86,7 +86,8 @@ fn mark(reader: &mut TapeReader, frame: u8, named: &mut [bool])
 /// The lines of the cells that are named, by rising cell.
 fn listing(alloc: Global, named: &[bool], core: &Core) -> Result<Vec<u8>, AllocError>
     requires { length named.now ≡ 32768 }
-    ensures { IfOk result (λ text. (items : List Item) → Marks items named.now → text.items ≡ lines_below items core.now 32768) }
+    ensures { IfOk result (λ text. (items : List Item) (old : List ℕ) → Marks items named.now
+        → IsOverlaid items old core.now → text.items ≡ lines_below items 32768) }
 {
     let mut text = Vec::new(alloc);
     for number in 0u16..32768 {

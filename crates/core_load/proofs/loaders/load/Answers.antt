@@ -23,5 +23,5 @@ returns c =
     record {
       items = whole.items;
       is_tape = subst (λ (frames : List ℕ). IsTape frames whole.items) (take_all c.loop-frame.frame-index c.args.frames.now (omega arith)) whole.is_tape;
-      filled = c.lay.ensures _ whole.items c.loop-frame.invariant whole.is_tape;
+      overlaid = c.lay.ensures _ whole.items c.loop-frame.invariant whole.is_tape;
     }
