@@ -1,0 +1,56 @@
+-- Three characters in two words (OS/8 Software Support Manual).
+use Rattle.std.specs.Prelude.{◌≡◌, ℕ, ◌+◌, ◌-◌, ◌*◌, ◌/◌, ◌%◌, ◌≤◌, List, [], ◌∷◌, ◌++◌, length, replicate}
+
+-- The frames of words: three for each two of them, where the third has the high four bits of both. An odd last word
+-- gives none.
+abbrev pub frames : List ℕ → List ℕ
+frames [] = []
+frames (first ∷ []) = []
+frames (first ∷ second ∷ words) =
+    (first % 256) ∷ (second % 256) ∷ (16 * (first / 256) + second / 256) ∷ frames words
+
+-- the two words of three bytes: each has one of the first two, and four bits of the third above it
+abbrev pub group : ℕ → ℕ → ℕ → List ℕ
+group a b c = (256 * (c / 16) + a) ∷ (256 * (c % 16) + b) ∷ []
+
+-- the words of bytes, three in two words, where zeros fill the last group
+abbrev pub packed : List ℕ → List ℕ
+packed [] = []
+packed (a ∷ []) = group a 0 0
+packed (a ∷ b ∷ []) = group a b 0
+packed (a ∷ b ∷ c ∷ bytes) = group a b c ++ packed bytes
+
+-- how many groups of three so many bytes take, each of them two words
+abbrev pub group_count : ℕ → ℕ
+group_count n = (n + 2) / 3
+
+-- the words are the shortest even list of words whose frames begin with the bytes, and the frames behind are zeros
+pub record IsPacking (bytes words : List ℕ) : Type 0 where
+  pub even : length words % 2 ≡ 0
+  pub reads_back : frames words ≡ bytes ++ replicate (3 * group_count (length bytes) - length bytes) 0
+  pub shortest : (others behind : List ℕ) → length others % 2 ≡ 0 → frames others ≡ bytes ++ behind
+      → length words ≤ length others
+
+-- how many words a block has
+unfoldable pub block_words : ℕ
+block_words = 256
+
+-- how many frames a block has
+unfoldable pub block_frames : ℕ
+block_frames = 384
+
+-- how many blocks hold so many frames
+abbrev pub block_count : ℕ → ℕ
+block_count n = (n + 383) / 384
+
+-- the words of bytes in whole blocks, where zeros fill the last block
+abbrev pub packed_blocks : List ℕ → List ℕ
+packed_blocks bytes =
+    packed bytes ++ replicate (block_words * block_count (length bytes) - 2 * group_count (length bytes)) 0
+
+-- the words are the fewest whole blocks whose frames begin with the bytes, and the frames behind are zeros
+pub record IsBlockPacking (bytes words : List ℕ) : Type 0 where
+  pub whole : length words ≡ 256 * block_count (length bytes)
+  pub reads_back : frames words ≡ bytes ++ replicate (block_frames * block_count (length bytes) - length bytes) 0
+  pub fewest : (others behind : List ℕ) (count : ℕ) → length others ≡ 256 * count → frames others ≡ bytes ++ behind
+      → length words ≤ length others

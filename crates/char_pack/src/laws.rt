@@ -1,0 +1,34 @@
+//! Laws of three characters in two words, and of texts.
+
+ghost use Rattle.std.specs.Prelude.{◌≡◌, ◌%◌, ◌<◌, ℕ, List, [], ◌++◌, All, length, true, if◌then◌else◌};
+ghost use Rattle.char_pack.specs.Packing.{frames, packed, IsPacking, packed_blocks, IsBlockPacking};
+ghost use Rattle.char_pack.specs.Texts.{characters, is_ended, text, host_text, is_storable, stored};
+
+/// Packed bytes read back, and no shorter even list of words has them.
+pub fn packed_bytes()
+    ensures words { (bytes : List ℕ) → All (λ byte. byte < 256) bytes → IsPacking bytes (packed bytes) }
+    ensures blocks { (bytes : List ℕ) → All (λ byte. byte < 256) bytes → IsBlockPacking bytes (packed_blocks bytes) }
+{}
+
+/// The frames of an even list of words give the words back.
+pub fn packed_frames()
+    ensures { (words : List ℕ) → length words % 2 ≡ 0 → All (λ word. word < 4096) words → packed (frames words) ≡ words }
+{}
+
+/// The frames of an even list of words and of others behind it are those of both, so a file is read block by block.
+pub fn joined_frames()
+    ensures { (words others : List ℕ) → length words % 2 ≡ 0 → frames (words ++ others) ≡ frames words ++ frames others }
+{}
+
+/// A text goes on in the frames behind it exactly where no control Z has come.
+pub fn joined_text()
+    ensures characters { (frames others : List ℕ)
+        → characters (frames ++ others) ≡ characters frames ++ (if is_ended frames then [] else characters others) }
+    ensures ended { (frames others : List ℕ)
+        → is_ended (frames ++ others) ≡ (if is_ended frames then true else is_ended others) }
+{}
+
+/// A host text that was stored reads back as that text, with CR dropped and LF as CR LF.
+pub fn stored_text()
+    ensures { (host : List ℕ) → is_storable host ≡ true → text (stored host) ≡ host_text host }
+{}

@@ -1,0 +1,4 @@
+pub mod Copies
+pub mod FailingCalls
+pub mod ImageWords
+pub mod RoundTrip

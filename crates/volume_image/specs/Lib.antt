@@ -1,0 +1,4 @@
+pub mod Fuse
+pub mod Image
+pub mod Stores
+pub mod Volume

@@ -1,0 +1,22 @@
+-- Volumes as lists of blocks, and what a failing device leaves of them.
+use Rattle.std.specs.Prelude.{◌≡◌, ℕ, ◌+◌, ◌≤◌, nat_lt, if◌then◌else◌, List, length, All, slice_set}
+
+-- a block has 256 words
+abbrev pub IsBlock : List ℕ → Type 0
+IsBlock words = length words ≡ 256
+
+-- 8 to 4095 blocks
+pub record IsVolume (blocks : List (List ℕ)) : Type 0 where
+  pub least : 8 ≤ length blocks
+  pub most : length blocks ≤ 4095
+  pub each : All IsBlock blocks
+
+-- one block has any words, and the others are as before
+pub record IsDamaged (old new : List (List ℕ)) (number : ℕ) : Type 0 where
+  pub words : List ℕ
+  pub block : IsBlock words
+  pub rest : new ≡ slice_set old number words
+
+-- one more, but a count that stands at its greatest value stays there
+abbrev pub counted : ℕ → ℕ
+counted n = if nat_lt n 18446744073709551615 then n + 1 else n

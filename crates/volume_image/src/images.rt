@@ -1,0 +1,137 @@
+ghost use Rattle.std.specs.Prelude.{◌≡◌, ℕ, ◌+◌, ◌*◌, ◌%◌, ◌<◌, ◌≤◌, length, slice_index, All, MatchOption, IfOk};
+ghost use Rattle.volume_image.specs.Image.{image_word, block_word, IsFirstBadWord, IsImageOf, IsNewVolume, new_word};
+ghost use Rattle.volume_image.specs.Volume.{IsBlock, IsVolume};
+
+use std::alloc::{AllocError, Global};
+use word12::Word;
+
+// The index of the first word that has more than twelve bits.
+pub(crate) fn first_bad_word(bytes: &[u8]) -> Option<usize>
+    requires { length bytes.now % 2 ≡ 0 }
+    ensures { MatchOption result ((k : ℕ) → image_word bytes.now k < 4096) (IsFirstBadWord bytes.now) }
+{
+    for number in 0..bytes.len() / 2 {
+        if bytes[2 * number + 1] >= 16 {
+            return Some(number);
+        }
+    }
+    None
+}
+
+// Fills a slice with the words of an image, from one of them on; of each just the low twelve bits.
+fn lay_words(bytes: &[u8], first: usize, words: &mut [Word])
+    requires { 2 * (first + length words.old) ≤ length bytes.now }
+    ensures { (k : ℕ) → k < length words.new → slice_index words.new k ≡ image_word bytes.now (first + k) % 4096 }
+{
+    for k in 0..words.len() {
+        let low = u16::from(bytes[2 * (first + k)]);
+        let high = u16::from(bytes[2 * (first + k) + 1]);
+        words[k] = Word::low(low + 256 * (high % 16));
+    }
+}
+
+// A block of an image; of each word just the low twelve bits.
+fn block_at(bytes: &[u8], number: usize) -> [Word; 256]
+    requires { 512 * number + 512 ≤ length bytes.now }
+    ensures { (k : ℕ) → k < 256 → slice_index result k ≡ image_word bytes.now (256 * number + k) % 4096 }
+{
+    let mut words = [Word::ZERO; 256];
+    lay_words(bytes, 256 * number, &mut words);
+    words
+}
+
+// The blocks of an image; of each word just the low twelve bits.
+pub(crate) fn blocks_of(
+    alloc: Global,
+    bytes: &[u8],
+    count: usize,
+) -> Result<Vec<[Word; 256]>, AllocError>
+    requires { length bytes.now ≡ 512 * count }
+    ensures count { IfOk result (λ blocks. length blocks.items ≡ count) }
+    ensures each { IfOk result (λ blocks. All IsBlock blocks.items) }
+    ensures words { IfOk result (λ blocks. (n k : ℕ) → n < count → k < 256 →
+        block_word blocks.items n k ≡ image_word bytes.now (256 * n + k) % 4096) }
+{
+    let mut blocks = Vec::with_capacity(alloc, count)?;
+    for number in 0..count {
+        blocks.push(block_at(bytes, number))?;
+    }
+    Ok(blocks)
+}
+
+// Puts words into an image, from one of its words on.
+fn put_words(words: &[Word], first: usize, bytes: &mut [u8])
+    requires { 2 * (first + length words.now) ≤ length bytes.old }
+    ensures words { (k : ℕ) → k < length words.now → image_word bytes.new (first + k) ≡ slice_index words.now k }
+    ensures range { (k : ℕ) → k < length words.now → image_word bytes.new (first + k) < 4096 }
+    ensures before { (k : ℕ) → k < first → image_word bytes.new k ≡ image_word bytes.old k }
+{
+    for k in 0..words.len() {
+        let number = words[k].get();
+        bytes[2 * (first + k)] = (number % 256) as u8;
+        bytes[2 * (first + k) + 1] = (number / 256) as u8;
+    }
+}
+
+// Puts blocks into an image, from its beginning on.
+fn put_blocks(blocks: &[[Word; 256]], bytes: &mut [u8])
+    requires size { length bytes.old ≡ 512 * length blocks.now }
+    requires each { All IsBlock blocks.now }
+    ensures range { (k : ℕ) → k < 256 * length blocks.now → image_word bytes.new k < 4096 }
+    ensures words { (n k : ℕ) → n < length blocks.now → k < 256 →
+        block_word blocks.now n k ≡ image_word bytes.new (256 * n + k) }
+{
+    for number in 0..blocks.len() {
+        put_words(&blocks[number], 256 * number, bytes);
+    }
+}
+
+// The image of blocks.
+pub(crate) fn image_of(alloc: Global, blocks: &[[Word; 256]]) -> Result<Vec<u8>, AllocError>
+    requires { IsVolume blocks.now }
+    ensures { IfOk result (λ bytes. IsImageOf bytes.items blocks.now) }
+{
+    let mut bytes = vec![in alloc; 0u8; 512 * blocks.len()]?;
+    put_blocks(blocks, &mut bytes);
+    Ok(bytes)
+}
+
+// Writes the words with which the directory of an empty volume begins.
+fn lay_directory(count: usize, words: &mut [Word])
+    requires least { 8 ≤ count }
+    requires most { count ≤ 4095 }
+    requires size { length words.old ≡ 256 }
+    requires zeros { (k : ℕ) → slice_index words.old k ≡ 0 }
+    ensures { (k : ℕ) → slice_index words.new k ≡ new_word count 1 k }
+{
+    words[0] = Word::low(0o7777);
+    words[1] = Word::low(7);
+    words[4] = Word::low(0o7777);
+    words[6] = Word::ZERO.minus(Word::low(count as u16 - 7));
+}
+
+// A block of an empty volume.
+fn new_block(count: usize, number: usize) -> [Word; 256]
+    requires least { 8 ≤ count }
+    requires most { count ≤ 4095 }
+    ensures { (k : ℕ) → k < 256 → slice_index result k ≡ new_word count number k }
+{
+    let mut words = [Word::ZERO; 256];
+    if number == 1 {
+        lay_directory(count, &mut words);
+    }
+    words
+}
+
+// The blocks of an empty volume.
+pub(crate) fn new_blocks(alloc: Global, count: usize) -> Result<Vec<[Word; 256]>, AllocError>
+    requires least { 8 ≤ count }
+    requires most { count ≤ 4095 }
+    ensures { IfOk result (λ blocks. IsNewVolume count blocks.items) }
+{
+    let mut blocks = Vec::with_capacity(alloc, count)?;
+    for number in 0..count {
+        blocks.push(new_block(count, number))?;
+    }
+    Ok(blocks)
+}
