@@ -1,0 +1,10 @@
+pub mod NameLemmas
+mod WorkedVolumes
+pub mod OrderLemmas
+pub mod FoundLemmas
+pub mod ReadingLemmas
+pub mod LinkLemmas
+pub mod LawLemmas
+pub mod MapLemmas
+pub mod KnownLemmas
+pub mod TidyLemmas

@@ -1,0 +1,201 @@
+-- Tidy lists of entries.
+use Rattle.std.proofs.Common.{◌≡◌, ℕ, zero, suc, ◌+◌, ◌<◌, ◌≤◌, Bool, true, false, cond, List, [], ◌∷◌, ◌++◌, length, refl, ap, sym, ◌∙◌, arith, append_assoc, subst, ◌-◌, take, get_or}
+use Rattle.std.specs.Bool.{OnTrue}
+use Rattle.os8_dir.specs.Found.{room_of}
+use Rattle.os8_dir.specs.Steps.{last_room}
+use Rattle.os8_dir.specs.declared.entries.DirEntry.{DirEntry}
+use Rattle.os8_dir.specs.declared.entries.DirEntry.TheVariants.{File, Empty}
+use Rattle.os8_dir.specs.Entries.{size_of, total, before, tidy, Apart, IsTidy}
+
+total-before : (e : DirEntry) (es : List DirEntry) → total (before e es) ≡ size_of e + total es
+total-before (File name info zero) es = omega arith
+total-before (File name info (suc size)) es = refl
+total-before (Empty zero) [] = omega arith
+total-before (Empty (suc size)) [] = refl
+total-before (Empty size) (Empty more ∷ es) = omega arith
+total-before (Empty zero) (File name info more ∷ es) = omega arith
+total-before (Empty (suc size)) (File name info more ∷ es) = refl
+
+pub total-tidy : (es : List DirEntry) → total (tidy es) ≡ total es
+total-tidy [] = refl
+total-tidy (e ∷ es) = total-before e (tidy es) ∙ ap (λ n. size_of e + n) (total-tidy es)
+
+pub total-append : (xs ys : List DirEntry) → total (xs ++ ys) ≡ total xs + total ys
+total-append [] ys = omega arith
+total-append (x ∷ xs) ys = omega (arith, total-append xs ys)
+
+file-apart : (name : ℕ) (info : List ℕ) (size : ℕ) (es : List DirEntry) → Apart (File name info size) es
+file-apart name info size [] = tt
+file-apart name info size (File other words more ∷ es) = tt
+file-apart name info size (Empty more ∷ es) = tt
+
+empty-apart : (size more : ℕ) (es : List DirEntry) → Apart (Empty size) es → Apart (Empty more) es
+empty-apart size more [] apart = tt
+empty-apart size more (File name info other ∷ es) apart = tt
+empty-apart size more (Empty other ∷ es) apart = apart
+
+IsTidy-before : (e : DirEntry) (es : List DirEntry) → IsTidy es → IsTidy (before e es)
+IsTidy-before (File name info zero) es neat = neat
+IsTidy-before (File name info (suc size)) es neat = (omega arith, file-apart name info (suc size) es, neat)
+IsTidy-before (Empty zero) [] neat = tt
+IsTidy-before (Empty (suc size)) [] neat = (omega arith, tt, tt)
+IsTidy-before (Empty size) (Empty more ∷ es) neat = (omega (arith, neat.0), empty-apart more (size + more) es neat.1, neat.2)
+IsTidy-before (Empty zero) (File name info more ∷ es) neat = neat
+IsTidy-before (Empty (suc size)) (File name info more ∷ es) neat = (omega arith, tt, neat)
+
+pub IsTidy-tidy : (es : List DirEntry) → IsTidy (tidy es)
+IsTidy-tidy [] = tt
+IsTidy-tidy (e ∷ es) = IsTidy-before e (tidy es) (IsTidy-tidy es)
+
+-- an entry before a list that it may stand before
+before-apart : (e : DirEntry) (es : List DirEntry) → 0 < size_of e → Apart e es → before e es ≡ e ∷ es
+before-apart (File name info zero) es some apart = absurd (omega arith)
+before-apart (File name info (suc size)) es some apart = refl
+before-apart (Empty zero) es some apart = absurd (omega arith)
+before-apart (Empty (suc size)) [] some apart = refl
+before-apart (Empty (suc size)) (Empty more ∷ es) some apart = absurd apart
+before-apart (Empty (suc size)) (File name info more ∷ es) some apart = refl
+
+apart-head : (x y : DirEntry) (ys zs : List DirEntry) → Apart x (y ∷ ys) → Apart x (y ∷ zs)
+apart-head (File name info size) (File other words more) ys zs apart = tt
+apart-head (File name info size) (Empty more) ys zs apart = tt
+apart-head (Empty size) (File other words more) ys zs apart = tt
+apart-head (Empty size) (Empty more) ys zs apart = apart
+
+apart-append : (x : DirEntry) (front ys ws : List DirEntry) → ((x : DirEntry) → Apart x ys → Apart x ws) → Apart x (front ++ ys) → Apart x (front ++ ws)
+apart-append x [] ys ws same apart = same x apart
+apart-append x (y ∷ front) ys ws same apart = apart-head x y (front ++ ys) (front ++ ws) apart
+
+-- what stands behind the front of a tidy list is made tidy alone, where the front may stand before that too
+tidy-behind : (front ys zs ws : List DirEntry) → IsTidy (front ++ ys) → tidy zs ≡ ws → ((x : DirEntry) → Apart x ys → Apart x ws) → tidy (front ++ zs) ≡ front ++ ws
+tidy-behind [] ys zs ws neat done same = done
+tidy-behind (x ∷ front) ys zs ws neat done same =
+    ap (before x) (tidy-behind front ys zs ws neat.2 done same) ∙ before-apart x (front ++ ws) neat.0 (apart-append x front ys ws same neat.1)
+
+append-nil : (es : List DirEntry) → es ++ [] ≡ es
+append-nil [] = refl
+append-nil (e ∷ es) = ap (λ xs. e ∷ xs) (append-nil es)
+
+neat-nil : (es : List DirEntry) → IsTidy es → IsTidy (es ++ [])
+neat-nil es neat = rw (append-nil es) neat
+
+file-behind : (name : ℕ) (info : List ℕ) (size : ℕ) (x : DirEntry) → Apart x [] → Apart x (File name info size ∷ [])
+file-behind name info size (File other words more) apart = tt
+file-behind name info size (Empty more) apart = tt
+
+file-empty-behind : (name : ℕ) (info : List ℕ) (size more : ℕ) (x : DirEntry) → Apart x (File name info size ∷ []) → Apart x (File name info size ∷ Empty more ∷ [])
+file-empty-behind name info size more (File other words length) apart = tt
+file-empty-behind name info size more (Empty length) apart = tt
+
+empties-behind : (size more : ℕ) (x : DirEntry) → Apart x (Empty size ∷ []) → Apart x (Empty more ∷ [])
+empties-behind size more (File other words length) apart = tt
+empties-behind size more (Empty length) apart = apart
+
+-- an entry of length 0 behind a tidy list
+pub tidy-file_zero : (es : List DirEntry) (name : ℕ) (info : List ℕ) → IsTidy es → tidy (es ++ File name info 0 ∷ []) ≡ es
+tidy-file_zero es name info neat = tidy-behind es [] (File name info 0 ∷ []) [] (neat-nil es neat) refl (λ x apart. apart) ∙ append-nil es
+
+pub tidy-empty_zero : (es : List DirEntry) → IsTidy es → tidy (es ++ Empty 0 ∷ []) ≡ es
+tidy-empty_zero es neat = tidy-behind es [] (Empty 0 ∷ []) [] (neat-nil es neat) refl (λ x apart. apart) ∙ append-nil es
+
+-- a file behind a tidy list
+pub tidy-file : (es : List DirEntry) (name : ℕ) (info : List ℕ) (size : ℕ) → 0 < size → IsTidy es → tidy (es ++ File name info size ∷ []) ≡ es ++ File name info size ∷ []
+tidy-file es name info zero some neat = absurd (omega arith)
+tidy-file es name info (suc size) some neat = tidy-behind es [] (File name info (suc size) ∷ []) (File name info (suc size) ∷ []) (neat-nil es neat) refl (file-behind name info (suc size))
+
+-- an empty behind a tidy list: none stands before it, or one, or a file
+pub tidy-empty_first : (size : ℕ) → 0 < size → tidy (Empty size ∷ []) ≡ Empty size ∷ []
+tidy-empty_first zero some = absurd (omega arith)
+tidy-empty_first (suc size) some = refl
+
+tidy-two : (size more : ℕ) → 0 < more → tidy (Empty size ∷ Empty more ∷ []) ≡ Empty (size + more) ∷ []
+tidy-two size zero some = absurd (omega arith)
+tidy-two size (suc more) some = refl
+
+pub tidy-empty_empty : (front : List DirEntry) (size more : ℕ) → 0 < more → IsTidy (front ++ Empty size ∷ []) → tidy ((front ++ Empty size ∷ []) ++ Empty more ∷ []) ≡ front ++ Empty (size + more) ∷ []
+tidy-empty_empty front size more some neat = rw append_assoc (tidy-behind front (Empty size ∷ []) (Empty size ∷ Empty more ∷ []) (Empty (size + more) ∷ []) neat (tidy-two size more some) (empties-behind size (size + more)))
+
+last-some : (front : List DirEntry) (e : DirEntry) → IsTidy (front ++ e ∷ []) → 0 < size_of e
+last-some [] e neat = neat.0
+last-some (x ∷ front) e neat = last-some front e neat.2
+
+tidy-file_two : (name : ℕ) (info : List ℕ) (size more : ℕ) → 0 < size → 0 < more → tidy (File name info size ∷ Empty more ∷ []) ≡ File name info size ∷ Empty more ∷ []
+tidy-file_two name info zero more some_size some = absurd (omega arith)
+tidy-file_two name info (suc size) zero some_size some = absurd (omega arith)
+tidy-file_two name info (suc size) (suc more) some_size some = refl
+
+pub tidy-file_empty : (front : List DirEntry) (name : ℕ) (info : List ℕ) (size more : ℕ) → 0 < more → IsTidy (front ++ File name info size ∷ []) → tidy ((front ++ File name info size ∷ []) ++ Empty more ∷ []) ≡ (front ++ File name info size ∷ []) ++ Empty more ∷ []
+tidy-file_empty front name info size more some neat =
+    rw append_assoc (tidy-behind front (File name info size ∷ []) (File name info size ∷ Empty more ∷ []) (File name info size ∷ Empty more ∷ []) neat (tidy-file_two name info size more (last-some front (File name info size) neat) some) (file-empty-behind name info size more))
+
+pub room-le-size : (e : DirEntry) → room_of e ≤ size_of e
+room-le-size (File name info size) = omega arith
+room-le-size (Empty size) = omega arith
+
+last-split : (es : List DirEntry) → 0 < length es → (e : DirEntry) × (es ≡ take (length es - 1) es ++ e ∷ [])
+last-split [] some = absurd (omega arith)
+last-split (e ∷ []) some = (e, refl)
+last-split (e ∷ f ∷ es) some =
+    let behind = last-split (f ∷ es) (omega arith) in
+    let more : length (e ∷ f ∷ es) - 1 ≡ suc (length (f ∷ es) - 1) = omega arith in
+    (behind.0, rw more (ap (λ xs. e ∷ xs) behind.1))
+
+last_room-append : (front : List DirEntry) (last : DirEntry) → last_room (front ++ last ∷ []) ≡ room_of last
+last_room-append [] last = refl
+last_room-append (e ∷ []) last = refl
+last_room-append (e ∷ f ∷ front) last = last_room-append (f ∷ front) last
+
+tidy-room_behind : (front : List DirEntry) (last : DirEntry) (more : ℕ) → 0 < more → IsTidy (front ++ last ∷ []) → 0 < room_of last → tidy ((front ++ last ∷ []) ++ Empty more ∷ []) ≡ front ++ Empty (room_of last + more) ∷ []
+tidy-room_behind front (File name info size) more some neat room = absurd (omega arith)
+tidy-room_behind front (Empty size) more some neat room = tidy-empty_empty front size more some neat
+
+tidy-file_behind : (front : List DirEntry) (last : DirEntry) (more : ℕ) → 0 < more → IsTidy (front ++ last ∷ []) → room_of last ≡ 0 → tidy ((front ++ last ∷ []) ++ Empty more ∷ []) ≡ (front ++ last ∷ []) ++ Empty more ∷ []
+tidy-file_behind front (File name info size) more some neat none = tidy-file_empty front name info size more some neat
+tidy-file_behind front (Empty size) more some neat none = absurd (omega (arith, last-some front (Empty size) neat))
+
+last_room-some : (es : List DirEntry) → 0 < last_room es → 0 < length es
+last_room-some [] room = absurd (omega arith)
+last_room-some (e ∷ es) room = omega arith
+
+-- an empty behind a tidy list whose last entry is an empty
+pub tidy-append-room : (es : List DirEntry) (more : ℕ) → 0 < more → IsTidy es → 0 < last_room es → tidy (es ++ Empty more ∷ []) ≡ take (length es - 1) es ++ Empty (last_room es + more) ∷ []
+tidy-append-room es more some neat room =
+    let split = last-split es (last_room-some es room) in
+    let front = take (length es - 1) es in
+    let same : last_room es ≡ room_of split.0 = ap last_room split.1 ∙ last_room-append front split.0 in
+    let neat' : IsTidy (front ++ split.0 ∷ []) = subst IsTidy split.1 neat in
+    let joined = tidy-room_behind front split.0 more some neat' (omega arith) in
+    ap (λ xs. tidy (xs ++ Empty more ∷ [])) split.1 ∙ joined ∙ ap (λ n. front ++ Empty (n + more) ∷ []) (sym same)
+
+-- an empty behind a tidy list that ends with a file, or has no entry
+pub tidy-append-file : (es : List DirEntry) (more : ℕ) → 0 < more → IsTidy es → last_room es ≡ 0 → tidy (es ++ Empty more ∷ []) ≡ es ++ Empty more ∷ []
+tidy-append-file [] more some neat none = tidy-empty_first more some
+tidy-append-file (e ∷ es) more some neat none =
+    let split = last-split (e ∷ es) (omega arith) in
+    let front = take (length (e ∷ es) - 1) (e ∷ es) in
+    let same : last_room (e ∷ es) ≡ room_of split.0 = ap last_room split.1 ∙ last_room-append front split.0 in
+    let neat' : IsTidy (front ++ split.0 ∷ []) = subst IsTidy split.1 neat in
+    let behind = tidy-file_behind front split.0 more some neat' (omega arith) in
+    ap (λ xs. tidy (xs ++ Empty more ∷ [])) split.1 ∙ behind ∙ ap (λ xs. xs ++ Empty more ∷ []) (sym split.1)
+
+-- the size of the last empty is counted
+pub last_room-total : (es : List DirEntry) → last_room es ≤ total es
+last_room-total [] = omega arith
+last_room-total (e ∷ []) = omega (arith, room-le-size e)
+last_room-total (e ∷ f ∷ es) = omega (arith, last_room-total (f ∷ es))
+
+-- what stands where there was memory
+pub on_true-if : (b : Bool) (new added old wanted : List DirEntry) → new ≡ cond b added old → added ≡ wanted → OnTrue b (new ≡ wanted)
+on_true-if true new added old wanted is same = is ∙ same
+on_true-if false new added old wanted is same = tt
+
+pub last_room-at : (es : List DirEntry) (d : DirEntry) → 0 < length es → last_room es ≡ room_of (get_or es (length es - 1) d)
+last_room-at [] d some = absurd (omega arith)
+last_room-at (e ∷ []) d some = refl
+last_room-at (e ∷ f ∷ es) d some =
+    let more : length (e ∷ f ∷ es) - 1 ≡ suc (length (f ∷ es) - 1) = omega arith in
+    rw more (last_room-at (f ∷ es) d (omega arith))
+
+pub on_true-same : (b : Bool) (new wanted : List DirEntry) → new ≡ wanted → OnTrue b (new ≡ wanted)
+on_true-same true new wanted same = same
+on_true-same false new wanted same = tt

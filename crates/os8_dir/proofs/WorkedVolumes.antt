@@ -1,0 +1,63 @@
+-- The definitions on small volumes whose words are known.
+use Rattle.std.proofs.Common.{◌≡◌, ℕ, List, [], ◌∷◌, replicate, Some, Ok, Err, refl}
+use Rattle.os8_dir.specs.declared.entries.DirEntry.{DirEntry}
+use Rattle.os8_dir.specs.declared.entries.DirEntry.TheVariants.{File, Empty}
+use Rattle.os8_dir.specs.declared.faults.DirFault.TheVariants.{BadLink, SameName, MixedInfo}
+use Rattle.os8_dir.specs.Names.{name_of, parsed_name}
+use Rattle.os8_dir.specs.Reading.{directory_of, head_of, with_segment, with_entries, with_entry, with_links, entry_at, file_at, empty_at}
+use Rattle.os8_dir.specs.Found.{files_at, find, extent_of, rooms_at, largest, above, limit}
+use Rattle.os8_dir.specs.Files.{held_of}
+
+-- 20 blocks, of which block 1 has these words and zeros behind
+volume : List ℕ → List (List ℕ)
+volume words = [] ∷ words ∷ replicate 18 []
+
+-- an empty volume: one empty of 13 blocks from block 7 on
+empty_words : ℕ → List ℕ
+empty_words link = 4095 ∷ 7 ∷ link ∷ 0 ∷ 4095 ∷ 0 ∷ 4083 ∷ []
+
+read-empty : directory_of (volume (empty_words 0)) ≡ Ok (record { first = 7; info = 1; entries = Empty 13 ∷ [] })
+unfolding volume empty_words directory_of head_of with_segment with_entries with_entry with_links entry_at file_at empty_at
+read-empty = refl
+
+read-bad_link : directory_of (volume (empty_words 1)) ≡ Err (BadLink 1)
+unfolding volume empty_words directory_of head_of with_segment with_entries with_entry with_links entry_at file_at empty_at
+read-bad_link = refl
+
+read-mixed : directory_of (volume (empty_words 2)) ≡ Err MixedInfo
+unfolding volume empty_words directory_of head_of with_segment with_entries with_entry with_links entry_at file_at empty_at
+read-mixed = refl
+
+-- two files of one name
+read-same : directory_of (volume (4093 ∷ 7 ∷ 0 ∷ 0 ∷ 4095 ∷ 64 ∷ 0 ∷ 0 ∷ 0 ∷ 0 ∷ 4095 ∷ 64 ∷ 0 ∷ 0 ∷ 0 ∷ 0 ∷ 4095 ∷ 0 ∷ 4085 ∷ [])) ≡ Err SameName
+unfolding volume directory_of head_of with_segment with_entries with_entry with_links entry_at file_at empty_at
+read-same = refl
+
+-- PROG.PA
+name-program : parsed_name (80 ∷ 82 ∷ 79 ∷ 71 ∷ 46 ∷ 80 ∷ 65 ∷ []) ≡ Some (name_of (1042 ∷ 967 ∷ 0 ∷ 1025 ∷ []))
+name-program = refl
+
+-- an empty of 2 blocks, a file of 3, an empty of 4, a file of 1
+list : List DirEntry
+list = Empty 2 ∷ File 9 (5 ∷ []) 3 ∷ Empty 4 ∷ File 8 (6 ∷ []) 1 ∷ []
+
+found : extent_of (find 8 (files_at 7 list)) ≡ Some (16, 1)
+unfolding list
+found = refl
+
+room : largest (rooms_at 7 list) ≡ Some (12, 4)
+unfolding list
+room = refl
+
+counted : above list ≡ 2
+unfolding list
+counted = refl
+
+counted_behind : above (File 9 (5 ∷ []) 3 ∷ Empty 4 ∷ File 8 (6 ∷ []) 1 ∷ []) ≡ 1
+counted_behind = refl
+
+blocks_kept : held_of ([] ∷ (1 ∷ 2 ∷ []) ∷ (3 ∷ []) ∷ (4 ∷ []) ∷ []) 1 (find 9 (files_at 1 (File 9 (5 ∷ 0 ∷ []) 2 ∷ []))) ≡ Some (5 ∷ [], 1 ∷ 2 ∷ 3 ∷ [])
+blocks_kept = refl
+
+limit-one : limit (record { first = 7; info = 1; entries = [] }) ≡ 246
+limit-one = refl

@@ -1,0 +1,70 @@
+-- The files of a volume: a map from name to information words and words of all blocks.
+use Rattle.std.specs.Prelude.{◌≡◌, ℕ, List, [], ◌∷◌, ◌++◌, take, drop, Option, Some, None, Result, Ok, Err}
+use Rattle.std.specs.Ordering.{nat_cmp}
+use Rattle.std.specs.FinMap.{FinMap, from_entries}
+use Rattle.os8_dir.specs.declared.faults.DirFault.{DirFault}
+use Rattle.os8_dir.specs.Entries.{Listed, capacity}
+use Rattle.os8_dir.specs.Reading.{directory_of}
+use Rattle.os8_dir.specs.Found.{Placed, files_at, above, limit}
+
+-- what a file is: its information words, and the words of all its blocks
+abbrev pub Held : Type 0
+Held = List ℕ × List ℕ
+
+abbrev pub joined : List (List ℕ) → List ℕ
+joined [] = []
+joined (b ∷ bs) = b ++ joined bs
+
+-- the words of a run of blocks
+abbrev pub run : List (List ℕ) → ℕ → ℕ → List ℕ
+run blocks place size = joined (take size (drop place blocks))
+
+-- what the blocks hold of a file with so many information words
+abbrev pub held : List (List ℕ) → ℕ → Placed → Held
+held blocks info f = (take info f.info, run blocks f.place f.size)
+
+-- the same of each of some files, with its name
+abbrev pub held_by : List (List ℕ) → ℕ → List Placed → List (ℕ × Held)
+held_by blocks info [] = []
+held_by blocks info (f ∷ fs) = (f.name, held blocks info f) ∷ held_by blocks info fs
+
+-- the same of a file that may be there
+abbrev pub held_of : List (List ℕ) → ℕ → Option Placed → Option Held
+held_of blocks info None = None
+held_of blocks info (Some f) = Some (held blocks info f)
+
+abbrev pub Files : Type 0
+Files = FinMap nat_cmp Held
+
+-- the files of a directory over the blocks
+unfoldable pub files_in : List (List ℕ) → Listed → Files
+files_in blocks d = from_entries (held_by blocks d.info (files_at d.first d.entries))
+
+-- the files of a volume; one that isn't sound has none
+abbrev pub files_or : List (List ℕ) → Result Listed DirFault → Files
+files_or blocks (Ok d) = files_in blocks d
+files_or blocks (Err fault) = from_entries []
+
+unfoldable pub files_of : List (List ℕ) → Files
+files_of blocks = files_or blocks (directory_of blocks)
+
+-- a number of a sound volume's directory; 0 of another
+abbrev pub of_directory : (Listed → ℕ) → Result Listed DirFault → ℕ
+of_directory number (Ok d) = number d
+of_directory number (Err fault) = 0
+
+-- how many blocks the volume's directory covers
+unfoldable pub capacity_of : List (List ℕ) → ℕ
+capacity_of blocks = of_directory capacity (directory_of blocks)
+
+-- how many entries it may have
+unfoldable pub limit_of : List (List ℕ) → ℕ
+limit_of blocks = of_directory limit (directory_of blocks)
+
+-- how many files have a covered block of no file below them
+unfoldable pub above_of : List (List ℕ) → ℕ
+above_of blocks = of_directory (λ d. above d.entries) (directory_of blocks)
+
+-- no file has
+abbrev pub Tight : List (List ℕ) → Type 0
+Tight blocks = above_of blocks ≡ 0

@@ -1,0 +1,75 @@
+-- Names of files: six characters and two of extension in sixbit, two in a word (OS/8 Software Support Manual).
+use Rattle.std.specs.Prelude.{◌≡◌, ◌<◌, ◌⊎◌, ℕ, zero, suc, ◌+◌, ◌*◌, ◌/◌, ◌%◌, ◌==◌, ◌&&◌, nat_le, if◌then◌else◌, List, [], ◌∷◌, ◌++◌, length, Option, Some, None}
+use Rattle.word12.specs.Sixbit.{sixbit_code}
+
+-- a name's four words as one number, whose order is that of the words
+abbrev pub name_of : List ℕ → ℕ
+name_of (a ∷ b ∷ c ∷ d ∷ []) = ((a * 4096 + b) * 4096 + c) * 4096 + d
+name_of words = 0
+
+-- the four words of a name
+abbrev pub words_of_name : ℕ → List ℕ
+words_of_name n = n / 68719476736 ∷ n / 16777216 % 4096 ∷ n / 4096 % 4096 ∷ n % 4096 ∷ []
+
+-- four words of twelve bits
+abbrev pub IsFourWords : List ℕ → Type 0
+IsFourWords (a ∷ b ∷ c ∷ d ∷ []) = (a < 4096) × (b < 4096) × (c < 4096) × (d < 4096)
+IsFourWords words = ⊥
+
+-- the first words that differ are in order
+abbrev pub IsBefore : List ℕ → List ℕ → Type 0
+IsBefore [] ys = ⊥
+IsBefore (x ∷ xs) [] = ⊥
+IsBefore (x ∷ xs) (y ∷ ys) = (x < y) ⊎ ((x ≡ y) × IsBefore xs ys)
+
+-- the characters before the first dot
+abbrev pub before_dot : List ℕ → List ℕ
+before_dot [] = []
+before_dot (c ∷ cs) = if c == 46 then [] else c ∷ before_dot cs
+
+-- the characters behind the first dot, where there is one
+abbrev pub after_dot : List ℕ → Option (List ℕ)
+after_dot [] = None
+after_dot (c ∷ cs) = if c == 46 then Some cs else after_dot cs
+
+-- one more code
+abbrev pub with_code : Option ℕ → Option (List ℕ) → Option (List ℕ)
+with_code (Some code) (Some codes) = Some (code ∷ codes)
+with_code (Some code) None = None
+with_code None codes = None
+
+-- the sixbit codes of characters, where each has one
+abbrev pub codes_of : List ℕ → Option (List ℕ)
+codes_of [] = Some []
+codes_of (c ∷ cs) = with_code (sixbit_code c) (codes_of cs)
+
+-- the sixbit codes of one up to so many characters
+abbrev pub codes_within : ℕ → List ℕ → Option (List ℕ)
+codes_within most text = if nat_le 1 (length text) && nat_le (length text) most then codes_of text else None
+
+-- so many codes: these, and zeros behind
+abbrev pub padded : ℕ → List ℕ → List ℕ
+padded zero codes = []
+padded (suc size) [] = 0 ∷ padded size []
+padded (suc size) (code ∷ codes) = code ∷ padded size codes
+
+-- words of two codes each, the first code in the high six bits
+abbrev pub paired : List ℕ → List ℕ
+paired (high ∷ low ∷ codes) = (64 * high + low) ∷ paired codes
+paired (high ∷ []) = []
+paired [] = []
+
+-- the name that the codes of six characters and two of extension spell, fewer of them padded with 0
+abbrev pub spelled : Option (List ℕ) → Option (List ℕ) → Option ℕ
+spelled (Some stem) (Some extension) = Some (name_of (paired (padded 6 stem ++ padded 2 extension)))
+spelled (Some stem) None = None
+spelled None extension = None
+
+-- the codes of an extension; where no dot stands, there is none to spell
+abbrev pub extension_codes : Option (List ℕ) → Option (List ℕ)
+extension_codes None = Some []
+extension_codes (Some text) = codes_within 2 text
+
+-- the name that a text spells: 1 to 6 capital letters or digits, then nothing, or a dot and 1 or 2 more
+abbrev pub parsed_name : List ℕ → Option ℕ
+parsed_name text = spelled (codes_within 6 (before_dot text)) (extension_codes (after_dot text))

@@ -1,0 +1,64 @@
+-- What small steps of the code answer. No contract of a public function cites these.
+use Rattle.std.specs.Prelude.{◌≡◌, ℕ, ◌==◌, Bool, true, false, not, ◌&&◌, ◌||◌, List, [], ◌∷◌, Result, Ok, Err}
+use Rattle.std.specs.Ordering.{nat_cmp}
+use Rattle.std.specs.BTreeSet.{BTreeSet}
+use Rattle.std.specs.BTreeSet as set
+use Rattle.std.specs.Borrow.{Bor}
+use Rattle.os8_dir.specs.declared.entries.DirEntry.{DirEntry}
+use Rattle.os8_dir.specs.declared.entries.DirEntry.TheVariants.{File, Empty}
+use Rattle.os8_dir.specs.Entries.{is_zero}
+use Rattle.os8_dir.specs.Found.{room_of}
+use Rattle.os8_dir.specs.declared.faults.DirFault.{DirFault}
+use Rattle.os8_dir.specs.declared.faults.DirFault.TheVariants.{BadLink, BadCount, EntryPastSegment, PastVolume, SameName, WrongFirstBlock, MixedInfo, Device, Memory}
+use Rattle.os8_dir.specs.Reading.{Meets}
+
+-- the entry is the file of a name
+abbrev pub is_named : ℕ → DirEntry → Bool
+is_named name (File other info size) = not (is_zero size) && other == name
+is_named name (Empty size) = false
+
+-- a name is among those of a set
+abbrev pub has_key : BTreeSet ℕ → ℕ → Bool
+has_key names name = set.contains nat_cmp names name
+
+-- an entry of length 0 has no name, another's name is new
+abbrev pub is_new_to : (ℕ → Bool) → DirEntry → Bool
+is_new_to known (File name info size) = is_zero size || not (known name)
+is_new_to known (Empty size) = true
+
+-- an entry with the words behind it
+abbrev pub seen_entry : DirEntry × Bor (List ℕ) → DirEntry × List ℕ
+seen_entry p = (p.0, p.1.now)
+
+-- the blocks of the last entry where it is an empty, else 0
+abbrev pub last_room : List DirEntry → ℕ
+last_room [] = 0
+last_room (e ∷ []) = room_of e
+last_room (e ∷ f ∷ es) = last_room (f ∷ es)
+
+-- the fault that a step returned is that of the reading, but memory may be refused at any time; no step reads a block
+abbrev pub Finds : {Y : Type 0} → DirFault → Result Y DirFault → Type 0
+Finds (BadLink number) read = read ≡ Err (BadLink number)
+Finds (BadCount number) read = read ≡ Err (BadCount number)
+Finds EntryPastSegment read = read ≡ Err EntryPastSegment
+Finds PastVolume read = read ≡ Err PastVolume
+Finds SameName read = read ≡ Err SameName
+Finds WrongFirstBlock read = read ≡ Err WrongFirstBlock
+Finds MixedInfo read = read ≡ Err MixedInfo
+Finds Device read = ⊥
+Finds Memory read = Unit {0}
+
+-- what a step returned is what reading gives
+abbrev pub Shows : {X Y : Type 0} → (X → Y) → Result X DirFault → Result Y DirFault → Type 0
+Shows view (Ok x) read = read ≡ Ok (view x)
+Shows view (Err fault) read = Finds fault read
+
+-- what a step left of a value is what reading gives, where it returned Ok
+abbrev pub Leaves : {X Y : Type 0} → Result X DirFault → Y → Result Y DirFault → Type 0
+Leaves (Ok x) new read = read ≡ Ok new
+Leaves (Err fault) new read = Finds fault read
+
+-- the same of a step that reads blocks
+abbrev pub LeavesRead : {X Y : Type 0} → Result X DirFault → Y → Result Y DirFault → Type 0
+LeavesRead (Ok x) new read = read ≡ Ok new
+LeavesRead (Err fault) new read = Meets fault read

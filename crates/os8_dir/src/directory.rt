@@ -1,0 +1,114 @@
+ghost use Rattle.std.specs.Prelude.{◌≡◌, ℕ, ◌+◌, ◌<◌, ◌≤◌, length, IfOk};
+ghost use Rattle.os8_dir.specs.Entries.{Listed, minus as minus_of, size_of, total, IsTidy, capacity as capacity_of};
+ghost use Rattle.os8_dir.specs.Kept.{IsKept};
+ghost use Rattle.os8_dir.specs.Found.{files_at, rooms_at, find as found, extent_of, largest as largest_of, size_or_zero, free_blocks, used_blocks, limit as limit_of};
+
+use crate::found::{find, free_blocks, largest_room};
+use crate::{DirEntry, Name};
+use std::marker::Model;
+
+/// The directory of a volume: the entries of all its segments in order of their blocks (OS/8 Software Support Manual).
+#[derive(Drop)]
+pub struct Directory {
+    first: usize,
+    info: usize,
+    end: usize,
+    entries: Vec<DirEntry>,
+}
+
+impl Model for Directory {
+    ghost use Rattle.os8_dir.specs.Entries.{Listed};
+    ghost use Rattle.os8_dir.specs.Kept.{IsKept};
+
+    ghost Value = { Listed };
+
+    ghost view = { λ d. record { first = d.first; info = d.info; entries = d.entries.items } };
+
+    ghost invariant = { λ d. IsKept d.first d.info d.end d.entries.items };
+}
+
+impl Directory {
+    /// The first block and the length of the file of a name; nothing where no file has it (OS/8 Software Support
+    /// Manual).
+    pub fn find(&self, name: &Name) -> Option<(usize, usize)>
+        ensures { result ≡ extent_of (found name.now (files_at self.now.first self.now.entries)) }
+    {
+        find(self.entries.as_slice(), self.first, *name)
+    }
+
+    /// The length of the largest empty, 0 where there is none (this project's profile).
+    pub fn largest(&self) -> usize
+        ensures { result ≡ size_or_zero (largest_of (rooms_at self.now.first self.now.entries)) }
+    {
+        largest_room(self.entries.as_slice())
+    }
+
+    /// How many covered blocks belong to no file (this project's profile).
+    pub fn free(&self) -> usize
+        ensures empties { result ≡ free_blocks self.now.entries }
+        ensures files { result + used_blocks (files_at self.now.first self.now.entries) ≡ capacity_of self.now }
+    {
+        free_blocks(self.entries.as_slice())
+    }
+
+    /// The first block that the directory covers, 7 to 4095 (OS/8 Software Support Manual; 7 is this project's profile).
+    pub fn first_block(&self) -> usize
+        ensures value { result ≡ self.now.first }
+        ensures low { 7 ≤ result }
+        ensures high { result ≤ 4095 }
+    {
+        self.first
+    }
+
+    /// How many information words an entry of a file has, 0 to 10 (OS/8 Software Support Manual; 10 is this project's
+    /// profile).
+    pub fn information_words(&self) -> usize
+        ensures value { result ≡ self.now.info }
+        ensures range { result ≤ 10 }
+    {
+        self.info
+    }
+
+    /// How many blocks the directory covers, 0 to 4088 (OS/8 Software Support Manual).
+    pub fn capacity(&self) -> usize
+        ensures value { result ≡ capacity_of self.now }
+        ensures range { self.now.first + result ≤ 4095 }
+    {
+        self.end - self.first
+    }
+
+    /// How many entries six segments take, 96 to 300 (OS/8 Software Support Manual: a segment has 251 words for them).
+    pub fn limit(&self) -> usize
+        ensures value { result ≡ limit_of self.now }
+        ensures range { result ≤ 300 }
+    {
+        6 * (251 / (5 + self.info))
+    }
+
+    /// The entries in order of their blocks: none has length 0, and no empties touch (this project's profile).
+    pub fn entries(&self) -> &[DirEntry]
+        ensures list { result.now ≡ self.now.entries }
+        ensures neat { IsTidy self.now.entries }
+        ensures blocks { self.now.first + total self.now.entries ≤ 4095 }
+    {
+        self.entries.as_slice()
+    }
+
+    /// The directory of these entries; the block behind the last of them is `end`.
+    pub(crate) fn of_parts(
+        first: usize,
+        info: usize,
+        end: usize,
+        entries: Vec<DirEntry>,
+    ) -> Directory
+        requires { IsKept first info end entries.items }
+        ensures { result ≡ record { first = first; info = info; entries = entries.items } }
+    {
+        Directory {
+            first,
+            info,
+            end,
+            entries,
+        }
+    }
+}

@@ -1,0 +1,27 @@
+//! The directory of an OS/8 volume: the entries that its segments in blocks 1 to 6 hold, and the names of files.
+//!
+//! In each contract a [`Name`] is one number, its four words to the base 4096, and a [`Directory`] is its first block,
+//! how many information words its entries have, and the list of its entries in order of their blocks. Blocks are
+//! counted from 0, lengths in blocks of 256 words.
+#![tactic(auto)]
+
+mod appending;
+mod directory;
+mod drafts;
+mod entries;
+mod faults;
+mod found;
+mod items;
+mod known;
+pub mod laws;
+mod names;
+mod reading;
+mod volumes;
+
+pub use directory::Directory;
+pub use entries::DirEntry;
+pub use faults::DirFault;
+pub use names::Name;
+
+#[cfg(test)]
+mod tests;
