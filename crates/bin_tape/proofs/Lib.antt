@@ -3,3 +3,4 @@ pub mod ItemLemmas
 pub mod FrontLemmas
 pub mod ReaderLemmas
 pub mod Scan
+pub mod WritingLemmas

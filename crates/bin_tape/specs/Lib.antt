@@ -7,3 +7,5 @@ pub mod Progress
 pub mod Handed
 pub mod Reading
 pub mod Laws
+pub mod Pairs
+pub mod Writing

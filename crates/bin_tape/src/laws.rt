@@ -1,6 +1,6 @@
-//! Laws of BIN tapes: a tape has one reading, and what is no tape has one fault.
+//! Laws of BIN tapes: a tape has one reading, what is no tape has one fault, and what is written is a tape of its words.
 
-ghost use Rattle.std.specs.Prelude.{◌≡◌, ℕ, List, ◌∷◌, ◌++◌};
+ghost use Rattle.std.specs.Prelude.{◌≡◌, ℕ, ◌<◌, length, List, ◌∷◌, ◌++◌};
 ghost use Rattle.bin_tape.specs.Frames.{kept};
 ghost use Rattle.bin_tape.specs.Items.{Item, words_of, words_but_last};
 ghost use Rattle.bin_tape.specs.Tape.{IsTape, IsOpen};
@@ -8,6 +8,8 @@ ghost use Rattle.bin_tape.specs.Fault.{IsFault, Refuses};
 ghost use Rattle.bin_tape.specs.Laws.{IsClosed};
 ghost use Rattle.bin_tape.specs.Progress.{Progress};
 ghost use Rattle.bin_tape.specs.Reading.{HasRead};
+ghost use Rattle.bin_tape.specs.Pairs.{ArePairs, IsTapeOf};
+ghost use Rattle.bin_tape.specs.Writing.{tape_of};
 ghost use Rattle.bin_tape.specs.declared.faults.TapeFault.{TapeFault};
 
 /// Frames are a tape in one way only.
@@ -44,4 +46,10 @@ pub fn handed_words()
         → HasRead reader frames out → IsTape frames items → out ≡ words_of items }
     ensures of_front { (reader : Progress) (frames : List ℕ) (out : List (ℕ × ℕ)) (items : List Item) (part : List ℕ)
         → HasRead reader frames out → IsOpen (kept frames) items part → out ≡ words_but_last items }
+{}
+
+/// What is written for words with their cells is a tape of these words, whatever frames follow it; each cell has the
+/// word of the last pair there, and a cell that no pair names has none.
+pub fn written_tape()
+    ensures { (pairs : List (ℕ × ℕ)) (rest : List ℕ) → ArePairs pairs → 0 < length pairs → IsTapeOf (tape_of pairs ++ rest) pairs }
 {}

@@ -1,4 +1,4 @@
-//! BIN paper tapes: the grammar of a tape and of its first fault, and a reader that meets it frame by frame.
+//! BIN paper tapes: the grammar of a tape and of its first fault, a reader that meets it frame by frame, and a writer.
 //!
 //! A frame has eight bits. A tape is leader, then an origin and further origins, words and field settings, then a
 //! check sum and trailer; frames between two 0377 are ignored (PAL III Symbolic Assembler manual, BIN format).
@@ -8,9 +8,11 @@ mod faults;
 mod fronts;
 pub mod laws;
 mod readers;
+mod writing;
 
 pub use faults::TapeFault;
 pub use readers::{Tape, TapeReader};
+pub use writing::write_tape;
 
 #[cfg(test)]
 mod tests;

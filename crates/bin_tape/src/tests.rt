@@ -1,4 +1,5 @@
 mod plain;
+mod written;
 
 use super::*;
 use plain::Item;

@@ -1,11 +1,11 @@
 //! What holds of every volume and its directory. Each function does nothing: its contract is the law.
 ghost use Rattle.std.specs.Prelude.{◌≡◌, ◌<◌, ℕ, ◌⊎◌, List, length, Ok};
-ghost use Rattle.std.specs.FinMap.{get};
+ghost use Rattle.std.specs.FinMap.{get, from_entries};
 ghost use Rattle.os8_dir.specs.Names.{name_of, IsFourWords, IsBefore};
 ghost use Rattle.os8_dir.specs.Entries.{Listed, capacity};
 ghost use Rattle.os8_dir.specs.Reading.{Sound, HasFault, IsOfWords, directory_of};
 ghost use Rattle.os8_dir.specs.Found.{IsDirectory, files_at, find, limit, above};
-ghost use Rattle.os8_dir.specs.Files.{files_of, held_of, capacity_of, limit_of, above_of};
+ghost use Rattle.os8_dir.specs.Files.{files_of, held_of, capacity_of, limit_of, above_of, held_by};
 ghost use Rattle.os8_dir.specs.declared.faults.DirFault.{DirFault};
 
 /// A volume is sound or has a first fault, and never both.
@@ -28,6 +28,11 @@ pub fn sound_directory()
 /// The map of a sound volume's files has, for each name, what the blocks hold of the file that is found under it.
 pub fn files_found()
     ensures { (blocks : List (List ℕ)) (d : Listed) (name : ℕ) → directory_of blocks ≡ Ok d → get (files_of blocks) name ≡ held_of blocks d.info (find name (files_at d.first d.entries)) }
+{}
+
+/// The map of a sound volume's files is made of the files of its directory with what the blocks hold of each.
+pub fn files_made()
+    ensures { (blocks : List (List ℕ)) (d : Listed) → directory_of blocks ≡ Ok d → files_of blocks ≡ from_entries (held_by blocks d.info (files_at d.first d.entries)) }
 {}
 
 /// Of two names, the one whose first differing word is less comes first.

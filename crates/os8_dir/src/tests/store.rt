@@ -55,7 +55,7 @@ impl BlockStore for TestStore {
         }
         if fails {
             self.failed_reads += 1;
-            return Err(DeviceFault::Failed);
+            return Err(DeviceFault);
         }
         *words = self.blocks[number];
         Ok(())

@@ -1,0 +1,47 @@
+#!/usr/bin/env bash
+# Runs six programs of 100,000,000 steps and more on this processor and on SIMH's pdp8, unthrottled, in one run. Both load the
+# same tape; both must end in the same registers. Prints the processor seconds of each less those of a program that stops
+# at once, and how many times as fast this processor is. Takes simh and palbart from Debian's packages where they are missing.
+set -eu
+top=$(cd "$(dirname "${BASH_SOURCE[0]}")/.." && pwd)
+for package in simh palbart; do
+    dpkg -s $package >/dev/null 2>&1 || { apt-get update && apt-get install -y $package; } >&2
+done
+simh=/usr/bin/pdp8
+ours=$top/crates/cpu_bench/out/cpu_bench
+[ -x "$ours" ] || (cd "$top/crates/cpu_bench" && rt run <stdin >/dev/null)
+
+folder=$(mktemp -d)
+trap 'rm -rf "$folder"' EXIT
+cp "$top"/bench/cpu/*.pal "$folder"
+cd "$folder"
+
+# The processor seconds of a command, the least of five runs.
+seconds() {
+    local best= run
+    for _ in 1 2 3 4 5; do
+        TIMEFORMAT='%U %S'
+        run=$({ time "$@" >/dev/null 2>&1; } 2>&1 | awk '{ printf "%.3f", $1 + $2 }')
+        best=$(printf '%s\n%s\n' "${best:-$run}" "$run" | sort -g | head -n 1)
+    done
+    printf '%s' "$best"
+}
+run_ours() { "$ours" <"$1.bin"; }
+run_simh() { "$simh" "$1.sim" </dev/null; }
+
+for source in *.pal; do
+    name=${source%.pal}
+    palbart "$source" >/dev/null
+    printf 'load %s.bin\ngo 200\nex ac\nex l\nex pc\nquit\n' "$name" >"$name.sim"
+done
+idle_ours=$(seconds run_ours stop)
+idle_simh=$(seconds run_simh stop)
+printf '%-10s %8s %8s %6s\n' program ours simh ratio
+for name in isz copy multiply operate indirect wait; do
+    want=$(run_simh $name | awk '/^(AC|L|PC):/ { printf "%s%s", gap, $2; gap = " " }')
+    got=$(run_ours $name)
+    [ "$want" = "$got" ] || { echo "$name: simh ends with $want, we with $got" >&2; exit 1; }
+    awk -v name=$name -v ours="$(seconds run_ours $name)" -v simh="$(seconds run_simh $name)" \
+        -v idle_ours="$idle_ours" -v idle_simh="$idle_simh" \
+        'BEGIN { ours -= idle_ours; simh -= idle_simh; printf "%-10s %8.3f %8.3f %6.2f\n", name, ours, simh, simh / ours }'
+done

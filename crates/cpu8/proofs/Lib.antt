@@ -1,0 +1,4 @@
+pub mod RotationLemmas
+pub mod TurnLemmas
+pub mod StepLemmas
+pub mod RunLemmas

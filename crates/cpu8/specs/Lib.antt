@@ -1,0 +1,9 @@
+pub mod State
+pub mod Lending
+pub mod Decoding
+pub mod Reference
+pub mod Rotation
+pub mod Operate
+pub mod Transfer
+pub mod Step
+pub mod Laws

@@ -1,0 +1,93 @@
+-- The instructions that refer to memory: AND, TAD, ISZ, DCA, JMS, JMP (Small Computer Handbook). PC is the address of
+-- the instruction, w its word.
+use Rattle.std.specs.Prelude.{ℕ, ◌+◌, ◌*◌, ◌/◌, ◌%◌, Bool, false, ◌&&◌, nat_eq, nat_le, if◌then◌else◌, bit_and, List, slice_index, slice_set}
+use Rattle.tty8.specs.Bits.{has}
+use Rattle.cpu8.specs.State.{State, place}
+
+-- ## Addresses
+
+-- the address that the instruction names: its offset on its own page where the page bit (0200) is set, else on page 0
+abbrev pub named : State → ℕ → ℕ
+named s w = if has w 128 then s.pc / 128 * 128 + w % 128 else w % 128
+
+-- the indirect bit (0400)
+abbrev pub is_indirect : ℕ → Bool
+is_indirect w = has w 256
+
+-- where the pointer of an indirect reference stands
+abbrev pub pointer_place : State → ℕ → ℕ
+pointer_place s w = place s.instruction_field (named s w)
+
+-- a pointer at 0010 to 0017 is an auto-index
+abbrev pub is_auto_index : State → ℕ → Bool
+is_auto_index s w = is_indirect w && (nat_le 8 (named s w) && nat_le (named s w) 15)
+
+-- core once the pointer was read: an auto-index is first made one more, and kept so
+abbrev pub indexed : State → ℕ → List ℕ
+indexed s w =
+    if is_auto_index s w then slice_set s.core (pointer_place s w) ((slice_index s.core (pointer_place s w) + 1) % 4096)
+    else s.core
+
+-- the address of the reference: what the instruction names, or the pointer's word there
+abbrev pub address : State → ℕ → ℕ
+address s w = if is_indirect w then slice_index (indexed s w) (pointer_place s w) else named s w
+
+-- where the operand of AND, TAD, ISZ and DCA stands: in the data field for an indirect reference, else in the
+-- instruction field
+abbrev pub operand_place : State → ℕ → ℕ
+operand_place s w = place (if is_indirect w then s.data_field else s.instruction_field) (address s w)
+
+abbrev pub operand : State → ℕ → ℕ
+operand s w = slice_index (indexed s w) (operand_place s w)
+
+-- ## Rows
+
+-- what every instruction does: PC goes on by one, and the waiting of ION is over
+abbrev pub passed : State → State
+passed s = record s { pc = (s.pc + 1) % 4096; waiting = false }
+
+-- and what every reference to memory does
+abbrev pub referred : State → ℕ → State
+referred s w = record (passed s) { core = indexed s w }
+
+abbrev pub and_row : State → ℕ → State
+and_row s w = record (referred s w) { ac = bit_and s.ac (operand s w) }
+
+-- a carry out of AC complements L
+abbrev pub tad_row : State → ℕ → State
+tad_row s w = record (referred s w) {
+  ac = (s.ac + operand s w) % 4096;
+  l = (s.l + (s.ac + operand s w) / 4096) % 2;
+}
+
+-- the operand, one more
+abbrev pub raised : State → ℕ → ℕ
+raised s w = (operand s w + 1) % 4096
+
+-- the next instruction is skipped if the operand becomes 0
+abbrev pub isz_row : State → ℕ → State
+isz_row s w = record (referred s w) {
+  core = slice_set (indexed s w) (operand_place s w) (raised s w);
+  pc = (s.pc + (if nat_eq (raised s w) 0 then 2 else 1)) % 4096;
+}
+
+abbrev pub dca_row : State → ℕ → State
+dca_row s w = record (referred s w) {
+  core = slice_set (indexed s w) (operand_place s w) s.ac;
+  ac = 0;
+}
+
+-- JMS and JMP go to the field of the instruction buffer, and end the holding off of interrupts
+abbrev pub jmp_row : State → ℕ → State
+jmp_row s w = record (referred s w) {
+  pc = address s w;
+  instruction_field = s.instruction_buffer;
+  held_off = false;
+}
+
+-- JMS stores PC at the address in the new field, and goes on behind it
+abbrev pub jms_row : State → ℕ → State
+jms_row s w = record (jmp_row s w) {
+  core = slice_set (indexed s w) (place s.instruction_buffer (address s w)) ((s.pc + 1) % 4096);
+  pc = (address s w + 1) % 4096;
+}

@@ -1,0 +1,81 @@
+-- The state of a PDP-8/I with MC8 extended memory and a Teletype (Small Computer Handbook).
+use Rattle.std.specs.Prelude.{ℕ, ◌+◌, ◌*◌, Bool, true, false, ◌&&◌, not, List}
+use Rattle.tty8.specs.Teletype.{TeletypeState, idle, cleared, struck, finished, is_requesting}
+
+pub record State : Type 0 where
+  -- the words of core, each at the number of its cell
+  pub core : List ℕ
+  -- the link, 0 or 1
+  pub l : ℕ
+  -- the accumulator
+  pub ac : ℕ
+  -- the program counter
+  pub pc : ℕ
+  -- the field of instructions, and of the direct references to memory
+  pub instruction_field : ℕ
+  -- the instruction field from the next JMP or JMS on
+  pub instruction_buffer : ℕ
+  -- the field of the operands of indirect references
+  pub data_field : ℕ
+  -- the fields at the last interrupt: 8 times the instruction field, plus the data field
+  pub save_field : ℕ
+  -- the switch register
+  pub switches : ℕ
+  pub running : Bool
+  pub interrupts_on : Bool
+  -- ION was the last instruction: interrupts wait for one more
+  pub waiting : Bool
+  -- CIF or RMF was given: interrupts are held off until the next JMP or JMS
+  pub held_off : Bool
+  pub teletype : TeletypeState
+
+-- the number of the cell of an address in a field
+abbrev pub place : ℕ → ℕ → ℕ
+place field address = 4096 * field + address
+
+-- ## What the console and the Teletype do
+
+-- a new machine with this core is stopped, and all its registers and flags are 0
+abbrev pub stopped : List ℕ → State
+stopped core = record {
+  core = core;
+  l = 0;
+  ac = 0;
+  pc = 0;
+  instruction_field = 0;
+  instruction_buffer = 0;
+  data_field = 0;
+  save_field = 0;
+  switches = 0;
+  running = false;
+  interrupts_on = false;
+  waiting = false;
+  held_off = false;
+  teletype = idle;
+}
+
+-- A start at an address of a field clears all but core, the keyboard's buffer and the switches (this project's
+-- profile).
+abbrev pub started : State → ℕ → ℕ → State
+started s field address = record (stopped s.core) {
+  pc = address;
+  instruction_field = field;
+  instruction_buffer = field;
+  data_field = field;
+  switches = s.switches;
+  running = true;
+  teletype = cleared s.teletype;
+}
+
+-- a key of this character is struck
+abbrev pub key_struck : State → ℕ → State
+key_struck s character = record s { teletype = struck s.teletype character }
+
+-- the printer ends its character, if it has one
+abbrev pub printer_done : State → State
+printer_done s = record s { teletype = finished s.teletype }
+
+-- Whether an interrupt comes in place of the next instruction: interrupts are on, the instruction after ION is done,
+-- no CIF or RMF waits for its jump, and a flag of the Teletype is set.
+abbrev pub is_asking : State → Bool
+is_asking s = s.interrupts_on && (not s.waiting && (not s.held_off && is_requesting s.teletype))

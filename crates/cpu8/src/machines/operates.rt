@@ -1,0 +1,152 @@
+//! The operate instructions.
+
+ghost use Rattle.std.specs.Prelude.{◌≡◌, ◌-◌, ◌<◌, ◌≤◌, if◌then◌else◌};
+ghost use Rattle.cpu8.specs.Operate.{unassigned_row, is_group1_unassigned, group1_l, group1_ac, group1_sum, group1_number, group1_row, is_met, group2_skips, group2_ac, group2_row, operate_row};
+ghost use Rattle.cpu8.specs.Transfer.{skipped};
+
+use super::Machine;
+use crate::Stepped;
+use crate::outcomes::RAN;
+use crate::rotations::rotate;
+use word12::Word;
+
+impl Machine {
+    /// An operate instruction of this word.
+    #[inline]
+    pub(super) fn operate(&mut self, word: Word) -> Stepped
+        ensures state { self.new ≡ (operate_row self.old word).0 }
+        ensures answer { result ≡ (operate_row self.old word).1 }
+    {
+        let bits = word.get();
+        if bits / 256 % 2 == 0 {
+            return self.group1(word);
+        }
+        if bits % 2 == 0 {
+            return self.group2(word);
+        }
+        self.unassigned(word)
+    }
+
+    /// The machine stops at an unassigned word.
+    fn unassigned(&mut self, word: Word) -> Stepped
+        ensures state { self.new ≡ (unassigned_row self.old word).0 }
+        ensures answer { result ≡ (unassigned_row self.old word).1 }
+    {
+        self.running = false;
+        Stepped::Unassigned(word)
+    }
+
+    #[inline]
+    fn group1(&mut self, word: Word) -> Stepped
+        ensures state { self.new ≡ (group1_row self.old word).0 }
+        ensures answer { result ≡ (group1_row self.old word).1 }
+    {
+        if is_unassigned(word.get()) {
+            return self.unassigned(word);
+        }
+        self.pass();
+        let number = group1_number(word.get(), self.l, self.ac.get());
+        self.l = (number / 4096) as u8;
+        self.ac = Word::low(number);
+        RAN
+    }
+
+    #[inline]
+    fn group2(&mut self, word: Word) -> Stepped
+        ensures state { self.new ≡ (group2_row self.old word).0 }
+        ensures answer { result ≡ (group2_row self.old word).1 }
+    {
+        let bits = word.get();
+        let skips = group2_skips(bits, self.l, self.ac.get());
+        self.skip(skips);
+        self.ac = group2_ac(bits, self.ac, self.switches);
+        if bits / 2 % 2 == 1 {
+            self.running = false;
+            return Stepped::Halted;
+        }
+        RAN
+    }
+
+    /// PC goes on by one, or by two where the instruction skips, and the waiting of ION is over.
+    #[inline]
+    pub(super) fn skip(&mut self, skips: bool)
+        ensures { self.new ≡ skipped self.old skips }
+    {
+        self.pass();
+        if skips {
+            self.pc = self.pc.plus(Word::ONE);
+        }
+    }
+}
+
+/// Whether a word of group 1 is unassigned.
+#[inline]
+fn is_unassigned(word: u16) -> bool
+    ensures { result ≡ is_group1_unassigned word }
+{
+    let right = word / 8 % 2 == 1;
+    let left = word / 4 % 2 == 1;
+    let twice = word / 2 % 2 == 1;
+    right && left || twice && !(right || left)
+}
+
+/// L and AC, as one number of thirteen bits, after a word of group 1.
+#[tactic(auto, using(crate::proofs::RotationLemmas::number_of_thirteen), unfolding(crate::specs::Operate::group1_number))]
+#[inline]
+fn group1_number(word: u16, l: u8, ac: u16) -> u16
+    requires l { l < 2 }
+    requires ac { ac < 4096 }
+    ensures number { result ≡ group1_number word l ac }
+    ensures range { result < 8192 }
+{
+    rotate(word, group1_sum(word, l, ac))
+}
+
+/// L and AC, as one number of thirteen bits, before the rotation.
+#[inline]
+fn group1_sum(word: u16, l: u8, ac: u16) -> u16
+    requires l { l < 2 }
+    requires ac { ac < 4096 }
+    ensures number { result ≡ group1_sum word l ac }
+    ensures range { result < 8192 }
+{
+    let l = cleared_and_complemented(u16::from(l), word / 64 % 2 == 1, word / 16 % 2 == 1, 1);
+    let ac = cleared_and_complemented(ac, word / 128 % 2 == 1, word / 32 % 2 == 1, 4095);
+    (4096 * l + ac + word % 2) % 8192
+}
+
+/// A register after it may be cleared, and then may be complemented; with each bit set it is `ones`.
+#[inline]
+fn cleared_and_complemented(value: u16, clears: bool, complements: bool, ones: u16) -> u16
+    requires { value ≤ ones }
+    ensures value { let cleared = if clears then 0 else value in result ≡ (if complements then ones - cleared else cleared) }
+    ensures range { result ≤ ones }
+{
+    let cleared = if clears { 0 } else { value };
+    if complements { ones - cleared } else { cleared }
+}
+
+/// Whether a word of group 2 skips.
+#[inline]
+fn group2_skips(word: u16, l: u8, ac: u16) -> bool
+    ensures { result ≡ group2_skips word l ac }
+{
+    let negative = word / 64 % 2 == 1 && ac / 2048 % 2 == 1;
+    let zero = word / 32 % 2 == 1 && ac == 0;
+    let link = word / 16 % 2 == 1 && l == 1;
+    let is_met = negative || zero || link;
+    if word / 8 % 2 == 1 { !is_met } else { is_met }
+}
+
+/// AC after a word of group 2.
+#[inline]
+fn group2_ac(word: u16, ac: Word, switches: Word) -> Word
+    ensures { result ≡ group2_ac word ac switches }
+{
+    let cleared = if word / 128 % 2 == 1 { Word::ZERO } else { ac };
+    if word / 4 % 2 == 1 {
+        cleared.or(switches)
+    } else {
+        cleared
+    }
+}

@@ -1,0 +1,141 @@
+//! The registers and flags, as a console shows them.
+
+ghost use Rattle.std.specs.Prelude.{◌≡◌, ◌<◌};
+
+use super::Machine;
+use word12::Word;
+
+impl Machine {
+    /// The accumulator.
+    #[inline]
+    pub fn ac(&self) -> Word
+        ensures { result ≡ self.now.ac }
+    {
+        self.ac
+    }
+
+    /// The link, 0 or 1.
+    #[inline]
+    pub fn l(&self) -> u8
+        ensures value { result ≡ self.now.l }
+        ensures range { result < 2 }
+    {
+        self.l
+    }
+
+    /// The program counter: an address in the instruction field.
+    #[inline]
+    pub fn pc(&self) -> Word
+        ensures { result ≡ self.now.pc }
+    {
+        self.pc
+    }
+
+    /// The instruction field, 0 to 7.
+    #[inline]
+    pub fn instruction_field(&self) -> u8
+        ensures value { result ≡ self.now.instruction_field }
+        ensures range { result < 8 }
+    {
+        self.instruction_field
+    }
+
+    /// The instruction buffer, 0 to 7: the instruction field from the next JMP or JMS on.
+    #[inline]
+    pub fn instruction_buffer(&self) -> u8
+        ensures value { result ≡ self.now.instruction_buffer }
+        ensures range { result < 8 }
+    {
+        self.instruction_buffer
+    }
+
+    /// The data field, 0 to 7.
+    #[inline]
+    pub fn data_field(&self) -> u8
+        ensures value { result ≡ self.now.data_field }
+        ensures range { result < 8 }
+    {
+        self.data_field
+    }
+
+    /// The save field, 0 to 63: at the last interrupt, 8 times the instruction field, plus the data field.
+    #[inline]
+    pub fn save_field(&self) -> u8
+        ensures value { result ≡ self.now.save_field }
+        ensures range { result < 64 }
+    {
+        self.save_field
+    }
+
+    /// The switch register.
+    #[inline]
+    pub fn switch_register(&self) -> Word
+        ensures { result ≡ self.now.switches }
+    {
+        self.switches
+    }
+
+    /// The keyboard's buffer, eight bits.
+    #[inline]
+    pub fn keyboard_buffer(&self) -> u8
+        ensures { result ≡ self.now.teletype.buffer }
+    {
+        self.teletype.buffer()
+    }
+
+    /// Whether the machine runs.
+    #[inline]
+    pub fn is_running(&self) -> bool
+        ensures { result ≡ self.now.running }
+    {
+        self.running
+    }
+
+    /// Whether interrupts are on.
+    #[inline]
+    pub fn interrupts_on(&self) -> bool
+        ensures { result ≡ self.now.interrupts_on }
+    {
+        self.interrupts_on
+    }
+
+    /// Whether interrupts wait for the instruction after ION.
+    #[inline]
+    pub fn is_waiting(&self) -> bool
+        ensures { result ≡ self.now.waiting }
+    {
+        self.waiting
+    }
+
+    /// Whether a CIF or RMF holds interrupts off until the next JMP or JMS.
+    #[inline]
+    pub fn is_held_off(&self) -> bool
+        ensures { result ≡ self.now.held_off }
+    {
+        self.held_off
+    }
+
+    /// The keyboard flag.
+    #[inline]
+    pub fn keyboard_flag(&self) -> bool
+        ensures { result ≡ self.now.teletype.keyboard_flag }
+    {
+        self.teletype.keyboard_flag()
+    }
+
+    /// The printer flag.
+    #[inline]
+    pub fn printer_flag(&self) -> bool
+        ensures { result ≡ self.now.teletype.printer_flag }
+    {
+        self.teletype.printer_flag()
+    }
+
+    /// Whether the printer is printing a character.
+    #[inline]
+    pub fn is_busy(&self) -> bool
+        ensures { result ≡ self.now.teletype.busy }
+    {
+        self.teletype.is_busy()
+    }
+}

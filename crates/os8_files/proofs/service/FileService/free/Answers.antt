@@ -1,0 +1,17 @@
+use Rattle.std.proofs.Common.{◌+◌, ap, sym, refl, ◌∙◌}
+use Rattle.os8_dir.specs.Files.{files_of, capacity_of}
+use Rattle.os8_files.specs.Mounted.{Mounted}
+use Rattle.os8_files.specs.Service.{used_of}
+use Rattle.os8_files.proofs.ListingLemmas.{used_of-read}
+use Rattle.os8_files.proofs.service.FileService.free.Goals as goal
+
+pub returns : goal.returns
+returns g c = λ running.
+    let d = c.self.inside.directory in
+    let blocks = g.S.BlockStore.contents c.self.inside.store in
+    let kept = c.self.invariant.kept refl in
+    ap (λ (m : Mounted). c.free.result + used_of (files_of m.blocks)) (sym c.self.view_is)
+    ∙ ap (λ n. c.free.result + n) (used_of-read blocks d c.self.invariant.volume.each (c.files_made.ensures blocks d kept) (c.sound_directory.ensures blocks d kept))
+    ∙ c.free.ensures.files
+    ∙ sym (c.directory_numbers.ensures.capacity blocks d kept)
+    ∙ ap (λ (m : Mounted). capacity_of m.blocks) c.self.view_is

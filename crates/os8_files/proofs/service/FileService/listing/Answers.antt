@@ -1,0 +1,17 @@
+use Rattle.std.proofs.Common.{ap, sym, refl, ◌∙◌}
+use Rattle.os8_dir.specs.Files.{files_of}
+use Rattle.os8_files.specs.Mounted.{Mounted}
+use Rattle.os8_files.specs.Service.{lengths_of}
+use Rattle.os8_files.specs.Lengths.{lengths_in}
+use Rattle.os8_files.proofs.ListingLemmas.{lengths_of-read}
+use Rattle.os8_files.proofs.service.FileService.listing.Goals as goal
+
+pub returns-clause-files : goal.returns-clause-files
+returns-clause-files g c = λ running.
+    let d = c.self.inside.directory in
+    let blocks = g.S.BlockStore.contents c.self.inside.store in
+    let kept = c.self.invariant.kept refl in
+    c.in_ok-list.ensures
+    ∙ ap lengths_in c.entries.ensures.list
+    ∙ sym (lengths_of-read blocks d c.self.invariant.volume.each (c.files_made.ensures blocks d kept) (c.sound_directory.ensures blocks d kept))
+    ∙ ap (λ (m : Mounted). lengths_of (files_of m.blocks)) c.self.view_is

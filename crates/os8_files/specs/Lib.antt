@@ -1,0 +1,3 @@
+pub mod Mounted
+pub mod Service
+pub mod Lengths

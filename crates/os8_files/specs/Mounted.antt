@@ -1,0 +1,29 @@
+-- What is seen of a mounted volume.
+use Rattle.std.specs.Prelude.{◌≡◌, ℕ, Bool, false, Option, List, Ok}
+use Rattle.volume_image.specs.Volume.{IsVolume}
+use Rattle.os8_dir.specs.Entries.{Listed}
+use Rattle.os8_dir.specs.Reading.{directory_of}
+
+-- a file that is being written: its name, its first block, the blocks that it may grow to, and those written
+pub record Begun : Type 0 where
+  pub name : ℕ
+  pub place : ℕ
+  pub room : ℕ
+  pub written : ℕ
+
+pub record Mounted : Type 0 where
+  -- the words of the store's blocks
+  pub blocks : List (List ℕ)
+  pub reads : ℕ
+  pub failed_reads : ℕ
+  pub failed_writes : ℕ
+  -- a write has failed
+  pub stopped : Bool
+  -- the names that are held, in name order, one as often as it is held
+  pub holds : List ℕ
+  pub tentative : Option Begun
+
+-- the entries that are kept are those of the volume, which is sound, until a write fails
+pub record IsKept (blocks : List (List ℕ)) (directory : Listed) (stopped : Bool) : Type 0 where
+  pub volume : IsVolume blocks
+  pub kept : stopped ≡ false → directory_of blocks ≡ Ok directory

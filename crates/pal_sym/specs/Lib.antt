@@ -1,0 +1,4 @@
+pub mod Names
+pub mod Permanent
+pub mod SymbolTable
+pub mod Values

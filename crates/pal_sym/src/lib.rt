@@ -1,0 +1,18 @@
+//! The symbols of a PAL III source: names of which six characters count, and the value that each stands for.
+//!
+//! Permanent names have their values from the start; a source defines further ones, each once or again to the same
+//! value (PAL III Symbolic Assembler manual, and this project's profile of it). In each contract a [`SymbolName`] is a
+//! number, and a [`Symbols`] is a finite map from such numbers to words, beside the room that is made for new names.
+#![tactic(auto)]
+
+mod faults;
+mod names;
+mod permanent_names;
+mod tables;
+
+pub use faults::SymFault;
+pub use names::SymbolName;
+pub use tables::Symbols;
+
+#[cfg(test)]
+mod tests;
