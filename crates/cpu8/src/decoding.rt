@@ -28,9 +28,10 @@ pub(crate) enum Device {
 
 #[inline]
 pub(crate) fn operation_of(word: u16) -> Operation
+    requires { word < 4096 }
     ensures { result ≡ operation_of word }
 {
-    match word / 512 {
+    match word / 512 % 8 {
         0 => Operation::And,
         1 => Operation::Tad,
         2 => Operation::Isz,

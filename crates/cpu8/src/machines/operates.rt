@@ -3,6 +3,7 @@
 ghost use Rattle.std.specs.Prelude.{◌≡◌, ◌-◌, ◌<◌, ◌≤◌, if◌then◌else◌};
 ghost use Rattle.cpu8.specs.Operate.{unassigned_row, is_group1_unassigned, group1_l, group1_ac, group1_sum, group1_number, group1_row, is_met, group2_skips, group2_ac, group2_row, operate_row};
 ghost use Rattle.cpu8.specs.Transfer.{skipped};
+ghost use Rattle.tty8.specs.Bits.{has};
 
 use super::Machine;
 use crate::Stepped;
@@ -110,20 +111,41 @@ fn group1_sum(word: u16, l: u8, ac: u16) -> u16
     ensures number { result ≡ group1_sum word l ac }
     ensures range { result < 8192 }
 {
-    let l = cleared_and_complemented(u16::from(l), word / 64 % 2 == 1, word / 16 % 2 == 1, 1);
-    let ac = cleared_and_complemented(ac, word / 128 % 2 == 1, word / 32 % 2 == 1, 4095);
+    let (l, ac) = cleared(word, u16::from(l), ac);
+    let (l, ac) = complemented(word, l, ac);
     (4096 * l + ac + word % 2) % 8192
 }
 
-/// A register after it may be cleared, and then may be complemented; with each bit set it is `ones`.
+/// L and AC after 0100 and 0200 clear them.
 #[inline]
-fn cleared_and_complemented(value: u16, clears: bool, complements: bool, ones: u16) -> u16
-    requires { value ≤ ones }
-    ensures value { let cleared = if clears then 0 else value in result ≡ (if complements then ones - cleared else cleared) }
-    ensures range { result ≤ ones }
+fn cleared(word: u16, l: u16, ac: u16) -> (u16, u16)
+    requires l { l < 2 }
+    requires ac { ac < 4096 }
+    ensures l { result.0 ≡ (if has word 64 then 0 else l) }
+    ensures ac { result.1 ≡ (if has word 128 then 0 else ac) }
 {
-    let cleared = if clears { 0 } else { value };
-    if complements { ones - cleared } else { cleared }
+    match word / 64 % 4 {
+        0 => (l, ac),
+        1 => (0, ac),
+        2 => (l, 0),
+        _ => (0, 0),
+    }
+}
+
+/// L and AC after 0020 and 0040 complement them.
+#[inline]
+fn complemented(word: u16, l: u16, ac: u16) -> (u16, u16)
+    requires l { l < 2 }
+    requires ac { ac < 4096 }
+    ensures l { result.0 ≡ (if has word 16 then 1 - l else l) }
+    ensures ac { result.1 ≡ (if has word 32 then 4095 - ac else ac) }
+{
+    match word / 16 % 4 {
+        0 => (l, ac),
+        1 => (1 - l, ac),
+        2 => (l, 4095 - ac),
+        _ => (1 - l, 4095 - ac),
+    }
 }
 
 /// Whether a word of group 2 skips.
