@@ -1,3 +1,12 @@
 pub mod ByteLemmas
-pub mod MarkLemmas
 pub mod LineLemmas
+pub mod MarkLemmas
+pub mod CutLemmas
+pub mod QuietLemmas
+pub mod ToldLemmas
+pub mod EntryLemmas
+pub mod TextLemmas
+pub mod WalkLemmas
+pub mod NumberLemmas
+pub mod TaskLemmas
+pub mod PlainLemmas

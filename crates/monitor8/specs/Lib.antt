@@ -1,4 +1,9 @@
 pub mod Reading
 pub mod Listing
-pub mod Faults
 pub mod Lists
+pub mod System
+pub mod Session
+pub mod Items
+pub mod Script
+pub mod Program
+pub mod Tasks

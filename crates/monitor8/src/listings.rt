@@ -6,13 +6,13 @@ ghost use Rattle.core_load.specs.Load.{IsOverlaid};
 ghost use Rattle.monitor8.specs.Reading.{Takes};
 ghost use Rattle.monitor8.specs.Listing.{cell_line, lines_below, Marks, IsMarked};
 ghost use Rattle.monitor8.specs.Lists.{IsListed, IsListingFault, ListsTape};
-ghost use Rattle.monitor8.specs.declared.faults.SessionFault.TheVariants as fault;
+ghost use Rattle.script8.specs.declared.faults.SessionFault.TheVariants as fault;
 
-use crate::SessionFault;
 use crate::readings::read_all;
 use bin_tape::TapeReader;
 use bin_tape::laws::handed_words;
 use core_load::{Core, load};
+use script8::SessionFault;
 use std::alloc::{AllocError, Global};
 use std::io::{Read, Write};
 use word12::{Cell, Word};

@@ -1,7 +1,7 @@
-ghost use Rattle.std.specs.Prelude.{◌≡◌, ℕ, ◌+◌, ◌<◌, ◌≤◌, length, vec_len, IfOk, MatchResult};
-ghost use Rattle.monitor8.specs.Reading.{Reads, IsReadWithin, IsReadFault};
+ghost use Rattle.std.specs.Prelude.{◌≡◌, ℕ, ◌+◌, ◌<◌, ◌≤◌, [], length, vec_len, IfOk, MatchResult};
+ghost use Rattle.monitor8.specs.Reading.{Reads, ReadsWithin, Ends, IsReadWithin, IsReadFault};
 
-use crate::SessionFault;
+use script8::SessionFault;
 use std::alloc::{AllocError, Global};
 use std::io::{self, ErrorKind, Read};
 
@@ -16,11 +16,34 @@ pub fn read_all<R: Read>(alloc: Global, reader: &mut R) -> Result<Vec<u8>, Sessi
     ensures { MatchResult result (λ bytes. IsReadWithin 16777216 (R.remaining reader.old) (R.remaining reader.new) bytes.items)
         (λ fault. IsReadFault 16777216 (R.remaining reader.old) (R.remaining reader.new) fault) }
 {
-    let mut piece = zero_bytes(alloc, PIECE)?;
     let mut bytes = Vec::new(alloc);
+    let at_end = read_within(alloc, reader, &mut bytes)?;
+    if at_end {
+        return Ok(bytes);
+    }
+    if ends(reader) {
+        return Ok(bytes);
+    }
+    Err(SessionFault::Reader)
+}
+
+/// Reads `MOST` bytes at most, and answers whether the reader ended with them. Where it fails, the bytes that it gave are
+/// kept.
+pub fn read_within<R: Read>(
+    alloc: Global,
+    reader: &mut R,
+    bytes: &mut Vec<u8>,
+) -> Result<bool, SessionFault>
+    requires { bytes.old.items ≡ [] }
+    ensures { ReadsWithin 16777216 (R.remaining reader.old) (R.remaining reader.new) bytes.new.items result }
+{
+    let mut piece = zero_bytes(alloc, PIECE)?;
     for _ in 0..u64::MAX {
-        if read_piece(reader, &mut piece, &mut bytes)? {
-            return Ok(bytes);
+        if bytes.len() == MOST {
+            return Ok(false);
+        }
+        if read_piece(reader, &mut piece, bytes)? {
+            return Ok(true);
         }
     }
     Err(SessionFault::Reader)
@@ -33,16 +56,13 @@ fn read_piece<R: Read>(
     bytes: &mut Vec<u8>,
 ) -> Result<bool, SessionFault>
     requires piece { 0 < length piece.old }
-    requires bytes { vec_len bytes.old ≤ 16777216 }
+    requires bytes { vec_len bytes.old < 16777216 }
     ensures { Reads 16777216 (R.remaining reader.old) (R.remaining reader.new) bytes.old.items bytes.new.items result }
 {
-    let room = piece.len().min(MOST + 1 - bytes.len());
+    let room = piece.len().min(MOST - bytes.len());
     match reader.read(&mut piece[..room]) {
         Ok(0) => Ok(true),
         Ok(count) => {
-            if bytes.len() + count > MOST {
-                return Err(SessionFault::Reader);
-            }
             bytes.extend_from_slice(&piece[..count])?;
             Ok(false)
         }
@@ -54,6 +74,25 @@ fn read_piece<R: Read>(
             }
         }
     }
+}
+
+/// Whether the reader has no byte more; else it takes one more, or the reader failed.
+pub fn ends<R: Read>(reader: &mut R) -> bool
+    ensures { Ends (R.remaining reader.old) (R.remaining reader.new) result }
+{
+    for _ in 0..u64::MAX {
+        let mut byte = [0u8];
+        match reader.read(&mut byte) {
+            Ok(0) => return true,
+            Ok(_) => return false,
+            Err(error) => {
+                if !is_interrupted(&error) {
+                    return false;
+                }
+            }
+        }
+    }
+    false
 }
 
 fn is_interrupted(error: &io::Error) -> bool {

@@ -1,15 +1,56 @@
 ghost use Rattle.std.specs.Prelude.{◌≡◌};
 ghost use Rattle.os8_files.specs.declared.faults.FileFault.TheVariants.{Memory};
 
+use os8_dir::Name;
 use std::alloc::AllocError;
 use thiserror::Error;
 
 /// What the file service refuses. The numbers are those of the lines that a session prints.
 #[derive(Clone, Copy, PartialEq, Eq, Debug, Error)]
 pub enum FileFault {
+    /// 1: no file has the name.
+    #[error("no file has the name")]
+    NotFound,
+
+    /// 2: no empty has so many blocks; the largest has these.
+    #[error("no empty has so many blocks, the largest has {0}")]
+    NoRoom(usize),
+
+    /// 3: the directory has no room for so many entries.
+    #[error("the directory is full")]
+    DirectoryFull,
+
+    /// 4: the file of this name is held.
+    #[error("the file is held")]
+    Busy(Name),
+
+    /// 5: the words are no name of a file.
+    #[error("no name of a file")]
+    BadName,
+
+    /// 6: the file being written has all the blocks that it may grow to.
+    #[error("the file is too long")]
+    TooLong,
+
+    /// 7: a file is being written.
+    #[error("a file is being written")]
+    TentativeOpen,
+
+    /// 8: a block could not be read or written.
+    #[error("a block could not be read or written")]
+    Device,
+
+    /// 9: a write has failed before.
+    #[error("a write has failed before")]
+    Stopped,
+
     /// 10: memory ran out.
     #[error("out of memory")]
     Memory,
+
+    /// 11: no block was written.
+    #[error("no block was written")]
+    NothingWritten,
 }
 
 impl From<AllocError> for FileFault {

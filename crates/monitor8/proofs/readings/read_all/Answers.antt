@@ -1,22 +1,16 @@
-use Rattle.std.proofs.Common.{◌+◌, ◌++◌, length, length-append}
-use Rattle.std.proofs.lemmas.Result.{err_from_is_err_and}
+use Rattle.std.proofs.Common.{subst, Bool, Ok, ◌+◌, ◌++◌, refl, inl, arith, length, length-append}
+use Rattle.monitor8.specs.Reading.{ReadsWithin}
 use Rattle.monitor8.proofs.ByteLemmas.{consumes_more}
 use Rattle.monitor8.proofs.readings.read_all.Goals as goal
 
-pub returns-in_err-read_piece : goal.returns-in_err-read_piece
-returns-in_err-read_piece g c =
-    let p = err_from_is_err_and c.from_residual-in_err-read_piece.result c.from_residual-in_err-read_piece.ensures.1 in
-    let last = c.in_err-read_piece.ensures in
-    let bytes = c.loop.bytes.items in
-    rw (p.1, p.2)
-    (record {
-      count = length bytes + length last.0;
-      takes = record {
-        bytes = bytes ++ last.0;
-        taken = consumes_more _ _ _ bytes last.0 c.loop.invariant.taken last.1;
-        count_is = length-append bytes last.0;
-      };
-      within = last.2;
-      last = last.3;
-      kind = last.4;
-    })
+pub returns : goal.returns
+returns g c =
+    let all = subst (λ (b : Bool). ReadsWithin 16777216 (g.R.Read.remaining c.args.reader.now) (g.R.Read.remaining c.read_within.new.reader) c.read_within.new.bytes.items (Ok b)) c.if-at_end.false c.in_ok-at_end.ensures in
+    let more = c.if-ends.ensures in
+    let bytes = c.read_within.new.bytes.items in record {
+      count = length bytes + length more.0;
+      takes = record { bytes = bytes ++ more.0; taken = consumes_more _ _ _ bytes more.0 all.0 more.1; count_is = length-append bytes more.0 };
+      within = omega (arith, all.1, more.2);
+      last = λ is. refl;
+      kind = inl refl;
+    }

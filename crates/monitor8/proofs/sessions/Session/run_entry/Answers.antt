@@ -1,0 +1,15 @@
+use Rattle.std.proofs.Common.{sym, ◌∙◌, ap, subst, arith}
+use Rattle.monitor8.specs.Session.{state_of, IsQuiet, Seen}
+use Rattle.monitor8.specs.System.{Step, State}
+use Rattle.monitor8.proofs.ToldLemmas.{entry_told}
+use Rattle.monitor8.proofs.EntryLemmas.{no_memory}
+use Rattle.monitor8.proofs.sessions.Session.run_entry.Goals as goal
+
+pub returns-clause-told : goal.returns-clause-told
+returns-clause-told g c quiet =
+    let before = subst (λ (s : Seen). IsQuiet c.args.self.now s) c.tell.ensures.same quiet in
+    entry_told _ c.step-answer.result _ _ _ _ c.tell.result
+    (subst (λ (s : Seen). Step (state_of c.args.self.now) c.args.entry.now c.step-answer.result (state_of s)) (sym c.tell.ensures.same) (c.step-answer.ensures.step before))
+    (no_memory _ (sym c.if-is_memory.ensures))
+    c.tell.ensures.ok
+    c.tell.ensures.err

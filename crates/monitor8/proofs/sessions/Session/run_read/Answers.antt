@@ -1,0 +1,19 @@
+use Rattle.std.proofs.Common.{◌+◌, ◌++◌, ◌∙◌, ap, subst, Bool, Ok, arith, length, length-append}
+use Rattle.monitor8.specs.Reading.{ReadsWithin}
+use Rattle.monitor8.proofs.ByteLemmas.{consumes_more}
+use Rattle.monitor8.proofs.sessions.Session.run_read.Goals as goal
+
+pub returns-in-Ok-clause-taken : goal.returns-in-Ok-clause-taken
+returns-in-Ok-clause-taken g c =
+    let more = c.run_full.ensures.taken in
+    let text = c.read_within.new.bytes.items in
+    let all = subst (λ (b : Bool). ReadsWithin 16777216 (g.R.Read.remaining c.args.reader.now) (g.R.Read.remaining c.read_within.new.reader) c.read_within.new.bytes.items (Ok b)) c.if-at_end.false c.in-Ok.ensures in (
+      length text + more.0,
+      record {
+        bytes = text ++ more.1.bytes;
+        taken = consumes_more _ _ _ text more.1.bytes all.0 more.1.taken;
+        count_is = length-append text more.1.bytes ∙ ap (λ n. length text + n) more.1.count_is;
+      },
+      omega (arith, all.1, more.2),
+      λ last. more.3 (omega (arith, all.1, last)),
+    )

@@ -1,0 +1,37 @@
+-- The lines that the program prints beside those of a session (this project's profile).
+use Rattle.std.specs.Prelude.{ℕ, codes, decimal, List, [], ◌∷◌, ◌++◌}
+use Rattle.volume_image.specs.declared.faults.ImageFault.{ImageFault}
+use Rattle.volume_image.specs.declared.faults.ImageFault.TheVariants as image
+use Rattle.os8_dir.specs.declared.faults.DirFault.{DirFault}
+use Rattle.os8_dir.specs.declared.faults.DirFault.TheVariants as directory
+use Rattle.monitor8.specs.declared.programs.ProgramLine.{ProgramLine}
+use Rattle.monitor8.specs.declared.programs.ProgramLine.TheVariants as line
+
+abbrev pub image_text : ImageFault → List ℕ
+image_text image.NotWhole = codes "? IMAGE 1 NOT WHOLE"
+image_text image.TooSmall = codes "? IMAGE 2 TOO SMALL"
+image_text image.TooLarge = codes "? IMAGE 3 TOO LARGE"
+image_text (image.BadWord index) = codes "? IMAGE 4 BAD WORD " ++ decimal index
+image_text image.Memory = codes "? 10 MEMORY"
+
+abbrev pub directory_text : DirFault → List ℕ
+directory_text (directory.BadLink segment) = codes "? DIRECTORY 1 BAD LINK " ++ decimal segment
+directory_text (directory.BadCount segment) = codes "? DIRECTORY 2 BAD COUNT " ++ decimal segment
+directory_text directory.EntryPastSegment = codes "? DIRECTORY 3 ENTRY PAST SEGMENT"
+directory_text directory.PastVolume = codes "? DIRECTORY 4 PAST VOLUME"
+directory_text directory.SameName = codes "? DIRECTORY 5 SAME NAME"
+directory_text directory.WrongFirstBlock = codes "? DIRECTORY 6 WRONG FIRST BLOCK"
+directory_text directory.MixedInfo = codes "? DIRECTORY 7 MIXED INFO"
+directory_text directory.Device = codes "? DIRECTORY 8 DEVICE"
+directory_text directory.Memory = codes "? 10 MEMORY"
+
+abbrev pub program_text : ProgramLine → List ℕ
+program_text (line.Created blocks) = codes "CREATED " ++ decimal blocks
+program_text line.HostRead = codes "? HOST READ"
+program_text line.HostWrite = codes "? HOST WRITE"
+program_text (line.Image fault) = image_text fault
+program_text (line.Directory fault) = directory_text fault
+
+-- a line of the program
+abbrev pub program_line : ProgramLine → List ℕ
+program_line line = program_text line ++ 10 ∷ []

@@ -1,0 +1,122 @@
+ghost use Rattle.std.specs.Prelude.{◌≡◌, ◌+◌, ◌≤◌, ◌++◌, decimal, length, OnOk, OnErr, IsOk, IsOkUnless, vec_len, vec_capacity};
+ghost use Rattle.arrayvec.specs.ArrayVec.{array_vec_len};
+ghost use Rattle.monitor8.specs.Program.{program_line, program_text, image_text, directory_text};
+ghost use Rattle.script8.specs.declared.faults.SessionFault.TheVariants.{Memory};
+
+use arrayvec::ArrayVec;
+use os8_dir::DirFault;
+use script8::SessionFault;
+use volume_image::ImageFault;
+
+/// What the program prints beside the lines of a session.
+#[derive(Clone, Copy, PartialEq, Eq, Debug)]
+pub enum ProgramLine {
+    /// A volume of so many blocks was written.
+    Created(usize),
+
+    /// The image file could not be read.
+    HostRead,
+
+    /// The image file could not be written.
+    HostWrite,
+
+    /// The bytes of the image file are no image of a volume.
+    Image(ImageFault),
+
+    /// The volume's directory is not sound.
+    Directory(DirFault),
+}
+
+/// Appends a line of the program. Where the vector has room for 80 bytes, no memory is taken.
+pub fn put_program(line: &ProgramLine, out: &mut Vec<u8>) -> Result<(), SessionFault>
+    ensures ok { OnOk result (out.new.items ≡ out.old.items ++ program_line line.now) }
+    ensures err { OnErr result (out.new.items ≡ out.old.items) }
+    ensures room { vec_len out.old + 80 ≤ vec_capacity out.old → IsOk result }
+    ensures memory { IsOkUnless result Memory }
+{
+    let mut text = ArrayVec::new();
+    put_line(&mut text, *line);
+    put(&mut text, b"\n");
+    out.extend_from_slice(text.as_slice())?;
+    Ok(())
+}
+
+/// Puts the text of a line into an empty one.
+fn put_line(text: &mut ArrayVec<u8, 80>, line: ProgramLine)
+    requires { array_vec_len text.old ≡ 0 }
+    ensures text { text.new.items ≡ text.old.items ++ program_text line }
+    ensures short { array_vec_len text.new ≤ 60 }
+{
+    match line {
+        ProgramLine::Created(blocks) => {
+            put(text, b"CREATED ");
+            put_number(text, blocks);
+        }
+        ProgramLine::HostRead => put(text, b"? HOST READ"),
+        ProgramLine::HostWrite => put(text, b"? HOST WRITE"),
+        ProgramLine::Image(fault) => put_image(text, fault),
+        ProgramLine::Directory(fault) => put_directory(text, fault),
+    }
+}
+
+/// Puts the text of a fault of an image into an empty line.
+fn put_image(text: &mut ArrayVec<u8, 80>, fault: ImageFault)
+    requires { array_vec_len text.old ≡ 0 }
+    ensures text { text.new.items ≡ text.old.items ++ image_text fault }
+    ensures short { array_vec_len text.new ≤ 60 }
+{
+    match fault {
+        ImageFault::NotWhole => put(text, b"? IMAGE 1 NOT WHOLE"),
+        ImageFault::TooSmall => put(text, b"? IMAGE 2 TOO SMALL"),
+        ImageFault::TooLarge => put(text, b"? IMAGE 3 TOO LARGE"),
+        ImageFault::BadWord(index) => {
+            put(text, b"? IMAGE 4 BAD WORD ");
+            put_number(text, index);
+        }
+        ImageFault::Memory => put(text, b"? 10 MEMORY"),
+    }
+}
+
+/// Puts the text of a fault of a directory into an empty line.
+fn put_directory(text: &mut ArrayVec<u8, 80>, fault: DirFault)
+    requires { array_vec_len text.old ≡ 0 }
+    ensures text { text.new.items ≡ text.old.items ++ directory_text fault }
+    ensures short { array_vec_len text.new ≤ 60 }
+{
+    match fault {
+        DirFault::BadLink(segment) => {
+            put(text, b"? DIRECTORY 1 BAD LINK ");
+            put_number(text, segment);
+        }
+        DirFault::BadCount(segment) => {
+            put(text, b"? DIRECTORY 2 BAD COUNT ");
+            put_number(text, segment);
+        }
+        DirFault::EntryPastSegment => put(text, b"? DIRECTORY 3 ENTRY PAST SEGMENT"),
+        DirFault::PastVolume => put(text, b"? DIRECTORY 4 PAST VOLUME"),
+        DirFault::SameName => put(text, b"? DIRECTORY 5 SAME NAME"),
+        DirFault::WrongFirstBlock => put(text, b"? DIRECTORY 6 WRONG FIRST BLOCK"),
+        DirFault::MixedInfo => put(text, b"? DIRECTORY 7 MIXED INFO"),
+        DirFault::Device => put(text, b"? DIRECTORY 8 DEVICE"),
+        DirFault::Memory => put(text, b"? 10 MEMORY"),
+    }
+}
+
+/// Puts a number in decimal.
+fn put_number(text: &mut ArrayVec<u8, 80>, number: usize)
+    requires { array_vec_len text.old ≤ 40 }
+    ensures text { text.new.items ≡ text.old.items ++ decimal number }
+    ensures short { array_vec_len text.new ≤ array_vec_len text.old + 20 }
+{
+    let mut digits = itoa::Buffer::new();
+    put(text, digits.format(number as u64).as_bytes());
+}
+
+/// Puts bytes that there is room for behind a line.
+fn put(text: &mut ArrayVec<u8, 80>, bytes: &[u8])
+    requires { array_vec_len text.old + length bytes.now ≤ 80 }
+    ensures items { text.new.items ≡ text.old.items ++ bytes.now }
+    ensures len { array_vec_len text.new ≡ array_vec_len text.old + length bytes.now }
+{
+    text.try_extend_from_slice(bytes).unwrap();
+}

@@ -1,0 +1,23 @@
+//! The entries of a session, its replies and refusals, and the lines of a script that stand for them.
+//!
+//! In each contract a line is the list of its bytes, without the LF that ends it.
+#![tactic(auto)]
+
+mod entries;
+mod faults;
+mod kinds;
+mod listings;
+mod parsing;
+mod replies;
+mod shown;
+
+pub use entries::Entry;
+pub use faults::SessionFault;
+pub use kinds::Line;
+pub use listings::Listing;
+pub use parsing::parse_line;
+pub use replies::Reply;
+pub use shown::put_reply;
+
+#[cfg(test)]
+mod tests;
