@@ -1,12 +1,13 @@
 -- What a reading that was accepted is, and which faults a reading has.
-use Rattle.std.proofs.Common.{◌≡◌, ℕ, zero, suc, ◌+◌, ◌≤◌, ◌≢◌, Bool, true, false, not, ◌&&◌, cond, eqb, ltb, List, [], ◌∷◌, ◌++◌, length, drop, Result, Ok, Err, refl, ap, sym, subst, ◌∙◌, arith, eq-eqb, ne_eqb, inl, inr}
+use Rattle.std.proofs.Common.{◌≡◌, ℕ, zero, suc, ◌+◌, ◌≤◌, ◌<◌, ◌≢◌, Bool, true, false, not, ◌&&◌, cond, eqb, ltb, List, [], ◌∷◌, ◌++◌, length, take, drop, Result, Ok, Err, refl, ap, sym, subst, ◌∙◌, arith, eq-eqb, ne_eqb, inl, inr}
 use Rattle.std.proofs.lemmas.Bool.{true≢false, ltb-false}
 use Rattle.std.specs.Prelude.{IfOk, is_ok, ◌⊎◌}
 use Rattle.os8_dir.specs.declared.entries.DirEntry.{DirEntry}
 use Rattle.os8_dir.specs.declared.entries.DirEntry.TheVariants.{File, Empty}
 use Rattle.os8_dir.specs.declared.faults.DirFault.{DirFault}
 use Rattle.os8_dir.specs.declared.faults.DirFault.TheVariants.{BadLink, BadCount, EntryPastSegment, PastVolume, SameName, WrongFirstBlock, MixedInfo}
-use Rattle.os8_dir.specs.Entries.{Listed, minus, contains, AreDistinct, size_of, total, end_of, names_of, before, tidy, IsTidy}
+use Rattle.os8_dir.specs.Names.{name_of, padded}
+use Rattle.os8_dir.specs.Entries.{Listed, minus, contains, AreDistinct, size_of, total, end_of, names_of, before, tidy, IsTidy, IsNamed, IsWritable, AreWritable}
 use Rattle.os8_dir.specs.Reading.{◌>>=◌, needs, word, block, empty_at, file_at, entry_at, is_new, with_entry, with_entries, with_segment, is_unread, with_links, head_of, is_first, directory_of, IsOfWords, Sound, HasFault}
 use Rattle.os8_dir.specs.Found.{Placed, files_at, AreApart, IsDirectory}
 use Rattle.os8_dir.proofs.TidyLemmas.{total-tidy, total-append, IsTidy-tidy}
@@ -19,10 +20,6 @@ if_ok-bind (Err fault) f P Q holds then = tt
 if_ok-needs : {B : Type 0} (b : Bool) (fault : DirFault) (f : Unit {0} → Result B DirFault) (Q : B → Type 0) → (b ≡ true → IfOk (f tt) Q) → IfOk (needs b fault >>= f) Q
 if_ok-needs true fault f Q then = then refl
 if_ok-needs false fault f Q then = tt
-
-if_ok-any : {A : Type 0} (r : Result A DirFault) → IfOk r (λ x. Unit {0})
-if_ok-any (Ok x) = tt
-if_ok-any (Err fault) = tt
 
 not-true : (b : Bool) → not b ≡ true → b ≡ false
 not-true true e = sym e
@@ -92,34 +89,87 @@ record IsBegun (volume : ℕ) (d : Listed) : Type 0 where
   pub inside : d.first + total d.entries ≤ volume
   pub neat : IsTidy d.entries
   pub single : AreDistinct (names_of d.entries)
+  pub writable : AreWritable d.info d.entries
+
+-- An entry that was read can be written.
+padded-take-none : (n info : ℕ) → padded n (take info (padded n [])) ≡ padded n []
+padded-take-none n zero = refl
+padded-take-none zero (suc info) = refl
+padded-take-none (suc n) (suc info) = ap (λ ws. 0 ∷ ws) (padded-take-none n info)
+
+padded-take : (n info : ℕ) (words : List ℕ) → padded n (take info (padded n (take info words))) ≡ padded n (take info words)
+padded-take n zero words = refl
+padded-take zero (suc info) words = refl
+padded-take (suc n) (suc info) [] = ap (λ ws. 0 ∷ ws) (padded-take-none n info)
+padded-take (suc n) (suc info) (w ∷ words) = ap (λ ws. w ∷ ws) (padded-take n info words)
+
+name-least : (a b c d : ℕ) → 0 < a → IsNamed (name_of (a ∷ b ∷ c ∷ d ∷ []))
+name-least a b c d some = omega arith
+
+writable-file : (info : ℕ) (words : List ℕ) → 0 < word words 0 → IfOk (file_at info words) (λ e. IsWritable info e.0)
+unfolding file_at
+writable-file info [] some = tt
+writable-file info (a ∷ []) some = tt
+writable-file info (a ∷ b ∷ []) some = tt
+writable-file info (a ∷ b ∷ c ∷ []) some = tt
+writable-file info (a ∷ b ∷ c ∷ d ∷ rest) some = if_ok-needs (ltb info (length rest)) EntryPastSegment _ (λ e. IsWritable info e.0) (λ fits. (name-least a b c d some, padded-take 10 info rest))
+
+writable-empty : (info : ℕ) (words : List ℕ) → IfOk (empty_at words) (λ e. IsWritable info e.0)
+unfolding empty_at
+writable-empty info [] = tt
+writable-empty info (w ∷ words) = tt
+
+writable-at : (info : ℕ) (words : List ℕ) → IfOk (entry_at info words) (λ e. IsWritable info e.0)
+unfolding entry_at
+writable-at info [] = tt
+writable-at info (zero ∷ rest) = writable-empty info rest
+writable-at info (suc w ∷ rest) = writable-file info (suc w ∷ rest) (omega arith)
+
+writable-before : (info : ℕ) (e : DirEntry) (es : List DirEntry) → IsWritable info e → AreWritable info es → AreWritable info (before e es)
+writable-before info (File name words zero) es writable all = all
+writable-before info (File name words (suc size)) es writable all = (writable, all)
+writable-before info (Empty zero) [] writable all = tt
+writable-before info (Empty (suc size)) [] writable all = (tt, tt)
+writable-before info (Empty size) (Empty more ∷ es) writable all = (tt, all.1)
+writable-before info (Empty zero) (File name words more ∷ es) writable all = all
+writable-before info (Empty (suc size)) (File name words more ∷ es) writable all = (tt, all)
+
+pub writable-tidy : (info : ℕ) (es : List DirEntry) → AreWritable info es → AreWritable info (tidy es)
+writable-tidy info [] all = tt
+writable-tidy info (e ∷ es) all = writable-before info e (tidy es) all.0 (writable-tidy info es all.1)
+
+pub writable-append : (info : ℕ) (xs ys : List DirEntry) → AreWritable info xs → AreWritable info ys → AreWritable info (xs ++ ys)
+writable-append info [] ys all more = more
+writable-append info (x ∷ xs) ys all more = (all.0, writable-append info xs ys all.1 more)
 
 AreDistinct-entry : (es : List DirEntry) (e : DirEntry) → AreDistinct (names_of es) → is_new (names_of es) e ≡ true → AreDistinct (names_of es ++ names_of (e ∷ []))
 AreDistinct-entry es (File name info zero) single new = rw (append-nil (names_of es)) single
 AreDistinct-entry es (File name info (suc size)) single new = AreDistinct-append (names_of es) name single (not-true (contains (names_of es) name) new)
 AreDistinct-entry es (Empty size) single new = rw (append-nil (names_of es)) single
 
-begun-more : (volume : ℕ) (d : Listed) (e : DirEntry) → IsBegun volume d → end_of d + size_of e ≤ volume → is_new (names_of d.entries) e ≡ true → IsBegun volume (record d { entries = tidy (d.entries ++ e ∷ []) })
-begun-more volume d e begun inside new = record {
+begun-more : (volume : ℕ) (d : Listed) (e : DirEntry) → IsBegun volume d → IsWritable d.info e → end_of d + size_of e ≤ volume → is_new (names_of d.entries) e ≡ true → IsBegun volume (record d { entries = tidy (d.entries ++ e ∷ []) })
+begun-more volume d e begun writable inside new = record {
   starts = begun.starts;
   few = begun.few;
   inside = rw (total-tidy (d.entries ++ e ∷ []), total-append d.entries (e ∷ [])) (omega arith);
   neat = IsTidy-tidy (d.entries ++ e ∷ []);
   single = rw (names_of-tidy (d.entries ++ e ∷ []), names_of-append d.entries (e ∷ [])) (AreDistinct-entry d.entries e begun.single new);
+  writable = writable-tidy d.info (d.entries ++ e ∷ []) (writable-append d.info d.entries (e ∷ []) begun.writable (writable, tt));
 }
 
-begun-entry : (volume : ℕ) (d : Listed) (e : DirEntry) → IsBegun volume d → IfOk (with_entry volume d e) (IsBegun volume)
+begun-entry : (volume : ℕ) (d : Listed) (e : DirEntry) → IsBegun volume d → IsWritable d.info e → IfOk (with_entry volume d e) (IsBegun volume)
 unfolding with_entry
-begun-entry volume d e begun =
+begun-entry volume d e begun writable =
     if_ok-needs (not (ltb volume (end_of d + size_of e))) PastVolume _ (IsBegun volume) (λ fits.
     if_ok-needs (is_new (names_of d.entries) e) SameName _ (IsBegun volume) (λ new.
-    begun-more volume d e begun (ltb-false volume (end_of d + size_of e) (not-true _ fits)) new))
+    begun-more volume d e begun writable (ltb-false volume (end_of d + size_of e) (not-true _ fits)) new))
 
 begun-entries : (count volume : ℕ) (d : Listed) (words : List ℕ) → IsBegun volume d → IfOk (with_entries count volume d words) (IsBegun volume)
 unfolding with_entries
 begun-entries zero volume d words begun = begun
 begun-entries (suc count) volume d words begun =
-    if_ok-bind (entry_at d.info words) _ (λ e. Unit {0}) (IsBegun volume) (if_ok-any (entry_at d.info words)) (λ e any.
-    if_ok-bind (with_entry volume d e.0) _ (IsBegun volume) (IsBegun volume) (begun-entry volume d e.0 begun) (λ more added.
+    if_ok-bind (entry_at d.info words) _ (λ e. IsWritable d.info e.0) (IsBegun volume) (writable-at d.info words) (λ e said.
+    if_ok-bind (with_entry volume d e.0) _ (IsBegun volume) (IsBegun volume) (begun-entry volume d e.0 begun said) (λ more added.
     begun-entries count volume more e.1 added))
 
 begun-segment : (volume : ℕ) (d : Listed) (number : ℕ) (words : List ℕ) → IsBegun volume d → IfOk (with_segment volume d number words) (IsBegun volume)
@@ -156,6 +206,7 @@ begun-head volume words =
       inside = omega (arith, ltb-false volume (word words 1) (not-true _ bounds.1));
       neat = tt;
       single = tt;
+      writable = tt;
     }))
 
 begun-directory : (blocks : List (List ℕ)) → IfOk (directory_of blocks) (IsBegun (length blocks))
@@ -174,6 +225,7 @@ whole volume d begun = record {
   neat = begun.neat;
   single = begun.single;
   apart = AreApart-files_at d.first volume d.entries begun.inside;
+  writable = begun.writable;
 }
 
 pub IsDirectory-read : (blocks : List (List ℕ)) (d : Listed) → directory_of blocks ≡ Ok d → IsDirectory (length blocks) d

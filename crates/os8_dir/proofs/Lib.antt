@@ -8,3 +8,5 @@ pub mod LawLemmas
 pub mod MapLemmas
 pub mod KnownLemmas
 pub mod TidyLemmas
+pub mod SegmentLemmas
+pub mod ReadBackLemmas

@@ -48,7 +48,7 @@ IsTidy-tidy [] = tt
 IsTidy-tidy (e ∷ es) = IsTidy-before e (tidy es) (IsTidy-tidy es)
 
 -- an entry before a list that it may stand before
-before-apart : (e : DirEntry) (es : List DirEntry) → 0 < size_of e → Apart e es → before e es ≡ e ∷ es
+pub before-apart : (e : DirEntry) (es : List DirEntry) → 0 < size_of e → Apart e es → before e es ≡ e ∷ es
 before-apart (File name info zero) es some apart = absurd (omega arith)
 before-apart (File name info (suc size)) es some apart = refl
 before-apart (Empty zero) es some apart = absurd (omega arith)
@@ -56,7 +56,7 @@ before-apart (Empty (suc size)) [] some apart = refl
 before-apart (Empty (suc size)) (Empty more ∷ es) some apart = absurd apart
 before-apart (Empty (suc size)) (File name info more ∷ es) some apart = refl
 
-apart-head : (x y : DirEntry) (ys zs : List DirEntry) → Apart x (y ∷ ys) → Apart x (y ∷ zs)
+pub apart-head : (x y : DirEntry) (ys zs : List DirEntry) → Apart x (y ∷ ys) → Apart x (y ∷ zs)
 apart-head (File name info size) (File other words more) ys zs apart = tt
 apart-head (File name info size) (Empty more) ys zs apart = tt
 apart-head (Empty size) (File other words more) ys zs apart = tt
@@ -72,7 +72,7 @@ tidy-behind [] ys zs ws neat done same = done
 tidy-behind (x ∷ front) ys zs ws neat done same =
     ap (before x) (tidy-behind front ys zs ws neat.2 done same) ∙ before-apart x (front ++ ws) neat.0 (apart-append x front ys ws same neat.1)
 
-append-nil : (es : List DirEntry) → es ++ [] ≡ es
+pub append-nil : (es : List DirEntry) → es ++ [] ≡ es
 append-nil [] = refl
 append-nil (e ∷ es) = ap (λ xs. e ∷ xs) (append-nil es)
 

@@ -1,7 +1,8 @@
 -- A directory as a list of entries in order of their blocks (OS/8 Software Support Manual).
-use Rattle.std.specs.Prelude.{◌≡◌, ℕ, zero, suc, ◌+◌, ◌-◌, ◌%◌, ◌<◌, ◌==◌, Bool, true, false, if◌then◌else◌, List, [], ◌∷◌, Option, Some, None}
+use Rattle.std.specs.Prelude.{◌≡◌, ℕ, zero, suc, ◌+◌, ◌-◌, ◌/◌, ◌%◌, ◌<◌, ◌==◌, Bool, true, false, if◌then◌else◌, List, [], ◌∷◌, take, Option, Some, None}
 use Rattle.os8_dir.specs.declared.entries.DirEntry.{DirEntry}
 use Rattle.os8_dir.specs.declared.entries.DirEntry.TheVariants.{File, Empty}
+use Rattle.os8_dir.specs.Names.{padded}
 
 -- a directory: its first block, how many information words an entry has, its entries
 pub record Listed : Type 0 where
@@ -78,3 +79,16 @@ Apart (Empty size) (Empty more ∷ es) = ⊥
 abbrev pub IsTidy : List DirEntry → Type 0
 IsTidy [] = Unit {0}
 IsTidy (e ∷ es) = (0 < size_of e) × Apart e es × IsTidy es
+
+-- the first of a name's four words is not 0
+abbrev pub IsNamed : ℕ → Type 0
+IsNamed name = 0 < name / 68719476736
+
+-- an entry that its words can say: its name is no name of an empty, and behind so many information words are zeros
+abbrev pub IsWritable : ℕ → DirEntry → Type 0
+IsWritable info (File name words size) = IsNamed name × (padded 10 (take info words) ≡ words)
+IsWritable info (Empty size) = Unit {0}
+
+abbrev pub AreWritable : ℕ → List DirEntry → Type 0
+AreWritable info [] = Unit {0}
+AreWritable info (e ∷ es) = IsWritable info e × AreWritable info es

@@ -2,7 +2,7 @@
 use Rattle.std.specs.Prelude.{◌≡◌, ℕ, suc, ◌+◌, ◌*◌, ◌/◌, ◌==◌, ◌<◌, ◌≤◌, nat_lt, if◌then◌else◌, List, [], ◌∷◌, Option, Some, None}
 use Rattle.os8_dir.specs.declared.entries.DirEntry.{DirEntry}
 use Rattle.os8_dir.specs.declared.entries.DirEntry.TheVariants.{File, Empty}
-use Rattle.os8_dir.specs.Entries.{Listed, is_zero, total, names_of, AreDistinct, IsTidy}
+use Rattle.os8_dir.specs.Entries.{Listed, is_zero, total, names_of, AreDistinct, IsTidy, AreWritable}
 
 -- a file and where it lies
 pub record Placed : Type 0 where
@@ -100,3 +100,4 @@ pub record IsDirectory (volume : ℕ) (d : Listed) : Type 0 where
   pub neat : IsTidy d.entries
   pub single : AreDistinct (names_of d.entries)
   pub apart : AreApart d.first volume (files_at d.first d.entries)
+  pub writable : AreWritable d.info d.entries

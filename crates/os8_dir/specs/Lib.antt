@@ -5,4 +5,6 @@ pub mod Reading
 pub mod Kept
 pub mod Found
 pub mod Files
+pub mod Segments
+pub mod Changes
 pub mod Steps

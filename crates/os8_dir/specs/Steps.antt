@@ -1,5 +1,5 @@
 -- What small steps of the code answer. No contract of a public function cites these.
-use Rattle.std.specs.Prelude.{◌≡◌, ℕ, ◌==◌, Bool, true, false, not, ◌&&◌, ◌||◌, List, [], ◌∷◌, Result, Ok, Err}
+use Rattle.std.specs.Prelude.{◌≡◌, ℕ, ◌+◌, ◌==◌, Bool, true, false, not, ◌&&◌, ◌||◌, List, [], ◌∷◌, slice_set, Result, Ok, Err}
 use Rattle.std.specs.Ordering.{nat_cmp}
 use Rattle.std.specs.BTreeSet.{BTreeSet}
 use Rattle.std.specs.BTreeSet as set
@@ -62,3 +62,8 @@ Leaves (Err fault) new read = Finds fault read
 abbrev pub LeavesRead : {X Y : Type 0} → Result X DirFault → Y → Result Y DirFault → Type 0
 LeavesRead (Ok x) new read = read ≡ Ok new
 LeavesRead (Err fault) new read = Meets fault read
+
+-- words are written over others from a place on
+abbrev pub written : List ℕ → ℕ → List ℕ → List ℕ
+written segment at [] = segment
+written segment at (w ∷ words) = written (slice_set segment at w) (at + 1) words

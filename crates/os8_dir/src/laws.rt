@@ -1,11 +1,12 @@
 //! What holds of every volume and its directory. Each function does nothing: its contract is the law.
-ghost use Rattle.std.specs.Prelude.{◌≡◌, ◌<◌, ℕ, ◌⊎◌, List, length, Ok};
+ghost use Rattle.std.specs.Prelude.{◌≡◌, ◌<◌, ◌≤◌, ℕ, ◌⊎◌, List, length, Ok};
 ghost use Rattle.std.specs.FinMap.{get, from_entries};
 ghost use Rattle.os8_dir.specs.Names.{name_of, IsFourWords, IsBefore};
 ghost use Rattle.os8_dir.specs.Entries.{Listed, capacity};
 ghost use Rattle.os8_dir.specs.Reading.{Sound, HasFault, IsOfWords, directory_of};
 ghost use Rattle.os8_dir.specs.Found.{IsDirectory, files_at, find, limit, above};
 ghost use Rattle.os8_dir.specs.Files.{files_of, held_of, capacity_of, limit_of, above_of, held_by};
+ghost use Rattle.os8_dir.specs.Segments.{HoldsSegments};
 ghost use Rattle.os8_dir.specs.declared.faults.DirFault.{DirFault};
 
 /// A volume is sound or has a first fault, and never both.
@@ -20,9 +21,16 @@ pub fn faults_of_words()
 {}
 
 /// What a sound volume is read as is a directory: no two files have one name, each file lies inside the volume, files
-/// do not overlap, no entry has length 0, and no empties touch.
+/// do not overlap, no entry has length 0, no empties touch, and its
+/// entries can be written.
 pub fn sound_directory()
     ensures { (blocks : List (List ℕ)) (d : Listed) → directory_of blocks ≡ Ok d → IsDirectory (length blocks) d }
+{}
+
+/// A volume whose blocks 1, 2 and so on hold the segments of a directory is read as that directory, where six segments
+/// take its entries.
+pub fn read_back()
+    ensures { (blocks : List (List ℕ)) (d : Listed) → IsDirectory (length blocks) d → length blocks ≤ 4095 → length d.entries ≤ limit d → HoldsSegments blocks d → directory_of blocks ≡ Ok d }
 {}
 
 /// The map of a sound volume's files has, for each name, what the blocks hold of the file that is found under it.

@@ -16,6 +16,7 @@ mod known;
 pub mod laws;
 mod names;
 mod reading;
+mod segments;
 mod volumes;
 
 pub use directory::Directory;

@@ -1,0 +1,72 @@
+-- The lists of entries that changes of a directory make.
+use Rattle.std.specs.Prelude.{◌≡◌, ℕ, ◌+◌, ◌-◌, ◌≤◌, ◌==◌, ◌&&◌, ◌⊎◌, nat_le, nat_lt, Bool, if◌then◌else◌, List, [], ◌∷◌, ◌++◌, Option, Some, None}
+use Rattle.os8_dir.specs.declared.entries.DirEntry.{DirEntry}
+use Rattle.os8_dir.specs.declared.entries.DirEntry.TheVariants.{File, Empty}
+use Rattle.os8_dir.specs.Entries.{Listed, size_of, tidy}
+use Rattle.os8_dir.specs.Found.{Placed, rooms_at}
+
+-- the file of a name is an empty
+abbrev pub emptied_entry : ℕ → DirEntry → DirEntry
+emptied_entry name (File other info size) = if other == name then Empty size else File other info size
+emptied_entry name (Empty size) = Empty size
+
+abbrev pub emptied : ℕ → List DirEntry → List DirEntry
+emptied name [] = []
+emptied name (e ∷ es) = emptied_entry name e ∷ emptied name es
+
+-- a list without the file of a name, whose blocks are an empty
+abbrev pub removed : ℕ → List DirEntry → List DirEntry
+removed name es = tidy (emptied name es)
+
+-- so many blocks from `from` on lie among `size` blocks from a place on
+abbrev pub is_within : ℕ → ℕ → ℕ → ℕ → Bool
+is_within place size from count = nat_le place from && nat_le (from + count) (place + size)
+
+-- a file lies in an empty that begins at a place, where that has its blocks
+abbrev pub laid : ℕ → Placed → DirEntry → List DirEntry
+laid place f (File name info size) = File name info size ∷ []
+laid place f (Empty size) = if is_within place size f.place f.size then Empty (f.place - place) ∷ File f.name f.info f.size ∷ Empty ((place + size) - (f.place + f.size)) ∷ [] else Empty size ∷ []
+
+-- a file lies in the empty that has its blocks, where the first entry begins at a place
+abbrev pub put : ℕ → Placed → List DirEntry → List DirEntry
+put place f [] = []
+put place f (e ∷ es) = laid place f e ++ put (place + size_of e) f es
+
+-- a list with one more file; an older one of its name is an empty
+abbrev pub placed : ℕ → Placed → List DirEntry → List DirEntry
+placed first f es = tidy (put first f (emptied f.name es))
+
+-- so many blocks from a block on lie in one of these empties
+abbrev pub LieIn : ℕ → ℕ → List (ℕ × ℕ) → Type 0
+LieIn from count [] = ⊥
+LieIn from count (room ∷ rooms) = ((room.0 ≤ from) × (from + count ≤ room.0 + room.1)) ⊎ LieIn from count rooms
+
+-- the blocks of the empty directly below the file of a name; 0 where there is none
+abbrev pub gap_below : ℕ → List DirEntry → ℕ
+gap_below name [] = 0
+gap_below name (File other info size ∷ es) = gap_below name es
+gap_below name (Empty gap ∷ []) = 0
+gap_below name (Empty gap ∷ Empty size ∷ es) = gap_below name (Empty size ∷ es)
+gap_below name (Empty gap ∷ File other info size ∷ es) = if other == name then gap else gap_below name es
+
+-- the file of a name and the empty directly below it change places
+abbrev pub swapped : ℕ → List DirEntry → List DirEntry
+swapped name [] = []
+swapped name (File other info size ∷ es) = File other info size ∷ swapped name es
+swapped name (Empty gap ∷ []) = Empty gap ∷ []
+swapped name (Empty gap ∷ Empty size ∷ es) = Empty gap ∷ swapped name (Empty size ∷ es)
+swapped name (Empty gap ∷ File other info size ∷ es) = if other == name then File other info size ∷ Empty gap ∷ es else Empty gap ∷ File other info size ∷ swapped name es
+
+-- a list in which the file of a name stands below the empty that was below it
+abbrev pub moved_down : ℕ → List DirEntry → List DirEntry
+moved_down name es = tidy (swapped name es)
+
+-- the smaller of a room and another behind it, the first of equals
+abbrev pub smaller : ℕ × ℕ → Option (ℕ × ℕ) → ℕ × ℕ
+smaller room None = room
+smaller room (Some other) = if nat_lt other.1 room.1 then other else room
+
+-- the smallest of the rooms that have so many blocks, the first of equals
+abbrev pub smallest : ℕ → List (ℕ × ℕ) → Option (ℕ × ℕ)
+smallest wish [] = None
+smallest wish (room ∷ rooms) = if nat_lt room.1 wish then smallest wish rooms else Some (smaller room (smallest wish rooms))
