@@ -10,3 +10,4 @@ pub mod KnownLemmas
 pub mod TidyLemmas
 pub mod SegmentLemmas
 pub mod ReadBackLemmas
+pub mod ChangeLemmas

@@ -10,7 +10,7 @@ use Rattle.os8_dir.specs.Entries.{Listed, minus, is_zero, contains, AreDistinct,
 use Rattle.os8_dir.specs.Reading.{word, block, empty_at, file_at, entry_at, is_new, with_entry, with_entries, with_segment, is_unread, with_links, head_of, directory_of}
 use Rattle.os8_dir.specs.Found.{per_segment, limit, IsDirectory}
 use Rattle.os8_dir.specs.Segments.{words_of_entry, words_of_entries, words_of_segment, segment_count, before_segment, entries_of, link_of, segment_of, HoldsSegments}
-use Rattle.os8_dir.proofs.TidyLemmas.{total-append, before-apart, apart-head, append-nil}
+use Rattle.os8_dir.proofs.TidyLemmas.{total-append, append-nil, tidy-same, IsTidy-front}
 use Rattle.os8_dir.proofs.LawLemmas.{names_of-append}
 use Rattle.os8_dir.proofs.ReadingLemmas.{with_entry-more, with_entries-none, with_entries-more, with_segment-entries, head_of-ok, with_links-end, with_links-next, directory_of-links}
 use Rattle.os8_dir.proofs.LinkLemmas.{unread-new}
@@ -63,19 +63,6 @@ entry-back info (File name words size) rest few writable small = file-back info 
 entry-back info (Empty size) rest few writable small = empty-back info size rest small
 
 -- Parts of lists.
-pub tidy-same : (es : List DirEntry) → IsTidy es → tidy es ≡ es
-tidy-same [] neat = refl
-tidy-same (e ∷ es) neat = rw (tidy-same es neat.2) (before-apart e es neat.0 neat.1)
-
-apart-front : (e : DirEntry) (xs ys : List DirEntry) → Apart e (xs ++ ys) → Apart e xs
-apart-front (File name info size) [] ys apart = tt
-apart-front (Empty size) [] ys apart = tt
-apart-front e (x ∷ xs) ys apart = apart-head e x (xs ++ ys) xs apart
-
-pub IsTidy-front : (xs ys : List DirEntry) → IsTidy (xs ++ ys) → IsTidy xs
-IsTidy-front [] ys neat = tt
-IsTidy-front (x ∷ xs) ys neat = (neat.0, apart-front x xs ys neat.1, IsTidy-front xs ys neat.2)
-
 pub contains-append : (xs ys : List ℕ) (x : ℕ) → contains (xs ++ ys) x ≡ (contains xs x || contains ys x)
 contains-append [] ys x = refl
 contains-append (z ∷ xs) ys x = rw (contains-append xs ys x) (elim (eqb z x) as (λ b. cond b true (contains xs x || contains ys x) ≡ (cond b true (contains xs x) || contains ys x)) [ true ↦ refl | false ↦ refl ])

@@ -48,7 +48,7 @@ IsTidy-tidy [] = tt
 IsTidy-tidy (e ∷ es) = IsTidy-before e (tidy es) (IsTidy-tidy es)
 
 -- an entry before a list that it may stand before
-pub before-apart : (e : DirEntry) (es : List DirEntry) → 0 < size_of e → Apart e es → before e es ≡ e ∷ es
+before-apart : (e : DirEntry) (es : List DirEntry) → 0 < size_of e → Apart e es → before e es ≡ e ∷ es
 before-apart (File name info zero) es some apart = absurd (omega arith)
 before-apart (File name info (suc size)) es some apart = refl
 before-apart (Empty zero) es some apart = absurd (omega arith)
@@ -56,7 +56,7 @@ before-apart (Empty (suc size)) [] some apart = refl
 before-apart (Empty (suc size)) (Empty more ∷ es) some apart = absurd apart
 before-apart (Empty (suc size)) (File name info more ∷ es) some apart = refl
 
-pub apart-head : (x y : DirEntry) (ys zs : List DirEntry) → Apart x (y ∷ ys) → Apart x (y ∷ zs)
+apart-head : (x y : DirEntry) (ys zs : List DirEntry) → Apart x (y ∷ ys) → Apart x (y ∷ zs)
 apart-head (File name info size) (File other words more) ys zs apart = tt
 apart-head (File name info size) (Empty more) ys zs apart = tt
 apart-head (Empty size) (File other words more) ys zs apart = tt
@@ -199,3 +199,17 @@ last_room-at (e ∷ f ∷ es) d some =
 pub on_true-same : (b : Bool) (new wanted : List DirEntry) → new ≡ wanted → OnTrue b (new ≡ wanted)
 on_true-same true new wanted same = same
 on_true-same false new wanted same = tt
+
+-- Tidy lists as they stand, and their fronts.
+pub tidy-same : (es : List DirEntry) → IsTidy es → tidy es ≡ es
+tidy-same [] neat = refl
+tidy-same (e ∷ es) neat = rw (tidy-same es neat.2) (before-apart e es neat.0 neat.1)
+
+apart-front : (e : DirEntry) (xs ys : List DirEntry) → Apart e (xs ++ ys) → Apart e xs
+apart-front (File name info size) [] ys apart = tt
+apart-front (Empty size) [] ys apart = tt
+apart-front e (x ∷ xs) ys apart = apart-head e x (xs ++ ys) xs apart
+
+pub IsTidy-front : (xs ys : List DirEntry) → IsTidy (xs ++ ys) → IsTidy xs
+IsTidy-front [] ys neat = tt
+IsTidy-front (x ∷ xs) ys neat = (neat.0, apart-front x xs ys neat.1, IsTidy-front xs ys neat.2)

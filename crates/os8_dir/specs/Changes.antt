@@ -1,9 +1,10 @@
 -- The lists of entries that changes of a directory make.
-use Rattle.std.specs.Prelude.{◌≡◌, ℕ, ◌+◌, ◌-◌, ◌≤◌, ◌==◌, ◌&&◌, ◌⊎◌, nat_le, nat_lt, Bool, if◌then◌else◌, List, [], ◌∷◌, ◌++◌, Option, Some, None}
+use Rattle.std.specs.Prelude.{◌≡◌, ℕ, ◌+◌, ◌-◌, ◌≤◌, ◌==◌, ◌&&◌, ◌⊎◌, nat_le, nat_lt, Bool, if◌then◌else◌, List, [], ◌∷◌, ◌++◌, take, Option, Some, None}
 use Rattle.os8_dir.specs.declared.entries.DirEntry.{DirEntry}
 use Rattle.os8_dir.specs.declared.entries.DirEntry.TheVariants.{File, Empty}
+use Rattle.os8_dir.specs.Names.{padded}
 use Rattle.os8_dir.specs.Entries.{Listed, size_of, tidy}
-use Rattle.os8_dir.specs.Found.{Placed, rooms_at}
+use Rattle.os8_dir.specs.Found.{Placed, largest}
 
 -- the file of a name is an empty
 abbrev pub emptied_entry : ℕ → DirEntry → DirEntry
@@ -22,19 +23,19 @@ removed name es = tidy (emptied name es)
 abbrev pub is_within : ℕ → ℕ → ℕ → ℕ → Bool
 is_within place size from count = nat_le place from && nat_le (from + count) (place + size)
 
--- a file lies in an empty that begins at a place, where that has its blocks
-abbrev pub laid : ℕ → Placed → DirEntry → List DirEntry
-laid place f (File name info size) = File name info size ∷ []
-laid place f (Empty size) = if is_within place size f.place f.size then Empty (f.place - place) ∷ File f.name f.info f.size ∷ Empty ((place + size) - (f.place + f.size)) ∷ [] else Empty size ∷ []
+-- a file lies from a block on in an empty that begins at a place, where that has its blocks
+abbrev pub laid : ℕ → ℕ → DirEntry → DirEntry → List DirEntry
+laid place from file (File name info size) = File name info size ∷ []
+laid place from file (Empty size) = if is_within place size from (size_of file) then Empty (from - place) ∷ file ∷ Empty ((place + size) - (from + size_of file)) ∷ [] else Empty size ∷ []
 
--- a file lies in the empty that has its blocks, where the first entry begins at a place
-abbrev pub put : ℕ → Placed → List DirEntry → List DirEntry
-put place f [] = []
-put place f (e ∷ es) = laid place f e ++ put (place + size_of e) f es
+-- the same of each entry of a list, of which the first begins at a place
+abbrev pub put : ℕ → ℕ → DirEntry → List DirEntry → List DirEntry
+put place from file [] = []
+put place from file (e ∷ es) = laid place from file e ++ put (place + size_of e) from file es
 
 -- a list with one more file; an older one of its name is an empty
 abbrev pub placed : ℕ → Placed → List DirEntry → List DirEntry
-placed first f es = tidy (put first f (emptied f.name es))
+placed first f es = tidy (put first f.place (File f.name f.info f.size) (emptied f.name es))
 
 -- so many blocks from a block on lie in one of these empties
 abbrev pub LieIn : ℕ → ℕ → List (ℕ × ℕ) → Type 0
@@ -70,3 +71,23 @@ smaller room (Some other) = if nat_lt other.1 room.1 then other else room
 abbrev pub smallest : ℕ → List (ℕ × ℕ) → Option (ℕ × ℕ)
 smallest wish [] = None
 smallest wish (room ∷ rooms) = if nat_lt room.1 wish then smallest wish rooms else Some (smaller room (smallest wish rooms))
+
+-- the empty for a wish: the smallest that has so many blocks, or for a wish of 0 the largest
+abbrev pub fitting : ℕ → List (ℕ × ℕ) → Option (ℕ × ℕ)
+fitting wish rooms = if wish == 0 then largest rooms else smallest wish rooms
+
+-- the lowest file with an empty directly below it, and that empty's blocks
+abbrev pub lowest_above : List DirEntry → Option (ℕ × ℕ)
+lowest_above [] = None
+lowest_above (File name info size ∷ es) = lowest_above es
+lowest_above (Empty gap ∷ []) = None
+lowest_above (Empty gap ∷ Empty size ∷ es) = lowest_above (Empty size ∷ es)
+lowest_above (Empty gap ∷ File name info size ∷ es) = Some (name, gap)
+
+-- a directory with another list
+abbrev pub relisted : Listed → List DirEntry → Listed
+relisted d es = record { first = d.first; info = d.info; entries = es }
+
+-- a new file: of the words given the first are its information words, and missing ones are 0
+abbrev pub new_file : Listed → ℕ → List ℕ → ℕ → ℕ → Placed
+new_file d name words place size = record { name = name; info = padded 10 (take d.info words); place = place; size = size }

@@ -1,5 +1,5 @@
 -- What small steps of the code answer. No contract of a public function cites these.
-use Rattle.std.specs.Prelude.{◌≡◌, ℕ, ◌+◌, ◌==◌, Bool, true, false, not, ◌&&◌, ◌||◌, List, [], ◌∷◌, slice_set, Result, Ok, Err}
+use Rattle.std.specs.Prelude.{◌≡◌, ℕ, ◌+◌, ◌==◌, Bool, true, false, not, ◌&&◌, ◌||◌, List, [], ◌∷◌, nat_lt, if◌then◌else◌, slice_set, Option, Some, None, Result, Ok, Err}
 use Rattle.std.specs.Ordering.{nat_cmp}
 use Rattle.std.specs.BTreeSet.{BTreeSet}
 use Rattle.std.specs.BTreeSet as set
@@ -67,3 +67,33 @@ LeavesRead (Err fault) new read = Meets fault read
 abbrev pub written : List ℕ → ℕ → List ℕ → List ℕ
 written segment at [] = segment
 written segment at (w ∷ words) = written (slice_set segment at w) (at + 1) words
+
+-- an empty, and the file of a name above it
+abbrev pub is_gap : ℕ → DirEntry → DirEntry → Bool
+is_gap name (File other info size) high = false
+is_gap name (Empty gap) (File other info size) = other == name
+is_gap name (Empty gap) (Empty size) = false
+
+-- another room is a better choice for a wish
+abbrev pub beats : ℕ → ℕ → ℕ → Bool
+beats wish size other = if wish == 0 then nat_lt size other else nat_lt other size
+
+-- the better of a room and one behind it
+abbrev pub better : ℕ → ℕ × ℕ → Option (ℕ × ℕ) → ℕ × ℕ
+better wish room None = room
+better wish room (Some other) = if beats wish room.1 other.1 then other else room
+
+-- the best of the rooms that have so many blocks
+abbrev pub best : ℕ → List (ℕ × ℕ) → Option (ℕ × ℕ)
+best wish [] = None
+best wish (room ∷ rooms) = if nat_lt room.1 wish then best wish rooms else Some (better wish room (best wish rooms))
+
+-- the better of a room that was chosen and one behind it, where either may be missing
+abbrev pub or_better : ℕ → Option (ℕ × ℕ) → Option (ℕ × ℕ) → Option (ℕ × ℕ)
+or_better wish None other = other
+or_better wish (Some room) other = Some (better wish room other)
+
+-- the choice, where one more entry is seen
+abbrev pub with_room : ℕ → Option (ℕ × ℕ) → ℕ → DirEntry → Option (ℕ × ℕ)
+with_room wish chosen place (File name info size) = chosen
+with_room wish chosen place (Empty size) = if nat_lt size wish then chosen else or_better wish chosen (Some (place, size))

@@ -36,3 +36,17 @@ pub fn append(entries: &mut Vec<DirEntry>, entry: DirEntry) -> bool
         DirEntry::Empty { length } => length == 0 || append_room(entries, length),
     }
 }
+
+/// Adds entries behind the others, each as `append` does, and says whether there was memory for them.
+pub fn append_all(entries: &mut Vec<DirEntry>, more: &[DirEntry]) -> bool
+    requires neat { IsTidy entries.old.items }
+    requires fits { total entries.old.items + total more.now ≤ 4095 }
+    ensures { OnTrue result (entries.new.items ≡ tidy (entries.old.items ++ more.now)) }
+{
+    for entry in more {
+        if !append(entries, *entry) {
+            return false;
+        }
+    }
+    true
+}

@@ -2,8 +2,9 @@ ghost use Rattle.std.specs.Prelude.{◌≡◌, ℕ, ◌+◌, ◌<◌, ◌≤◌,
 ghost use Rattle.os8_dir.specs.Entries.{Listed, minus as minus_of, size_of, total, IsTidy, capacity as capacity_of};
 ghost use Rattle.os8_dir.specs.Kept.{IsKept};
 ghost use Rattle.os8_dir.specs.Found.{files_at, rooms_at, find as found, extent_of, largest as largest_of, size_or_zero, free_blocks, used_blocks, limit as limit_of};
+ghost use Rattle.os8_dir.specs.Changes.{fitting as fitting_of, lowest_above as lowest_above_of};
 
-use crate::found::{find, free_blocks, largest_room};
+use crate::found::{find, fitting, free_blocks, largest_room, lowest_above};
 use crate::{DirEntry, Name};
 use std::marker::Model;
 
@@ -41,6 +42,22 @@ impl Directory {
         ensures { result ≡ size_or_zero (largest_of (rooms_at self.now.first self.now.entries)) }
     {
         largest_room(self.entries.as_slice())
+    }
+
+    /// The first block and the length of the smallest empty that has at least `wish` blocks; for a wish of 0 of the
+    /// largest. Of equals it is the first; nothing where no empty fits (this project's profile).
+    pub fn fitting(&self, wish: usize) -> Option<(usize, usize)>
+        ensures { result ≡ fitting_of wish (rooms_at self.now.first self.now.entries) }
+    {
+        fitting(self.entries.as_slice(), self.first, wish)
+    }
+
+    /// The lowest file with an empty directly below it, and how many blocks that empty has; nothing where no file has
+    /// one (this project's profile).
+    pub fn lowest_above(&self) -> Option<(Name, usize)>
+        ensures { result ≡ lowest_above_of self.now.entries }
+    {
+        lowest_above(self.entries.as_slice())
     }
 
     /// How many covered blocks belong to no file (this project's profile).

@@ -1,7 +1,8 @@
-ghost use Rattle.std.specs.Prelude.{◌≡◌, ℕ, ◌+◌, ◌<◌, ◌≤◌};
-ghost use Rattle.os8_dir.specs.Entries.{total};
+ghost use Rattle.std.specs.Prelude.{◌≡◌, ℕ, ◌+◌, ◌<◌, ◌≤◌, ◌++◌, length, take, drop};
+ghost use Rattle.os8_dir.specs.Entries.{total, IsTidy};
+ghost use Rattle.os8_dir.specs.Changes.{gap_below, swapped, lowest_above as lowest_above_of, fitting as fitting_of};
 ghost use Rattle.os8_dir.specs.Found.{files_at, rooms_at, find as found, extent_of, largest, size_or_zero, room_of, free_blocks as free_of};
-ghost use Rattle.os8_dir.specs.Steps.{is_named as is_named_in, last_room as last_room_of};
+ghost use Rattle.os8_dir.specs.Steps.{is_named as is_named_in, last_room as last_room_of, is_gap as is_gap_in, beats as beats_in, with_room as with_room_of};
 
 use crate::{DirEntry, Name};
 
@@ -76,4 +77,105 @@ pub fn free_blocks(entries: &[DirEntry]) -> usize
         free += room(entry);
     }
     free
+}
+
+/// Whether the first of two entries is an empty, and the second the file of a name.
+fn is_gap(low: &DirEntry, high: &DirEntry, name: Name) -> bool
+    ensures { result ≡ is_gap_in name low.now high.now }
+{
+    match low {
+        DirEntry::File { .. } => false,
+        DirEntry::Empty { .. } => match high {
+            DirEntry::File { name: other, .. } => *other == name,
+            DirEntry::Empty { .. } => false,
+        },
+    }
+}
+
+/// The place among the entries of the empty directly below the file of a name.
+pub fn gap_place(entries: &[DirEntry], name: Name) -> usize
+    requires { 0 < gap_below name entries.now }
+    ensures range { result + 2 ≤ length entries.now }
+    ensures list { swapped name entries.now ≡ take result entries.now ++ (take 1 (drop 1 (drop result entries.now)) ++ (take 1 (drop result entries.now) ++ drop 1 (drop 1 (drop result entries.now)))) }
+{
+    let pairs = entries.len().saturating_sub(1);
+    for place in 0..pairs {
+        if is_gap(&entries[place], &entries[place + 1], name) {
+            return place;
+        }
+    }
+    pairs
+}
+
+/// The lowest file with an empty directly below it, and how many blocks that empty has.
+pub fn lowest_above(entries: &[DirEntry]) -> Option<(Name, usize)>
+    requires { IsTidy entries.now }
+    ensures { result ≡ lowest_above_of entries.now }
+{
+    let mut below = 0;
+    for entry in entries {
+        match entry {
+            DirEntry::File { name, .. } => {
+                if below > 0 {
+                    return Some((*name, below));
+                }
+            }
+            DirEntry::Empty { length } => below = *length,
+        }
+    }
+    None
+}
+
+/// Whether another room is a better choice for a wish: the smaller one, or the larger one for a wish of 0.
+fn beats(wish: usize, size: usize, other: usize) -> bool
+    ensures { result ≡ beats_in wish size other }
+{
+    if wish == 0 {
+        size < other
+    } else {
+        other < size
+    }
+}
+
+/// The room that is chosen for a wish, where one more entry is seen.
+fn with_room(
+    wish: usize,
+    chosen: Option<(usize, usize)>,
+    place: usize,
+    entry: &DirEntry,
+) -> Option<(usize, usize)>
+    ensures { result ≡ with_room_of wish chosen place entry.now }
+{
+    match entry {
+        DirEntry::File { .. } => chosen,
+        DirEntry::Empty { length } => {
+            if *length < wish {
+                return chosen;
+            }
+            match chosen {
+                Some((at, size)) => {
+                    if beats(wish, size, *length) {
+                        Some((place, *length))
+                    } else {
+                        Some((at, size))
+                    }
+                }
+                None => Some((place, *length)),
+            }
+        }
+    }
+}
+
+/// The empty for a wish and how many blocks it has, where the first entry begins at a block.
+pub fn fitting(entries: &[DirEntry], first: usize, wish: usize) -> Option<(usize, usize)>
+    requires { first + total entries.now ≤ 4095 }
+    ensures { result ≡ fitting_of wish (rooms_at first entries.now) }
+{
+    let mut chosen = None;
+    let mut place = first;
+    for entry in entries {
+        chosen = with_room(wish, chosen, place, entry);
+        place += entry.length();
+    }
+    chosen
 }

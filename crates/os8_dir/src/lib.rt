@@ -6,6 +6,7 @@
 #![tactic(auto)]
 
 mod appending;
+mod changes;
 mod directory;
 mod drafts;
 mod entries;

@@ -17,7 +17,7 @@ pub fn minus(word: Word) -> usize
 }
 
 /// So many words, with zeros behind them.
-fn info_of(words: &[Word], info: usize) -> [Word; 10]
+pub fn info_of(words: &[Word], info: usize) -> [Word; 10]
     requires few { info ≤ 10 }
     requires there { info ≤ length words.now }
     ensures { result ≡ padded 10 (take info words.now) }

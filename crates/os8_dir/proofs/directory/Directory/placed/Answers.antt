@@ -1,0 +1,37 @@
+use Rattle.std.proofs.Common.{◌≡◌, refl, ap, ◌∙◌, arith}
+use Rattle.os8_dir.specs.declared.entries.DirEntry.TheVariants.{File}
+use Rattle.os8_dir.specs.Names.{padded}
+use Rattle.os8_dir.specs.Entries.{tidy}
+use Rattle.os8_dir.specs.Changes.{emptied, put, placed, new_file, relisted}
+use Rattle.os8_dir.proofs.ChangeLemmas.{lie-inside, tidied-neat, tidied-total, total-put, total-emptied, take-min-words}
+use Rattle.os8_dir.proofs.directory.Directory.placed.Goals as goal
+
+pub with_file-requires : goal.with_file-requires
+with_file-requires c =
+    let d = c.args.self.now in
+    record {
+      inside = rw (c.entries.ensures.list, c.first_block-first.ensures.value) c.entries.ensures.blocks;
+      near = omega (arith, lie-inside d.first c.args.first_block c.args.length d.entries c.requires.room, c.entries.ensures.blocks);
+    }
+
+pub with_list-requires : goal.with_list-requires
+with_list-requires c =
+    let d = c.args.self.now in
+    let kept = c.in_ok-entries.entries.items in
+    let laid = put c.first_block-first.result c.args.first_block (File c.args.name.now c.info_of.result c.args.length) (emptied c.args.name.now d.entries) in
+    let is : kept ≡ tidy laid = rw (← c.entries.ensures.list) c.in_ok-entries.ensures.list in
+    record {
+      neat = tidied-neat kept laid is;
+      same = tidied-total kept laid is ∙ total-put _ _ _ (emptied c.args.name.now d.entries) ∙ total-emptied c.args.name.now d.entries;
+    }
+
+pub returns : goal.returns
+returns c =
+    let d = c.args.self.now in
+    let kept = c.in_ok-entries.entries.items in
+    let words : c.info_of.result ≡ (new_file d c.args.name.now c.args.info.now c.args.first_block c.args.length).info = c.info_of.ensures ∙ rw (c.min.ensures, c.information_words-count.ensures.value, take-min-words d.info c.args.info.now) refl in
+    let is : kept ≡ placed d.first (new_file d c.args.name.now c.args.info.now c.args.first_block c.args.length) d.entries = c.in_ok-entries.ensures.list ∙ rw (words, c.entries.ensures.list, c.first_block-first.ensures.value) refl in
+    record {
+      list = c.with_list.ensures ∙ ap (relisted d) is;
+      err = tt;
+    }
