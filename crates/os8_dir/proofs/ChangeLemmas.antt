@@ -11,7 +11,7 @@ use Rattle.os8_dir.proofs.TidyLemmas.{total-tidy, total-append, append-nil, IsTi
 use Rattle.os8_dir.proofs.SegmentLemmas.{drop-item}
 
 -- Tidying in parts.
-before-none : (es : List DirEntry) → before (Empty 0) es ≡ es
+pub before-none : (es : List DirEntry) → before (Empty 0) es ≡ es
 before-none [] = refl
 before-none (File name info size ∷ es) = refl
 before-none (Empty size ∷ es) = let e : 0 + size ≡ size = omega arith in rw e refl

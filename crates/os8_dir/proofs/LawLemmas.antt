@@ -76,7 +76,7 @@ AreApart-from : (low from bound : ℕ) (fs : List Placed) → low ≤ from → A
 AreApart-from low from bound [] less apart = omega arith
 AreApart-from low from bound (f ∷ fs) less apart = (omega (arith, apart.0), apart.1, apart.2)
 
-AreApart-files_at : (place bound : ℕ) (es : List DirEntry) → place + total es ≤ bound → AreApart place bound (files_at place es)
+pub AreApart-files_at : (place bound : ℕ) (es : List DirEntry) → place + total es ≤ bound → AreApart place bound (files_at place es)
 AreApart-files_at place bound [] inside = omega arith
 AreApart-files_at place bound (File name info zero ∷ es) inside = AreApart-files_at place bound es (omega arith)
 AreApart-files_at place bound (File name info (suc size) ∷ es) inside = (omega arith, omega arith, AreApart-files_at (place + suc size) bound es (omega arith))
@@ -97,7 +97,7 @@ padded-take-none n zero = refl
 padded-take-none zero (suc info) = refl
 padded-take-none (suc n) (suc info) = ap (λ ws. 0 ∷ ws) (padded-take-none n info)
 
-padded-take : (n info : ℕ) (words : List ℕ) → padded n (take info (padded n (take info words))) ≡ padded n (take info words)
+pub padded-take : (n info : ℕ) (words : List ℕ) → padded n (take info (padded n (take info words))) ≡ padded n (take info words)
 padded-take n zero words = refl
 padded-take zero (suc info) words = refl
 padded-take (suc n) (suc info) [] = ap (λ ws. 0 ∷ ws) (padded-take-none n info)

@@ -11,3 +11,5 @@ pub mod TidyLemmas
 pub mod SegmentLemmas
 pub mod ReadBackLemmas
 pub mod ChangeLemmas
+pub mod FileLemmas
+pub mod CountLemmas

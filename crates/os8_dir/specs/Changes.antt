@@ -42,6 +42,11 @@ abbrev pub LieIn : ℕ → ℕ → List (ℕ × ℕ) → Type 0
 LieIn from count [] = ⊥
 LieIn from count (room ∷ rooms) = ((room.0 ≤ from) × (from + count ≤ room.0 + room.1)) ⊎ LieIn from count rooms
 
+-- so many blocks from a block on are one of these empties
+abbrev pub IsRoom : ℕ → ℕ → List (ℕ × ℕ) → Type 0
+IsRoom from size [] = ⊥
+IsRoom from size (room ∷ rooms) = ((room.0 ≡ from) × (room.1 ≡ size)) ⊎ IsRoom from size rooms
+
 -- the blocks of the empty directly below the file of a name; 0 where there is none
 abbrev pub gap_below : ℕ → List DirEntry → ℕ
 gap_below name [] = 0
@@ -91,3 +96,8 @@ relisted d es = record { first = d.first; info = d.info; entries = es }
 -- a new file: of the words given the first are its information words, and missing ones are 0
 abbrev pub new_file : Listed → ℕ → List ℕ → ℕ → ℕ → Placed
 new_file d name words place size = record { name = name; info = padded 10 (take d.info words); place = place; size = size }
+
+-- a file so many blocks further down
+abbrev pub lowered : ℕ → Option Placed → Option Placed
+lowered gap None = None
+lowered gap (Some f) = Some (record { name = f.name; info = f.info; place = f.place - gap; size = f.size })

@@ -69,6 +69,12 @@ count_files [] = 0
 count_files (File name info size ∷ es) = suc (count_files es)
 count_files (Empty size ∷ es) = count_files es
 
+-- how many empties
+abbrev pub count_empties : List DirEntry → ℕ
+count_empties [] = 0
+count_empties (File name info size ∷ es) = count_empties es
+count_empties (Empty size ∷ es) = suc (count_empties es)
+
 -- how many files of a tidy list have an empty below them: all those behind its first empty
 abbrev pub above : List DirEntry → ℕ
 above [] = 0

@@ -1,13 +1,15 @@
 //! What holds of every volume and its directory. Each function does nothing: its contract is the law.
-ghost use Rattle.std.specs.Prelude.{◌≡◌, ◌<◌, ◌≤◌, ℕ, ◌⊎◌, List, length, Ok};
+ghost use Rattle.std.specs.Prelude.{◌≡◌, ◌≢◌, ◌+◌, ◌-◌, ◌*◌, ◌<◌, ◌≤◌, ◌↔◌, ℕ, ◌⊎◌, List, length, Option, Some, None, Ok};
 ghost use Rattle.std.specs.FinMap.{get, from_entries};
 ghost use Rattle.os8_dir.specs.Names.{name_of, IsFourWords, IsBefore};
-ghost use Rattle.os8_dir.specs.Entries.{Listed, capacity};
+ghost use Rattle.os8_dir.specs.Entries.{Listed, capacity, total, IsTidy, IsNamed};
 ghost use Rattle.os8_dir.specs.Reading.{Sound, HasFault, IsOfWords, directory_of};
-ghost use Rattle.os8_dir.specs.Found.{IsDirectory, files_at, find, limit, above};
+ghost use Rattle.os8_dir.specs.Found.{Placed, IsDirectory, files_at, find, rooms_at, largest, size_or_zero, free_blocks, count_files, count_empties, limit, above, IsTight};
 ghost use Rattle.os8_dir.specs.Files.{files_of, held_of, capacity_of, limit_of, above_of, held_by};
 ghost use Rattle.os8_dir.specs.Segments.{HoldsSegments};
+ghost use Rattle.os8_dir.specs.Changes.{removed, placed, moved_down, relisted, new_file, lowered, fitting, lowest_above, gap_below, LieIn, IsRoom};
 ghost use Rattle.os8_dir.specs.declared.faults.DirFault.{DirFault};
+ghost use Rattle.os8_dir.specs.declared.entries.DirEntry.{DirEntry};
 
 /// A volume is sound or has a first fault, and never both.
 pub fn sound_or_fault()
@@ -54,4 +56,67 @@ pub fn directory_numbers()
     ensures capacity { (blocks : List (List ℕ)) (d : Listed) → directory_of blocks ≡ Ok d → capacity_of blocks ≡ capacity d }
     ensures limit { (blocks : List (List ℕ)) (d : Listed) → directory_of blocks ≡ Ok d → limit_of blocks ≡ limit d }
     ensures above { (blocks : List (List ℕ)) (d : Listed) → directory_of blocks ≡ Ok d → above_of blocks ≡ above d.entries }
+{}
+
+/// Without a file a directory is one of the same volume that covers as many blocks and has no more entries. The file is
+/// gone, and the others are found as before.
+pub fn file_removed()
+    ensures directory { (volume name : ℕ) (d : Listed) → IsDirectory volume d → IsDirectory volume (relisted d (removed name d.entries)) }
+    ensures gone { (name first : ℕ) (es : List DirEntry) → find name (files_at first (removed name es)) ≡ None }
+    ensures others { (name other first : ℕ) (es : List DirEntry) → name ≢ other → find other (files_at first (removed name es)) ≡ find other (files_at first es) }
+    ensures blocks { (name : ℕ) (es : List DirEntry) → total (removed name es) ≡ total es }
+    ensures entries { (name : ℕ) (es : List DirEntry) → length (removed name es) ≤ length es }
+{}
+
+/// With one more file a directory is one of the same volume that covers as many blocks. The file is found where it was
+/// placed, and the others as before. Where it was placed at the beginning of an empty, there is at most one entry more;
+/// and where besides its name is new, and no file had an empty below it, then none has.
+pub fn file_placed()
+    ensures directory { (volume name place size : ℕ) (words : List ℕ) (d : Listed) → IsDirectory volume d → IsNamed name → 0 < size → IsDirectory volume (relisted d (placed d.first (new_file d name words place size) d.entries)) }
+    ensures there { (first : ℕ) (f : Placed) (es : List DirEntry) → 0 < f.size → LieIn f.place f.size (rooms_at first es) → find f.name (files_at first (placed first f es)) ≡ Some f }
+    ensures others { (other first : ℕ) (f : Placed) (es : List DirEntry) → f.name ≢ other → find other (files_at first (placed first f es)) ≡ find other (files_at first es) }
+    ensures blocks { (first : ℕ) (f : Placed) (es : List DirEntry) → total (placed first f es) ≡ total es }
+    ensures entries { (first size : ℕ) (f : Placed) (es : List DirEntry) → 0 < f.size → f.size ≤ size → IsRoom f.place size (rooms_at first es) → length (placed first f es) ≤ length es + 1 }
+    ensures tight { (first size : ℕ) (f : Placed) (es : List DirEntry) → IsTidy es → IsTight es → find f.name (files_at first es) ≡ None → 0 < f.size → f.size ≤ size → IsRoom f.place size (rooms_at first es) → IsTight (placed first f es) }
+{}
+
+/// With a file moved down a directory is one of the same volume that covers as many blocks and has no more entries. The
+/// file was found directly above an empty, and is found so much lower, and the others are found as before.
+pub fn file_moved_down()
+    ensures directory { (volume name : ℕ) (d : Listed) → IsDirectory volume d → IsDirectory volume (relisted d (moved_down name d.entries)) }
+    ensures found { (volume name : ℕ) (d : Listed) → IsDirectory volume d → 0 < gap_below name d.entries → (f : Placed) × ((find name (files_at d.first d.entries) ≡ Some f) × (gap_below name d.entries ≤ f.place) × IsRoom (f.place - gap_below name d.entries) (gap_below name d.entries) (rooms_at d.first d.entries)) }
+    ensures there { (volume name : ℕ) (d : Listed) → IsDirectory volume d → 0 < gap_below name d.entries → find name (files_at d.first (moved_down name d.entries)) ≡ lowered (gap_below name d.entries) (find name (files_at d.first d.entries)) }
+    ensures others { (name other first : ℕ) (es : List DirEntry) → name ≢ other → find other (files_at first (moved_down name es)) ≡ find other (files_at first es) }
+    ensures blocks { (name : ℕ) (es : List DirEntry) → total (moved_down name es) ≡ total es }
+    ensures entries { (name : ℕ) (es : List DirEntry) → length (moved_down name es) ≤ length es }
+{}
+
+/// There is a lowest file with an empty directly below it just where some file has one; and where that file is moved
+/// down, one file fewer has one.
+pub fn lowest_file()
+    ensures none { (es : List DirEntry) → IsTidy es → (lowest_above es ≡ None) ↔ (above es ≡ 0) }
+    ensures gap { (es : List DirEntry) (name gap : ℕ) → IsTidy es → lowest_above es ≡ Some (name, gap) → (0 < gap) × (gap_below name es ≡ gap) }
+    ensures fewer { (es : List DirEntry) (name gap : ℕ) → IsTidy es → lowest_above es ≡ Some (name, gap) → above (moved_down name es) + 1 ≡ above es }
+{}
+
+/// The room for a wish is an empty that has so many blocks, and there is one where any empty has. Blocks that lie in an
+/// empty are no file's.
+pub fn rooms()
+    ensures fitting { (wish from size : ℕ) (rooms : List (ℕ × ℕ)) → fitting wish rooms ≡ Some (from, size) → IsRoom from size rooms × (wish ≤ size) }
+    ensures none { (wish : ℕ) (rooms : List (ℕ × ℕ)) → fitting wish rooms ≡ None → (from size : ℕ) → IsRoom from size rooms → wish ≤ size → ⊥ }
+    ensures short { (wish : ℕ) (rooms : List (ℕ × ℕ)) → 0 < wish → fitting wish rooms ≡ None → size_or_zero (largest rooms) < wish }
+    ensures blocks { (from size count : ℕ) (rooms : List (ℕ × ℕ)) → count ≤ size → IsRoom from size rooms → LieIn from count rooms }
+    ensures outside { (from count name first : ℕ) (es : List DirEntry) (f : Placed) → LieIn from count (rooms_at first es) → find name (files_at first es) ≡ Some f → (f.place + f.size ≤ from) ⊎ (from + count ≤ f.place) }
+{}
+
+/// A directory has at most one empty more than files. Where no file has an empty below it, it has at most one, which has
+/// all free blocks.
+pub fn entry_counts()
+    ensures files { (first : ℕ) (es : List DirEntry) → IsTidy es → length (files_at first es) ≡ count_files es }
+    ensures entries { (es : List DirEntry) → length es ≡ count_files es + count_empties es }
+    ensures empties { (es : List DirEntry) → IsTidy es → count_empties es ≤ count_files es + 1 }
+    ensures one { (es : List DirEntry) → IsTidy es → IsTight es → count_empties es ≤ 1 }
+    ensures least { (first : ℕ) (es : List DirEntry) → size_or_zero (largest (rooms_at first es)) ≤ free_blocks es }
+    ensures most { (first : ℕ) (es : List DirEntry) → IsTidy es → free_blocks es ≤ size_or_zero (largest (rooms_at first es)) * (count_files es + 1) }
+    ensures all { (first : ℕ) (es : List DirEntry) → IsTidy es → IsTight es → size_or_zero (largest (rooms_at first es)) ≡ free_blocks es }
 {}
