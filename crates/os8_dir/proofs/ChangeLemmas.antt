@@ -1,9 +1,9 @@
 -- Lists of entries as they are changed.
-use Rattle.std.proofs.Common.{◌≡◌, ℕ, zero, suc, ◌+◌, ◌-◌, ◌<◌, ◌≤◌, Bool, true, false, ◌&&◌, cond, eqb, leb, List, [], ◌∷◌, ◌++◌, length, take, drop, get_or, refl, ap, sym, subst, ◌∙◌, arith, add-zero, add-one, append_assoc, inl, inr, min}
+use Rattle.std.proofs.Common.{◌≡◌, ℕ, zero, suc, ◌+◌, ◌-◌, ◌<◌, ◌≤◌, Bool, true, false, ◌&&◌, cond, eqb, leb, List, [], ◌∷◌, ◌++◌, length, take, drop, get_or, refl, ap, sym, ◌∙◌, arith, add-zero, append_assoc, inl, inr, min}
 use Rattle.std.proofs.lemmas.Bool.{true≢false, leb-true}
 use Rattle.os8_dir.specs.declared.entries.DirEntry.{DirEntry}
 use Rattle.os8_dir.specs.declared.entries.DirEntry.TheVariants.{File, Empty}
-use Rattle.os8_dir.specs.Entries.{is_zero, size_of, total, before, tidy, Apart, IsTidy}
+use Rattle.os8_dir.specs.Entries.{size_of, total, before, tidy, IsTidy}
 use Rattle.std.proofs.Math.Nat.{zero-min}
 use Rattle.os8_dir.specs.Found.{rooms_at}
 use Rattle.os8_dir.specs.Changes.{emptied_entry, emptied, is_within, laid, put, swapped, LieIn}

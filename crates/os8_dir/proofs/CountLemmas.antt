@@ -1,16 +1,16 @@
 -- How many entries, files and empties lists have.
-use Rattle.std.proofs.Common.{◌≡◌, ℕ, zero, suc, ◌+◌, ◌-◌, ◌*◌, ◌<◌, ◌≤◌, ◌≢◌, Bool, true, false, cond, eqb, ltb, leb, List, [], ◌∷◌, ◌++◌, length, Option, Some, None, refl, ap, sym, subst, ◌∙◌, arith, add-zero, inl, inr, max, eq-eqb}
-use Rattle.std.specs.Prelude.{◌⊎◌, ◌↔◌}
-use Rattle.std.proofs.lemmas.Bool.{true≢false, lt-ltb, le-ltb, ltb-true, ltb-false}
+use Rattle.std.proofs.Common.{◌≡◌, ℕ, zero, suc, ◌+◌, ◌-◌, ◌*◌, ◌<◌, ◌≤◌, Bool, true, false, cond, eqb, ltb, List, [], ◌∷◌, length, Option, Some, None, refl, ap, sym, subst, ◌∙◌, arith, add-zero, inl, inr, eq-eqb}
+use Rattle.std.specs.Prelude.{◌⊎◌, ◌↔◌, IfSome}
+use Rattle.std.proofs.lemmas.Bool.{lt-ltb, le-ltb}
 use Rattle.std.proofs.lemmas.Bool.Decides.{eqb_tells, leb_tells}
 use Rattle.os8_dir.specs.declared.entries.DirEntry.{DirEntry}
 use Rattle.os8_dir.specs.declared.entries.DirEntry.TheVariants.{File, Empty}
-use Rattle.os8_dir.specs.Entries.{is_zero, contains, size_of, names_of, before, tidy, Apart, IsTidy}
-use Rattle.os8_dir.specs.Found.{Placed, files_at, find, rooms_at, largest, larger, size_or_zero, free_blocks, room_of, count_files, count_empties, above, IsTight}
-use Rattle.os8_dir.specs.Changes.{emptied_entry, emptied, removed, is_within, laid, put, placed, LieIn, IsRoom, gap_below, swapped, moved_down, fitting, smaller, smallest, lowest_above}
+use Rattle.os8_dir.specs.Entries.{is_zero, contains, size_of, total, names_of, before, tidy, IsTidy}
+use Rattle.os8_dir.specs.Found.{Placed, files_at, find, rooms_at, largest, larger, size_or_zero, free_blocks, count_files, count_empties, above, IsTight}
+use Rattle.os8_dir.specs.Changes.{emptied, removed, put, placed, LieIn, IsRoom, gap_below, swapped, moved_down, fitting, smaller, smallest, lowest_above}
 use Rattle.os8_dir.proofs.FoundLemmas.{largest_size, largest-rooms}
 use Rattle.os8_dir.proofs.TidyLemmas.{tidy-same}
-use Rattle.os8_dir.proofs.ChangeLemmas.{before-none}
+use Rattle.os8_dir.proofs.ChangeLemmas.{before-none, lie-inside}
 use Rattle.os8_dir.proofs.FileLemmas.{put-past, lie-from, is-within, not-within_past, head-named, rest-none}
 
 -- Entries of a list.
@@ -125,14 +125,17 @@ some-length [] = omega arith
 some-length (e ∷ es) = omega (arith, some-one (size_of e), some-length es)
 
 -- Rooms.
-pub room-lies : (from size count : ℕ) (rooms : List (ℕ × ℕ)) → count ≤ size → IsRoom from size rooms → LieIn from count rooms
-room-lies from size count [] less is = is
-room-lies from size count (room ∷ rooms) less is = elim is [
+pub blocks-lie : (place size from count : ℕ) (rooms : List (ℕ × ℕ)) → IsRoom place size rooms → place ≤ from → from + count ≤ place + size → LieIn from count rooms
+blocks-lie place size from count [] is low high = is
+blocks-lie place size from count (room ∷ rooms) is low high = elim is [
   | inl here ↦ inl (omega (arith, here.0), omega (arith, here.0, here.1))
-  | inr there ↦ inr (room-lies from size count rooms less there)
+  | inr there ↦ inr (blocks-lie place size from count rooms there low high)
 ]
 
-emptied-room : (name place from size : ℕ) (es : List DirEntry) → IsRoom from size (rooms_at place es) → IsRoom from size (rooms_at place (emptied name es))
+room-lies : (from size count : ℕ) (rooms : List (ℕ × ℕ)) → count ≤ size → IsRoom from size rooms → LieIn from count rooms
+room-lies from size count rooms less is = blocks-lie from size from count rooms is (omega arith) (omega arith)
+
+pub emptied-room : (name place from size : ℕ) (es : List DirEntry) → IsRoom from size (rooms_at place es) → IsRoom from size (rooms_at place (emptied name es))
 emptied-room name place from size [] is = is
 emptied-room name place from size (File own info length ∷ es) is = elim (eqb_tells own name) [
   | inl here ↦ rw here.0 (inr (emptied-room name (place + length) from size es is))
@@ -343,3 +346,17 @@ length-files place [] neat = refl
 length-files place (File name info zero ∷ es) neat = absurd (omega (arith, neat.0))
 length-files place (File name info (suc size) ∷ es) neat = ap suc (length-files (place + suc size) es neat.2)
 length-files place (Empty size ∷ es) neat = length-files (place + size) es neat.2
+
+-- A room that was chosen lies in the list.
+chosen-inside : (wish first : ℕ) (es : List DirEntry) (r : Option (ℕ × ℕ)) → IsChosen wish r (rooms_at first es) → IfSome r (λ room. (first ≤ room.0) × (room.0 + room.1 ≤ first + total es))
+chosen-inside wish first es None chosen = tt
+chosen-inside wish first es (Some room) chosen =
+    let lies : LieIn room.0 room.1 (rooms_at first es) = room-lies room.0 room.1 room.1 (rooms_at first es) (omega arith) chosen.0 in
+    (lie-from first room.0 room.1 es lies, lie-inside first room.0 room.1 es lies)
+
+pub fitting-inside : (wish first : ℕ) (es : List DirEntry) → IfSome (fitting wish (rooms_at first es)) (λ room. (first ≤ room.0) × (room.0 + room.1 ≤ first + total es))
+fitting-inside wish first es = chosen-inside wish first es (fitting wish (rooms_at first es)) (fitting-chosen wish (rooms_at first es))
+
+pub if_some-map : {A : Type 0} (r : Option A) (P Q : A → Type 0) → IfSome r P → ((x : A) → P x → Q x) → IfSome r Q
+if_some-map None P Q holds then = tt
+if_some-map (Some x) P Q holds then = then x holds

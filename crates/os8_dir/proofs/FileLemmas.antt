@@ -1,18 +1,17 @@
 -- What changes of a list do to its files.
-use Rattle.std.proofs.Common.{◌≡◌, ℕ, zero, suc, ◌+◌, ◌-◌, ◌<◌, ◌≤◌, ◌≢◌, Bool, true, false, not, ◌&&◌, ◌||◌, cond, eqb, leb, List, [], ◌∷◌, ◌++◌, length, take, Option, Some, None, refl, ap, sym, subst, ◌∙◌, arith, add-zero, inl, inr, eq-eqb, ne_eqb}
-use Rattle.std.specs.Prelude.{◌⊎◌}
-use Rattle.std.proofs.lemmas.Bool.{true≢false, le-leb, leb-true}
+use Rattle.std.proofs.Common.{◌≡◌, ℕ, zero, suc, ◌+◌, ◌-◌, ◌<◌, ◌≤◌, ◌≢◌, Bool, true, false, not, ◌&&◌, cond, eqb, leb, List, [], ◌∷◌, ◌++◌, take, Option, Some, None, refl, ap, sym, ◌∙◌, arith, add-zero, inl, inr, eq-eqb, ne_eqb}
+use Rattle.std.proofs.lemmas.Bool.{true≢false, le-leb}
 use Rattle.std.proofs.lemmas.Bool.Decides.{eqb_tells, leb_tells}
 use Rattle.os8_dir.specs.declared.entries.DirEntry.{DirEntry}
 use Rattle.os8_dir.specs.declared.entries.DirEntry.TheVariants.{File, Empty}
 use Rattle.os8_dir.specs.Names.{padded}
-use Rattle.os8_dir.specs.Entries.{Listed, is_zero, contains, AreDistinct, size_of, total, names_of, before, tidy, Apart, IsTidy, IsNamed, IsWritable, AreWritable}
-use Rattle.os8_dir.specs.Found.{Placed, files_at, find, rooms_at, AreApart, IsDirectory}
+use Rattle.os8_dir.specs.Entries.{Listed, is_zero, contains, AreDistinct, size_of, total, names_of, before, tidy, IsTidy, IsNamed, IsWritable, AreWritable}
+use Rattle.os8_dir.specs.Found.{Placed, files_at, find, rooms_at, IsDirectory}
 use Rattle.os8_dir.specs.Changes.{emptied_entry, emptied, removed, is_within, laid, put, placed, LieIn, IsRoom, gap_below, swapped, moved_down, relisted, lowered}
 use Rattle.os8_dir.specs.Steps.{is_named}
 use Rattle.os8_dir.proofs.TidyLemmas.{total-tidy, IsTidy-tidy}
 use Rattle.os8_dir.proofs.LawLemmas.{names_of-tidy, AreApart-files_at, writable-tidy, writable-append}
-use Rattle.os8_dir.proofs.ChangeLemmas.{size-emptied, total-emptied, total-put, total-swapped, within-bounds}
+use Rattle.os8_dir.proofs.ChangeLemmas.{total-emptied, total-put, total-swapped, within-bounds}
 
 -- The files of a tidy list.
 files_at-before : (place : ℕ) (e : DirEntry) (es : List DirEntry) → files_at place (before e es) ≡ files_at place (e ∷ es)

@@ -1,12 +1,11 @@
 -- The segments that a directory is written to are read back as it.
-use Rattle.std.proofs.Common.{◌≡◌, ℕ, zero, suc, ◌+◌, ◌-◌, ◌*◌, ◌/◌, ◌%◌, ◌<◌, ◌≤◌, ◌≢◌, Bool, true, false, not, ◌||◌, cond, eqb, ltb, List, [], ◌∷◌, ◌++◌, length, take, drop, get_or, Result, Ok, Err, refl, ap, sym, subst, ◌∙◌, arith, add-zero, add-one, append_assoc, eq-eqb, ne_eqb, inl, inr}
+use Rattle.std.proofs.Common.{◌≡◌, ℕ, zero, suc, ◌+◌, ◌-◌, ◌*◌, ◌/◌, ◌<◌, ◌≤◌, ◌≢◌, Bool, true, false, ◌||◌, cond, eqb, List, [], ◌∷◌, ◌++◌, length, take, drop, get_or, Ok, refl, ap, sym, subst, ◌∙◌, arith, append_assoc, eq-eqb, ne_eqb}
 use Rattle.std.proofs.lemmas.Bool.{true≢false, lt-ltb, le-ltb}
-use Rattle.std.proofs.lemmas.Bool.Decides.{eqb_tells}
 use Rattle.std.proofs.Math.Nat.{div-le_self, lt-div-mul-add, div-lt_iff_lt-mul}
 use Rattle.os8_dir.specs.declared.entries.DirEntry.{DirEntry}
 use Rattle.os8_dir.specs.declared.entries.DirEntry.TheVariants.{File, Empty}
 use Rattle.os8_dir.specs.Names.{name_of, words_of_name, padded}
-use Rattle.os8_dir.specs.Entries.{Listed, minus, is_zero, contains, AreDistinct, size_of, total, end_of, names_of, tidy, Apart, IsTidy, IsNamed, IsWritable, AreWritable}
+use Rattle.os8_dir.specs.Entries.{Listed, minus, is_zero, contains, AreDistinct, size_of, total, names_of, IsTidy, IsNamed, IsWritable, AreWritable}
 use Rattle.os8_dir.specs.Reading.{word, block, empty_at, file_at, entry_at, is_new, with_entry, with_entries, with_segment, is_unread, with_links, head_of, directory_of}
 use Rattle.os8_dir.specs.Found.{per_segment, limit, IsDirectory}
 use Rattle.os8_dir.specs.Segments.{words_of_entry, words_of_entries, words_of_segment, segment_count, before_segment, entries_of, link_of, segment_of, HoldsSegments}

@@ -1,17 +1,14 @@
 -- The words of segments as they are written, and as they are read back.
-use Rattle.std.proofs.Common.{◌≡◌, ℕ, zero, suc, ◌+◌, ◌-◌, ◌*◌, ◌/◌, ◌%◌, ◌<◌, ◌≤◌, ◌≢◌, Bool, true, false, not, cond, eqb, ltb, List, [], ◌∷◌, ◌++◌, length, take, drop, get_or, set, Result, Ok, Err, refl, ap, sym, subst, ◌∙◌, arith, add-zero, add-one, append_assoc, drop-cons, eq-eqb, ne_eqb}
-use Rattle.std.proofs.lemmas.Bool.{lt-ltb, le-ltb}
+use Rattle.std.proofs.Common.{◌≡◌, ℕ, zero, suc, ◌+◌, ◌-◌, ◌*◌, ◌<◌, ◌≤◌, List, [], ◌∷◌, ◌++◌, length, take, drop, get_or, set, refl, ap, sym, ◌∙◌, arith, add-zero, add-one, append_assoc, drop-cons}
 use Rattle.std.proofs.Common.{min}
 use Rattle.std.proofs.Math.ListN.{length-set}
 use Rattle.std.proofs.Math.Nat.{mul-le-mul_right, div-mul-le_self, zero-min}
 use Rattle.os8_dir.specs.declared.entries.DirEntry.{DirEntry}
 use Rattle.os8_dir.specs.declared.entries.DirEntry.TheVariants.{File, Empty}
-use Rattle.os8_dir.specs.declared.faults.DirFault.{DirFault}
-use Rattle.os8_dir.specs.Names.{name_of, words_of_name, padded}
-use Rattle.os8_dir.specs.Entries.{Listed, minus, is_zero, contains, AreDistinct, size_of, total, end_of, names_of, tidy, IsTidy, IsWritable, AreWritable}
-use Rattle.os8_dir.specs.Reading.{word, block, empty_at, file_at, entry_at, is_new, with_entry, with_entries, with_segment, is_unread, with_links, head_of, directory_of}
-use Rattle.os8_dir.specs.Found.{per_segment, limit, IsDirectory}
-use Rattle.os8_dir.specs.Segments.{words_of_entry, words_of_entries, words_of_segment, segment_count, before_segment, entries_of, link_of, segment_of}
+use Rattle.os8_dir.specs.Names.{padded}
+use Rattle.os8_dir.specs.Entries.{Listed, minus, total, IsTidy}
+use Rattle.os8_dir.specs.Found.{per_segment}
+use Rattle.os8_dir.specs.Segments.{words_of_entry, words_of_entries, words_of_segment, before_segment, entries_of}
 use Rattle.os8_dir.specs.Steps.{written}
 use Rattle.os8_dir.proofs.LawLemmas.{append-nil}
 

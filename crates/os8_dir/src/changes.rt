@@ -1,7 +1,7 @@
 ghost use Rattle.std.specs.Prelude.{◌≡◌, ◌+◌, ◌<◌, ◌≤◌, ◌++◌, IfOk, IfErr, IsSome};
 ghost use Rattle.std.specs.Bool.{OnTrue};
 ghost use Rattle.os8_dir.specs.Entries.{size_of, total, tidy, IsTidy, IsNamed};
-ghost use Rattle.os8_dir.specs.Found.{files_at, rooms_at, find as found};
+ghost use Rattle.os8_dir.specs.Found.{files_at, rooms_at, find as found, extent_of};
 ghost use Rattle.os8_dir.specs.Changes.{emptied_entry, removed as removed_of, laid, put, emptied as emptied_of, placed as placed_of, swapped, moved_down as moved_down_of, gap_below, LieIn, relisted, new_file};
 ghost use Rattle.os8_dir.specs.declared.faults.DirFault.TheVariants.{Memory};
 
@@ -144,7 +144,7 @@ impl Directory {
     /// The directory without the file of a name, whose blocks are an empty (this project's profile). The only fault is
     /// that there is no memory.
     pub fn removed(&self, alloc: Global, name: &Name) -> Result<Directory, DirFault>
-        requires there { IsSome (found name.now (files_at self.now.first self.now.entries)) }
+        requires there { IsSome (extent_of (found name.now (files_at self.now.first self.now.entries))) }
         ensures list { IfOk result (λ d. d ≡ relisted self.now (removed_of name.now self.now.entries)) }
         ensures err { IfErr result (λ fault. fault ≡ Memory) }
     {

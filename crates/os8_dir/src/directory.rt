@@ -1,4 +1,4 @@
-ghost use Rattle.std.specs.Prelude.{◌≡◌, ℕ, ◌+◌, ◌<◌, ◌≤◌, length, IfOk};
+ghost use Rattle.std.specs.Prelude.{◌≡◌, ℕ, ◌+◌, ◌<◌, ◌≤◌, length, IfOk, IfSome};
 ghost use Rattle.os8_dir.specs.Entries.{Listed, minus as minus_of, size_of, total, IsTidy, capacity as capacity_of};
 ghost use Rattle.os8_dir.specs.Kept.{IsKept};
 ghost use Rattle.os8_dir.specs.Found.{files_at, rooms_at, find as found, extent_of, largest as largest_of, size_or_zero, free_blocks, used_blocks, limit as limit_of};
@@ -47,7 +47,9 @@ impl Directory {
     /// The first block and the length of the smallest empty that has at least `wish` blocks; for a wish of 0 of the
     /// largest. Of equals it is the first; nothing where no empty fits (this project's profile).
     pub fn fitting(&self, wish: usize) -> Option<(usize, usize)>
-        ensures { result ≡ fitting_of wish (rooms_at self.now.first self.now.entries) }
+        ensures room { result ≡ fitting_of wish (rooms_at self.now.first self.now.entries) }
+        ensures low { IfSome result (λ room. self.now.first ≤ room.0) }
+        ensures high { IfSome result (λ room. room.0 + room.1 ≤ 4095) }
     {
         fitting(self.entries.as_slice(), self.first, wish)
     }

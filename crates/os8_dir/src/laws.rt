@@ -64,7 +64,7 @@ pub fn file_removed()
     ensures directory { (volume name : ℕ) (d : Listed) → IsDirectory volume d → IsDirectory volume (relisted d (removed name d.entries)) }
     ensures gone { (name first : ℕ) (es : List DirEntry) → find name (files_at first (removed name es)) ≡ None }
     ensures others { (name other first : ℕ) (es : List DirEntry) → name ≢ other → find other (files_at first (removed name es)) ≡ find other (files_at first es) }
-    ensures blocks { (name : ℕ) (es : List DirEntry) → total (removed name es) ≡ total es }
+    ensures covered { (name : ℕ) (es : List DirEntry) → total (removed name es) ≡ total es }
     ensures entries { (name : ℕ) (es : List DirEntry) → length (removed name es) ≤ length es }
 {}
 
@@ -75,7 +75,7 @@ pub fn file_placed()
     ensures directory { (volume name place size : ℕ) (words : List ℕ) (d : Listed) → IsDirectory volume d → IsNamed name → 0 < size → IsDirectory volume (relisted d (placed d.first (new_file d name words place size) d.entries)) }
     ensures there { (first : ℕ) (f : Placed) (es : List DirEntry) → 0 < f.size → LieIn f.place f.size (rooms_at first es) → find f.name (files_at first (placed first f es)) ≡ Some f }
     ensures others { (other first : ℕ) (f : Placed) (es : List DirEntry) → f.name ≢ other → find other (files_at first (placed first f es)) ≡ find other (files_at first es) }
-    ensures blocks { (first : ℕ) (f : Placed) (es : List DirEntry) → total (placed first f es) ≡ total es }
+    ensures covered { (first : ℕ) (f : Placed) (es : List DirEntry) → total (placed first f es) ≡ total es }
     ensures entries { (first size : ℕ) (f : Placed) (es : List DirEntry) → 0 < f.size → f.size ≤ size → IsRoom f.place size (rooms_at first es) → length (placed first f es) ≤ length es + 1 }
     ensures tight { (first size : ℕ) (f : Placed) (es : List DirEntry) → IsTidy es → IsTight es → find f.name (files_at first es) ≡ None → 0 < f.size → f.size ≤ size → IsRoom f.place size (rooms_at first es) → IsTight (placed first f es) }
 {}
@@ -87,7 +87,7 @@ pub fn file_moved_down()
     ensures found { (volume name : ℕ) (d : Listed) → IsDirectory volume d → 0 < gap_below name d.entries → (f : Placed) × ((find name (files_at d.first d.entries) ≡ Some f) × (gap_below name d.entries ≤ f.place) × IsRoom (f.place - gap_below name d.entries) (gap_below name d.entries) (rooms_at d.first d.entries)) }
     ensures there { (volume name : ℕ) (d : Listed) → IsDirectory volume d → 0 < gap_below name d.entries → find name (files_at d.first (moved_down name d.entries)) ≡ lowered (gap_below name d.entries) (find name (files_at d.first d.entries)) }
     ensures others { (name other first : ℕ) (es : List DirEntry) → name ≢ other → find other (files_at first (moved_down name es)) ≡ find other (files_at first es) }
-    ensures blocks { (name : ℕ) (es : List DirEntry) → total (moved_down name es) ≡ total es }
+    ensures covered { (name : ℕ) (es : List DirEntry) → total (moved_down name es) ≡ total es }
     ensures entries { (name : ℕ) (es : List DirEntry) → length (moved_down name es) ≤ length es }
 {}
 
@@ -105,7 +105,7 @@ pub fn rooms()
     ensures fitting { (wish from size : ℕ) (rooms : List (ℕ × ℕ)) → fitting wish rooms ≡ Some (from, size) → IsRoom from size rooms × (wish ≤ size) }
     ensures none { (wish : ℕ) (rooms : List (ℕ × ℕ)) → fitting wish rooms ≡ None → (from size : ℕ) → IsRoom from size rooms → wish ≤ size → ⊥ }
     ensures short { (wish : ℕ) (rooms : List (ℕ × ℕ)) → 0 < wish → fitting wish rooms ≡ None → size_or_zero (largest rooms) < wish }
-    ensures blocks { (from size count : ℕ) (rooms : List (ℕ × ℕ)) → count ≤ size → IsRoom from size rooms → LieIn from count rooms }
+    ensures lie { (place size from count : ℕ) (rooms : List (ℕ × ℕ)) → IsRoom place size rooms → place ≤ from → from + count ≤ place + size → LieIn from count rooms }
     ensures outside { (from count name first : ℕ) (es : List DirEntry) (f : Placed) → LieIn from count (rooms_at first es) → find name (files_at first es) ≡ Some f → (f.place + f.size ≤ from) ⊎ (from + count ≤ f.place) }
 {}
 

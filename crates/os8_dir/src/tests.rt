@@ -5,6 +5,9 @@ use std::test::Fail;
 use store::{TestStore, store_of};
 use word12::Word;
 
+mod changes;
+mod segments;
+mod steps;
 mod store;
 
 fn words(numbers: [u16; 4]) -> [Word; 4] {
@@ -376,4 +379,11 @@ fn laws_hold() {
     laws::files_found();
     laws::directory_numbers();
     laws::name_order();
+    laws::read_back();
+    laws::file_removed();
+    laws::file_placed();
+    laws::file_moved_down();
+    laws::lowest_file();
+    laws::rooms();
+    laws::entry_counts();
 }

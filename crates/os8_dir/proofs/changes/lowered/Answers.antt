@@ -1,4 +1,4 @@
-use Rattle.std.proofs.Common.{◌≡◌, ◌+◌, ◌++◌, take, drop, ap, sym, ◌∙◌, arith, refl}
+use Rattle.std.proofs.Common.{◌≡◌, ◌++◌, ap, sym, ◌∙◌, arith, refl}
 use Rattle.os8_dir.specs.Entries.{total, tidy}
 use Rattle.os8_dir.specs.Changes.{swapped}
 use Rattle.os8_dir.proofs.TidyLemmas.{total-append}

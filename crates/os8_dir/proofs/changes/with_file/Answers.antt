@@ -1,5 +1,5 @@
-use Rattle.std.proofs.Common.{◌≡◌, ◌+◌, ◌≤◌, ◌∷◌, ◌++◌, [], take, sym, ◌∙◌, arith, refl}
-use Rattle.os8_dir.specs.Entries.{size_of, total}
+use Rattle.std.proofs.Common.{◌+◌, ◌≤◌, take, ◌∙◌, arith}
+use Rattle.os8_dir.specs.Entries.{size_of}
 use Rattle.os8_dir.specs.Changes.{emptied, put}
 use Rattle.os8_dir.proofs.ChangeLemmas.{put-item, total-put, size-emptied, total-emptied, total-item, total-take-item, tidied-neat, tidied-total, tidy-more}
 use Rattle.os8_dir.proofs.changes.with_file.Goals as goal

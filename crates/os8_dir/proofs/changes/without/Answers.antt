@@ -1,4 +1,4 @@
-use Rattle.std.proofs.Common.{◌≡◌, ◌+◌, ◌∷◌, ◌++◌, [], take, sym, ◌∙◌, arith, refl}
+use Rattle.std.proofs.Common.{◌+◌, take, ◌∙◌, arith}
 use Rattle.os8_dir.specs.Changes.{emptied}
 use Rattle.os8_dir.proofs.ChangeLemmas.{emptied-item, size-emptied, total-emptied, total-item, tidied-neat, tidied-total, tidy-more}
 use Rattle.os8_dir.proofs.changes.without.Goals as goal

@@ -1,5 +1,4 @@
-use Rattle.std.proofs.Common.{◌≡◌, ◌≤◌, length, drop, arith, length-drop}
-use Rattle.os8_dir.specs.Changes.{gap_below}
+use Rattle.std.proofs.Common.{◌≤◌, length, drop, arith, length-drop}
 use Rattle.os8_dir.proofs.FoundLemmas.{gap_below-short}
 use Rattle.os8_dir.proofs.found.gap_place.Goals as goal
 

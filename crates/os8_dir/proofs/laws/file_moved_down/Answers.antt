@@ -8,6 +8,6 @@ returns c = record {
   found = λ volume name d is some. gap-file name d.first d.entries is.neat is.single some;
   there = λ volume name d is some. moved-there name d.first d.entries is.neat is.single some;
   others = moved-others;
-  blocks = total-moved;
+  covered = total-moved;
   entries = length-moved;
 }

@@ -9,7 +9,7 @@ returns c = record {
   directory = λ volume name place size words d is named some. placed-directory volume d (new_file d name words place size) is named some (padded-take 10 d.info words);
   there = placed-there;
   others = λ other first f es. placed-others first other f es;
-  blocks = total-placed;
+  covered = total-placed;
   entries = length-placed;
   tight = placed-tight;
 }

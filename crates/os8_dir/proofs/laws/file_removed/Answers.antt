@@ -7,6 +7,6 @@ returns c = record {
   directory = removed-directory;
   gone = removed-gone;
   others = removed-others;
-  blocks = total-removed;
+  covered = total-removed;
   entries = length-removed;
 }

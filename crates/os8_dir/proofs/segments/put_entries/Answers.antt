@@ -1,4 +1,4 @@
-use Rattle.std.proofs.Common.{◌≡◌, ◌+◌, ◌∷◌, length, drop, ap, sym, ◌∙◌, arith}
+use Rattle.std.proofs.Common.{◌≡◌, ◌+◌, ◌∷◌, drop, ap, sym, ◌∙◌, arith}
 use Rattle.os8_dir.specs.Entries.{total}
 use Rattle.os8_dir.proofs.SegmentLemmas.{drop-item, written-entry}
 use Rattle.os8_dir.proofs.segments.put_entries.Goals as goal

@@ -1,4 +1,4 @@
-use Rattle.std.proofs.Common.{◌≡◌, ◌+◌, ◌*◌, ◌≤◌, length, take, drop}
+use Rattle.std.proofs.Common.{◌≡◌, ◌+◌, ◌*◌, ◌≤◌, length, drop}
 use Rattle.os8_dir.specs.Entries.{total}
 use Rattle.os8_dir.specs.Segments.{words_of_entries}
 use Rattle.os8_dir.specs.Steps.{written}

@@ -1,4 +1,4 @@
-use Rattle.std.proofs.Common.{◌≡◌, ◌%◌, arith}
+use Rattle.std.proofs.Common.{◌≡◌, arith}
 use Rattle.os8_dir.proofs.SegmentLemmas.{segment-made}
 use Rattle.os8_dir.proofs.segments.put_segment.Goals as goal
 

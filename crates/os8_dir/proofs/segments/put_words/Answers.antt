@@ -1,4 +1,4 @@
-use Rattle.std.proofs.Common.{◌≡◌, ◌<◌, length, get_or, sym, ◌∙◌, arith}
+use Rattle.std.proofs.Common.{◌≡◌, ◌<◌, length, get_or, sym, arith}
 use Rattle.std.proofs.lemmas.List.{get_or_read}
 use Rattle.os8_dir.proofs.SegmentLemmas.{written-more}
 use Rattle.os8_dir.proofs.segments.put_words.Goals as goal

@@ -1,4 +1,4 @@
-use Rattle.std.proofs.Common.{◌≡◌, ap, ◌∙◌, arith}
+use Rattle.std.proofs.Common.{◌≡◌, ◌∙◌}
 use Rattle.os8_dir.specs.Changes.{swapped, moved_down}
 use Rattle.os8_dir.proofs.ChangeLemmas.{tidied-neat, tidied-total, total-swapped}
 use Rattle.os8_dir.proofs.directory.Directory.moved_down.Goals as goal

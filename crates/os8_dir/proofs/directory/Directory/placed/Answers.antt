@@ -1,6 +1,5 @@
 use Rattle.std.proofs.Common.{◌≡◌, refl, ap, ◌∙◌, arith}
 use Rattle.os8_dir.specs.declared.entries.DirEntry.TheVariants.{File}
-use Rattle.os8_dir.specs.Names.{padded}
 use Rattle.os8_dir.specs.Entries.{tidy}
 use Rattle.os8_dir.specs.Changes.{emptied, put, placed, new_file, relisted}
 use Rattle.os8_dir.proofs.ChangeLemmas.{lie-inside, tidied-neat, tidied-total, total-put, total-emptied, take-min-words}

@@ -1,4 +1,4 @@
-use Rattle.std.proofs.Common.{◌≡◌, ap, ◌∙◌, arith}
+use Rattle.std.proofs.Common.{◌≡◌, ap, ◌∙◌}
 use Rattle.os8_dir.specs.Changes.{emptied, removed, relisted}
 use Rattle.os8_dir.proofs.ChangeLemmas.{tidied-neat, tidied-total, total-emptied}
 use Rattle.os8_dir.proofs.directory.Directory.removed.Goals as goal
