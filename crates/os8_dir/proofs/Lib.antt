@@ -13,3 +13,4 @@ pub mod ReadBackLemmas
 pub mod ChangeLemmas
 pub mod FileLemmas
 pub mod CountLemmas
+pub mod ApartLemmas

@@ -1,7 +1,7 @@
 //! What holds of every volume and its directory. Each function does nothing: its contract is the law.
-ghost use Rattle.std.specs.Prelude.{◌≡◌, ◌≢◌, ◌+◌, ◌-◌, ◌*◌, ◌<◌, ◌≤◌, ◌↔◌, ℕ, ◌⊎◌, List, length, Option, Some, None, Ok};
+ghost use Rattle.std.specs.Prelude.{◌≡◌, ◌≢◌, ◌+◌, ◌-◌, ◌*◌, ◌<◌, ◌≤◌, ◌↔◌, ℕ, ◌⊎◌, List, length, take, Option, Some, None, Ok};
 ghost use Rattle.std.specs.FinMap.{get, from_entries};
-ghost use Rattle.os8_dir.specs.Names.{name_of, IsFourWords, IsBefore};
+ghost use Rattle.os8_dir.specs.Names.{name_of, padded, IsFourWords, IsBefore};
 ghost use Rattle.os8_dir.specs.Entries.{Listed, capacity, total, IsTidy, IsNamed};
 ghost use Rattle.os8_dir.specs.Reading.{Sound, HasFault, IsOfWords, directory_of};
 ghost use Rattle.os8_dir.specs.Found.{Placed, IsDirectory, files_at, find, rooms_at, largest, size_or_zero, free_blocks, count_files, count_empties, limit, above, IsTight};
@@ -58,6 +58,12 @@ pub fn directory_numbers()
     ensures above { (blocks : List (List ℕ)) (d : Listed) → directory_of blocks ≡ Ok d → above_of blocks ≡ above d.entries }
 {}
 
+/// A file that is found has its name and some blocks, and lies inside its directory's volume; two files do not overlap.
+pub fn files_inside()
+    ensures inside { (volume name : ℕ) (d : Listed) (f : Placed) → IsDirectory volume d → find name (files_at d.first d.entries) ≡ Some f → (f.name ≡ name) × (d.first ≤ f.place) × (0 < f.size) × (f.place + f.size ≤ volume) }
+    ensures apart { (volume name other : ℕ) (d : Listed) (f g : Placed) → IsDirectory volume d → name ≢ other → find name (files_at d.first d.entries) ≡ Some f → find other (files_at d.first d.entries) ≡ Some g → (f.place + f.size ≤ g.place) ⊎ (g.place + g.size ≤ f.place) }
+{}
+
 /// Without a file a directory is one of the same volume that covers as many blocks and has no more entries. The file is
 /// gone, and the others are found as before.
 pub fn file_removed()
@@ -69,11 +75,12 @@ pub fn file_removed()
 {}
 
 /// With one more file a directory is one of the same volume that covers as many blocks. The file is found where it was
-/// placed, and the others as before. Where it was placed at the beginning of an empty, there is at most one entry more;
+/// placed, with the information words given and zeros for missing ones, and the others as before. Where it was placed at the beginning of an empty, there is at most one entry more;
 /// and where besides its name is new, and no file had an empty below it, then none has.
 pub fn file_placed()
     ensures directory { (volume name place size : ℕ) (words : List ℕ) (d : Listed) → IsDirectory volume d → IsNamed name → 0 < size → IsDirectory volume (relisted d (placed d.first (new_file d name words place size) d.entries)) }
     ensures there { (first : ℕ) (f : Placed) (es : List DirEntry) → 0 < f.size → LieIn f.place f.size (rooms_at first es) → find f.name (files_at first (placed first f es)) ≡ Some f }
+    ensures info { (name place size : ℕ) (words : List ℕ) (d : Listed) → d.info ≤ 10 → take d.info (new_file d name words place size).info ≡ padded d.info words }
     ensures others { (other first : ℕ) (f : Placed) (es : List DirEntry) → f.name ≢ other → find other (files_at first (placed first f es)) ≡ find other (files_at first es) }
     ensures covered { (first : ℕ) (f : Placed) (es : List DirEntry) → total (placed first f es) ≡ total es }
     ensures entries { (first size : ℕ) (f : Placed) (es : List DirEntry) → 0 < f.size → f.size ≤ size → IsRoom f.place size (rooms_at first es) → length (placed first f es) ≤ length es + 1 }

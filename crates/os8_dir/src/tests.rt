@@ -380,6 +380,7 @@ fn laws_hold() {
     laws::directory_numbers();
     laws::name_order();
     laws::read_back();
+    laws::files_inside();
     laws::file_removed();
     laws::file_placed();
     laws::file_moved_down();
