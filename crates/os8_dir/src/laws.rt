@@ -75,8 +75,9 @@ pub fn file_removed()
 {}
 
 /// With one more file a directory is one of the same volume that covers as many blocks. The file is found where it was
-/// placed, with the information words given and zeros for missing ones, and the others as before. Where it was placed at the beginning of an empty, there is at most one entry more;
-/// and where besides its name is new, and no file had an empty below it, then none has.
+/// placed, with the information words given and zeros for missing ones, and the others as before. Where it was placed at
+/// the beginning of an empty, there is at most one entry more; and where besides its name is new, and no file had an
+/// empty below it, then none has.
 pub fn file_placed()
     ensures directory { (volume name place size : ℕ) (words : List ℕ) (d : Listed) → IsDirectory volume d → IsNamed name → 0 < size → IsDirectory volume (relisted d (placed d.first (new_file d name words place size) d.entries)) }
     ensures there { (first : ℕ) (f : Placed) (es : List DirEntry) → 0 < f.size → LieIn f.place f.size (rooms_at first es) → find f.name (files_at first (placed first f es)) ≡ Some f }
