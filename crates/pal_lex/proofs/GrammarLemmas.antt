@@ -1,0 +1,89 @@
+-- The grammar, a token or two at a time.
+use Rattle.std.proofs.Common.{◌≡◌, ℕ, ◌-◌, ◌≤◌, Bool, true, false, Option, Some, None, length, get_or, take, drop, List, [], ◌∷◌, ◌++◌, refl, ap, sym, ◌∙◌, append_assoc, arith}
+use Rattle.std.proofs.lemmas.List.{take_all}
+use Rattle.pal_lex.specs.Cutting.{is_blank}
+use Rattle.pal_lex.specs.Language.{is_named, free_name}
+use Rattle.pal_lex.specs.Runs.{name_number}
+use Rattle.std.specs.Prelude.{codes}
+use Rattle.pal_lex.specs.Grammar.{joint_of, term_of, parts, with_part, terms, reference, is_comma, with_tag, said}
+use Rattle.pal_lex.specs.Behind.{behind, tagged}
+use Rattle.pal_lex.specs.declared.pieces.Token.{Token}
+use Rattle.pal_lex.specs.declared.pieces.Term.{Term}
+use Rattle.pal_lex.specs.declared.phrases.Joint.{Joint}
+use Rattle.pal_lex.specs.declared.phrases.Joint.TheVariants.{Add}
+use Rattle.pal_lex.specs.declared.phrases.Part.{Part}
+use Rattle.pal_lex.specs.declared.phrases.Operation.{Operation}
+use Rattle.pal_lex.specs.declared.phrases.Said.{Said}
+
+-- what stands behind the first two of a list
+abbrev pub behind_two : {A : Type 0} → List A → List A
+behind_two l = take (length l - 2) (drop 2 l)
+
+-- what stands behind the first of a list
+abbrev pub behind_one : {A : Type 0} → List A → List A
+behind_one l = take (length l - 1) (drop 1 l)
+
+pub first_two : {A : Type 0} (l : List A) (a b : A) → 2 ≤ length l → a ≡ get_or l 0 a → b ≡ get_or l 1 b → l ≡ a ∷ b ∷ behind_two l
+first_two [] a b long first second = absurd (omega arith)
+first_two (x ∷ []) a b long first second = absurd (omega arith)
+first_two (x ∷ y ∷ others) a b long first second =
+    ap (λ v. v ∷ y ∷ others) (sym first) ∙ ap (λ v. a ∷ v ∷ others) (sym second)
+    ∙ ap (λ v. a ∷ b ∷ v) (sym (take_all (length (x ∷ y ∷ others) - 2) others (omega arith)))
+
+pub first_one : {A : Type 0} (l : List A) (a : A) → 1 ≤ length l → a ≡ get_or l 0 a → l ≡ a ∷ behind_one l
+first_one [] a long first = absurd (omega arith)
+first_one (x ∷ others) a long first = ap (λ v. v ∷ others) (sym first) ∙ ap (λ v. a ∷ v) (sym (take_all (length (x ∷ others) - 1) others (omega arith)))
+
+-- ## Terms
+
+pub behind_more : (before : List Part) (part : Part) (o : Option (List Part)) → behind (before ++ part ∷ []) o ≡ behind before (with_part (Some part) o)
+behind_more before part None = refl
+behind_more before part (Some found) = ap Some (append_assoc before (part ∷ []) found)
+
+pub behind_nothing : (o : Option (List Part)) → behind [] o ≡ o
+behind_nothing None = refl
+behind_nothing (Some found) = refl
+
+pub behind_first : (part : Part) (o : Option (List Part)) → behind (part ∷ []) o ≡ with_part (Some part) o
+behind_first part None = refl
+behind_first part (Some found) = refl
+
+pub parts_more : (blanks : Bool) (rest : List Token) (j t : Token) (joint : Joint) (term : Term) (before after : List Part)
+    → 2 ≤ length rest → j ≡ get_or rest 0 j → t ≡ get_or rest 1 t → Some joint ≡ joint_of blanks j.kind → Some term ≡ term_of t.kind
+    → after ≡ before ++ record { joint = joint; term = term } ∷ []
+    → behind after (parts blanks (behind_two rest)) ≡ behind before (parts blanks rest)
+parts_more blanks rest j t joint term before after long first second is_joint is_term e =
+    rw e (behind_more before (record { joint = joint; term = term }) (parts blanks (behind_two rest))
+    ∙ ap (behind before) (sym (ap (parts blanks) (first_two rest j t long first second) ∙ rw (← is_joint, ← is_term) refl)))
+
+pub terms_first : (blanks : Bool) (tokens : List Token) (t : Token) (term : Term) (before items : List Part)
+    → 1 ≤ length tokens → t ≡ get_or tokens 0 t → Some term ≡ term_of t.kind → before ≡ [] → items ≡ before ++ record { joint = Add; term = term } ∷ []
+    → behind items (parts blanks (behind_one tokens)) ≡ terms blanks tokens
+terms_first blanks tokens t term before items long first is_term none e =
+    ap (λ l. behind l (parts blanks (behind_one tokens))) (e ∙ ap (λ l. l ++ record { joint = Add; term = term } ∷ []) none)
+    ∙ behind_first (record { joint = Add; term = term }) (parts blanks (behind_one tokens))
+    ∙ sym (ap (terms blanks) (first_one tokens t long first) ∙ rw (← is_term) refl)
+
+-- ## Memory references
+
+pub reference_indirect : (op : Operation) (indirect : Bool) (rest : List Token) (t u : Token)
+    → 2 ≤ length rest → t ≡ get_or rest 0 t → u ≡ get_or rest 1 u → true ≡ is_blank t.kind → true ≡ is_named (name_number (codes "I")) u.kind
+    → reference op true (behind_two rest) ≡ reference op indirect rest
+reference_indirect op indirect rest t u long first second blank named = sym (ap (reference op indirect) (first_two rest t u long first second) ∙ rw (← blank, ← named) refl)
+
+pub reference_zero_page : (op : Operation) (indirect : Bool) (rest : List Token) (t u : Token)
+    → 2 ≤ length rest → t ≡ get_or rest 0 t → u ≡ get_or rest 1 u → true ≡ is_blank t.kind → false ≡ is_named (name_number (codes "I")) u.kind
+    → true ≡ is_named (name_number (codes "Z")) u.kind → reference op indirect (behind_two rest) ≡ reference op indirect rest
+reference_zero_page op indirect rest t u long first second blank other named = sym (ap (reference op indirect) (first_two rest t u long first second) ∙ rw (← blank, ← other, ← named) refl)
+
+-- ## Tags
+
+pub tagged_more : (names : List ℕ) (name : ℕ) (o : Option Said) → tagged (names ++ name ∷ []) o ≡ tagged names (with_tag (Some name) o)
+tagged_more names name None = refl
+tagged_more names name (Some s) = ap (λ tags. Some record { tags = tags; body = s.body }) (append_assoc names (name ∷ []) s.tags)
+
+pub said_more : (rest : List Token) (t u : Token) (name : ℕ) (names after : List ℕ)
+    → 2 ≤ length rest → t ≡ get_or rest 0 t → u ≡ get_or rest 1 u → true ≡ is_comma u.kind → Some name ≡ free_name t.kind
+    → after ≡ names ++ name ∷ [] → tagged after (said (behind_two rest)) ≡ tagged names (said rest)
+said_more rest t u name names after long first second comma free e = rw e (tagged_more names name (said (behind_two rest))
+    ∙ ap (tagged names) (sym (ap said (first_two rest t u long first second) ∙ rw (← comma, ← free) refl)))

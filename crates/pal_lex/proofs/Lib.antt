@@ -1,0 +1,5 @@
+pub mod DraftLemmas
+pub mod GrammarLemmas
+pub mod GrowthLemmas
+pub mod ReadingLemmas
+pub mod WorkedSources

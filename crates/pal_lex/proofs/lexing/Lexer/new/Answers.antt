@@ -1,0 +1,14 @@
+use Rattle.std.proofs.Common.{refl}
+use Rattle.pal_lex.specs.declared.runs.Radix.TheVariants.{Octal}
+use Rattle.pal_lex.proofs.lexing.Lexer.new.Goals as goal
+
+pub returns : goal.returns
+returns c = record {
+  comment = refl;
+  place = refl;
+  line = refl;
+  radix = refl;
+  draft = c.new.ensures Octal;
+  no_fault = refl;
+  not_over = refl;
+}

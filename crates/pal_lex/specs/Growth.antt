@@ -1,0 +1,36 @@
+-- What one more character makes of a token.
+use Rattle.std.specs.Prelude.{ℕ, ◌+◌, ◌-◌, ◌*◌, min, nat_lt, nat_le, Bool, ◌||◌, if◌then◌else◌, unwrap_or}
+use Rattle.word12.specs.Sixbit.{is_letter, sixbit_code}
+use Rattle.pal_lex.specs.Text.{limit}
+use Rattle.pal_lex.specs.declared.pieces.Term as term
+use Rattle.pal_lex.specs.declared.pieces.Term.TheVariants.{Name, Number, Here}
+use Rattle.pal_lex.specs.declared.pieces.Kind.{Kind}
+use Rattle.pal_lex.specs.declared.pieces.Kind.TheVariants.{Term, BadNumber, Blank, Plus, Minus, Equals, Comma, Star}
+
+-- a name, where the character counts by its weight
+abbrev pub longer_name : ℕ → ℕ → ℕ → ℕ
+longer_name name weight c = limit (name + weight * unwrap_or (sixbit_code c) 0)
+
+abbrev pub longer_number : ℕ → ℕ → ℕ → Kind
+longer_number base n c =
+    if nat_lt c 48 || nat_le (48 + base) c then BadNumber
+    else (if nat_lt (base * n + (c - 48)) 4096 then Term (Number (base * n + (c - 48))) else BadNumber)
+
+abbrev pub grown_term : ℕ → ℕ → ℕ → term.Term → Kind
+grown_term base weight c (Name n) = Term (Name (longer_name n weight c))
+grown_term base weight c (Number n) = longer_number base n c
+grown_term base weight c Here = Term Here
+
+abbrev pub grown : ℕ → ℕ → ℕ → Kind → Kind
+grown base weight c (Term t) = grown_term base weight c t
+grown base weight c BadNumber = BadNumber
+grown base weight c Blank = Blank
+grown base weight c Plus = Plus
+grown base weight c Minus = Minus
+grown base weight c Equals = Equals
+grown base weight c Comma = Comma
+grown base weight c Star = Star
+
+-- what a first character makes
+abbrev pub begun : ℕ → ℕ → Kind
+begun base c = if is_letter c then Term (Name (longer_name 0 1073741824 c)) else longer_number base 0 c

@@ -1,0 +1,65 @@
+-- What a lexer makes of a byte and of a whole stretch.
+use Rattle.std.specs.Prelude.{◌≡◌, ℕ, ◌+◌, nat_eq, Bool, true, false, ◌||◌, if◌then◌else◌, Option, Some, None, Result, Ok, Err, List, []}
+use Rattle.pal_lex.specs.Grammar.{said, has_bad_number}
+use Rattle.pal_lex.specs.declared.faults.LexFault.{LexFault}
+use Rattle.pal_lex.specs.declared.faults.LexFault.TheVariants.{IC, SY, NU, NE, Memory}
+use Rattle.pal_lex.specs.declared.pieces.Token.{Token}
+use Rattle.pal_lex.specs.Text.{is_ignored, limit}
+use Rattle.pal_lex.specs.Drafting.{cut}
+use Rattle.pal_lex.specs.Statements.{radix_by}
+use Rattle.pal_lex.specs.Progress.{Progress}
+use Rattle.pal_lex.specs.declared.lexing.State.TheVariants.{Over, Failed}
+use Rattle.pal_lex.specs.declared.phrases.Body.{Body}
+use Rattle.pal_lex.specs.declared.phrases.Said.{Said}
+use Rattle.pal_lex.specs.declared.phrases.Statement.{Statement}
+use Rattle.pal_lex.specs.declared.runs.Radix.TheVariants.{Octal}
+
+abbrev pub comment_after : Bool → ℕ → Bool
+comment_after comment b = if nat_eq b 13 then false else (if nat_eq b 47 then true else comment)
+
+-- what a stretch with these tokens is answered, or that memory ran out
+abbrev pub Judges : ℕ → Bool → List Token → Result Said LexFault → Type 0
+Judges line illegal tokens (Ok s) = (illegal ≡ false) × (has_bad_number tokens ≡ false) × (said tokens ≡ Some s)
+Judges line illegal tokens (Err (IC at)) = (at ≡ line) × (illegal ≡ true)
+Judges line illegal tokens (Err (NU at)) = (at ≡ line) × (illegal ≡ false) × (has_bad_number tokens ≡ true)
+Judges line illegal tokens (Err (SY at)) = (at ≡ line) × (illegal ≡ false) × (has_bad_number tokens ≡ false) × (said tokens ≡ None)
+Judges line illegal tokens (Err (NE at)) = ⊥
+Judges line illegal tokens (Err Memory) = Unit {0}
+
+-- a byte means nothing, where a comment goes on or not
+abbrev pub dies : Bool → ℕ → Bool
+dies comment b = is_ignored b || comment_after comment b
+
+-- one byte is counted
+abbrev pub passed : ℕ → Progress → Progress
+passed b l = record {
+  state = l.state;
+  comment = comment_after l.comment b;
+  place = limit (l.place + 1);
+  line = if nat_eq b 13 then limit (l.line + 1) else l.line;
+  radix = l.radix;
+  draft = l.draft;
+}
+
+-- a byte ended a statement with this body
+abbrev pub ended : ℕ → Body → Progress → Progress
+ended b body l = passed b (record {
+  state = if nat_eq b 36 then Over else l.state;
+  comment = l.comment;
+  place = l.place;
+  line = l.line;
+  radix = radix_by body l.radix;
+  draft = cut Octal [];
+})
+
+-- the statement that a byte ended
+abbrev pub ended_statement : ℕ → Said → Progress → Statement
+ended_statement b s l = record { line = l.line; tags = s.tags; body = s.body; last = nat_eq b 36; tokens = l.draft.tokens }
+
+-- a fault was met: want of memory leaves all as it was
+abbrev pub failed : LexFault → Progress → Progress
+failed (IC line) l = record l { state = Failed (IC line) }
+failed (SY line) l = record l { state = Failed (SY line) }
+failed (NU line) l = record l { state = Failed (NU line) }
+failed (NE line) l = record l { state = Failed (NE line) }
+failed Memory l = l

@@ -1,0 +1,12 @@
+pub mod Behind
+pub mod Cutting
+pub mod Drafting
+pub mod Grammar
+pub mod Growth
+pub mod Judging
+pub mod Language
+pub mod Progress
+pub mod Reading
+pub mod Runs
+pub mod Statements
+pub mod Text

@@ -1,0 +1,124 @@
+ghost use Rattle.std.specs.Prelude.{◌≡◌};
+ghost use Rattle.pal_lex.specs.Language.{is_reserved, operation_of, name_of_term, name_of, is_named, free_name, operation_in};
+
+use crate::{Kind, Name, Operation, Term};
+
+/// The number of a name of up to six characters, of which missing ones are written as 0.
+macro_rules! name {
+    ($a:literal $b:literal $c:literal $d:literal $e:literal $f:literal) => {
+        1073741824 * ($a as u64 % 64)
+            + 16777216 * ($b as u64 % 64)
+            + 262144 * ($c as u64 % 64)
+            + 4096 * ($d as u64 % 64)
+            + 64 * ($e as u64 % 64)
+            + ($f as u64 % 64)
+    };
+}
+
+/// `DECIMAL`, of which six characters count.
+pub const DECIMAL: u64 = name!(b'D' b'E' b'C' b'I' b'M' b'A');
+
+pub const OCTAL: u64 = name!(b'O' b'C' b'T' b'A' b'L' 0);
+
+pub const FIELD: u64 = name!(b'F' b'I' b'E' b'L' b'D' 0);
+
+const PAUSE: u64 = name!(b'P' b'A' b'U' b'S' b'E' 0);
+/// Stands before the address of a memory reference that is indirect.
+pub const INDIRECT: u64 = name!(b'I' 0 0 0 0 0);
+/// Stands before an address, and means nothing.
+pub const ZERO_PAGE: u64 = name!(b'Z' 0 0 0 0 0);
+
+const AND: u64 = name!(b'A' b'N' b'D' 0 0 0);
+
+const TAD: u64 = name!(b'T' b'A' b'D' 0 0 0);
+
+const ISZ: u64 = name!(b'I' b'S' b'Z' 0 0 0);
+
+const DCA: u64 = name!(b'D' b'C' b'A' 0 0 0);
+
+const JMS: u64 = name!(b'J' b'M' b'S' 0 0 0);
+
+const JMP: u64 = name!(b'J' b'M' b'P' 0 0 0);
+
+/// Whether a name has a meaning of its own, and stands for no value.
+pub fn is_reserved(name: Name) -> bool
+    ensures { result ≡ is_reserved name }
+{
+    let number = name.number();
+    number == DECIMAL
+        || number == OCTAL
+        || number == FIELD
+        || number == PAUSE
+        || number == INDIRECT
+        || number == ZERO_PAGE
+}
+
+/// The operation that a name means at the beginning of a memory reference.
+fn operation_of(name: Name) -> Option<Operation>
+    ensures { result ≡ operation_of name }
+{
+    let number = name.number();
+    if number == AND {
+        Some(Operation::And)
+    } else if number == TAD {
+        Some(Operation::Tad)
+    } else if number == ISZ {
+        Some(Operation::Isz)
+    } else if number == DCA {
+        Some(Operation::Dca)
+    } else if number == JMS {
+        Some(Operation::Jms)
+    } else if number == JMP {
+        Some(Operation::Jmp)
+    } else {
+        None
+    }
+}
+
+fn name_of_term(term: Term) -> Option<Name>
+    ensures { result ≡ name_of_term term }
+{
+    match term {
+        Term::Name(name) => Some(name),
+        _ => None,
+    }
+}
+
+/// The name that a token is.
+fn name_of(kind: Kind) -> Option<Name>
+    ensures { result ≡ name_of kind }
+{
+    match kind {
+        Kind::Term(term) => name_of_term(term),
+        _ => None,
+    }
+}
+
+/// Whether a token is the name of this number.
+pub fn is_named(name: u64, kind: Kind) -> bool
+    ensures { result ≡ is_named name kind }
+{
+    match name_of(kind) {
+        Some(found) => found.number() == name,
+        None => false,
+    }
+}
+
+/// The name that a token is, where it isn't reserved.
+pub fn free_name(kind: Kind) -> Option<Name>
+    ensures { result ≡ free_name kind }
+{
+    let name = name_of(kind)?;
+    if is_reserved(name) {
+        return None;
+    }
+    Some(name)
+}
+
+/// The operation that a token is.
+pub fn operation_in(kind: Kind) -> Option<Operation>
+    ensures { result ≡ operation_in kind }
+{
+    let name = name_of(kind)?;
+    operation_of(name)
+}

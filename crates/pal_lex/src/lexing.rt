@@ -1,0 +1,237 @@
+ghost use Rattle.std.specs.Prelude.{◌≡◌, ◌≢◌, ℕ, ◌+◌, nat_eq, Bool, true, false, not, ◌&&◌, ◌||◌, if◌then◌else◌, List, [], ◌∷◌};
+ghost use Rattle.pal_lex.specs.Text.{is_ignored, is_end, limit};
+ghost use Rattle.pal_lex.specs.Runs.{tokens};
+ghost use Rattle.pal_lex.specs.Drafting.{cut};
+ghost use Rattle.pal_lex.specs.Statements.{radix_by};
+ghost use Rattle.pal_lex.specs.Reading.{HasRead, Answers, Ends};
+ghost use Rattle.pal_lex.specs.Judging.{Judges, comment_after, dies, passed, ended, ended_statement, failed};
+
+use crate::drafts::Draft;
+use crate::grammar::{has_bad_number, said};
+use crate::phrases::Said;
+use crate::runs::Radix;
+use crate::{Body, LexFault, Statement};
+use std::alloc::Global;
+use std::marker::Model;
+use std::mem;
+
+#[derive(Clone, Copy)]
+enum State {
+    Reading,
+    /// Behind the `$` that ends the source.
+    Over,
+    Failed(LexFault),
+}
+
+const LINE_FEED: u8 = 0o012;
+
+const FORM_FEED: u8 = 0o014;
+
+const RUBOUT: u8 = 0o177;
+
+/// Whether a byte is as if it weren't there.
+fn is_ignored(byte: u8) -> bool
+    ensures { result ≡ is_ignored byte }
+{
+    matches!(byte, 0 | LINE_FEED | FORM_FEED | RUBOUT)
+}
+
+/// Whether a comment goes on behind a byte.
+fn comment_after(comment: bool, byte: u8) -> bool
+    ensures { result ≡ comment_after comment byte }
+{
+    match byte {
+        b'\r' => false,
+        b'/' => true,
+        _ => comment,
+    }
+}
+
+/// Whether a byte means nothing, where a comment goes on or not.
+fn dies(comment: bool, byte: u8) -> bool
+    ensures { result ≡ dies comment byte }
+{
+    is_ignored(byte) || comment_after(comment, byte)
+}
+
+/// Whether a byte ends a statement, where it means something.
+fn is_end(byte: u8) -> bool
+    ensures { result ≡ is_end byte }
+{
+    matches!(byte, b';' | b'\r' | b'$')
+}
+
+/// The radix behind a statement.
+fn radix_by(body: &Body, before: Radix) -> Radix
+    ensures { result ≡ radix_by body.now before }
+{
+    match body {
+        Body::Decimal => Radix::Decimal,
+        Body::Octal => Radix::Octal,
+        _ => before,
+    }
+}
+
+/// What a whole stretch says, or its fault.
+fn judge(alloc: Global, draft: &Draft, line: u64) -> Result<Said, LexFault>
+    ensures { Judges line draft.now.illegal draft.now.tokens result }
+{
+    if draft.is_illegal() {
+        return Err(LexFault::IC(line));
+    }
+    if has_bad_number(draft.tokens()) {
+        return Err(LexFault::NU(line));
+    }
+    let said = said(alloc, draft.tokens())?;
+    match said {
+        Some(said) => Ok(said),
+        None => Err(LexFault::SY(line)),
+    }
+}
+
+/// Reads a source byte by byte, and hands out its statements. It keeps the tokens of the present statement alone.
+#[derive(Drop)]
+pub struct Lexer {
+    alloc: Global,
+    state: State,
+    comment: bool,
+    place: u64,
+    line: u64,
+    radix: Radix,
+    draft: Draft,
+}
+
+impl Model for Lexer {
+    ghost use Rattle.pal_lex.specs.Progress.{Progress};
+
+    ghost Value = { Progress };
+
+    ghost view = { λ l. record {
+      state = l.state;
+      comment = l.comment;
+      place = l.place;
+      line = l.line;
+      radix = l.radix;
+      draft = l.draft;
+    } };
+}
+
+impl Lexer {
+    /// A lexer of no byte.
+    pub fn new(alloc: Global) -> Lexer
+        ensures { HasRead result [] }
+    {
+        Lexer {
+            alloc,
+            state: State::Reading,
+            comment: false,
+            place: 0,
+            line: 1,
+            radix: Radix::Octal,
+            draft: Draft::new(alloc),
+        }
+    }
+
+    /// Takes the next byte, and hands out the statement that it ends, if it ends one.
+    ///
+    /// The byte that ends a statement with a fault is answered that fault, and each later byte the same; behind the `$`
+    /// that ends the source each byte is answered nothing. Where memory ran out the byte was not taken, and may be
+    /// pushed again.
+    pub fn push(&mut self, byte: u8) -> Result<Option<Statement>, LexFault>
+        ensures { (text : List ℕ) → HasRead self.old text → Answers text byte result self.old self.new }
+    {
+        match self.state {
+            State::Failed(fault) => Err(fault),
+            State::Over => Ok(None),
+            State::Reading => self.read(byte),
+        }
+    }
+
+    /// Whether the source has its `$`, and no fault before it.
+    pub fn end(&self) -> Result<(), LexFault>
+        ensures { (text : List ℕ) → HasRead self.now text → Ends text result }
+    {
+        match self.state {
+            State::Reading => Err(LexFault::NE(self.line)),
+            State::Over => Ok(()),
+            State::Failed(fault) => Err(fault),
+        }
+    }
+
+    /// Takes a byte of a source that goes on.
+    fn read(&mut self, byte: u8) -> Result<Option<Statement>, LexFault>
+        requires { self.old.state ≡ State.Reading }
+        ensures { (text : List ℕ) → HasRead self.old text → Answers text byte result self.old self.new }
+    {
+        if dies(self.comment, byte) {
+            self.pass(byte);
+            return Ok(None);
+        }
+        if is_end(byte) {
+            return self.finish(byte);
+        }
+        self.draft.put(self.radix, byte, self.place)?;
+        self.pass(byte);
+        Ok(None)
+    }
+
+    /// Takes a byte that ends a statement.
+    fn finish(&mut self, byte: u8) -> Result<Option<Statement>, LexFault>
+        requires reading { self.old.state ≡ State.Reading }
+        requires live { dies self.old.comment byte ≡ false }
+        requires end { is_end byte ≡ true }
+        ensures { (text : List ℕ) → HasRead self.old text → Answers text byte result self.old self.new }
+    {
+        match judge(self.alloc, &self.draft, self.line) {
+            Ok(said) => Ok(Some(self.hand_out(said, byte))),
+            Err(fault) => {
+                let again = fault;
+                self.fail(fault);
+                Err(again)
+            }
+        }
+    }
+
+    /// Hands out a statement with what it says, and begins the next one.
+    fn hand_out(&mut self, said: Said, byte: u8) -> Statement
+        ensures statement { result ≡ ended_statement byte said self.old }
+        ensures ended { self.new ≡ ended byte said.body self.old }
+    {
+        let line = self.line;
+        let last = byte == b'$';
+        let draft = mem::replace(&mut self.draft, Draft::new(self.alloc));
+        self.radix = radix_by(&said.body, self.radix);
+        if last {
+            self.state = State::Over;
+        }
+        self.pass(byte);
+        Statement {
+            line,
+            tags: said.tags,
+            body: said.body,
+            last,
+            tokens: draft.into_tokens(),
+        }
+    }
+
+    /// Fails for good, but for want of memory.
+    fn fail(&mut self, fault: LexFault)
+        ensures { self.new ≡ failed fault self.old }
+    {
+        match fault {
+            LexFault::Memory => {}
+            _ => self.state = State::Failed(fault),
+        }
+    }
+
+    /// Counts a byte.
+    fn pass(&mut self, byte: u8)
+        ensures { self.new ≡ passed byte self.old }
+    {
+        self.comment = comment_after(self.comment, byte);
+        self.place = self.place.saturating_add(1);
+        if byte == b'\r' {
+            self.line = self.line.saturating_add(1);
+        }
+    }
+}

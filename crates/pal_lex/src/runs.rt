@@ -1,0 +1,81 @@
+ghost use Rattle.std.specs.Prelude.{◌≡◌, ◌≤◌};
+ghost use Rattle.pal_lex.specs.Runs.{base};
+ghost use Rattle.pal_lex.specs.Growth.{longer_name, longer_number, grown_term, grown, begun};
+
+use crate::{Kind, Name, Term};
+use word12::{Word, sixbit};
+
+/// How numbers are read.
+#[derive(Clone, Copy, PartialEq, Eq, Debug)]
+pub enum Radix {
+    Octal,
+    Decimal,
+}
+
+impl Radix {
+    fn base(self) -> u16
+        ensures value { result ≡ base self }
+        ensures range { result ≤ 10 }
+    {
+        match self {
+            Radix::Octal => 8,
+            Radix::Decimal => 10,
+        }
+    }
+}
+
+/// A name with one character more, which counts by its weight.
+fn longer_name(name: Name, weight: u32, character: u8) -> Name
+    ensures { result ≡ longer_name name weight character }
+{
+    let code = u64::from(sixbit(character).unwrap_or(0));
+    Name::numbered(name.number().saturating_add(u64::from(weight) * code))
+}
+
+/// A number with one character more.
+fn longer_number(number: Word, radix: Radix, character: u8) -> Kind
+    ensures { result ≡ longer_number (base radix) number character }
+{
+    let base = radix.base();
+    if character < 48 || u16::from(character) >= 48 + base {
+        return Kind::BadNumber;
+    }
+    match Word::new(base * number.get() + u16::from(character - 48)) {
+        Some(word) => Kind::Term(Term::Number(word)),
+        None => Kind::BadNumber,
+    }
+}
+
+fn grown_term(term: Term, radix: Radix, weight: u32, character: u8) -> Kind
+    ensures { result ≡ grown_term (base radix) weight character term }
+{
+    match term {
+        Term::Name(name) => Kind::Term(Term::Name(longer_name(name, weight, character))),
+        Term::Number(number) => longer_number(number, radix, character),
+        Term::Here => Kind::Term(Term::Here),
+    }
+}
+
+/// A name or a number with one character more.
+pub fn grown(kind: Kind, radix: Radix, weight: u32, character: u8) -> Kind
+    ensures { result ≡ grown (base radix) weight character kind }
+{
+    match kind {
+        Kind::Term(term) => grown_term(term, radix, weight, character),
+        _ => kind,
+    }
+}
+
+/// What a letter or a digit begins.
+pub fn begun(radix: Radix, character: u8) -> Kind
+    ensures { result ≡ begun (base radix) character }
+{
+    match character {
+        b'A'..=b'Z' => Kind::Term(Term::Name(longer_name(
+            Name::numbered(0),
+            1073741824,
+            character,
+        ))),
+        _ => longer_number(Word::ZERO, radix, character),
+    }
+}
