@@ -2,4 +2,5 @@ pub mod DraftLemmas
 pub mod GrammarLemmas
 pub mod GrowthLemmas
 pub mod ReadingLemmas
+pub mod SpanLemmas
 pub mod WorkedSources

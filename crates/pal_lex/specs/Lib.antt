@@ -8,5 +8,6 @@ pub mod Language
 pub mod Progress
 pub mod Reading
 pub mod Runs
+pub mod Spans
 pub mod Statements
 pub mod Text

@@ -11,6 +11,7 @@ mod faults;
 mod grammar;
 mod kinds;
 mod language;
+pub mod laws;
 mod lexing;
 mod naming;
 mod phrases;
@@ -22,3 +23,6 @@ pub use lexing::Lexer;
 pub use naming::Name;
 pub use phrases::{Body, Expression, Joint, Operation, Part, Statement, Tags};
 pub use pieces::{Kind, Term, Token, Tokens};
+
+#[cfg(test)]
+mod tests;

@@ -1,0 +1,46 @@
+-- What stands in a source between the places of a token.
+use Rattle.std.specs.Prelude.{◌≡◌, ℕ, ◌+◌, ◌<◌, nat_eq, nat_le, nat_lt, Bool, true, false, ◌&&◌, not, if◌then◌else◌, Option, Some, None, Ok, length, List, [], ◌∷◌, ◌++◌}
+use Rattle.pal_lex.specs.Text.{is_ignored}
+use Rattle.pal_lex.specs.Cutting.{is_coded, is_space, sign_of}
+use Rattle.pal_lex.specs.Runs.{base, run_kind}
+use Rattle.pal_lex.specs.Statements.{radix_after, statements}
+use Rattle.pal_lex.specs.declared.pieces.Token.{Token}
+use Rattle.pal_lex.specs.declared.pieces.Term.TheVariants.{Here}
+use Rattle.pal_lex.specs.declared.pieces.Kind.{Kind}
+use Rattle.pal_lex.specs.declared.pieces.Kind.TheVariants.{Term, Blank}
+use Rattle.pal_lex.specs.declared.phrases.Statement.{Statement}
+
+-- the bytes of a text from one place on and before another, in their order, without those that are as if they weren't there
+abbrev pub between : List ℕ → ℕ → ℕ → List ℕ
+between [] start end = []
+between (b ∷ older) start end =
+    between older start end ++ (if nat_le start (length older) && nat_lt (length older) end && not (is_ignored b) then b ∷ [] else [])
+
+-- letters and digits alone
+abbrev pub are_coded : List ℕ → Bool
+are_coded [] = true
+are_coded (c ∷ others) = is_coded c && are_coded others
+
+-- the token of a character that is no letter and no digit
+abbrev pub mark_of : ℕ → Option Kind
+mark_of c = if is_space c then Some Blank else (if nat_eq c 46 then Some (Term Here) else sign_of c)
+
+-- the token that bytes spell, by a base
+abbrev pub spelled : ℕ → List ℕ → Option Kind
+spelled base [] = None
+spelled base (c ∷ []) = if is_coded c then Some (run_kind base c []) else mark_of c
+spelled base (c ∷ d ∷ others) = if are_coded (c ∷ d ∷ others) then Some (run_kind base c (d ∷ others)) else None
+
+-- a token is what stands between its places, where its end is no more than a number of 64 bits holds
+abbrev pub Spells : List ℕ → ℕ → Token → Type 0
+Spells text base token = token.end < 18446744073709551615 → spelled base (between text token.start token.end) ≡ Some token.kind
+
+abbrev pub AllSpell : List ℕ → ℕ → List Token → Type 0
+AllSpell text base [] = Unit {0}
+AllSpell text base (token ∷ others) = Spells text base token × AllSpell text base others
+
+-- The tokens of a statement that a byte ends are what stands between their places, whatever follows.
+abbrev pub HasSpans : Type 0
+HasSpans =
+    (text later : List ℕ) (b : ℕ) (statement : Statement) → statements (b ∷ text) ≡ Ok statement ∷ statements text
+    → AllSpell (later ++ b ∷ text) (base (radix_after (statements text))) statement.tokens
