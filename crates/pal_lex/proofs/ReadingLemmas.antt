@@ -22,6 +22,7 @@ use Rattle.pal_lex.specs.declared.runs.Radix.{Radix}
 use Rattle.pal_lex.specs.declared.runs.Radix.TheVariants.{Octal}
 
 has_read : (l : Progress) (text : List ℕ) (state : State) → l.state ≡ state → StateIs state l text → HasRead l text
+unfolding HasRead
 has_read l text state e h = subst (λ (s : State). StateIs s l text) (sym e) h
 
 abbrev newest : List ℕ → ℕ → Result Statement LexFault
@@ -35,6 +36,7 @@ still true text later s fault e = rw e refl
 still false text later s fault e = e
 
 still_fault : (text : List ℕ) (b : ℕ) (fault : LexFault) → first_fault (statements text) ≡ Some fault → first_fault (statements (b ∷ text)) ≡ Some fault
+unfolding statements
 still_fault text b fault e = still (ends_statement text b) text [] (newest text b) fault e
 
 abbrev IsOfStatement : LexFault → Type 0
@@ -68,6 +70,7 @@ step_is true s older h k = first_is (first_fault older) (fault_of s) h k
 step_is false s older h k = h
 
 fault_is : (text : List ℕ) → IsOfStatements (first_fault (statements text))
+unfolding statements
 fault_is [] = tt
 fault_is (b ∷ text) =
     step_is (ends_statement text b) (newest text b) (statements text) (fault_is text)
@@ -79,6 +82,7 @@ known_fault : (text : List ℕ) (fault : LexFault) → first_fault (statements t
 known_fault text fault e = subst IsOfStatements e (fault_is text)
 
 has_failed : (l : Progress) (text : List ℕ) (fault : LexFault) → l.state ≡ Failed fault → HasRead l text → first_fault (statements text) ≡ Some fault
+unfolding HasRead
 has_failed l text fault e h = subst (λ (s : State). StateIs s l text) e h
 
 pub failed_byte : (l : Progress) (text : List ℕ) (b : ℕ) (fault : LexFault) → l.state ≡ Failed fault → HasRead l text → Answers text b (Err fault) l l

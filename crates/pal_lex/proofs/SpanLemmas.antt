@@ -217,9 +217,9 @@ character_known text b [] i c a g = begun_known text b [] i c a
 character_known text b (Mark kind place ∷ before) i c a g = begun_known text b (Mark kind place ∷ before) i c a
 character_known text b (Run first others start end ∷ before) i c a g =
     let is : between (b ∷ text) start (length text + 1) ≡ first ∷ others ++ b ∷ [] =
-        between_step b text start (length text + 1)
-        ∙ ap (λ l. l ++ within b start (length text) (length text + 1)) (between_whole text start (length text + 1) (omega arith) ∙ g)
-        ∙ ap (λ l. (first ∷ others) ++ l) (inside b start (length text) (length text + 1) (omega (arith, a.0.0, a.0.1)) (omega arith) i) in
+    between_step b text start (length text + 1)
+    ∙ ap (λ l. l ++ within b start (length text) (length text + 1)) (between_whole text start (length text + 1) (omega arith) ∙ g)
+    ∙ ap (λ l. (first ∷ others) ++ l) (inside b start (length text) (length text + 1) (omega (arith, a.0.0, a.0.1)) (omega arith) i) in
     record {
       stand = ((omega (arith, a.0.0, a.0.1), omega arith, coded-append (first ∷ others) b a.0.2 c, is), all_longer (b ∷ []) text before a.1);
       goes = λ quiet. ap (between (b ∷ text) start) (next (length text)) ∙ is;
@@ -229,8 +229,8 @@ byte_known : (text : List ℕ) (b : ℕ) (before : List Piece) (coded space dot 
     → is_coded b ≡ coded → is_space b ≡ space → nat_eq b 46 ≡ dot → sign_of b ≡ sign → (coded || space || dot || is_some sign) ≡ true
     → is_ignored b ≡ false → AllStand text before → Goes text before
     → Known (b ∷ text) (if coded then with_character b (length text) before
-        else (if space then with_blank (length text) before
-        else (if dot then Mark (Term Here) (length text) ∷ before else with_sign sign (length text) before)))
+    else (if space then with_blank (length text) before
+    else (if dot then Mark (Term Here) (length text) ∷ before else with_sign sign (length text) before)))
 byte_known text b before true space dot sign c s d o legal i a g = character_known text b before i c a g
 byte_known text b before false true dot sign c s d o legal i a g = blank_known text b before i c (rw s refl) a
 byte_known text b before false false true sign c s d o legal i a g = mark_known text b (Term Here) before i c (rw (s, d) refl) a
@@ -246,7 +246,7 @@ known_by : (b : ℕ) (text : List ℕ) (dead end : Bool) → is_dead text b ≡ 
 known_by b text true end dead ends legal older =
     let e : stretch (b ∷ text) ≡ stretch text = rw dead refl in
     subst (λ (live : List (ℕ × ℕ)). Known (b ∷ text) (pieces live)) (sym e)
-        (dead_known b text (pieces (stretch text)) dead (older (sym (ap has_illegal e) ∙ legal)))
+    (dead_known b text (pieces (stretch text)) dead (older (sym (ap has_illegal e) ∙ legal)))
 known_by b text false true dead ends legal older =
     let e : stretch (b ∷ text) ≡ [] = rw (dead, ends) refl in
     subst (λ (live : List (ℕ × ℕ)). Known (b ∷ text) (pieces live)) (sym e) (record { stand = tt; goes = λ quiet. tt })
@@ -256,9 +256,9 @@ known_by b text false false dead ends legal older =
     let k : Known text (pieces (stretch text)) = older (none_right (not (is_legal b)) (has_illegal (stretch text)) good) in
     let quiet : in_comment text ≡ false = live_comment b (in_comment text) ends (none_right (is_ignored b) (in_comment (b ∷ text)) dead) in
     subst (λ (live : List (ℕ × ℕ)). Known (b ∷ text) (pieces live)) (sym e)
-        (byte_known text b (pieces (stretch text)) (is_coded b) (is_space b) (nat_eq b 46) (sign_of b) refl refl refl refl
-            (not_not (is_legal b) (none_left (not (is_legal b)) (has_illegal (stretch text)) good))
-            (none_left (is_ignored b) (in_comment (b ∷ text)) dead) k.stand (k.goes quiet))
+    (byte_known text b (pieces (stretch text)) (is_coded b) (is_space b) (nat_eq b 46) (sign_of b) refl refl refl refl
+    (not_not (is_legal b) (none_left (not (is_legal b)) (has_illegal (stretch text)) good))
+    (none_left (is_ignored b) (in_comment (b ∷ text)) dead) k.stand (k.goes quiet))
 
 known : (text : List ℕ) → has_illegal (stretch text) ≡ false → Known text (pieces (stretch text))
 known [] legal = record { stand = tt; goes = λ quiet. tt }
@@ -322,6 +322,7 @@ good false false line last found (Some s) statement e = (refl, sym (ap tokens_in
 pub spans_by : (text later : List ℕ) (b : ℕ) (statement : Statement) (ends : Bool) → ends_statement text b ≡ ends
     → statements (b ∷ text) ≡ Ok statement ∷ statements text
     → AllSpell (later ++ b ∷ text) (base (radix_after (statements text))) statement.tokens
+unfolding statements
 spans_by text later b statement false ends e =
     let same : statements (b ∷ text) ≡ statements text = rw ends refl in
     absurd (longer (Ok statement) (statements text) (sym e ∙ same))
@@ -330,12 +331,12 @@ spans_by text later b statement true ends e =
     let radix = radix_after (statements text) in
     let first : judged (line_after text) (nat_eq b 36) (stretch text) radix ≡ Ok statement = newest (sym one ∙ e) in
     let g = good (has_illegal (stretch text)) (has_bad_number (tokens radix (stretch text))) (line_after text) (nat_eq b 36) (tokens radix (stretch text))
-        (said (tokens radix (stretch text))) statement first in
+    (said (tokens radix (stretch text))) statement first in
     let k = known text g.0 in
     subst (λ (found : List Token). AllSpell (later ++ b ∷ text) (base radix) found) (sym g.1)
-        (all_spell (later ++ b ∷ text) (base radix) (trimmed (pieces (stretch text)))
-            (all_longer later (b ∷ text) (trimmed (pieces (stretch text)))
-                (all_longer (b ∷ []) text (trimmed (pieces (stretch text))) (all_trimmed text (pieces (stretch text)) k.stand))))
+    (all_spell (later ++ b ∷ text) (base radix) (trimmed (pieces (stretch text)))
+    (all_longer later (b ∷ text) (trimmed (pieces (stretch text)))
+    (all_longer (b ∷ []) text (trimmed (pieces (stretch text))) (all_trimmed text (pieces (stretch text)) k.stand))))
 
 pub spans : HasSpans
 spans text later b statement e = spans_by text later b statement (ends_statement text b) refl e

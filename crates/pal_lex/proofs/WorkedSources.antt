@@ -34,6 +34,7 @@ named text = name_number text
 
 radixes : read (codes "DECIMAL;100;OCTAL;100$") ≡ Some (1, [], Decimal) ∷ Some (1, [], Word (record { joint = Add; term = Number 100 } ∷ []))
     ∷ Some (1, [], Octal) ∷ Some (1, [], Word (record { joint = Add; term = Number 64 } ∷ [])) ∷ []
+unfolding statements
 radixes = refl
 
 references : read (codes "TAD I Z 10; JMP .+1;DCA;TAD I;TAD -1;CLL TAD$") ≡
@@ -44,6 +45,7 @@ references : read (codes "TAD I Z 10; JMP .+1;DCA;TAD I;TAD -1;CLL TAD$") ≡
     ∷ Some (1, [], Word (record { joint = Add; term = Name (named (codes "TAD")) } ∷ record { joint = Subtract; term = Number 1 } ∷ []))
     ∷ Some (1, [], Word (record { joint = Add; term = Name (named (codes "CLL")) } ∷ record { joint = Or; term = Name (named (codes "TAD")) } ∷ []))
     ∷ []
+unfolding statements
 references = refl
 
 tags : read (codes "A, B , C = 7;" ++ 13 ∷ codes "FIELD+1;*200 $") ≡
@@ -52,27 +54,35 @@ tags : read (codes "A, B , C = 7;" ++ 13 ∷ codes "FIELD+1;*200 $") ≡
     ∷ Some (2, [], Field (record { joint = Add; term = Number 1 } ∷ []))
     ∷ Some (2, [], Origin (record { joint = Add; term = Number 128 } ∷ []))
     ∷ []
+unfolding statements
 tags = refl
 
 comments : read (codes "/ $ ; 8" ++ 13 ∷ codes "1/a$" ++ 10 ∷ 13 ∷ codes "$A") ≡ Some (1, [], Nothing) ∷ Some (2, [], Word (record { joint = Add; term = Number 1 } ∷ [])) ∷ Some (3, [], Nothing) ∷ []
+unfolding statements
 comments = refl
 
 no_number : fault (codes "TAD Q" ++ 13 ∷ codes "8" ++ 13 ∷ codes "$") ≡ Some (NU 2)
+unfolding statements
 no_number = refl
 
 lower_case : fault (codes "8a" ++ 13 ∷ codes "$") ≡ Some (IC 1)
+unfolding statements
 lower_case = refl
 
 pause : fault (codes "PAUSE" ++ 13 ∷ codes "$") ≡ Some (SY 1)
+unfolding statements
 pause = refl
 
 bad_before_form : fault (codes "TAD 1 2;TAD 9 ,$") ≡ Some (SY 1)
+unfolding statements
 bad_before_form = refl
 
 number_first : fault (codes ", 9 ,$") ≡ Some (NU 1)
+unfolding statements
 number_first = refl
 
 pub six_characters : read (codes "ABCDEF=1;ABCDEFG$") ≡
     Some (1, [], Define (named (codes "ABCDEF")) (record { joint = Add; term = Number 1 } ∷ []))
     ∷ Some (1, [], Word (record { joint = Add; term = Name (named (codes "ABCDEF")) } ∷ [])) ∷ []
+unfolding statements
 six_characters = refl

@@ -26,7 +26,7 @@ StateIs Over lexer text = (first_fault (statements text) ≡ None) × (is_over t
 StateIs (Failed fault) lexer text = first_fault (statements text) ≡ Some fault
 
 -- the lexer was given this text
-abbrev pub HasRead : Progress → List ℕ → Type 0
+unfoldable pub HasRead : Progress → List ℕ → Type 0
 HasRead lexer text = StateIs lexer.state lexer text
 
 -- a text has a fault, and it is this one

@@ -50,7 +50,7 @@ abbrev pub with_stretch : ℕ → Bool → List (ℕ × ℕ) → List (Result St
 with_stretch line last live older = judged line last live (radix_after older) ∷ older
 
 -- the statements of a text, the newest first, each as it reads or with its fault
-abbrev pub statements : List ℕ → List (Result Statement LexFault)
+unfoldable pub statements : List ℕ → List (Result Statement LexFault)
 statements [] = []
 statements (b ∷ older) =
     if ends_statement older b then with_stretch (line_after older) (nat_eq b 36) (stretch older) (statements older)

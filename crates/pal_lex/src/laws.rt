@@ -5,5 +5,4 @@ ghost use Rattle.pal_lex.specs.Spans.{HasSpans};
 /// The bytes between the places of a token are its text, apart from those that are as if they weren't there.
 pub fn spans()
     ensures { HasSpans }
-{
-}
+{}

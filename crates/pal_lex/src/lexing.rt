@@ -118,6 +118,7 @@ impl Model for Lexer {
 
 impl Lexer {
     /// A lexer of no byte.
+    #[tactic(auto, unfolding(crate::specs::Statements::statements, crate::specs::Reading::HasRead))]
     pub fn new(alloc: Global) -> Lexer
         ensures { HasRead result [] }
     {
@@ -137,6 +138,7 @@ impl Lexer {
     /// The byte that ends a statement with a fault is answered that fault, and each later byte the same; behind the `$`
     /// that ends the source each byte is answered nothing. Where memory ran out the byte was not taken, and may be
     /// pushed again.
+    #[tactic(auto, unfolding(crate::specs::Statements::statements, crate::specs::Reading::HasRead))]
     pub fn push(&mut self, byte: u8) -> Result<Option<Statement>, LexFault>
         ensures { (text : List ℕ) → HasRead self.old text → Answers text byte result self.old self.new }
     {
@@ -148,6 +150,7 @@ impl Lexer {
     }
 
     /// Whether the source has its `$`, and no fault before it.
+    #[tactic(auto, unfolding(crate::specs::Statements::statements, crate::specs::Reading::HasRead))]
     pub fn end(&self) -> Result<(), LexFault>
         ensures { (text : List ℕ) → HasRead self.now text → Ends text result }
     {
@@ -159,6 +162,7 @@ impl Lexer {
     }
 
     /// Takes a byte of a source that goes on.
+    #[tactic(auto, unfolding(crate::specs::Statements::statements, crate::specs::Reading::HasRead))]
     fn read(&mut self, byte: u8) -> Result<Option<Statement>, LexFault>
         requires { self.old.state ≡ State.Reading }
         ensures { (text : List ℕ) → HasRead self.old text → Answers text byte result self.old self.new }
@@ -176,6 +180,7 @@ impl Lexer {
     }
 
     /// Takes a byte that ends a statement.
+    #[tactic(auto, unfolding(crate::specs::Statements::statements, crate::specs::Reading::HasRead))]
     fn finish(&mut self, byte: u8) -> Result<Option<Statement>, LexFault>
         requires reading { self.old.state ≡ State.Reading }
         requires live { dies self.old.comment byte ≡ false }

@@ -1,5 +1,6 @@
 use super::*;
 use std::alloc::Global;
+use std::process::Abort;
 use std::test::Fail;
 use word12::Word;
 
@@ -164,189 +165,290 @@ fn take(lexer: &mut Lexer, byte: u8, text: &mut String) -> Result<bool, Fail> {
     }
 }
 
-/// Each statement, before a `$`, is what is said of it, or is refused so.
-const STATEMENTS: [(&str, &str); 88] = [
-    ("", "1 nothing $; "),
-    (" \t ", "1 nothing $; "),
-    ("1", "1 word +0001 $; "),
-    ("0", "1 word +0000 $; "),
-    ("7777", "1 word +7777 $; "),
-    ("0000007777", "1 word +7777 $; "),
-    ("10000", "NU 1"),
-    ("99999999999999999999", "NU 1"),
-    ("8", "NU 1"),
-    ("19", "NU 1"),
-    ("1A", "NU 1"),
-    ("1A 8", "NU 1"),
-    ("A1", "1 word +A1 $; "),
-    ("ABCDEFG", "1 word +ABCDEF $; "),
-    ("ABCDEF1", "1 word +ABCDEF $; "),
-    ("-1", "1 word -0001 $; "),
-    ("+1", "1 word +0001 $; "),
-    ("- 1", "1 word -0001 $; "),
-    ("--1", "SY 1"),
-    ("1-", "SY 1"),
-    ("1+-1", "SY 1"),
-    ("A B", "1 word +A!B $; "),
-    ("A \t B", "1 word +A!B $; "),
-    ("A + B -  3", "1 word +A+B-0003 $; "),
-    ("CLA CLL", "1 word +CLA!CLL $; "),
-    (".", "1 word +. $; "),
-    (".+1", "1 word +.+0001 $; "),
-    (". 1", "1 word +.!0001 $; "),
-    (".1", "SY 1"),
-    ("1.", "SY 1"),
-    ("..", "SY 1"),
-    ("TAD", "1 refer 1000 $; "),
-    ("AND 1", "1 refer 0000 +0001 $; "),
-    ("ISZ 1", "1 refer 2000 +0001 $; "),
-    ("DCA 1", "1 refer 3000 +0001 $; "),
-    ("JMS 1", "1 refer 4000 +0001 $; "),
-    ("JMP .+1", "1 refer 5000 +.+0001 $; "),
-    ("TAD I", "1 refer 1000 I $; "),
-    ("TAD Z", "1 refer 1000 $; "),
-    ("TAD I Z 10", "1 refer 1000 I +0010 $; "),
-    ("TAD Z I I 10", "1 refer 1000 I +0010 $; "),
-    ("TAD A+1", "1 refer 1000 +A+0001 $; "),
-    ("TAD 1 2", "SY 1"),
-    ("TAD -1", "1 word +TAD-0001 $; "),
-    ("TAD +1", "1 word +TAD+0001 $; "),
-    ("TAD I -1", "SY 1"),
-    ("TAD Z+1", "SY 1"),
-    ("TAD TAD", "1 refer 1000 +TAD $; "),
-    ("CLL TAD", "1 word +CLL!TAD $; "),
-    ("+TAD 1", "1 word +TAD!0001 $; "),
-    ("TADD 1", "1 word +TADD!0001 $; "),
-    ("TAD =1000", "1 define TAD +1000 $; "),
-    ("TAD ,", "1 TAD, nothing $; "),
-    ("A=1", "1 define A +0001 $; "),
-    ("A = -B 1", "1 define A -B!0001 $; "),
-    ("A=", "SY 1"),
-    ("A=B=1", "SY 1"),
-    ("1=A", "SY 1"),
-    ("=1", "SY 1"),
-    ("I=1", "SY 1"),
-    ("*200", "1 origin +0200 $; "),
-    ("* A + 1", "1 origin +A+0001 $; "),
-    ("*", "SY 1"),
-    ("1*2", "SY 1"),
-    ("A,", "1 A, nothing $; "),
-    ("A,B , C,1", "1 A, B, C, word +0001 $; "),
-    ("A,*1", "1 A, origin +0001 $; "),
-    (",", "SY 1"),
-    ("1,", "SY 1"),
-    ("A B,", "SY 1"),
-    ("FIELD,", "SY 1"),
-    ("FIELD 1", "1 field +0001 $; "),
-    ("FIELD+1", "1 field +0001 $; "),
-    ("FIELD - 1", "1 field -0001 $; "),
-    ("FIELD", "SY 1"),
-    ("FIELD.", "SY 1"),
-    ("FIELD1", "1 word +FIELD1 $; "),
-    ("DECIMA", "1 decimal $; "),
-    ("DECIMALS", "1 decimal $; "),
-    ("A,OCTAL", "1 A, octal $; "),
-    ("OCTALS", "1 word +OCTALS $; "),
-    ("DECIMAL 1", "SY 1"),
-    ("PAUSE", "SY 1"),
-    ("PAUSEX IX ZZ", "1 word +PAUSEX!IX!ZZ $; "),
-    ("TAD A!B", "IC 1"),
-    ("8a", "IC 1"),
-    (", 8", "NU 1"),
-    ("1/8;a$,", "NE 1"),
-];
-
-#[test]
-fn statements(rt: HostRuntime) -> Result<(), Fail> {
-    for (source, want) in STATEMENTS {
-        let mut whole = String::new(rt.alloc());
-        whole.push_str(source)?;
-        whole.push('$')?;
-        let found = read(rt.alloc(), whole.as_str())?;
-        assert_eq!(rt; found.as_str(), want, "at {source}");
+/// Compares what sources are read as with what is wanted.
+fn agree(rt: &impl Abort, alloc: Global, cases: &[(&str, &str)]) -> Result<(), Fail> {
+    for (source, want) in cases {
+        let found = read(alloc, source)?;
+        assert_eq!(rt; found.as_str(), *want, "at {source}");
     }
     Ok(())
+}
+
+#[test]
+fn numbers(rt: HostRuntime) -> Result<(), Fail> {
+    agree(
+        &rt,
+        rt.alloc(),
+        &[
+            ("$", "1 nothing $; "),
+            (" \t $", "1 nothing $; "),
+            ("1$", "1 word +0001 $; "),
+            ("0$", "1 word +0000 $; "),
+            ("7777$", "1 word +7777 $; "),
+            ("0000007777$", "1 word +7777 $; "),
+            ("10000$", "NU 1"),
+            ("99999999999999999999$", "NU 1"),
+            ("8$", "NU 1"),
+            ("19$", "NU 1"),
+            ("1A$", "NU 1"),
+            ("1A 8$", "NU 1"),
+        ],
+    )
+}
+
+#[test]
+fn expressions(rt: HostRuntime) -> Result<(), Fail> {
+    agree(
+        &rt,
+        rt.alloc(),
+        &[
+            ("A1$", "1 word +A1 $; "),
+            ("ABCDEFG$", "1 word +ABCDEF $; "),
+            ("ABCDEF1$", "1 word +ABCDEF $; "),
+            ("-1$", "1 word -0001 $; "),
+            ("+1$", "1 word +0001 $; "),
+            ("- 1$", "1 word -0001 $; "),
+            ("--1$", "SY 1"),
+            ("1-$", "SY 1"),
+            ("1+-1$", "SY 1"),
+            ("A B$", "1 word +A!B $; "),
+            ("A \t B$", "1 word +A!B $; "),
+            ("A + B -  3$", "1 word +A+B-0003 $; "),
+            ("CLA CLL$", "1 word +CLA!CLL $; "),
+        ],
+    )
+}
+
+#[test]
+fn places(rt: HostRuntime) -> Result<(), Fail> {
+    agree(
+        &rt,
+        rt.alloc(),
+        &[
+            (".$", "1 word +. $; "),
+            (".+1$", "1 word +.+0001 $; "),
+            (". 1$", "1 word +.!0001 $; "),
+            (".1$", "SY 1"),
+            ("1.$", "SY 1"),
+            ("..$", "SY 1"),
+        ],
+    )
+}
+
+#[test]
+fn references(rt: HostRuntime) -> Result<(), Fail> {
+    agree(
+        &rt,
+        rt.alloc(),
+        &[
+            ("TAD$", "1 refer 1000 $; "),
+            ("AND 1$", "1 refer 0000 +0001 $; "),
+            ("ISZ 1$", "1 refer 2000 +0001 $; "),
+            ("DCA 1$", "1 refer 3000 +0001 $; "),
+            ("JMS 1$", "1 refer 4000 +0001 $; "),
+            ("JMP .+1$", "1 refer 5000 +.+0001 $; "),
+            ("TAD I$", "1 refer 1000 I $; "),
+            ("TAD Z$", "1 refer 1000 $; "),
+            ("TAD I Z 10$", "1 refer 1000 I +0010 $; "),
+            ("TAD Z I I 10$", "1 refer 1000 I +0010 $; "),
+            ("TAD A+1$", "1 refer 1000 +A+0001 $; "),
+        ],
+    )
+}
+
+#[test]
+fn operations_out_of_place(rt: HostRuntime) -> Result<(), Fail> {
+    agree(
+        &rt,
+        rt.alloc(),
+        &[
+            ("TAD 1 2$", "SY 1"),
+            ("TAD -1$", "1 word +TAD-0001 $; "),
+            ("TAD +1$", "1 word +TAD+0001 $; "),
+            ("TAD I -1$", "SY 1"),
+            ("TAD Z+1$", "SY 1"),
+            ("TAD TAD$", "1 refer 1000 +TAD $; "),
+            ("CLL TAD$", "1 word +CLL!TAD $; "),
+            ("+TAD 1$", "1 word +TAD!0001 $; "),
+            ("TADD 1$", "1 word +TADD!0001 $; "),
+            ("TAD =1000$", "1 define TAD +1000 $; "),
+            ("TAD ,$", "1 TAD, nothing $; "),
+        ],
+    )
+}
+
+#[test]
+fn definitions_and_origins(rt: HostRuntime) -> Result<(), Fail> {
+    agree(
+        &rt,
+        rt.alloc(),
+        &[
+            ("A=1$", "1 define A +0001 $; "),
+            ("A = -B 1$", "1 define A -B!0001 $; "),
+            ("A=$", "SY 1"),
+            ("A=B=1$", "SY 1"),
+            ("1=A$", "SY 1"),
+            ("=1$", "SY 1"),
+            ("I=1$", "SY 1"),
+            ("*200$", "1 origin +0200 $; "),
+            ("* A + 1$", "1 origin +A+0001 $; "),
+            ("*$", "SY 1"),
+            ("1*2$", "SY 1"),
+        ],
+    )
+}
+
+#[test]
+fn tags(rt: HostRuntime) -> Result<(), Fail> {
+    agree(
+        &rt,
+        rt.alloc(),
+        &[
+            ("A,$", "1 A, nothing $; "),
+            ("A,B , C,1$", "1 A, B, C, word +0001 $; "),
+            ("A,*1$", "1 A, origin +0001 $; "),
+            (",$", "SY 1"),
+            ("1,$", "SY 1"),
+            ("A B,$", "SY 1"),
+            ("FIELD,$", "SY 1"),
+        ],
+    )
+}
+
+#[test]
+fn words_of_the_language(rt: HostRuntime) -> Result<(), Fail> {
+    agree(
+        &rt,
+        rt.alloc(),
+        &[
+            ("FIELD 1$", "1 field +0001 $; "),
+            ("FIELD+1$", "1 field +0001 $; "),
+            ("FIELD - 1$", "1 field -0001 $; "),
+            ("FIELD$", "SY 1"),
+            ("FIELD.$", "SY 1"),
+            ("FIELD1$", "1 word +FIELD1 $; "),
+            ("DECIMA$", "1 decimal $; "),
+            ("DECIMALS$", "1 decimal $; "),
+            ("A,OCTAL$", "1 A, octal $; "),
+            ("OCTALS$", "1 word +OCTALS $; "),
+            ("DECIMAL 1$", "SY 1"),
+            ("PAUSE$", "SY 1"),
+            ("PAUSEX IX ZZ$", "1 word +PAUSEX!IX!ZZ $; "),
+            ("TAD A!B$", "IC 1"),
+            ("8a$", "IC 1"),
+            (", 8$", "NU 1"),
+            ("1/8;a$,$", "NE 1"),
+        ],
+    )
 }
 
 #[test]
 fn sources(rt: HostRuntime) -> Result<(), Fail> {
-    let cases = [
-        (
-            "*200|TAD A|HLT|*400|A, 1|$",
-            "1 origin +0200; 2 refer 1000 +A; 3 word +HLT; 4 origin +0400; 5 A, word +0001; 6 nothing $; ",
-        ),
-        (
-            "*7777;1;2|$",
-            "1 origin +7777; 1 word +0001; 1 word +0002; 2 nothing $; ",
-        ),
-        ("$", "1 nothing $; "),
-        ("1|", "1 word +0001; NE 2"),
-        ("1|2", "1 word +0001; NE 2"),
-        ("", "NE 1"),
-        ("8|$", "NU 1"),
-        (
-            "A=1;A=2|$",
-            "1 define A +0001; 1 define A +0002; 2 nothing $; ",
-        ),
-        (
-            "DECIMAL;100;OCTAL;100|$",
-            "1 decimal; 1 word +0144; 1 octal; 1 word +0100; 2 nothing $; ",
-        ),
-        ("DECIMAL;4095;4096$", "1 decimal; 1 word +7777; NU 1"),
-        (
-            "A,DECIMAL;9;OCTAL;9$",
-            "1 A, decimal; 1 word +0011; 1 octal; NU 1",
-        ),
-        (
-            "FIELD 1;*200;5$",
-            "1 field +0001; 1 origin +0200; 1 word +0005 $; ",
-        ),
-        (
-            "TAD I Z 10; JMP .+1; -1; CLA CLL; TAD -1 | $",
-            "1 refer 1000 I +0010; 1 refer 5000 +.+0001; 1 word -0001; 1 word +CLA!CLL; 1 word +TAD-0001; 2 nothing $; ",
-        ),
-        (
-            "DCA;TAD I;CLL TAD|$",
-            "1 refer 3000; 1 refer 1000 I; 1 word +CLL!TAD; 2 nothing $; ",
-        ),
-        ("*B|B, 1|$", "1 origin +B; 2 B, word +0001; 3 nothing $; "),
-        ("TAD Q|8|$", "1 refer 1000 +Q; NU 2"),
-        ("TAD Q|1", "1 refer 1000 +Q; NE 2"),
-        ("TAD Q|1|", "1 refer 1000 +Q; 2 word +0001; NE 3"),
-        ("8a|$", "IC 1"),
-        ("PAUSE|$", "SY 1"),
-        ("/ $|1|$", "1 nothing; 2 word +0001; 3 nothing $; "),
-        ("1/;8$a|2/|$/", "1 word +0001; 2 word +0002; 3 nothing $; "),
-        ("A;;B|", "1 word +A; 1 nothing; 1 word +B; NE 2"),
-        ("1$8;a|$", "1 word +0001 $; "),
-        (
-            "ABCDEF=1;ABCDEFG|$",
-            "1 define ABCDEF +0001; 1 word +ABCDEF; 2 nothing $; ",
-        ),
-        ("A=1|PAUSE|THIS IS IGNORED", "1 define A +0001; SY 2"),
-        ("1;8;,;a$", "1 word +0001; NU 1"),
-        ("a/b", "NE 1"),
-    ];
-    for (source, want) in cases {
-        let found = read(rt.alloc(), source)?;
-        assert_eq!(rt; found.as_str(), want, "at {source}");
-    }
-    Ok(())
+    agree(
+        &rt,
+        rt.alloc(),
+        &[
+            (
+                "*200|TAD A|HLT|*400|A, 1|$",
+                "1 origin +0200; 2 refer 1000 +A; 3 word +HLT; 4 origin +0400; 5 A, word +0001; 6 nothing $; ",
+            ),
+            (
+                "*7777;1;2|$",
+                "1 origin +7777; 1 word +0001; 1 word +0002; 2 nothing $; ",
+            ),
+            ("$", "1 nothing $; "),
+            ("1|", "1 word +0001; NE 2"),
+            ("1|2", "1 word +0001; NE 2"),
+            ("", "NE 1"),
+            ("8|$", "NU 1"),
+            (
+                "A=1;A=2|$",
+                "1 define A +0001; 1 define A +0002; 2 nothing $; ",
+            ),
+        ],
+    )
+}
+
+#[test]
+fn radixes_and_fields(rt: HostRuntime) -> Result<(), Fail> {
+    agree(
+        &rt,
+        rt.alloc(),
+        &[
+            (
+                "DECIMAL;100;OCTAL;100|$",
+                "1 decimal; 1 word +0144; 1 octal; 1 word +0100; 2 nothing $; ",
+            ),
+            ("DECIMAL;4095;4096$", "1 decimal; 1 word +7777; NU 1"),
+            (
+                "A,DECIMAL;9;OCTAL;9$",
+                "1 A, decimal; 1 word +0011; 1 octal; NU 1",
+            ),
+            (
+                "FIELD 1;*200;5$",
+                "1 field +0001; 1 origin +0200; 1 word +0005 $; ",
+            ),
+            (
+                "TAD I Z 10; JMP .+1; -1; CLA CLL; TAD -1 | $",
+                "1 refer 1000 I +0010; 1 refer 5000 +.+0001; 1 word -0001; 1 word +CLA!CLL; 1 word +TAD-0001; 2 nothing $; ",
+            ),
+            (
+                "DCA;TAD I;CLL TAD|$",
+                "1 refer 3000; 1 refer 1000 I; 1 word +CLL!TAD; 2 nothing $; ",
+            ),
+        ],
+    )
+}
+
+#[test]
+fn faults_of_sources(rt: HostRuntime) -> Result<(), Fail> {
+    agree(
+        &rt,
+        rt.alloc(),
+        &[
+            ("*B|B, 1|$", "1 origin +B; 2 B, word +0001; 3 nothing $; "),
+            ("TAD Q|8|$", "1 refer 1000 +Q; NU 2"),
+            ("TAD Q|1", "1 refer 1000 +Q; NE 2"),
+            ("TAD Q|1|", "1 refer 1000 +Q; 2 word +0001; NE 3"),
+            ("8a|$", "IC 1"),
+            ("PAUSE|$", "SY 1"),
+        ],
+    )
+}
+
+#[test]
+fn comments_and_ends(rt: HostRuntime) -> Result<(), Fail> {
+    agree(
+        &rt,
+        rt.alloc(),
+        &[
+            ("/ $|1|$", "1 nothing; 2 word +0001; 3 nothing $; "),
+            ("1/;8$a|2/|$/", "1 word +0001; 2 word +0002; 3 nothing $; "),
+            ("A;;B|", "1 word +A; 1 nothing; 1 word +B; NE 2"),
+            ("1$8;a|$", "1 word +0001 $; "),
+            (
+                "ABCDEF=1;ABCDEFG|$",
+                "1 define ABCDEF +0001; 1 word +ABCDEF; 2 nothing $; ",
+            ),
+            ("A=1|PAUSE|THIS IS IGNORED", "1 define A +0001; SY 2"),
+            ("1;8;,;a$", "1 word +0001; NU 1"),
+            ("a/b", "NE 1"),
+        ],
+    )
 }
 
 #[test]
 fn bytes_that_are_not_there(rt: HostRuntime) -> Result<(), Fail> {
-    let cases = [
-        ("T\nA\0D\u{c} \u{7f}1$", "1 refer 1000 +0001 $; "),
-        ("1\n2$", "1 word +0012 $; "),
-        ("/\n8\u{7f}|1\n|$", "1 nothing; 2 word +0001; 3 nothing $; "),
-        ("TAD\t1$", "1 refer 1000 +0001 $; "),
-    ];
-    for (source, want) in cases {
-        let found = read(rt.alloc(), source)?;
-        assert_eq!(rt; found.as_str(), want);
-    }
-    Ok(())
+    agree(
+        &rt,
+        rt.alloc(),
+        &[
+            ("T\nA\0D\u{c} \u{7f}1$", "1 refer 1000 +0001 $; "),
+            ("1\n2$", "1 word +0012 $; "),
+            ("/\n8\u{7f}|1\n|$", "1 nothing; 2 word +0001; 3 nothing $; "),
+            ("TAD\t1$", "1 refer 1000 +0001 $; "),
+        ],
+    )
 }
 
 #[test]
