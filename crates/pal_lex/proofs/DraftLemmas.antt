@@ -1,14 +1,13 @@
 -- What is kept of a stretch, a byte at a time.
-use Rattle.std.proofs.Common.{◌≡◌, ℕ, ◌+◌, ◌-◌, ◌/◌, ◌≤◌, ◌<◌, ◌⊎◌, inl, inr, Bool, true, false, cond, if◌then◌else◌, zero, suc, length, get_or, List, [], ◌∷◌, ◌++◌, refl, ap, sym, subst, ◌∙◌, arith, length-append}
+use Rattle.std.proofs.Common.{◌≡◌, ℕ, ◌+◌, ◌-◌, ◌/◌, ◌≤◌, ◌⊎◌, inl, inr, Bool, true, false, if◌then◌else◌, suc, length, get_or, List, [], ◌∷◌, ◌++◌, refl, ap, sym, ◌∙◌, arith, length-append}
 use Rattle.std.proofs.Math.ListN.{set}
 use Rattle.std.proofs.Math.Seq.{set-append_seam}
 use Rattle.pal_lex.specs.Text.{limit}
-use Rattle.pal_lex.specs.Cutting.{Piece, Run, Mark, is_coded, is_blank, is_operand, trimmed, with_character, with_blank, pieces, has_illegal}
+use Rattle.pal_lex.specs.Cutting.{Piece, Run, Mark, is_blank, is_operand, with_character, with_blank, pieces, has_illegal}
 use Rattle.pal_lex.specs.Runs.{base, token, in_order, run_kind}
 use Rattle.pal_lex.specs.Growth.{grown}
-use Rattle.pal_lex.specs.Drafting.{Cut, cut_of, cut, tail_of, weight_after}
+use Rattle.pal_lex.specs.Drafting.{Cut, cut_of, cut, weight_after}
 use Rattle.pal_lex.specs.declared.pieces.Token.{Token}
-use Rattle.pal_lex.specs.declared.pieces.Kind.{Kind}
 use Rattle.pal_lex.specs.declared.drafts.Tail.{Tail}
 use Rattle.pal_lex.specs.declared.drafts.Tail.TheVariants as tail
 use Rattle.pal_lex.specs.declared.runs.Radix.{Radix}

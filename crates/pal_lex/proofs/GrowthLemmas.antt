@@ -1,15 +1,13 @@
 -- What one more character makes of a name or a number.
-use Rattle.std.proofs.Common.{◌≡◌, ℕ, ◌+◌, ◌-◌, ◌*◌, ◌<◌, ◌≤◌, min, nat_lt, nat_le, Bool, true, false, ◌&&◌, ◌||◌, cond, if◌then◌else◌, Option, Some, None, unwrap_or, zero, suc, length, get_or, List, [], ◌∷◌, ◌++◌, refl, ap, sym, ◌∙◌, arith}
+use Rattle.std.proofs.Common.{◌≡◌, ℕ, ◌+◌, ◌-◌, ◌*◌, ◌<◌, ◌≤◌, nat_lt, nat_le, Bool, true, false, ◌&&◌, if◌then◌else◌, unwrap_or, zero, suc, length, get_or, List, [], ◌∷◌, ◌++◌, refl, ap, sym, ◌∙◌, arith}
 use Rattle.std.proofs.Math.Nat.{le-mul_of_pos_right, mul_comm}
 use Rattle.std.proofs.lemmas.Bool.Decides.{nat_tests}
-use Rattle.word12.specs.Sixbit.{is_letter, is_digit, sixbit_code}
+use Rattle.word12.specs.Sixbit.{is_letter, sixbit_code}
 use Rattle.pal_lex.specs.Text.{limit}
-use Rattle.pal_lex.specs.Cutting.{is_coded}
 use Rattle.pal_lex.specs.Runs.{code_at, name_number, are_digits, number_after, number, number_kind, run_kind}
 use Rattle.pal_lex.specs.Drafting.{weight_after}
 use Rattle.pal_lex.specs.Growth.{longer_name, longer_number, grown, begun}
-use Rattle.pal_lex.specs.declared.pieces.Term.TheVariants.{Name, Number, Here}
-use Rattle.pal_lex.specs.declared.pieces.Kind.{Kind}
+use Rattle.pal_lex.specs.declared.pieces.Term.TheVariants.{Name, Number}
 use Rattle.pal_lex.specs.declared.pieces.Kind.TheVariants.{Term, BadNumber}
 
 -- ## Names

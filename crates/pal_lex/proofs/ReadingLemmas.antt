@@ -1,19 +1,19 @@
 -- What a lexer knows behind one more byte.
-use Rattle.std.proofs.Common.{◌≡◌, ℕ, ◌+◌, ◌⊎◌, min, nat_eq, Bool, true, false, ◌&&◌, ◌||◌, not, cond, if◌then◌else◌, Option, Some, None, Result, Ok, Err, suc, length, List, [], ◌∷◌, refl, ap, sym, subst, ◌∙◌, arith}
+use Rattle.std.proofs.Common.{◌≡◌, ℕ, nat_eq, Bool, true, false, if◌then◌else◌, Option, Some, None, Result, Err, List, [], ◌∷◌, refl, ap, sym, subst, arith}
 use Rattle.std.proofs.lemmas.Bool.Decides.{nat_tests}
-use Rattle.pal_lex.specs.Text.{is_ignored, in_comment, is_dead, is_end, is_over, ends_statement, stretch, cr_count, limit, line_after}
+use Rattle.pal_lex.specs.Text.{ends_statement, stretch, line_after}
 use Rattle.pal_lex.specs.Cutting.{has_illegal}
 use Rattle.pal_lex.specs.Runs.{tokens}
 use Rattle.pal_lex.specs.Grammar.{said, has_bad_number}
 use Rattle.pal_lex.specs.Drafting.{Cut, cut}
-use Rattle.pal_lex.specs.Statements.{stated, judged, radix_by, radix_after, with_stretch, statements, fault_of, first_of, first_fault}
+use Rattle.pal_lex.specs.Statements.{stated, judged, radix_by, radix_after, statements, fault_of, first_of, first_fault}
 use Rattle.pal_lex.specs.Progress.{Progress}
-use Rattle.pal_lex.specs.Judging.{comment_after, dies, Judges, passed, ended, ended_statement, failed}
-use Rattle.pal_lex.specs.Reading.{IsReading, StateIs, HasRead, IsFault, Answers, Ends}
+use Rattle.pal_lex.specs.Judging.{passed, ended}
+use Rattle.pal_lex.specs.Reading.{StateIs, HasRead, Answers, Ends}
 use Rattle.pal_lex.specs.declared.faults.LexFault.{LexFault}
 use Rattle.pal_lex.specs.declared.faults.LexFault.TheVariants.{IC, SY, NU, NE, Memory}
 use Rattle.pal_lex.specs.declared.lexing.State.{State}
-use Rattle.pal_lex.specs.declared.lexing.State.TheVariants.{Reading, Over, Failed}
+use Rattle.pal_lex.specs.declared.lexing.State.TheVariants.{Over, Failed}
 use Rattle.pal_lex.specs.declared.pieces.Token.{Token}
 use Rattle.pal_lex.specs.declared.phrases.Body.{Body}
 use Rattle.pal_lex.specs.declared.phrases.Said.{Said}

@@ -1,5 +1,5 @@
 -- Worked sources: what the definitions give for them, by computing.
-use Rattle.std.proofs.Common.{◌≡◌, ℕ, Bool, true, false, Option, Some, None, Result, Ok, Err, List, [], ◌∷◌, ◌++◌, refl}
+use Rattle.std.proofs.Common.{◌≡◌, ℕ, true, false, Option, Some, None, Result, Ok, Err, List, [], ◌∷◌, ◌++◌, refl}
 use Rattle.std.specs.Prelude.{codes}
 use Rattle.pal_lex.specs.Text.{text_of}
 use Rattle.pal_lex.specs.Runs.{name_number}
@@ -8,8 +8,7 @@ use Rattle.pal_lex.specs.declared.faults.LexFault.{LexFault}
 use Rattle.pal_lex.specs.declared.faults.LexFault.TheVariants.{IC, SY, NU}
 use Rattle.pal_lex.specs.declared.pieces.Term.TheVariants.{Name, Number, Here}
 use Rattle.pal_lex.specs.declared.phrases.Joint.TheVariants.{Add, Subtract, Or}
-use Rattle.pal_lex.specs.declared.phrases.Part.{Part}
-use Rattle.pal_lex.specs.declared.phrases.Operation.TheVariants.{And, Tad, Isz, Dca, Jms, Jmp}
+use Rattle.pal_lex.specs.declared.phrases.Operation.TheVariants.{Tad, Dca, Jmp}
 use Rattle.pal_lex.specs.declared.phrases.Body.{Body}
 use Rattle.pal_lex.specs.declared.phrases.Body.TheVariants.{Nothing, Origin, Define, Decimal, Octal, Field, Reference, Word}
 use Rattle.pal_lex.specs.declared.phrases.Statement.{Statement}

@@ -4,7 +4,6 @@ use Rattle.pal_lex.specs.Text.{limit}
 use Rattle.pal_lex.specs.Cutting.{Piece, Run, Mark, is_operand, is_blank, trimmed, pieces, has_illegal}
 use Rattle.pal_lex.specs.Runs.{base, in_order}
 use Rattle.pal_lex.specs.declared.pieces.Token.{Token}
-use Rattle.pal_lex.specs.declared.pieces.Kind.{Kind}
 use Rattle.pal_lex.specs.declared.pieces.Kind.TheVariants.{Blank}
 use Rattle.pal_lex.specs.declared.drafts.Tail.{Tail}
 use Rattle.pal_lex.specs.declared.drafts.Tail.TheVariants as tail

@@ -1,5 +1,5 @@
 -- What one more character makes of a token.
-use Rattle.std.specs.Prelude.{ℕ, ◌+◌, ◌-◌, ◌*◌, min, nat_lt, nat_le, Bool, ◌||◌, if◌then◌else◌, unwrap_or}
+use Rattle.std.specs.Prelude.{ℕ, ◌+◌, ◌-◌, ◌*◌, nat_lt, nat_le, ◌||◌, if◌then◌else◌, unwrap_or}
 use Rattle.word12.specs.Sixbit.{is_letter, sixbit_code}
 use Rattle.pal_lex.specs.Text.{limit}
 use Rattle.pal_lex.specs.declared.pieces.Term as term

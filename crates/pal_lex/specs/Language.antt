@@ -1,5 +1,5 @@
 -- The words of the language (PAL III Symbolic Assembler manual, and this project's profile of it).
-use Rattle.std.specs.Prelude.{ℕ, nat_eq, Bool, true, false, ◌||◌, if◌then◌else◌, Option, Some, None, List, codes}
+use Rattle.std.specs.Prelude.{ℕ, nat_eq, Bool, false, ◌||◌, if◌then◌else◌, Option, Some, None, codes}
 use Rattle.pal_lex.specs.Runs.{name_number}
 use Rattle.pal_lex.specs.declared.pieces.Term as term
 use Rattle.pal_lex.specs.declared.pieces.Term.TheVariants.{Name, Number, Here}

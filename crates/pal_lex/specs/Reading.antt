@@ -1,5 +1,5 @@
 -- What a lexer was given, and what it answers.
-use Rattle.std.specs.Prelude.{◌≡◌, ℕ, Bool, true, false, length, Option, Some, None, Result, Ok, Err, List, [], ◌∷◌}
+use Rattle.std.specs.Prelude.{◌≡◌, ℕ, true, false, length, Option, Some, None, Result, Ok, Err, List, ◌∷◌}
 use Rattle.pal_lex.specs.Text.{in_comment, is_over, stretch, limit, line_after}
 use Rattle.pal_lex.specs.Drafting.{cut}
 use Rattle.pal_lex.specs.Statements.{statements, radix_after, first_fault}

@@ -1,6 +1,6 @@
 -- The statements of a text: the stretches of live bytes between the live `;`, CR and `$`, each judged by the grammar and
 -- by the radix that the statements before it set. A last stretch that nothing ends is no statement.
-use Rattle.std.specs.Prelude.{ℕ, nat_eq, Bool, true, false, if◌then◌else◌, Option, Some, None, Result, Ok, Err, List, [], ◌∷◌}
+use Rattle.std.specs.Prelude.{ℕ, nat_eq, Bool, if◌then◌else◌, Option, Some, None, Result, Ok, Err, List, [], ◌∷◌}
 use Rattle.pal_lex.specs.Text.{ends_statement, stretch, line_after}
 use Rattle.pal_lex.specs.Cutting.{has_illegal}
 use Rattle.pal_lex.specs.Runs.{tokens}

@@ -1,8 +1,6 @@
-use Rattle.std.proofs.Common.{◌∙◌, ap, ◌++◌, ◌∷◌, []}
 use Rattle.pal_lex.specs.Runs.{base}
 use Rattle.pal_lex.specs.Growth.{grown}
 use Rattle.pal_lex.proofs.DraftLemmas.{lengthened}
-use Rattle.pal_lex.proofs.WorkedSources.{six_characters}
 use Rattle.pal_lex.proofs.drafts.lengthen.Goals as goal
 
 pub returns-in-Some : goal.returns-in-Some

@@ -1,8 +1,7 @@
-use Rattle.std.proofs.Common.{◌≡◌, ℕ, ◌+◌, ◌/◌, min, length, List, ◌++◌, ◌∷◌, [], ◌∙◌, ap, sym, arith}
+use Rattle.std.proofs.Common.{◌≡◌, ℕ, ◌+◌, ◌/◌, min, List, ◌∙◌, ap, sym, arith}
 use Rattle.std.proofs.lemmas.List.{with_items_is}
 use Rattle.pal_lex.specs.Runs.{base}
 use Rattle.pal_lex.specs.Text.{limit}
-use Rattle.pal_lex.specs.Drafting.{Cut}
 use Rattle.pal_lex.specs.declared.drafts.Tail.{Tail}
 use Rattle.pal_lex.specs.declared.drafts.Tail.TheVariants.{Run}
 use Rattle.pal_lex.specs.declared.pieces.Token.{Token}

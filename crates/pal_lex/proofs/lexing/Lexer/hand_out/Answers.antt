@@ -1,4 +1,4 @@
-use Rattle.std.proofs.Common.{◌≡◌, ◌∙◌, ap}
+use Rattle.std.proofs.Common.{◌∙◌, ap}
 use Rattle.pal_lex.specs.Progress.{Progress}
 use Rattle.pal_lex.specs.Judging.{passed, ended}
 use Rattle.pal_lex.specs.declared.lexing.State.TheVariants.{Over}

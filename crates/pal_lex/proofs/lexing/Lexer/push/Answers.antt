@@ -1,4 +1,4 @@
-use Rattle.std.proofs.Common.{◌≡◌, ap, sym, ◌∙◌}
+use Rattle.std.proofs.Common.{ap, sym, ◌∙◌}
 use Rattle.pal_lex.specs.Progress.{Progress}
 use Rattle.pal_lex.proofs.ReadingLemmas.{failed_byte}
 use Rattle.pal_lex.proofs.lexing.Lexer.push.Goals as goal
