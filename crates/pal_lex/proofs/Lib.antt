@@ -1,6 +1,7 @@
 pub mod DraftLemmas
 pub mod GrammarLemmas
 pub mod GrowthLemmas
+pub mod LawLemmas
 pub mod ReadingLemmas
 pub mod SpanLemmas
 pub mod WorkedSources

@@ -10,6 +10,7 @@ use Rattle.pal_lex.specs.Statements.{stated, judged, radix_by, radix_after, stat
 use Rattle.pal_lex.specs.Progress.{Progress}
 use Rattle.pal_lex.specs.Judging.{passed, ended}
 use Rattle.pal_lex.specs.Reading.{StateIs, HasRead, Answers, Ends}
+use Rattle.pal_lex.specs.Laws.{IsOfStatement, FaultsAreOfStatements}
 use Rattle.pal_lex.specs.declared.faults.LexFault.{LexFault}
 use Rattle.pal_lex.specs.declared.faults.LexFault.TheVariants.{IC, SY, NU, NE, Memory}
 use Rattle.pal_lex.specs.declared.lexing.State.{State}
@@ -20,6 +21,7 @@ use Rattle.pal_lex.specs.declared.phrases.Said.{Said}
 use Rattle.pal_lex.specs.declared.phrases.Statement.{Statement}
 use Rattle.pal_lex.specs.declared.runs.Radix.{Radix}
 use Rattle.pal_lex.specs.declared.runs.Radix.TheVariants.{Octal}
+use Rattle.pal_lex.proofs.LawLemmas.{fault_stays}
 
 has_read : (l : Progress) (text : List ℕ) (state : State) → l.state ≡ state → StateIs state l text → HasRead l text
 unfolding HasRead
@@ -29,22 +31,6 @@ abbrev newest : List ℕ → ℕ → Result Statement LexFault
 newest text b = judged (line_after text) (nat_eq b 36) (stretch text) (radix_after (statements text))
 
 -- ## Behind a fault
-
-still : (test : Bool) (text : List ℕ) (later : List (Result Statement LexFault)) (s : Result Statement LexFault) (fault : LexFault)
-    → first_fault (statements text) ≡ Some fault → first_fault (if test then s ∷ statements text else statements text) ≡ Some fault
-still true text later s fault e = rw e refl
-still false text later s fault e = e
-
-still_fault : (text : List ℕ) (b : ℕ) (fault : LexFault) → first_fault (statements text) ≡ Some fault → first_fault (statements (b ∷ text)) ≡ Some fault
-unfolding statements
-still_fault text b fault e = still (ends_statement text b) text [] (newest text b) fault e
-
-abbrev IsOfStatement : LexFault → Type 0
-IsOfStatement (IC line) = Unit {0}
-IsOfStatement (SY line) = Unit {0}
-IsOfStatement (NU line) = Unit {0}
-IsOfStatement (NE line) = ⊥
-IsOfStatement Memory = ⊥
 
 abbrev IsOfStatements : Option LexFault → Type 0
 IsOfStatements None = Unit {0}
@@ -78,7 +64,7 @@ fault_is (b ∷ text) =
     (stated (line_after text) (nat_eq b 36) (tokens (radix_after (statements text)) (stretch text)) (said (tokens (radix_after (statements text)) (stretch text))))
     (stated_fault (line_after text) (nat_eq b 36) (tokens (radix_after (statements text)) (stretch text)) (said (tokens (radix_after (statements text)) (stretch text)))))
 
-known_fault : (text : List ℕ) (fault : LexFault) → first_fault (statements text) ≡ Some fault → IsOfStatement fault
+pub known_fault : FaultsAreOfStatements
 known_fault text fault e = subst IsOfStatements e (fault_is text)
 
 has_failed : (l : Progress) (text : List ℕ) (fault : LexFault) → l.state ≡ Failed fault → HasRead l text → first_fault (statements text) ≡ Some fault
@@ -87,11 +73,11 @@ has_failed l text fault e h = subst (λ (s : State). StateIs s l text) e h
 
 pub failed_byte : (l : Progress) (text : List ℕ) (b : ℕ) (fault : LexFault) → l.state ≡ Failed fault → HasRead l text → Answers text b (Err fault) l l
 failed_byte l text b (IC line) e h =
-    let is = still_fault text b (IC line) (has_failed l text (IC line) e h) in (is, has_read l (b ∷ text) (Failed (IC line)) e is)
+    let is = fault_stays text (b ∷ []) (IC line) (has_failed l text (IC line) e h) in (is, has_read l (b ∷ text) (Failed (IC line)) e is)
 failed_byte l text b (SY line) e h =
-    let is = still_fault text b (SY line) (has_failed l text (SY line) e h) in (is, has_read l (b ∷ text) (Failed (SY line)) e is)
+    let is = fault_stays text (b ∷ []) (SY line) (has_failed l text (SY line) e h) in (is, has_read l (b ∷ text) (Failed (SY line)) e is)
 failed_byte l text b (NU line) e h =
-    let is = still_fault text b (NU line) (has_failed l text (NU line) e h) in (is, has_read l (b ∷ text) (Failed (NU line)) e is)
+    let is = fault_stays text (b ∷ []) (NU line) (has_failed l text (NU line) e h) in (is, has_read l (b ∷ text) (Failed (NU line)) e is)
 failed_byte l text b (NE line) e h = absurd (known_fault text (NE line) (has_failed l text (NE line) e h))
 failed_byte l text b Memory e h = refl
 

@@ -5,6 +5,7 @@ pub mod Grammar
 pub mod Growth
 pub mod Judging
 pub mod Language
+pub mod Laws
 pub mod Progress
 pub mod Reading
 pub mod Runs
