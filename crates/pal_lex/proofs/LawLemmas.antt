@@ -1,6 +1,6 @@
 -- What follows a text leaves its statements as they are.
-use Rattle.std.proofs.Common.{◌≡◌, ℕ, nat_eq, Bool, true, false, ◌&&◌, ◌||◌, not, cond, if◌then◌else◌, Option, Some, None, Result, Ok, Err, List, [], ◌∷◌, ◌++◌, refl, ap, sym, ◌∙◌}
-use Rattle.pal_lex.specs.Text.{is_dead, is_end, is_over, ends_statement, stretch, line_after, text_from, text_of}
+use Rattle.std.proofs.Common.{◌≡◌, ℕ, nat_eq, Bool, true, false, ◌&&◌, not, if◌then◌else◌, Some, Result, List, [], ◌∷◌, ◌++◌, refl, ap, ◌∙◌}
+use Rattle.pal_lex.specs.Text.{is_dead, is_end, is_over, ends_statement, stretch, line_after, text_from}
 use Rattle.pal_lex.specs.Statements.{judged, radix_after, statements, fault_of, first_of, first_fault}
 use Rattle.pal_lex.specs.Laws.{TextGrows, StatementsStay, EndsSource, FaultStays}
 use Rattle.pal_lex.specs.declared.faults.LexFault.{LexFault}

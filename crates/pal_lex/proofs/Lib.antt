@@ -1,3 +1,4 @@
+pub mod CoverLemmas
 pub mod DraftLemmas
 pub mod GrammarLemmas
 pub mod GrowthLemmas

@@ -5,7 +5,7 @@ use Rattle.pal_lex.specs.Text.{is_ignored, in_comment, is_dead, is_end, ends_sta
 use Rattle.pal_lex.specs.Cutting.{Piece, Run, Mark, is_coded, is_space, sign_of, is_legal, has_illegal, is_blank, is_operand, trimmed, with_character, with_blank, with_sign, pieces}
 use Rattle.pal_lex.specs.Runs.{base, run_kind, token, in_order, tokens}
 use Rattle.pal_lex.specs.Grammar.{said, has_bad_number}
-use Rattle.pal_lex.specs.Statements.{stated, judged, radix_after, with_stretch, statements}
+use Rattle.pal_lex.specs.Statements.{stated, radix_after, with_stretch, statements}
 use Rattle.pal_lex.specs.Spans.{between, are_coded, mark_of, spelled, Spells, AllSpell, HasSpans}
 use Rattle.pal_lex.specs.declared.faults.LexFault.{LexFault}
 use Rattle.pal_lex.specs.declared.faults.LexFault.TheVariants.{IC, NU}
@@ -41,7 +41,7 @@ between_step : (b : ℕ) (older : List ℕ) (start end : ℕ) → between (b ∷
 unfolding within
 between_step b older start end = refl
 
-between_past : (b : ℕ) (older : List ℕ) (start end : ℕ) → end ≤ length older → between (b ∷ older) start end ≡ between older start end
+pub between_past : (b : ℕ) (older : List ℕ) (start end : ℕ) → end ≤ length older → between (b ∷ older) start end ≡ between older start end
 between_past b older start end e =
     between_step b older start end ∙ ap (λ l. between older start end ++ l) (past b start (length older) end e) ∙ append-nil (between older start end)
 
@@ -67,7 +67,7 @@ between_whole (b ∷ older) start end e =
     ∙ ap (λ l. between older start (suc (length older)) ++ l) (same_within b start (length older) end (omega arith))
     ∙ sym (between_step b older start (suc (length older)))
 
-between_longer : (later text : List ℕ) (start end : ℕ) → end ≤ length text → between (later ++ text) start end ≡ between text start end
+pub between_longer : (later text : List ℕ) (start end : ℕ) → end ≤ length text → between (later ++ text) start end ≡ between text start end
 between_longer [] text start end e = refl
 between_longer (b ∷ later) text start end e =
     between_past b (later ++ text) start end (omega (arith, length-append later text)) ∙ between_longer later text start end e
@@ -75,17 +75,17 @@ between_longer (b ∷ later) text start end e =
 -- ## Pieces
 
 -- A piece stands in a text: what is between its places is what it was made of.
-abbrev Stands : List ℕ → Piece → Type 0
+abbrev pub Stands : List ℕ → Piece → Type 0
 Stands text (Run first others start end) =
     (start ≤ end) × (end ≤ length text) × (are_coded (first ∷ others) ≡ true) × (between text start end ≡ first ∷ others)
 Stands text (Mark kind place) = (place + 1 ≤ length text) × ((c : ℕ) × (is_coded c ≡ false) × (mark_of c ≡ Some kind) × (between text place (place + 1) ≡ c ∷ []))
 
-abbrev AllStand : List ℕ → List Piece → Type 0
+abbrev pub AllStand : List ℕ → List Piece → Type 0
 AllStand text [] = Unit {0}
 AllStand text (piece ∷ others) = Stands text piece × AllStand text others
 
 -- the newest piece, where letters and digits may go on with it
-abbrev Goes : List ℕ → List Piece → Type 0
+abbrev pub Goes : List ℕ → List Piece → Type 0
 Goes text [] = Unit {0}
 Goes text (Run first others start end ∷ others') = between text start (length text) ≡ first ∷ others
 Goes text (Mark kind place ∷ others) = Unit {0}
@@ -105,7 +105,7 @@ trimmed_by : (blank : Bool) (text : List ℕ) (kind : Kind) (place : ℕ) (befor
 trimmed_by true text kind place before a = a.1
 trimmed_by false text kind place before a = a
 
-all_trimmed : (text : List ℕ) (before : List Piece) → AllStand text before → AllStand text (trimmed before)
+pub all_trimmed : (text : List ℕ) (before : List Piece) → AllStand text before → AllStand text (trimmed before)
 all_trimmed text [] a = tt
 all_trimmed text (Run first others start end ∷ before) a = a
 all_trimmed text (Mark kind place ∷ before) a = trimmed_by (is_blank kind) text kind place before a
@@ -124,7 +124,7 @@ coded-append (x ∷ others) b a c =
     ap (λ t. t && are_coded (others ++ b ∷ [])) (both_left (is_coded x) (are_coded others) a) ∙ coded-append others b (both_right (is_coded x) (are_coded others) a) c
 
 -- one byte that is not ignored, by itself
-alone : (text : List ℕ) (b : ℕ) → is_ignored b ≡ false → between (b ∷ text) (length text) (length text + 1) ≡ b ∷ []
+pub alone : (text : List ℕ) (b : ℕ) → is_ignored b ≡ false → between (b ∷ text) (length text) (length text + 1) ≡ b ∷ []
 alone text b i =
     between_step b text (length text) (length text + 1)
     ∙ ap (λ l. l ++ within b (length text) (length text) (length text + 1)) (between_none text (length text) (length text + 1) (omega arith))
@@ -133,23 +133,23 @@ alone text b i =
 -- ## Texts
 
 -- The pieces of the present stretch stand in the text, and the newest one may go on where no comment is.
-record Known (text : List ℕ) (before : List Piece) : Type 0 where
-  stand : AllStand text before
-  goes : in_comment text ≡ false → Goes text before
+pub record Known (text : List ℕ) (before : List Piece) : Type 0 where
+  pub stand : AllStand text before
+  pub goes : in_comment text ≡ false → Goes text before
 
 or_left : (a c : Bool) → (a || c) ≡ true → c ≡ false → a ≡ true
 or_left true c e n = refl
 or_left false c e n = sym n ∙ e
 
-none_left : (a c : Bool) → (a || c) ≡ false → a ≡ false
+pub none_left : (a c : Bool) → (a || c) ≡ false → a ≡ false
 none_left true c e = e
 none_left false c e = refl
 
-none_right : (a c : Bool) → (a || c) ≡ false → c ≡ false
+pub none_right : (a c : Bool) → (a || c) ≡ false → c ≡ false
 none_right true c e = cc
 none_right false c e = e
 
-not_not : (a : Bool) → not a ≡ false → a ≡ true
+pub not_not : (a : Bool) → not a ≡ false → a ≡ true
 not_not true e = refl
 not_not false e = sym e
 
@@ -259,7 +259,7 @@ known_by b text false false dead ends legal older =
     (not_not (is_legal b) (none_left (not (is_legal b)) (has_illegal (stretch text)) good))
     (none_left (is_ignored b) (in_comment (b ∷ text)) dead) k.stand (k.goes quiet))
 
-known : (text : List ℕ) → has_illegal (stretch text) ≡ false → Known text (pieces (stretch text))
+pub known : (text : List ℕ) → has_illegal (stretch text) ≡ false → Known text (pieces (stretch text))
 known [] legal = record { stand = tt; goes = λ quiet. tt }
 known (b ∷ text) legal = known_by b text (is_dead text b) (is_end b) refl refl legal (known text)
 
@@ -318,24 +318,30 @@ good false true line last found s statement e = absurd (refused e)
 good false false line last found None statement e = absurd (refused e)
 good false false line last found (Some s) statement e = (refl, sym (ap tokens_in e))
 
-pub spans_by : (text later : List ℕ) (b : ℕ) (statement : Statement) (ends : Bool) → ends_statement text b ≡ ends
+has_tokens_by : (text : List ℕ) (b : ℕ) (statement : Statement) (ends : Bool) → ends_statement text b ≡ ends
     → statements (b ∷ text) ≡ Ok statement ∷ statements text
-    → AllSpell (later ++ b ∷ text) (base (radix_after (statements text))) statement.tokens
+    → (has_illegal (stretch text) ≡ false) × (statement.tokens ≡ tokens (radix_after (statements text)) (stretch text))
 unfolding statements
-spans_by text later b statement false ends e =
+has_tokens_by text b statement false ends e =
     let same : statements (b ∷ text) ≡ statements text = rw ends refl in
     absurd (longer (Ok statement) (statements text) (sym e ∙ same))
-spans_by text later b statement true ends e =
+has_tokens_by text b statement true ends e =
     let one : statements (b ∷ text) ≡ with_stretch (line_after text) (nat_eq b 36) (stretch text) (statements text) = rw ends refl in
     let radix = radix_after (statements text) in
-    let first : judged (line_after text) (nat_eq b 36) (stretch text) radix ≡ Ok statement = newest (sym one ∙ e) in
-    let g = good (has_illegal (stretch text)) (has_bad_number (tokens radix (stretch text))) (line_after text) (nat_eq b 36) (tokens radix (stretch text))
-    (said (tokens radix (stretch text))) statement first in
+    good (has_illegal (stretch text)) (has_bad_number (tokens radix (stretch text))) (line_after text) (nat_eq b 36) (tokens radix (stretch text))
+    (said (tokens radix (stretch text))) statement (newest (sym one ∙ e))
+
+-- the tokens of a statement that a byte ends are those of the stretch before it, in which no byte is illegal
+pub has_tokens : (text : List ℕ) (b : ℕ) (statement : Statement) → statements (b ∷ text) ≡ Ok statement ∷ statements text
+    → (has_illegal (stretch text) ≡ false) × (statement.tokens ≡ tokens (radix_after (statements text)) (stretch text))
+has_tokens text b statement e = has_tokens_by text b statement (ends_statement text b) refl e
+
+pub spans : HasSpans
+spans text later b statement e =
+    let radix = radix_after (statements text) in
+    let g = has_tokens text b statement e in
     let k = known text g.0 in
     subst (λ (found : List Token). AllSpell (later ++ b ∷ text) (base radix) found) (sym g.1)
     (all_spell (later ++ b ∷ text) (base radix) (trimmed (pieces (stretch text)))
     (all_longer later (b ∷ text) (trimmed (pieces (stretch text)))
     (all_longer (b ∷ []) text (trimmed (pieces (stretch text))) (all_trimmed text (pieces (stretch text)) k.stand))))
-
-pub spans : HasSpans
-spans text later b statement e = spans_by text later b statement (ends_statement text b) refl e

@@ -1,5 +1,5 @@
 -- Laws about the statements of a text.
-use Rattle.std.specs.Prelude.{◌≡◌, ℕ, true, Option, Some, None, Result, List, [], ◌∷◌, ◌++◌}
+use Rattle.std.specs.Prelude.{◌≡◌, ℕ, true, Some, Result, List, [], ◌∷◌, ◌++◌}
 use Rattle.pal_lex.specs.Text.{is_over, text_of}
 use Rattle.pal_lex.specs.Statements.{statements, first_fault}
 use Rattle.pal_lex.specs.declared.faults.LexFault.{LexFault}

@@ -1,7 +1,7 @@
 -- What stands in a source between the places of a token.
-use Rattle.std.specs.Prelude.{◌≡◌, ℕ, ◌<◌, nat_eq, nat_le, nat_lt, Bool, true, ◌&&◌, not, if◌then◌else◌, Option, Some, None, Ok, length, List, [], ◌∷◌, ◌++◌}
-use Rattle.pal_lex.specs.Text.{is_ignored}
-use Rattle.pal_lex.specs.Cutting.{is_coded, is_space, sign_of}
+use Rattle.std.specs.Prelude.{◌≡◌, ℕ, ◌<◌, ◌≤◌, nat_eq, nat_le, nat_lt, Bool, true, ◌&&◌, not, if◌then◌else◌, Option, Some, None, Ok, length, List, [], ◌∷◌, ◌++◌}
+use Rattle.pal_lex.specs.Text.{is_ignored, stretch}
+use Rattle.pal_lex.specs.Cutting.{is_coded, is_space, sign_of, is_blank}
 use Rattle.pal_lex.specs.Runs.{base, run_kind}
 use Rattle.pal_lex.specs.Statements.{radix_after, statements}
 use Rattle.pal_lex.specs.declared.pieces.Token.{Token}
@@ -44,3 +44,20 @@ abbrev pub HasSpans : Type 0
 HasSpans =
     (text later : List ℕ) (b : ℕ) (statement : Statement) → statements (b ∷ text) ≡ Ok statement ∷ statements text
     → AllSpell (later ++ b ∷ text) (base (radix_after (statements text))) statement.tokens
+
+-- the live bytes of a stretch in their order, but for blanks and tabs
+abbrev pub solid : List (ℕ × ℕ) → List ℕ
+solid [] = []
+solid (live ∷ older) = solid older ++ (if is_space live.0 then [] else live.0 ∷ [])
+
+-- what stands between the places of tokens, one after the other, but for blanks
+abbrev pub joined : List ℕ → List Token → List ℕ
+joined text [] = []
+joined text (token ∷ others) = (if is_blank token.kind then [] else between text token.start token.end) ++ joined text others
+
+-- The tokens of a statement that a byte ends leave nothing out but blanks: joined they are the live bytes behind the end
+-- before it, where the places are no more than a number of 64 bits holds.
+abbrev pub HasAll : Type 0
+HasAll =
+    (text later : List ℕ) (b : ℕ) (statement : Statement) → length text ≤ 18446744073709551615
+    → statements (b ∷ text) ≡ Ok statement ∷ statements text → joined (later ++ b ∷ text) statement.tokens ≡ solid (stretch text)
