@@ -1,9 +1,9 @@
-ghost use Rattle.std.specs.Prelude.{◌≡◌, ◌≢◌, ℕ, ◌+◌, ◌<◌, Bool, true, false, Some, None, List, [], ◌∷◌, ◌++◌, OnOk, OnErr};
+ghost use Rattle.std.specs.Prelude.{◌≡◌, ℕ, Bool, true, false, Some, List, [], ◌∷◌, ◌++◌, OnOk, OnErr};
 ghost use Rattle.pal_lex.specs.Text.{limit};
-ghost use Rattle.pal_lex.specs.Cutting.{Piece, Run, Mark, is_coded, is_operand, is_blank, sign_of, trimmed, with_character, with_blank, with_sign};
-ghost use Rattle.pal_lex.specs.Runs.{base, token};
+ghost use Rattle.pal_lex.specs.Cutting.{Piece, Run, Mark, is_coded, is_operand, is_blank, sign_of, with_character, with_blank, with_sign};
+ghost use Rattle.pal_lex.specs.Runs.{base};
 ghost use Rattle.pal_lex.specs.Growth.{grown};
-ghost use Rattle.pal_lex.specs.Drafting.{cut, cut_of, pending, weight_after};
+ghost use Rattle.pal_lex.specs.Drafting.{cut, cut_of, pending};
 
 use crate::runs::{Radix, begun, grown};
 use crate::{Kind, Term, Token, Tokens};

@@ -1,4 +1,4 @@
-ghost use Rattle.std.specs.Prelude.{◌≡◌, true, false, Some, IfOk};
+ghost use Rattle.std.specs.Prelude.{◌≡◌, true, Some, IfOk};
 ghost use Rattle.pal_lex.specs.Grammar.{joint_of, free_term, term_of, parts, terms, expression};
 ghost use Rattle.pal_lex.specs.Behind.{behind};
 

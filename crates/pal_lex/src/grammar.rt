@@ -1,4 +1,4 @@
-ghost use Rattle.std.specs.Prelude.{◌≡◌, true, false, Some, IfOk, List, [], ◌∷◌};
+ghost use Rattle.std.specs.Prelude.{◌≡◌, true, false, Some, IfOk, [], ◌∷◌};
 ghost use Rattle.pal_lex.specs.Language.{free_name};
 ghost use Rattle.pal_lex.specs.Grammar.{sum, expression, map_body, reference, definition, field_number, lone_body, longer_body, body, untagged, said, has_bad_number};
 ghost use Rattle.pal_lex.specs.Behind.{tagged};

@@ -1,7 +1,5 @@
-ghost use Rattle.std.specs.Prelude.{◌≡◌, ◌≢◌, ℕ, ◌+◌, nat_eq, Bool, true, false, not, ◌&&◌, ◌||◌, if◌then◌else◌, List, [], ◌∷◌};
-ghost use Rattle.pal_lex.specs.Text.{is_ignored, is_end, limit};
-ghost use Rattle.pal_lex.specs.Runs.{tokens};
-ghost use Rattle.pal_lex.specs.Drafting.{cut};
+ghost use Rattle.std.specs.Prelude.{◌≡◌, ℕ, true, false, List, []};
+ghost use Rattle.pal_lex.specs.Text.{is_ignored, is_end};
 ghost use Rattle.pal_lex.specs.Statements.{radix_by};
 ghost use Rattle.pal_lex.specs.Reading.{HasRead, Answers, Ends};
 ghost use Rattle.pal_lex.specs.Judging.{Judges, comment_after, dies, passed, ended, ended_statement, failed};
