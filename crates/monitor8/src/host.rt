@@ -25,7 +25,11 @@ enum Ended {
 }
 
 impl From<AllocError> for Ended {
-    ghost from_gives = { λ _ _. Unit };
+    ghost use Rattle.std.specs.Prelude.{◌≡◌};
+    ghost use Rattle.monitor8.specs.declared.host.Ended.TheVariants.{Fault};
+    ghost use Rattle.script8.specs.declared.faults.SessionFault.TheVariants.{Memory};
+
+    ghost from_gives = { λ _ ended. ended ≡ Fault Memory };
 
     fn from(_error: AllocError) -> Ended {
         Ended::Fault(SessionFault::Memory)
