@@ -1,0 +1,6 @@
+pub mod NameLemmas
+pub mod PassLemmas
+pub mod SecondLemmas
+pub mod TextLemmas
+pub mod WholeLemmas
+pub mod WorkedSources

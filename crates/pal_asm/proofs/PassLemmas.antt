@@ -1,0 +1,96 @@
+-- A statement more in the first pass.
+use Rattle.std.proofs.Common.{◌≡◌, ℕ, ◌+◌, Bool, true, false, if◌then◌else◌, Option, Some, None, Result, Ok, Err, List, [], ◌∷◌, refl, ap, sym, subst, ◌∙◌, arith}
+use Rattle.std.proofs.Math.Path.{fun_ext}
+use Rattle.pal_sym.specs.SymbolTable.{SymbolTable}
+use Rattle.pal_sym.specs.Values.{symbol_value, HasRoom}
+use Rattle.pal_lex.specs.declared.phrases.Body.{Body}
+use Rattle.pal_lex.specs.declared.phrases.Body.TheVariants.{Nothing, Origin, Define, Decimal, Octal, Field, Reference, Word}
+use Rattle.pal_lex.specs.declared.phrases.Statement.{Statement}
+use Rattle.pal_asm.specs.declared.faults.Code.{Code}
+use Rattle.pal_asm.specs.declared.faults.AsmFault.{AsmFault}
+use Rattle.pal_asm.specs.declared.faults.AsmFault.TheVariants.{At, Memory}
+use Rattle.pal_asm.specs.declared.spots.Spot.{Spot}
+use Rattle.pal_asm.specs.Expressions.{Known}
+use Rattle.pal_asm.specs.Places.{Source, is_word, sets_location, words_since, set_by, with_tags, with_body, last_setting, values, place_at, values_at, field_by, field_at}
+use Rattle.pal_asm.specs.Faults.{first_of, tags_fault, body_fault, statement_fault, at_line, first_order, has_word, last_line}
+use Rattle.pal_asm.specs.Progress.{Progress}
+use Rattle.pal_asm.specs.Passes.{place_by, spot_by, AreDefined, IsPassed, PassesBody, IsRead, Reads, fault_by_table, tagged, IsFirst, AnswersFirst}
+
+place_step : (known : Known) (body : Body) (setting words : ℕ)
+    → set_by known (setting + words) body setting + (if sets_location body then 0 else ((if is_word body then 1 else 0) + words))
+    ≡ place_by known (setting + words) body
+place_step known Nothing setting words = omega arith
+place_step known (Origin e) setting words = omega arith
+place_step known (Define name e) setting words = omega arith
+place_step known Decimal setting words = omega arith
+place_step known Octal setting words = omega arith
+place_step known (Field e) setting words = omega arith
+place_step known (Reference operation indirect address) setting words = omega arith
+place_step known (Word e) setting words = omega arith
+
+-- the place behind a statement
+pub place_passed : (s : Statement) (older : Source) → place_at (Ok s ∷ older) ≡ place_by (values_at s.tags older) (place_at older) s.body
+place_passed s older = place_step (values_at s.tags older) s.body (last_setting older) (words_since older)
+
+-- the tags and then the body
+pub tags_then_body : (tags : List ℕ) (body : Body) (spot : Spot) (old middle new : SymbolTable) (result : Result Spot Code)
+    → AreDefined tags spot.location old middle → PassesBody body spot middle new result → Reads tags body spot old new result
+tags_then_body tags body spot old middle new (Ok next) defined passed =
+    let same : symbol_value middle ≡ tagged tags spot.location old = fun_ext defined.values in
+    record {
+      no_fault = ap (λ f. first_of f (body_fault (tagged tags spot.location old) spot.location body)) defined.no_fault
+          ∙ ap (λ k. body_fault k spot.location body) (sym same) ∙ passed.no_fault;
+      values = λ n. passed.values n ∙ ap (λ k. with_body k spot.location body n) same;
+      moved = passed.moved ∙ ap (λ k. spot_by k body spot) same;
+    }
+tags_then_body tags body spot old middle new (Err code) defined passed =
+    let same : symbol_value middle ≡ tagged tags spot.location old = fun_ext defined.values in
+    ap (λ f. first_of f (body_fault (tagged tags spot.location old) spot.location body)) defined.no_fault
+    ∙ ap (λ k. body_fault k spot.location body) (sym same) ∙ passed
+
+-- the fault of a statement, by a table that stands for the names before it
+pub same_fault : (s : Statement) (older : Source) (place : ℕ) (old : SymbolTable) → symbol_value old ≡ values older → place ≡ place_at older
+    → statement_fault s older ≡ fault_by_table s.tags s.body place old
+same_fault s older place old names there =
+    ap (λ k. first_of (tags_fault k (place_at older) s.tags) (body_fault (with_tags s.tags (place_at older) k) (place_at older) s.body)) (sym names)
+    ∙ ap (λ p. fault_by_table s.tags s.body p old) (sym there)
+
+-- an assembler of these parts
+abbrev pub progress : SymbolTable → Spot → ℕ → Option AsmFault → Progress
+progress symbols spot line failed = record { symbols = symbols; spot = spot; line = line; failed = failed }
+
+-- a statement more, which has no fault
+pub first_more : (s : Statement) (older : Source) (old : Progress) (n line : ℕ) (symbols roomed new : SymbolTable) (spot next : Spot) (failed : Option AsmFault) (tags : List ℕ)
+    → progress symbols spot line failed ≡ old → tags ≡ s.tags → HasRoom n symbols roomed → IsRead tags s.body spot roomed new next → IsFirst old older
+    → IsFirst (progress new next s.line failed) (Ok s ∷ older)
+first_more s older old n line symbols roomed new spot next failed tags is same room read first =
+    let names : symbol_value roomed ≡ values older = fun_ext room.values ∙ ap (λ p. symbol_value p.symbols) is ∙ first.symbols in
+    let there : spot.location ≡ place_at older = ap (λ (p : Progress). p.spot.location) is ∙ first.location in
+    let known : tagged tags spot.location roomed ≡ values_at s.tags older =
+    ap (λ t. tagged t spot.location roomed) same ∙ ap (λ k. with_tags s.tags spot.location k) names ∙ ap (λ p. with_tags s.tags p (values older)) there in
+    record {
+      symbols = fun_ext (λ n. read.values n ∙ ap (λ k. with_body k spot.location s.body n) known ∙ ap (λ p. with_body (values_at s.tags older) p s.body n) there);
+      location = ap (λ (p : Spot). p.location) read.moved ∙ ap (λ k. place_by k spot.location s.body) known
+          ∙ ap (λ p. place_by (values_at s.tags older) p s.body) there ∙ sym (place_passed s older);
+      field = ap (λ (p : Spot). p.field) read.moved ∙ ap (λ k. field_by k spot.location s.body spot.field) known
+          ∙ ap (λ p. field_by (values_at s.tags older) p s.body spot.field) there
+          ∙ ap (field_by (values_at s.tags older) (place_at older) s.body) (ap (λ (p : Progress). p.spot.field) is ∙ first.field);
+      word = ap (λ (p : Spot). p.word) read.moved ∙ ap (λ w. if is_word s.body then true else w) (ap (λ (p : Progress). p.spot.word) is ∙ first.word);
+      line = refl;
+      no_fault = ap (λ f. first_of f (at_line s.line (statement_fault s older))) first.no_fault
+          ∙ ap (at_line s.line) (same_fault s older spot.location roomed names there ∙ ap (λ t. fault_by_table t s.body spot.location roomed) (sym same) ∙ read.no_fault);
+      goes_on = ap (λ (p : Progress). p.failed) is ∙ first.goes_on;
+    }
+
+-- a statement more, which has a fault
+pub first_fault_more : (s : Statement) (older : Source) (old after : Progress) (n line : ℕ) (symbols roomed : SymbolTable) (spot : Spot) (failed : Option AsmFault) (tags : List ℕ) (code : Code) (fault : AsmFault)
+    → progress symbols spot line failed ≡ old → tags ≡ s.tags → HasRoom n symbols roomed → fault_by_table tags s.body spot.location roomed ≡ Some code
+    → fault ≡ At code s.line → after.failed ≡ Some (At code s.line) → IsFirst old older → AnswersFirst older s (Err fault) old after
+first_fault_more s older old after n line symbols roomed spot failed tags code fault is same room told named kept first =
+    let names : symbol_value roomed ≡ values older = fun_ext room.values ∙ ap (λ p. symbol_value p.symbols) is ∙ first.symbols in
+    let there : spot.location ≡ place_at older = ap (λ (p : Progress). p.spot.location) is ∙ first.location in
+    subst (λ f. AnswersFirst older s (Err f) old after) (sym named) (
+      ap (λ f. first_of f (at_line s.line (statement_fault s older))) first.no_fault
+          ∙ ap (at_line s.line) (same_fault s older spot.location roomed names there ∙ ap (λ t. fault_by_table t s.body spot.location roomed) (sym same) ∙ told),
+      kept,
+    )

@@ -1,0 +1,43 @@
+-- The value of an expression (PAL III Symbolic Assembler manual, and this project's profile of it).
+use Rattle.std.specs.Prelude.{ℕ, ◌+◌, ◌-◌, ◌%◌, bit_or, Option, Some, None, List, [], ◌∷◌}
+use Rattle.pal_lex.specs.declared.pieces.Term.{Term}
+use Rattle.pal_lex.specs.declared.pieces.Term.TheVariants.{Name, Number, Here}
+use Rattle.pal_lex.specs.declared.phrases.Joint.{Joint}
+use Rattle.pal_lex.specs.declared.phrases.Joint.TheVariants.{Add, Subtract, Or}
+use Rattle.pal_lex.specs.declared.phrases.Part.{Part}
+
+-- what names stand for
+abbrev pub Known : Type 0
+Known = ℕ → Option ℕ
+
+-- `.` is the place
+abbrev pub term_value : Known → ℕ → Term → Option ℕ
+term_value known place (Name n) = known n
+term_value known place (Number n) = Some n
+term_value known place Here = Some place
+
+-- sum and difference modulo 4096, inclusive or
+abbrev pub joined : Joint → ℕ → ℕ → ℕ
+joined Add a b = (a + b) % 4096
+joined Subtract a b = (a + 4096 - b) % 4096
+joined Or a b = bit_or a b
+
+abbrev pub joined_values : Joint → Option ℕ → Option ℕ → Option ℕ
+joined_values joint None b = None
+joined_values joint (Some a) None = None
+joined_values joint (Some a) (Some b) = Some (joined joint a b)
+
+-- the value of terms behind others, from left to right
+abbrev pub value_behind : Known → ℕ → Option ℕ → List Part → Option ℕ
+value_behind known place before [] = before
+value_behind known place before (part ∷ others) =
+    value_behind known place (joined_values part.joint before (term_value known place part.term)) others
+
+-- the value of an expression, from left to right from 0
+abbrev pub value_of : Known → ℕ → List Part → Option ℕ
+value_of known place expression = value_behind known place (Some 0) expression
+
+-- an address that is missing is 0
+abbrev pub address_value : Known → ℕ → Option (List Part) → Option ℕ
+address_value known place None = Some 0
+address_value known place (Some expression) = value_of known place expression

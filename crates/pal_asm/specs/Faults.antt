@@ -1,0 +1,153 @@
+-- The first fault of a source (PAL III Symbolic Assembler manual, and this project's profile of it).
+use Rattle.std.specs.Prelude.{ℕ, ◌/◌, nat_eq, nat_lt, Bool, true, false, if◌then◌else◌, Option, Some, None, unwrap_or, Result, Ok, Err, List, [], ◌∷◌}
+use Rattle.pal_lex.specs.Text.{is_over, line_after}
+use Rattle.pal_lex.specs.Statements.{statements}
+use Rattle.pal_lex.specs.declared.faults.LexFault.{LexFault}
+use Rattle.pal_lex.specs.declared.faults.LexFault.TheVariants as lex
+use Rattle.pal_lex.specs.declared.pieces.Term.{Term}
+use Rattle.pal_lex.specs.declared.pieces.Term.TheVariants.{Name, Number, Here}
+use Rattle.pal_lex.specs.declared.phrases.Part.{Part}
+use Rattle.pal_lex.specs.declared.phrases.Body.{Body}
+use Rattle.pal_lex.specs.declared.phrases.Body.TheVariants.{Nothing, Origin, Define, Decimal, Octal, Field, Reference, Word}
+use Rattle.pal_lex.specs.declared.phrases.Statement.{Statement}
+use Rattle.pal_asm.specs.declared.faults.Code.{Code}
+use Rattle.pal_asm.specs.declared.faults.Code.TheVariants.{IC, SY, NU, UA, DT, RD, IR, FD, PF, NE, NW}
+use Rattle.pal_asm.specs.declared.faults.AsmFault.{AsmFault}
+use Rattle.pal_asm.specs.declared.faults.AsmFault.TheVariants.{At, Memory}
+use Rattle.pal_asm.specs.Expressions.{Known, value_of, address_value}
+use Rattle.pal_asm.specs.Places.{Source, is_word, place_at, values, values_at}
+
+-- the first of two
+abbrev pub first_of : {A : Type 0} → Option A → Option A → Option A
+first_of None later = later
+first_of (Some fault) later = Some fault
+
+-- no address is past 7777
+abbrev pub past : ℕ → Option Code
+past place = if nat_lt 4095 place then Some PF else None
+
+abbrev pub undefined : Option ℕ → Option Code
+undefined None = Some UA
+undefined (Some value) = None
+
+-- a name stands for a value other than this one
+abbrev pub defined_otherwise : Code → ℕ → Option ℕ → Option Code
+defined_otherwise code value None = None
+defined_otherwise code value (Some known) = if nat_eq known value then None else Some code
+
+-- ## Expressions
+
+abbrev pub term_fault : Known → ℕ → Term → Option Code
+term_fault known place (Name n) = undefined (known n)
+term_fault known place (Number n) = None
+term_fault known place Here = past place
+
+-- the terms from the left
+abbrev pub terms_fault : Known → ℕ → List Part → Option Code
+terms_fault known place [] = None
+terms_fault known place (part ∷ others) = first_of (term_fault known place part.term) (terms_fault known place others)
+
+-- ## In the order of the source, each statement by those before it
+
+-- the tags from the left, PF of each before DT
+abbrev pub tags_fault : Known → ℕ → List ℕ → Option Code
+tags_fault known place [] = None
+tags_fault known place (tag ∷ tags) = first_of (first_of (past place) (defined_otherwise DT place (known tag))) (tags_fault known place tags)
+
+abbrev pub field_fault : Option ℕ → Option Code
+field_fault None = None
+field_fault (Some number) = if nat_lt 7 number then Some FD else None
+
+abbrev pub definition_fault : Option ℕ → Option ℕ → Option Code
+definition_fault None known = None
+definition_fault (Some value) known = defined_otherwise RD value known
+
+abbrev pub body_fault : Known → ℕ → Body → Option Code
+body_fault known place Nothing = None
+body_fault known place (Origin e) = terms_fault known place e
+body_fault known place (Define name e) = first_of (terms_fault known place e) (definition_fault (value_of known place e) (known name))
+body_fault known place Decimal = None
+body_fault known place Octal = None
+body_fault known place (Field e) = first_of (terms_fault known place e) (field_fault (value_of known place e))
+body_fault known place (Reference operation indirect address) = past place
+body_fault known place (Word e) = past place
+
+-- the fault of a statement behind others: its tags, then its body
+abbrev pub statement_fault : Statement → Source → Option Code
+statement_fault s older = first_of (tags_fault (values older) (place_at older) s.tags) (body_fault (values_at s.tags older) (place_at older) s.body)
+
+abbrev pub at_line : ℕ → Option Code → Option AsmFault
+at_line line None = None
+at_line line (Some code) = Some (At code line)
+
+-- a fault of the lexer among those of the assembler
+abbrev pub lexical : LexFault → AsmFault
+lexical (lex.IC line) = At IC line
+lexical (lex.SY line) = At SY line
+lexical (lex.NU line) = At NU line
+lexical (lex.NE line) = At NE line
+lexical lex.Memory = Memory
+
+-- the first fault of the first order
+abbrev pub first_order : Source → Option AsmFault
+first_order [] = None
+first_order (Err fault ∷ older) = first_of (first_order older) (Some (lexical fault))
+first_order (Ok s ∷ older) = first_of (first_order older) (at_line s.line (statement_fault s older))
+
+-- ## No `$`
+
+abbrev pub no_end : List ℕ → Option AsmFault
+no_end text = if is_over text then None else Some (At NE (line_after text))
+
+-- ## Words, by the values of the whole source
+
+-- an address that a memory reference at a place can't reach
+abbrev pub out_of_reach : ℕ → Option ℕ → Option Code
+out_of_reach place None = None
+out_of_reach place (Some address) =
+    if nat_lt address 128 then None else (if nat_eq (address / 128) (place / 128) then None else Some IR)
+
+abbrev pub address_fault : Known → ℕ → Option (List Part) → Option Code
+address_fault known place None = None
+address_fault known place (Some e) = terms_fault known place e
+
+abbrev pub word_fault : Known → ℕ → Body → Option Code
+word_fault known place Nothing = None
+word_fault known place (Origin e) = None
+word_fault known place (Define name e) = None
+word_fault known place Decimal = None
+word_fault known place Octal = None
+word_fault known place (Field e) = None
+word_fault known place (Reference operation indirect address) =
+    first_of (address_fault known place address) (out_of_reach place (address_value known place address))
+word_fault known place (Word e) = terms_fault known place e
+
+-- the first fault of a word, where names stand for these values
+abbrev pub words_fault : Known → Source → Option AsmFault
+words_fault known [] = None
+words_fault known (Err fault ∷ older) = words_fault known older
+words_fault known (Ok s ∷ older) = first_of (words_fault known older) (at_line s.line (word_fault known (place_at older) s.body))
+
+-- ## No word
+
+abbrev pub has_word : Source → Bool
+has_word [] = false
+has_word (Err fault ∷ older) = has_word older
+has_word (Ok s ∷ older) = if is_word s.body then true else has_word older
+
+-- the line of the last statement, which is that of the `$`
+abbrev pub last_line : Source → ℕ
+last_line [] = 1
+last_line (Err fault ∷ older) = last_line older
+last_line (Ok s ∷ older) = s.line
+
+abbrev pub no_word : Source → Option AsmFault
+no_word source = if has_word source then None else Some (At NW (last_line source))
+
+-- ## The first fault of a text
+
+abbrev pub fault_by : Source → Option AsmFault → Option AsmFault
+fault_by source unended = first_of (first_order source) (first_of unended (first_of (words_fault (values source) source) (no_word source)))
+
+abbrev pub fault_of : List ℕ → Option AsmFault
+fault_of text = fault_by (statements text) (no_end text)

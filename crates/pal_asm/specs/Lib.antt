@@ -1,0 +1,6 @@
+pub mod Expressions
+pub mod Places
+pub mod Words
+pub mod Faults
+pub mod Progress
+pub mod Passes

@@ -1,0 +1,238 @@
+-- What an assembler was handed, and what it answers.
+use Rattle.std.specs.Prelude.{◌≡◌, ℕ, ◌+◌, ◌*◌, ◌%◌, ◌<◌, ◌≤◌, Bool, true, false, if◌then◌else◌, Option, Some, None, unwrap_or, Result, Ok, Err, List, [], ◌∷◌, ◌++◌, length}
+use Rattle.pal_sym.specs.SymbolTable.{SymbolTable}
+use Rattle.pal_sym.specs.Values.{symbol_value}
+use Rattle.pal_lex.specs.Statements.{statements}
+use Rattle.pal_lex.specs.declared.phrases.Part.{Part}
+use Rattle.pal_lex.specs.declared.phrases.Body.{Body}
+use Rattle.pal_lex.specs.declared.phrases.Body.TheVariants.{Nothing, Origin, Define, Decimal, Octal, Field, Reference, Word}
+use Rattle.pal_lex.specs.declared.phrases.Statement.{Statement}
+use Rattle.pal_asm.specs.declared.faults.Code.{Code}
+use Rattle.pal_asm.specs.declared.faults.AsmFault.{AsmFault}
+use Rattle.pal_asm.specs.declared.faults.AsmFault.TheVariants.{At, Memory}
+use Rattle.pal_asm.specs.declared.spots.Spot.{Spot}
+use Rattle.pal_asm.specs.Expressions.{Known, value_of}
+use Rattle.pal_asm.specs.Places.{Source, is_word, with_tags, with_body, field_by, place_at, field_at, values}
+use Rattle.pal_asm.specs.Words.{body_word, with_pair, pairs_by, pairs_of}
+use Rattle.pal_asm.specs.Faults.{first_of, past, tags_fault, body_fault, at_line, first_order, word_fault, words_fault, has_word, last_line, no_word, no_end, fault_of}
+use Rattle.pal_lex.specs.Reading.{HasRead}
+use Rattle.pal_lex.specs.Progress as lex
+use Rattle.pal_asm.specs.Progress.{Progress}
+
+-- ## One statement
+
+-- the place behind a body
+abbrev pub place_by : Known → ℕ → Body → ℕ
+place_by known place Nothing = place
+place_by known place (Origin e) = unwrap_or (value_of known place e) 0
+place_by known place (Define name e) = place
+place_by known place Decimal = place
+place_by known place Octal = place
+place_by known place (Field e) = 128
+place_by known place (Reference operation indirect address) = place + 1
+place_by known place (Word e) = place + 1
+
+abbrev pub spot_by : Known → Body → Spot → Spot
+spot_by known body spot = record {
+  location = place_by known spot.location body;
+  field = field_by known spot.location body spot.field;
+  word = if is_word body then true else spot.word;
+}
+
+-- a value, or the fault that refuses it
+abbrev pub Gives : Option ℕ → Option Code → Result ℕ Code → Type 0
+Gives value fault (Ok found) = (value ≡ Some found) × (fault ≡ None)
+Gives value fault (Err code) = fault ≡ Some code
+
+-- the spot behind a body, or the fault that refuses it
+abbrev pub Moves : Spot → Option Code → Result Spot Code → Type 0
+Moves next fault (Ok found) = (found ≡ next) × (fault ≡ None)
+Moves next fault (Err code) = fault ≡ Some code
+
+-- `=` may take the room of one name
+abbrev pub definitions : Body → ℕ
+definitions Nothing = 0
+definitions (Origin e) = 0
+definitions (Define name e) = 1
+definitions Decimal = 0
+definitions Octal = 0
+definitions (Field e) = 0
+definitions (Reference operation indirect address) = 0
+definitions (Word e) = 0
+
+-- Tags at a place were defined.
+pub record AreDefined (tags : List ℕ) (place : ℕ) (old new : SymbolTable) : Type 0 where
+  pub no_fault : tags_fault (symbol_value old) place tags ≡ None
+  pub values : (n : ℕ) → symbol_value new n ≡ with_tags tags place (symbol_value old) n
+  pub room : old.room ≤ new.room + length tags
+
+abbrev pub DefinesTags : List ℕ → ℕ → SymbolTable → SymbolTable → Result (Unit {0}) Code → Type 0
+DefinesTags tags place old new (Ok done) = AreDefined tags place old new
+DefinesTags tags place old new (Err code) = tags_fault (symbol_value old) place tags ≡ Some code
+
+-- A body was passed at a spot.
+pub record IsPassed (body : Body) (spot : Spot) (old new : SymbolTable) (next : Spot) : Type 0 where
+  pub no_fault : body_fault (symbol_value old) spot.location body ≡ None
+  pub values : (n : ℕ) → symbol_value new n ≡ with_body (symbol_value old) spot.location body n
+  pub moved : next ≡ spot_by (symbol_value old) body spot
+
+abbrev pub PassesBody : Body → Spot → SymbolTable → SymbolTable → Result Spot Code → Type 0
+PassesBody body spot old new (Ok next) = IsPassed body spot old new next
+PassesBody body spot old new (Err code) = body_fault (symbol_value old) spot.location body ≡ Some code
+
+-- what names stand for at a body, by a table before its tags
+abbrev pub tagged : List ℕ → ℕ → SymbolTable → Known
+tagged tags place table = with_tags tags place (symbol_value table)
+
+-- the fault of tags and a body, by a table before them
+abbrev pub fault_by_table : List ℕ → Body → ℕ → SymbolTable → Option Code
+fault_by_table tags body place table = first_of (tags_fault (symbol_value table) place tags) (body_fault (tagged tags place table) place body)
+
+-- A statement was passed at a spot.
+pub record IsRead (tags : List ℕ) (body : Body) (spot : Spot) (old new : SymbolTable) (next : Spot) : Type 0 where
+  pub no_fault : fault_by_table tags body spot.location old ≡ None
+  pub values : (n : ℕ) → symbol_value new n ≡ with_body (tagged tags spot.location old) spot.location body n
+  pub moved : next ≡ spot_by (tagged tags spot.location old) body spot
+
+abbrev pub Reads : List ℕ → Body → Spot → SymbolTable → SymbolTable → Result Spot Code → Type 0
+Reads tags body spot old new (Ok next) = IsRead tags body spot old new next
+Reads tags body spot old new (Err code) = fault_by_table tags body spot.location old ≡ Some code
+
+-- what keeps an assembler from going on behind a body, where its definition counts already
+abbrev pub spot_fault : Known → ℕ → Body → Option Code
+spot_fault known place Nothing = None
+spot_fault known place (Origin e) = body_fault known place (Origin e)
+spot_fault known place (Define name e) = None
+spot_fault known place Decimal = None
+spot_fault known place Octal = None
+spot_fault known place (Field e) = body_fault known place (Field e)
+spot_fault known place (Reference operation indirect address) = past place
+spot_fault known place (Word e) = past place
+
+-- the word of a body, if it is one, or the fault that refuses it
+abbrev pub MakesWord : Option ℕ → Option Code → Result (Option ℕ) Code → Type 0
+MakesWord word fault (Ok found) = (found ≡ word) × (fault ≡ None)
+MakesWord word fault (Err code) = fault ≡ Some code
+
+abbrev pub pair_at : Spot → Option ℕ → Option (ℕ × ℕ)
+pair_at spot None = None
+pair_at spot (Some word) = Some (4096 * spot.field + spot.location % 4096, word)
+
+-- A body was passed in the second pass.
+pub record IsMade (known : Known) (spot next : Spot) (body : Body) (pair : Option (ℕ × ℕ)) : Type 0 where
+  pub no_word_fault : word_fault known spot.location body ≡ None
+  pub no_spot_fault : spot_fault known spot.location body ≡ None
+  pub moved : next ≡ spot_by known body spot
+  pub handed : pair ≡ pair_at spot (body_word known spot.location body)
+
+abbrev pub Makes : Known → Spot → Body → Result (Spot × Option (ℕ × ℕ)) Code → Type 0
+Makes known spot body (Ok made) = IsMade known spot made.0 body made.1
+Makes known spot body (Err code) = first_of (word_fault known spot.location body) (spot_fault known spot.location body) ≡ Some code
+
+-- ## The first pass
+
+-- The first pass stands behind these statements, none of which has a fault.
+pub record IsFirst (assembler : Progress) (source : Source) : Type 0 where
+  pub symbols : symbol_value assembler.symbols ≡ values source
+  pub location : assembler.spot.location ≡ place_at source
+  pub field : assembler.spot.field ≡ field_at source
+  pub word : assembler.spot.word ≡ has_word source
+  pub line : assembler.line ≡ last_line source
+  pub no_fault : first_order source ≡ None
+  pub goes_on : assembler.failed ≡ None
+
+-- A fault was answered, and is answered for good.
+abbrev pub HasFailed : Progress → AsmFault → Type 0
+HasFailed assembler fault = assembler.failed ≡ Some fault
+
+-- What the first pass answers for a statement behind others. Memory is taken for names alone; where it ran out nothing
+-- was taken.
+abbrev pub AnswersFirst : Source → Statement → Result (Unit {0}) AsmFault → Progress → Progress → Type 0
+AnswersFirst older statement (Ok done) old new = IsFirst new (Ok statement ∷ older)
+AnswersFirst older statement (Err (At code line)) old new = (first_order (Ok statement ∷ older) ≡ Some (At code line)) × HasFailed new (At code line)
+AnswersFirst older statement (Err Memory) old new = (new ≡ old) × (old.symbols.room < length statement.tags + definitions statement.body)
+
+-- ## The second pass
+
+-- The second pass stands behind these statements of a whole source, which has no fault of the first order and a word;
+-- none of these words has a fault.
+pub record IsSecond (assembler : Progress) (whole older : Source) : Type 0 where
+  pub symbols : symbol_value assembler.symbols ≡ values whole
+  pub location : assembler.spot.location ≡ place_at older
+  pub field : assembler.spot.field ≡ field_at older
+  pub no_fault : first_order whole ≡ None
+  pub has_word : no_word whole ≡ None
+  pub words : words_fault (values whole) older ≡ None
+  pub goes_on : assembler.failed ≡ None
+
+-- what the turn to the second pass answers
+abbrev pub TurnsOver : Source → Result (Unit {0}) AsmFault → Progress → Progress → Type 0
+TurnsOver whole (Ok done) old new = IsSecond new whole []
+TurnsOver whole (Err (At code line)) old new = (no_word whole ≡ Some (At code line)) × HasFailed new (At code line)
+TurnsOver whole (Err Memory) old new = ⊥
+
+-- what is handed out for a statement, behind what was handed out for those before it
+abbrev pub with_handed : List (ℕ × ℕ) → Option (ℕ × ℕ) → List (ℕ × ℕ)
+with_handed pairs None = pairs
+with_handed pairs (Some pair) = pairs ++ pair ∷ []
+
+-- What the second pass answers for a statement of a whole source. It takes no memory.
+abbrev pub AnswersSecond : Source → Source → Statement → Result (Option (ℕ × ℕ)) AsmFault → Progress → Progress → Type 0
+AnswersSecond whole older statement (Ok handed) old new =
+    (pairs_by (values whole) (Ok statement ∷ older) ≡ with_handed (pairs_by (values whole) older) handed) × IsSecond new whole (Ok statement ∷ older)
+AnswersSecond whole older statement (Err (At code line)) old new =
+    (words_fault (values whole) (Ok statement ∷ older) ≡ Some (At code line)) × HasFailed new (At code line)
+AnswersSecond whole older statement (Err Memory) old new = ⊥
+
+-- the same fault for good
+abbrev pub StaysFailed : {A : Type 0} → Result A AsmFault → Progress → Progress → Type 0
+StaysFailed {A} result old new = (fault : AsmFault) → HasFailed old fault → (result ≡ Err fault) × (new ≡ old)
+
+-- ## A whole text
+
+-- what the first pass answers for a byte behind a text, where this is the text with that byte
+abbrev pub PassesByte : List ℕ → Result (Unit {0}) AsmFault → lex.Progress → Progress → Type 0
+PassesByte text (Ok done) lexer assembler = HasRead lexer text × IsFirst assembler (statements text)
+PassesByte text (Err (At code line)) lexer assembler = first_order (statements text) ≡ Some (At code line)
+PassesByte text (Err Memory) lexer assembler = Unit {0}
+
+-- what the end of a text is answered, none of whose statements has a fault
+abbrev pub EndsText : List ℕ → Result (Unit {0}) AsmFault → Type 0
+EndsText text (Ok done) = no_end text ≡ None
+EndsText text (Err (At code line)) = no_end text ≡ Some (At code line)
+EndsText text (Err Memory) = ⊥
+
+-- What the second pass of a whole source answers for a byte behind a text, where the first of the two texts has that byte.
+abbrev pub MakesByte : Source → List ℕ → List ℕ → Result (Option (ℕ × ℕ)) AsmFault → lex.Progress → Progress → Type 0
+MakesByte whole text older (Ok handed) lexer assembler =
+    HasRead lexer text × IsSecond assembler whole (statements text)
+    × (pairs_by (values whole) (statements text) ≡ with_handed (pairs_by (values whole) (statements older)) handed)
+MakesByte whole text older (Err (At code line)) lexer assembler = words_fault (values whole) (statements text) ≡ Some (At code line)
+MakesByte whole text older (Err Memory) lexer assembler = Unit {0}
+
+-- a text has its `$`, and the first pass stands behind it
+abbrev pub IsFirstOf : List ℕ → Progress → Type 0
+IsFirstOf text assembler = IsFirst assembler (statements text) × (no_end text ≡ None)
+
+-- the first fault of a text that the first pass meets, or want of memory
+abbrev pub IsFirstFault : List ℕ → AsmFault → Type 0
+IsFirstFault text (At code line) = first_of (first_order (statements text)) (no_end text) ≡ Some (At code line)
+IsFirstFault text Memory = Unit {0}
+
+-- these are the words of a text, none of which has a fault
+abbrev pub AreWordsOf : List ℕ → List (ℕ × ℕ) → Type 0
+AreWordsOf text pairs = (words_fault (values (statements text)) (statements text) ≡ None) × (pairs ≡ pairs_of text)
+
+-- the first fault of the words of a text, or want of memory
+abbrev pub IsWordsFault : List ℕ → AsmFault → Type 0
+IsWordsFault text (At code line) = words_fault (values (statements text)) (statements text) ≡ Some (At code line)
+IsWordsFault text Memory = Unit {0}
+
+-- the first fault of a text, or want of memory
+abbrev pub IsFaultOf : List ℕ → AsmFault → Type 0
+IsFaultOf text (At code line) = fault_of text ≡ Some (At code line)
+IsFaultOf text Memory = Unit {0}
+
+-- these are the words of a text, which has no fault
+abbrev pub ArePairsOf : List ℕ → List (ℕ × ℕ) → Type 0
+ArePairsOf text pairs = (fault_of text ≡ None) × (pairs ≡ pairs_of text)

@@ -1,0 +1,13 @@
+-- How far an assembler is.
+use Rattle.std.specs.Prelude.{ℕ, Option}
+use Rattle.pal_sym.specs.SymbolTable.{SymbolTable}
+use Rattle.pal_asm.specs.declared.faults.AsmFault.{AsmFault}
+use Rattle.pal_asm.specs.declared.spots.Spot.{Spot}
+
+pub record Progress : Type 0 where
+  pub symbols : SymbolTable
+  pub spot : Spot
+  -- the line of the last statement
+  pub line : ℕ
+  -- the fault that was answered, which is answered for good
+  pub failed : Option AsmFault

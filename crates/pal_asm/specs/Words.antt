@@ -1,0 +1,69 @@
+-- The words of a source, each with its cell (PAL III Symbolic Assembler manual, and this project's profile of it).
+use Rattle.std.specs.Prelude.{ℕ, ◌+◌, ◌*◌, ◌/◌, ◌%◌, nat_eq, nat_lt, if◌then◌else◌, Bool, true, false, Option, Some, None, Result, Ok, Err, List, [], ◌∷◌, ◌++◌}
+use Rattle.pal_lex.specs.Language.{word_of}
+use Rattle.pal_lex.specs.Statements.{statements}
+use Rattle.pal_lex.specs.declared.phrases.Operation.{Operation}
+use Rattle.pal_lex.specs.declared.phrases.Part.{Part}
+use Rattle.pal_lex.specs.declared.phrases.Body.{Body}
+use Rattle.pal_lex.specs.declared.phrases.Body.TheVariants.{Nothing, Origin, Define, Decimal, Octal, Field, Reference, Word}
+use Rattle.pal_lex.specs.declared.phrases.Statement.{Statement}
+use Rattle.pal_asm.specs.Expressions.{Known, value_of, address_value}
+use Rattle.pal_asm.specs.Places.{Source, place_at, field_at, values}
+
+-- what stands in a memory reference for an address: below 0200 its offset on page zero; on the page of the reference its
+-- offset with 0200; no other address can be reached
+abbrev pub offset_of : ℕ → ℕ → Option ℕ
+offset_of place address =
+    if nat_lt address 128 then Some address
+    else (if nat_eq (address / 128) (place / 128) then Some (address % 128 + 128) else None)
+
+abbrev pub offset_to : ℕ → Option ℕ → Option ℕ
+offset_to place None = None
+offset_to place (Some address) = offset_of place address
+
+-- `I` is 0400
+abbrev pub with_offset : Operation → Bool → Option ℕ → Option ℕ
+with_offset operation indirect None = None
+with_offset operation indirect (Some offset) = Some (word_of operation + (if indirect then 256 else 0) + offset)
+
+-- the word of a body at a place, where it is one and has one
+abbrev pub body_word : Known → ℕ → Body → Option ℕ
+body_word known place Nothing = None
+body_word known place (Origin e) = None
+body_word known place (Define name e) = None
+body_word known place Decimal = None
+body_word known place Octal = None
+body_word known place (Field e) = None
+body_word known place (Reference operation indirect address) = with_offset operation indirect (offset_to place (address_value known place address))
+body_word known place (Word e) = value_of known place e
+
+-- the cell of a word behind these statements
+abbrev pub cell_at : Source → ℕ
+cell_at older = 4096 * field_at older + place_at older
+
+abbrev pub with_pair : List (ℕ × ℕ) → ℕ → Option ℕ → List (ℕ × ℕ)
+with_pair pairs cell None = pairs
+with_pair pairs cell (Some word) = pairs ++ (cell, word) ∷ []
+
+-- the words of statements with their cells, in the order of the source, where names stand for these values
+abbrev pub pairs_by : Known → Source → List (ℕ × ℕ)
+pairs_by known [] = []
+pairs_by known (Err fault ∷ older) = pairs_by known older
+pairs_by known (Ok s ∷ older) = with_pair (pairs_by known older) (cell_at older) (body_word known (place_at older) s.body)
+
+-- the words of a text with their cells, in the order of the source: a word may use names that are defined behind it
+abbrev pub pairs_of : List ℕ → List (ℕ × ℕ)
+pairs_of text = pairs_by (values (statements text)) (statements text)
+
+abbrev pub if_none : Option ℕ → Option ℕ → Option ℕ
+if_none None other = other
+if_none (Some word) other = Some word
+
+-- the word of the last of these pairs at a cell
+abbrev pub last_at : List (ℕ × ℕ) → ℕ → Option ℕ
+last_at [] cell = None
+last_at (pair ∷ pairs) cell = if_none (last_at pairs cell) (if nat_eq pair.0 cell then Some pair.1 else None)
+
+-- what a text puts into a cell
+abbrev pub meaning_of : List ℕ → ℕ → Option ℕ
+meaning_of text cell = last_at (pairs_of text) cell

@@ -1,0 +1,158 @@
+ghost use Rattle.std.specs.Prelude.{◌≡◌, ◌+◌, ◌<◌, ◌≤◌, Option, Some, None, IfOk, Ok, [], ◌∷◌, ◌++◌};
+ghost use Rattle.pal_sym.specs.Values.{symbol_value};
+ghost use Rattle.pal_lex.specs.declared.phrases.Body.{Body};
+ghost use Rattle.pal_asm.specs.declared.faults.AsmFault.TheVariants.{At};
+ghost use Rattle.pal_asm.specs.Places.{Source};
+ghost use Rattle.pal_asm.specs.Faults.{past};
+ghost use Rattle.pal_asm.specs.Passes.{Moves, Makes, spot_by, spot_fault, IsFirst, IsSecond, AnswersFirst, AnswersSecond, TurnsOver, StaysFailed};
+
+use crate::names::{definitions, pass};
+use crate::spots::{Spot, behind_word, field, first_spot, origin};
+use crate::words::word_of;
+use crate::{AsmFault, Code};
+use pal_lex::{Body, Statement};
+use pal_sym::Symbols;
+use std::alloc::Global;
+use std::marker::Model;
+use word12::{Cell, Word};
+
+/// The spot behind a body, in the second pass.
+fn moved(symbols: &Symbols, spot: Spot, body: &Body) -> Result<Spot, Code>
+    ensures spot { Moves (spot_by (symbol_value symbols.now) body.now spot) (spot_fault (symbol_value symbols.now) spot.location body.now) result }
+    ensures field { spot.field < 8 → IfOk result (λ s. s.field < 8) }
+{
+    match body {
+        Body::Nothing | Body::Define(..) | Body::Decimal | Body::Octal => Ok(spot),
+        Body::Origin(place) => origin(symbols, spot, place.parts()),
+        Body::Field(number) => field(symbols, spot, number.parts()),
+        Body::Reference { .. } | Body::Word(_) => behind_word(spot),
+    }
+}
+
+/// The spot behind a body in the second pass, and its word with the cell of that.
+fn made(symbols: &Symbols, spot: Spot, body: &Body) -> Result<(Spot, Option<(Cell, Word)>), Code>
+    requires { spot.field < 8 }
+    ensures made { Makes (symbol_value symbols.now) spot body.now result }
+    ensures field { IfOk result (λ made. made.0.field < 8) }
+{
+    let word = word_of(symbols, spot.location, body)?;
+    let next = moved(symbols, spot, body)?;
+    match word {
+        Some(word) => Ok((
+            next,
+            Some((Cell::at(spot.field, Word::low(spot.location)), word)),
+        )),
+        None => Ok((next, None)),
+    }
+}
+
+/// Takes the statements of a source twice: in the first pass it learns what names stand for, in the second it hands out
+/// the words, each with its cell.
+#[derive(Drop)]
+pub struct Assembler {
+    symbols: Symbols,
+    spot: Spot,
+    line: u64,
+    failed: Option<AsmFault>,
+}
+
+impl Model for Assembler {
+    ghost use Rattle.std.specs.Prelude.{◌<◌};
+    ghost use Rattle.pal_sym.specs.SymbolTable.{table_code};
+    ghost use Rattle.std.specs.Coded.{codes};
+    ghost use Rattle.pal_asm.specs.Progress.{Progress};
+
+    ghost Value = { Progress };
+
+    ghost coded = { Prim.hlevel (codes, table_code) };
+
+    ghost view = { λ a. record {
+      symbols = a.symbols;
+      spot = a.spot;
+      line = a.line;
+      failed = a.failed;
+    } };
+
+    ghost invariant = { λ a. a.spot.field < 8 };
+}
+
+impl Assembler {
+    /// An assembler of no statement.
+    pub fn new(alloc: Global) -> Assembler
+        ensures { IsFirst result [] }
+    {
+        Assembler {
+            symbols: Symbols::new(alloc),
+            spot: first_spot(),
+            line: 1,
+            failed: None,
+        }
+    }
+
+    /// Takes the next statement of the source in the first pass: its tags and its body define names, and its location is
+    /// counted.
+    ///
+    /// A call that answers want of memory took nothing; after another fault each call answers the same.
+    pub fn first(&mut self, statement: &Statement) -> Result<(), AsmFault>
+        ensures answers { (older : Source) → IsFirst self.old older → AnswersFirst older statement.now result self.old self.new }
+        ensures failed { StaysFailed result self.old self.new }
+    {
+        if let Some(fault) = self.failed {
+            return Err(fault);
+        }
+        let tags = statement.tags.names();
+        match self.symbols.room(tags.len() + definitions(&statement.body)) {
+            Ok(()) => match pass(&mut self.symbols, self.spot, tags, &statement.body) {
+                Ok(spot) => {
+                    self.spot = spot;
+                    self.line = statement.line;
+                    Ok(())
+                }
+                Err(code) => Err(self.fail(code, statement.line)),
+            },
+            Err(_) => Err(AsmFault::Memory),
+        }
+    }
+
+    /// Turns from the first pass to the second, where `$` ended the last statement; a source with no word is answered NW.
+    pub fn turn_over(&mut self) -> Result<(), AsmFault>
+        ensures turns { (whole : Source) → IsFirst self.old whole → TurnsOver whole result self.old self.new }
+        ensures failed { StaysFailed result self.old self.new }
+    {
+        if let Some(fault) = self.failed {
+            return Err(fault);
+        }
+        if !self.spot.word {
+            return Err(self.fail(Code::NW, self.line));
+        }
+        self.spot = first_spot();
+        Ok(())
+    }
+
+    /// Takes the next statement of the same source in the second pass, and hands out its word with the cell of that, if it
+    /// is one. It takes no memory.
+    pub fn second(&mut self, statement: &Statement) -> Result<Option<(Cell, Word)>, AsmFault>
+        ensures answers { (whole later older : Source) → whole ≡ later ++ Ok statement.now ∷ older → IsSecond self.old whole older → AnswersSecond whole older statement.now result self.old self.new }
+        ensures failed { StaysFailed result self.old self.new }
+    {
+        if let Some(fault) = self.failed {
+            return Err(fault);
+        }
+        match made(&self.symbols, self.spot, &statement.body) {
+            Ok((spot, pair)) => {
+                self.spot = spot;
+                Ok(pair)
+            }
+            Err(code) => Err(self.fail(code, statement.line)),
+        }
+    }
+
+    /// Fails for good.
+    fn fail(&mut self, code: Code, line: u64) -> AsmFault
+        ensures fault { result ≡ At code line }
+        ensures failed { self.new ≡ record self.old { failed = Some (At code line) } }
+    {
+        self.failed = Some(AsmFault::At(code, line));
+        AsmFault::At(code, line)
+    }
+}

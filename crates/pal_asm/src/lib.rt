@@ -1,0 +1,22 @@
+//! The assembler of PAL III source, in two passes over its statements: the words of a source, each with its cell, or its
+//! first fault.
+//!
+//! The first pass learns what names stand for, the second makes the words (PAL III Symbolic Assembler manual, and this
+//! project's profile of it). In each contract a source is the list of its statements, the newest first, each as it reads
+//! or with its fault.
+#![tactic(auto)]
+
+mod assemblers;
+mod expressions;
+mod faults;
+mod names;
+mod spots;
+mod texts;
+mod words;
+
+pub use assemblers::Assembler;
+pub use faults::{AsmFault, Code};
+pub use texts::assemble;
+
+#[cfg(test)]
+mod tests;

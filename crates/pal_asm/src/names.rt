@@ -1,0 +1,71 @@
+ghost use Rattle.std.specs.Prelude.{◌≡◌, ◌+◌, ◌≤◌, length};
+ghost use Rattle.pal_sym.specs.Values.{symbol_value};
+ghost use Rattle.pal_lex.specs.declared.phrases.Body.{Body};
+ghost use Rattle.pal_asm.specs.Passes.{definitions, DefinesTags, PassesBody, Reads};
+
+use crate::Code;
+use crate::expressions::{place_value, value_of};
+use crate::spots::{Spot, behind_word, field, origin};
+use pal_lex::{Body, Name, Part};
+use pal_sym::{SymbolName, Symbols};
+
+/// How many names a body defines.
+pub fn definitions(body: &Body) -> usize
+    ensures { result ≡ definitions body.now }
+{
+    match body {
+        Body::Define(..) => 1,
+        _ => 0,
+    }
+}
+
+/// Defines tags at a place, from the left.
+fn define_tags(symbols: &mut Symbols, tags: &[Name], location: u16) -> Result<(), Code>
+    requires { length tags.now ≤ symbols.old.room }
+    ensures { DefinesTags tags.now location symbols.old symbols.new result }
+{
+    let mut rest = tags;
+    while let [tag, others @ ..] = rest {
+        let place = place_value(location)?;
+        match symbols.define_tag(SymbolName::numbered(tag.number()), place) {
+            Ok(()) => rest = others,
+            Err(_) => return Err(Code::DT),
+        }
+    }
+    Ok(())
+}
+
+/// Gives a name the value of an expression.
+fn define(symbols: &mut Symbols, spot: Spot, name: Name, parts: &[Part]) -> Result<Spot, Code>
+    requires { 1 ≤ symbols.old.room }
+    ensures { PassesBody (Body.Define name parts.now) spot symbols.old symbols.new result }
+{
+    let value = value_of(symbols, spot.location, parts)?;
+    match symbols.define_value(SymbolName::numbered(name.number()), value) {
+        Ok(()) => Ok(spot),
+        Err(_) => Err(Code::RD),
+    }
+}
+
+/// Passes a body in the first pass.
+fn pass_body(symbols: &mut Symbols, spot: Spot, body: &Body) -> Result<Spot, Code>
+    requires { definitions body.now ≤ symbols.old.room }
+    ensures { PassesBody body.now spot symbols.old symbols.new result }
+{
+    match body {
+        Body::Nothing | Body::Decimal | Body::Octal => Ok(spot),
+        Body::Origin(place) => origin(symbols, spot, place.parts()),
+        Body::Define(name, value) => define(symbols, spot, *name, value.parts()),
+        Body::Field(number) => field(symbols, spot, number.parts()),
+        Body::Reference { .. } | Body::Word(_) => behind_word(spot),
+    }
+}
+
+/// Passes a statement in the first pass: its tags, then its body.
+pub fn pass(symbols: &mut Symbols, spot: Spot, tags: &[Name], body: &Body) -> Result<Spot, Code>
+    requires { length tags.now + definitions body.now ≤ symbols.old.room }
+    ensures { Reads tags.now body.now spot symbols.old symbols.new result }
+{
+    define_tags(symbols, tags, spot.location)?;
+    pass_body(symbols, spot, body)
+}
