@@ -1,11 +1,10 @@
 -- Tags, one at a time.
-use Rattle.std.proofs.Common.{◌≡◌, ◌≢◌, ℕ, ◌+◌, ◌-◌, ◌≤◌, suc, nat_eq, Bool, true, false, if◌then◌else◌, Option, Some, None, length, get_or, take, drop, List, [], ◌∷◌, refl, ap, sym, subst, ◌∙◌, ◌⊎◌, inl, inr, arith}
+use Rattle.std.proofs.Common.{◌≡◌, ℕ, ◌+◌, ◌-◌, ◌≤◌, suc, nat_eq, Bool, true, false, if◌then◌else◌, Option, Some, None, length, get_or, take, drop, List, [], ◌∷◌, refl, ap, sym, subst, ◌∙◌, ◌⊎◌, inl, inr, arith}
 use Rattle.std.proofs.lemmas.List.{take_all}
 use Rattle.std.proofs.lemmas.Bool.{eqb-true}
 use Rattle.std.proofs.lemmas.Bool.Decides.{nat_tests}
 use Rattle.pal_sym.specs.SymbolTable.{SymbolTable}
 use Rattle.pal_sym.specs.Values.{symbol_value, IsDefined}
-use Rattle.pal_asm.specs.declared.faults.Code.{Code}
 use Rattle.pal_asm.specs.declared.faults.Code.TheVariants.{DT}
 use Rattle.pal_asm.specs.Expressions.{Known}
 use Rattle.pal_asm.specs.Places.{with_tags}

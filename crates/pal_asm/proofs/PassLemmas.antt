@@ -1,5 +1,5 @@
 -- A statement more in the first pass.
-use Rattle.std.proofs.Common.{◌≡◌, ℕ, ◌+◌, Bool, true, false, if◌then◌else◌, Option, Some, None, Result, Ok, Err, List, [], ◌∷◌, refl, ap, sym, subst, ◌∙◌, arith}
+use Rattle.std.proofs.Common.{◌≡◌, ℕ, ◌+◌, true, if◌then◌else◌, Option, Some, Result, Ok, Err, List, ◌∷◌, refl, ap, sym, subst, ◌∙◌, arith}
 use Rattle.std.proofs.Math.Path.{fun_ext}
 use Rattle.pal_sym.specs.SymbolTable.{SymbolTable}
 use Rattle.pal_sym.specs.Values.{symbol_value, HasRoom}
@@ -8,13 +8,13 @@ use Rattle.pal_lex.specs.declared.phrases.Body.TheVariants.{Nothing, Origin, Def
 use Rattle.pal_lex.specs.declared.phrases.Statement.{Statement}
 use Rattle.pal_asm.specs.declared.faults.Code.{Code}
 use Rattle.pal_asm.specs.declared.faults.AsmFault.{AsmFault}
-use Rattle.pal_asm.specs.declared.faults.AsmFault.TheVariants.{At, Memory}
+use Rattle.pal_asm.specs.declared.faults.AsmFault.TheVariants.{At}
 use Rattle.pal_asm.specs.declared.spots.Spot.{Spot}
 use Rattle.pal_asm.specs.Expressions.{Known}
-use Rattle.pal_asm.specs.Places.{Source, is_word, sets_location, words_since, set_by, with_tags, with_body, last_setting, values, place_at, values_at, field_by, field_at}
-use Rattle.pal_asm.specs.Faults.{first_of, tags_fault, body_fault, statement_fault, at_line, first_order, has_word, last_line}
+use Rattle.pal_asm.specs.Places.{Source, is_word, sets_location, words_since, set_by, with_tags, with_body, last_setting, values, place_at, values_at, field_by}
+use Rattle.pal_asm.specs.Faults.{first_of, tags_fault, body_fault, statement_fault, at_line}
 use Rattle.pal_asm.specs.Progress.{Progress}
-use Rattle.pal_asm.specs.Passes.{place_by, spot_by, AreDefined, IsPassed, PassesBody, IsRead, Reads, fault_by_table, tagged, IsFirst, AnswersFirst}
+use Rattle.pal_asm.specs.Passes.{place_by, spot_by, AreDefined, PassesBody, IsRead, Reads, fault_by_table, tagged, IsFirst, AnswersFirst}
 
 place_step : (known : Known) (body : Body) (setting words : ℕ)
     → set_by known (setting + words) body setting + (if sets_location body then 0 else ((if is_word body then 1 else 0) + words))

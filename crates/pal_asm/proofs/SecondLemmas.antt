@@ -1,18 +1,17 @@
 -- A statement more in the second pass.
-use Rattle.std.proofs.Common.{◌≡◌, ℕ, ◌+◌, ◌*◌, Option, Some, None, Result, Ok, Err, List, [], ◌∷◌, ◌++◌, refl, ap, sym, subst, ◌∙◌}
+use Rattle.std.proofs.Common.{◌≡◌, ℕ, ◌+◌, ◌*◌, Option, Some, None, Ok, Err, ◌∷◌, ◌++◌, ap, sym, subst, ◌∙◌}
 use Rattle.pal_sym.specs.SymbolTable.{SymbolTable}
 use Rattle.pal_sym.specs.Values.{symbol_value}
 use Rattle.pal_lex.specs.declared.phrases.Statement.{Statement}
 use Rattle.pal_asm.specs.declared.faults.Code.{Code}
 use Rattle.pal_asm.specs.declared.faults.AsmFault.{AsmFault}
-use Rattle.pal_asm.specs.declared.faults.AsmFault.TheVariants.{At, Memory}
+use Rattle.pal_asm.specs.declared.faults.AsmFault.TheVariants.{At}
 use Rattle.pal_asm.specs.declared.spots.Spot.{Spot}
-use Rattle.pal_asm.specs.Expressions.{Known}
 use Rattle.pal_asm.specs.Places.{Source, values, place_at, values_at, field_by, field_at}
 use Rattle.pal_asm.specs.Words.{body_word, with_pair, pairs_by}
-use Rattle.pal_asm.specs.Faults.{first_of, body_fault, at_line, first_order, word_fault, words_fault}
+use Rattle.pal_asm.specs.Faults.{first_of, body_fault, at_line, first_order, word_fault}
 use Rattle.pal_asm.specs.Progress.{Progress}
-use Rattle.pal_asm.specs.Passes.{place_by, spot_by, spot_fault, pair_at, with_handed, IsMade, IsSecond, AnswersSecond}
+use Rattle.pal_asm.specs.Passes.{place_by, spot_fault, with_handed, IsMade, IsSecond, AnswersSecond}
 use Rattle.pal_asm.proofs.PassLemmas.{progress, place_passed}
 use Rattle.pal_asm.proofs.WholeLemmas.{Grows, second_none, no_fault_at, no_fault_before, body_to_whole, same_place, same_field, goes_on, same_pair}
 

@@ -1,8 +1,8 @@
 -- A byte more of a text, and a whole text.
-use Rattle.std.proofs.Common.{◌≡◌, ℕ, nat_eq, ◌-◌, ◌≤◌, Bool, true, false, if◌then◌else◌, Option, Some, None, Result, Ok, Err, length, get_or, take, drop, List, [], ◌∷◌, ◌++◌, refl, ap, sym, subst, ◌∙◌, ◌⊎◌, inl, inr, append_assoc, arith}
-use Rattle.pal_lex.specs.Text.{ends_statement, stretch, line_after, is_over, text_from, text_of}
-use Rattle.pal_lex.specs.Statements.{statements, first_fault, fault_of as lex_fault_of, first_of as lex_first_of, with_stretch, judged, radix_after}
-use Rattle.pal_lex.specs.Reading.{HasRead, Answers, Ends, IsFault}
+use Rattle.std.proofs.Common.{◌≡◌, ℕ, nat_eq, ◌≤◌, Bool, true, false, if◌then◌else◌, Option, Some, None, Result, Ok, Err, length, get_or, List, [], ◌∷◌, ◌++◌, refl, ap, sym, subst, ◌∙◌, ◌⊎◌, inl, inr, append_assoc, arith}
+use Rattle.pal_lex.specs.Text.{ends_statement, stretch, line_after, text_from, text_of}
+use Rattle.pal_lex.specs.Statements.{statements, first_fault, first_of as lex_first_of, with_stretch, judged, radix_after}
+use Rattle.pal_lex.specs.Reading.{Answers, Ends}
 use Rattle.pal_lex.specs.Progress as lex
 use Rattle.pal_lex.specs.declared.faults.LexFault.{LexFault}
 use Rattle.pal_lex.specs.declared.faults.LexFault.TheVariants as fault
@@ -11,14 +11,13 @@ use Rattle.pal_lex.specs.declared.phrases.Body.TheVariants.{Nothing, Origin, Def
 use Rattle.pal_lex.specs.declared.phrases.Statement.{Statement}
 use Rattle.pal_asm.specs.declared.faults.AsmFault.{AsmFault}
 use Rattle.pal_asm.specs.declared.faults.AsmFault.TheVariants.{At, Memory}
-use Rattle.pal_asm.specs.declared.faults.Code.{Code}
 use Rattle.pal_asm.specs.declared.faults.Code.TheVariants.{NE, NW}
 use Rattle.pal_asm.specs.Expressions.{Known}
 use Rattle.pal_asm.specs.Places.{Source, is_word, values, place_at}
-use Rattle.pal_asm.specs.Words.{pairs_by, pairs_of}
-use Rattle.pal_asm.specs.Faults.{first_of, at_line, lexical, statement_fault, first_order, no_end, word_fault, words_fault, has_word, last_line, no_word, fault_of}
+use Rattle.pal_asm.specs.Words.{pairs_by}
+use Rattle.pal_asm.specs.Faults.{first_of, at_line, lexical, statement_fault, first_order, no_end, word_fault, words_fault, has_word, last_line, no_word}
 use Rattle.pal_asm.specs.Progress.{Progress}
-use Rattle.pal_asm.specs.Passes.{with_handed, PassesByte, EndsText, MakesByte, IsFirst, IsFirstOf, IsFirstFault, IsSecond, AnswersSecond, TurnsOver, AreWordsOf, IsWordsFault, IsFaultOf}
+use Rattle.pal_asm.specs.Passes.{PassesByte, EndsText, MakesByte, IsFirstOf, IsFirstFault, IsSecond, AnswersSecond, TurnsOver, IsWordsFault, IsFaultOf}
 use Rattle.pal_asm.proofs.NameLemmas.{behind_one, first_one}
 use Rattle.pal_asm.proofs.WholeLemmas.{first_none, second_none, some_none, no_fault_before}
 

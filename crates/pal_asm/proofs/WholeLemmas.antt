@@ -1,5 +1,5 @@
 -- In a source with no fault of the first order a name that stands for a value at a statement stands for it in the whole.
-use Rattle.std.proofs.Common.{◌≡◌, ℕ, ◌+◌, ◌*◌, ◌%◌, ◌<◌, ◌≤◌, nat_eq, nat_lt, Bool, true, false, if◌then◌else◌, Option, Some, None, unwrap_or, Result, Ok, Err, List, [], ◌∷◌, ◌++◌, refl, ap, sym, ◌∙◌, arith}
+use Rattle.std.proofs.Common.{◌≡◌, ℕ, ◌+◌, ◌*◌, ◌%◌, nat_eq, nat_lt, Bool, true, false, if◌then◌else◌, Option, Some, None, unwrap_or, Ok, Err, List, [], ◌∷◌, ◌++◌, refl, ap, sym, ◌∙◌, arith}
 use Rattle.std.proofs.lemmas.Bool.{eqb-true}
 use Rattle.std.proofs.lemmas.Bool.Decides.{nat_tests}
 use Rattle.pal_lex.specs.declared.pieces.Term.{Term}
@@ -9,14 +9,13 @@ use Rattle.pal_lex.specs.declared.phrases.Body.{Body}
 use Rattle.pal_lex.specs.declared.phrases.Body.TheVariants.{Nothing, Origin, Define, Decimal, Octal, Field, Reference, Word}
 use Rattle.pal_lex.specs.declared.phrases.Statement.{Statement}
 use Rattle.pal_asm.specs.declared.faults.Code.{Code}
-use Rattle.pal_asm.specs.declared.faults.Code.TheVariants.{DT, RD, PF, UA, FD}
-use Rattle.pal_asm.specs.declared.faults.AsmFault.{AsmFault}
+use Rattle.pal_asm.specs.declared.faults.Code.TheVariants.{DT, RD, PF}
 use Rattle.pal_asm.specs.declared.spots.Spot.{Spot}
 use Rattle.pal_asm.specs.Expressions.{Known, term_value, joined, joined_values, value_behind, value_of}
-use Rattle.pal_asm.specs.Places.{Source, with_tags, with_body, values, place_at, values_at, field_by, field_at}
+use Rattle.pal_asm.specs.Places.{Source, with_tags, with_body, values, place_at, values_at, field_by}
 use Rattle.pal_asm.specs.Words.{body_word, with_pair}
-use Rattle.pal_asm.specs.Faults.{first_of, past, undefined, defined_otherwise, term_fault, terms_fault, tags_fault, field_fault, definition_fault, body_fault, statement_fault, at_line, first_order}
-use Rattle.pal_asm.specs.Passes.{place_by, spot_by, spot_fault, pair_at, with_handed}
+use Rattle.pal_asm.specs.Faults.{first_of, past, undefined, defined_otherwise, term_fault, terms_fault, tags_fault, definition_fault, body_fault, statement_fault, at_line, first_order}
+use Rattle.pal_asm.specs.Passes.{place_by, spot_fault, pair_at, with_handed}
 
 -- each name keeps its value
 abbrev pub Grows : Known → Known → Type 0

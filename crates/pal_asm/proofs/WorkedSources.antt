@@ -4,9 +4,8 @@ use Rattle.std.specs.Prelude.{codes}
 use Rattle.pal_lex.specs.Text.{text_of}
 use Rattle.pal_lex.specs.Statements.{statements}
 use Rattle.pal_asm.specs.declared.faults.AsmFault.{AsmFault}
-use Rattle.pal_asm.specs.declared.faults.AsmFault.TheVariants.{At, Memory}
+use Rattle.pal_asm.specs.declared.faults.AsmFault.TheVariants.{At}
 use Rattle.pal_asm.specs.declared.faults.Code.TheVariants.{IC, SY, NU, UA, DT, RD, IR, FD, PF, NE, NW}
-use Rattle.pal_asm.specs.Places.{values}
 use Rattle.pal_asm.specs.Words.{pairs_of, meaning_of}
 use Rattle.pal_asm.specs.Faults.{fault_of}
 use Rattle.pal_sym.specs.Permanent.{permanent}

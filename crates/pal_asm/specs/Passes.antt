@@ -1,9 +1,8 @@
 -- What an assembler was handed, and what it answers.
-use Rattle.std.specs.Prelude.{◌≡◌, ℕ, ◌+◌, ◌*◌, ◌%◌, ◌<◌, ◌≤◌, Bool, true, false, if◌then◌else◌, Option, Some, None, unwrap_or, Result, Ok, Err, List, [], ◌∷◌, ◌++◌, length}
+use Rattle.std.specs.Prelude.{◌≡◌, ℕ, ◌+◌, ◌*◌, ◌%◌, ◌<◌, ◌≤◌, true, if◌then◌else◌, Option, Some, None, unwrap_or, Result, Ok, Err, List, [], ◌∷◌, ◌++◌, length}
 use Rattle.pal_sym.specs.SymbolTable.{SymbolTable}
 use Rattle.pal_sym.specs.Values.{symbol_value}
 use Rattle.pal_lex.specs.Statements.{statements}
-use Rattle.pal_lex.specs.declared.phrases.Part.{Part}
 use Rattle.pal_lex.specs.declared.phrases.Body.{Body}
 use Rattle.pal_lex.specs.declared.phrases.Body.TheVariants.{Nothing, Origin, Define, Decimal, Octal, Field, Reference, Word}
 use Rattle.pal_lex.specs.declared.phrases.Statement.{Statement}
@@ -13,8 +12,8 @@ use Rattle.pal_asm.specs.declared.faults.AsmFault.TheVariants.{At, Memory}
 use Rattle.pal_asm.specs.declared.spots.Spot.{Spot}
 use Rattle.pal_asm.specs.Expressions.{Known, value_of}
 use Rattle.pal_asm.specs.Places.{Source, is_word, with_tags, with_body, field_by, place_at, field_at, values}
-use Rattle.pal_asm.specs.Words.{body_word, with_pair, pairs_by, pairs_of}
-use Rattle.pal_asm.specs.Faults.{first_of, past, tags_fault, body_fault, at_line, first_order, word_fault, words_fault, has_word, last_line, no_word, no_end, fault_of}
+use Rattle.pal_asm.specs.Words.{body_word, pairs_by, pairs_of}
+use Rattle.pal_asm.specs.Faults.{first_of, past, tags_fault, body_fault, first_order, word_fault, words_fault, has_word, last_line, no_word, no_end, fault_of}
 use Rattle.pal_lex.specs.Reading.{HasRead}
 use Rattle.pal_lex.specs.Progress as lex
 use Rattle.pal_asm.specs.Progress.{Progress}

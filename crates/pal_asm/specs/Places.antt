@@ -1,9 +1,8 @@
 -- Where a statement stands, and what names stand for, by the statements before it (PAL III Symbolic Assembler manual, and
 -- this project's profile of it). Statements have the newest first.
-use Rattle.std.specs.Prelude.{ℕ, ◌+◌, nat_eq, if◌then◌else◌, Bool, true, false, Option, Some, None, unwrap_or, Result, Ok, Err, List, [], ◌∷◌}
+use Rattle.std.specs.Prelude.{ℕ, ◌+◌, nat_eq, if◌then◌else◌, Bool, true, false, Option, Some, unwrap_or, Result, Ok, Err, List, [], ◌∷◌}
 use Rattle.pal_sym.specs.Permanent.{permanent}
 use Rattle.pal_lex.specs.declared.faults.LexFault.{LexFault}
-use Rattle.pal_lex.specs.declared.phrases.Part.{Part}
 use Rattle.pal_lex.specs.declared.phrases.Body.{Body}
 use Rattle.pal_lex.specs.declared.phrases.Body.TheVariants.{Nothing, Origin, Define, Decimal, Octal, Field, Reference, Word}
 use Rattle.pal_lex.specs.declared.phrases.Statement.{Statement}

@@ -1,12 +1,10 @@
 -- The words of a source, each with its cell (PAL III Symbolic Assembler manual, and this project's profile of it).
-use Rattle.std.specs.Prelude.{ℕ, ◌+◌, ◌*◌, ◌/◌, ◌%◌, nat_eq, nat_lt, if◌then◌else◌, Bool, true, false, Option, Some, None, Result, Ok, Err, List, [], ◌∷◌, ◌++◌}
+use Rattle.std.specs.Prelude.{ℕ, ◌+◌, ◌*◌, ◌/◌, ◌%◌, nat_eq, nat_lt, if◌then◌else◌, Bool, Option, Some, None, Ok, Err, List, [], ◌∷◌, ◌++◌}
 use Rattle.pal_lex.specs.Language.{word_of}
 use Rattle.pal_lex.specs.Statements.{statements}
 use Rattle.pal_lex.specs.declared.phrases.Operation.{Operation}
-use Rattle.pal_lex.specs.declared.phrases.Part.{Part}
 use Rattle.pal_lex.specs.declared.phrases.Body.{Body}
 use Rattle.pal_lex.specs.declared.phrases.Body.TheVariants.{Nothing, Origin, Define, Decimal, Octal, Field, Reference, Word}
-use Rattle.pal_lex.specs.declared.phrases.Statement.{Statement}
 use Rattle.pal_asm.specs.Expressions.{Known, value_of, address_value}
 use Rattle.pal_asm.specs.Places.{Source, place_at, field_at, values}
 

@@ -1,9 +1,7 @@
 ghost use Rattle.std.specs.Prelude.{◌≡◌};
-ghost use Rattle.pal_asm.specs.declared.faults.AsmFault.TheVariants.{At, Memory};
 ghost use Rattle.pal_asm.specs.Faults.{lexical};
 
 use pal_lex::LexFault;
-use std::alloc::AllocError;
 use thiserror::Error;
 
 /// What is wrong with a statement or a source.
@@ -60,13 +58,5 @@ impl From<LexFault> for AsmFault {
             LexFault::NE(line) => AsmFault::At(Code::NE, line),
             LexFault::Memory => AsmFault::Memory,
         }
-    }
-}
-
-impl From<AllocError> for AsmFault {
-    ghost from_gives = { λ _ fault. fault ≡ Memory };
-
-    fn from(_error: AllocError) -> AsmFault {
-        AsmFault::Memory
     }
 }

@@ -1,7 +1,4 @@
-use Rattle.std.proofs.Common.{◌≡◌, ℕ, ◌∙◌, ap, arith}
-use Rattle.pal_sym.specs.SymbolTable.{SymbolTable}
-use Rattle.pal_sym.specs.Values.{symbol_value, IsDefined}
-use Rattle.pal_asm.specs.Faults.{past}
+use Rattle.std.proofs.Common.{◌∙◌, arith}
 use Rattle.pal_asm.proofs.NameLemmas.{tags_left}
 use Rattle.pal_asm.proofs.names.define_tags.Goals as goal
 

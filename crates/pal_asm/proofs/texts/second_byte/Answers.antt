@@ -1,4 +1,4 @@
-use Rattle.std.proofs.Common.{Ok, ◌∷◌, ◌++◌, ap, subst, ◌∙◌}
+use Rattle.std.proofs.Common.{Ok, ◌++◌, ap, subst, ◌∙◌}
 use Rattle.pal_lex.specs.Statements.{statements}
 use Rattle.pal_lex.specs.Reading.{Answers}
 use Rattle.pal_asm.proofs.TextLemmas.{second_lexical, second_statement}
