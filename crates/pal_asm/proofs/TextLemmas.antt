@@ -16,10 +16,11 @@ use Rattle.pal_asm.specs.Expressions.{Known}
 use Rattle.pal_asm.specs.Places.{Source, is_word, values, place_at}
 use Rattle.pal_asm.specs.Words.{pairs_by}
 use Rattle.pal_asm.specs.Faults.{first_of, at_line, lexical, statement_fault, first_order, no_end, word_fault, words_fault, has_word, last_line, no_word}
+use Rattle.pal_asm.specs.Laws.{NamesKeepTheirValues, FirstFaultStays, WordFaultStays, NoWordIsTold, LexicalFaultIsTold, NoLexicalFault, StatementsStay, NoFaultBefore}
 use Rattle.pal_asm.specs.Progress.{Progress}
 use Rattle.pal_asm.specs.Passes.{PassesByte, EndsText, MakesByte, IsFirstOf, IsFirstFault, IsSecond, AnswersSecond, TurnsOver, IsWordsFault, IsFaultOf}
 use Rattle.pal_asm.proofs.NameLemmas.{behind_one, first_one}
-use Rattle.pal_asm.proofs.WholeLemmas.{first_none, second_none, some_none, no_fault_before}
+use Rattle.pal_asm.proofs.WholeLemmas.{first_none, second_none, some_none, no_fault_before, whole_keeps}
 
 -- ## Statements
 
@@ -207,3 +208,45 @@ turned text (At code line) old new turns first =
     ∙ ap (λ o. first_of o (no_word (statements text))) (no_words (values (statements text)) (statements text) (wordless (statements text) (At code line) turns.0))
     ∙ turns.0
 turned text Memory old new turns first = absurd turns
+
+-- ## Laws
+
+more_bytes : (later text : List ℕ) → Behind (statements (later ++ text)) (statements text)
+more_bytes [] text = ([], refl)
+more_bytes (b ∷ later) text = further _ _ _ (one_behind b (later ++ text)) (more_bytes later text)
+
+pub statements_stay : StatementsStay
+statements_stay = more_bytes
+
+pub first_fault_stays : FirstFaultStays
+first_fault_stays later text f told =
+    let behind = more_bytes later text in
+    ap (λ o. first_of o (first_of (no_end (later ++ text)) (first_of (words_fault (values (statements (later ++ text))) (statements (later ++ text))) (no_word (statements (later ++ text))))))
+    (ap first_order behind.1 ∙ first_stays behind.0 (statements text) f told)
+
+pub word_fault_stays : WordFaultStays
+word_fault_stays later text f none end told =
+    let behind = more_bytes later text in
+    ap (λ o. first_of o (first_of (no_end (later ++ text)) (first_of (words_fault (values (statements (later ++ text))) (statements (later ++ text))) (no_word (statements (later ++ text)))))) none
+    ∙ ap (λ o. first_of o (first_of (words_fault (values (statements (later ++ text))) (statements (later ++ text))) (no_word (statements (later ++ text))))) end
+    ∙ ap (λ o. first_of o (no_word (statements (later ++ text))))
+    (ap (words_fault (values (statements (later ++ text)))) behind.1 ∙ words_stay (values (statements (later ++ text))) behind.0 (statements text) f told)
+
+pub no_word_is_told : NoWordIsTold
+no_word_is_told text f none end told =
+    ap (λ o. first_of o (first_of (no_end text) (first_of (words_fault (values (statements text)) (statements text)) (no_word (statements text))))) none
+    ∙ ap (λ o. first_of o (first_of (words_fault (values (statements text)) (statements text)) (no_word (statements text)))) end
+    ∙ ap (λ o. first_of o (no_word (statements text))) (no_words (values (statements text)) (statements text) (wordless (statements text) f told))
+    ∙ told
+
+pub lexical_fault_is_told : LexicalFaultIsTold
+lexical_fault_is_told = lex_told
+
+pub no_lexical_fault : NoLexicalFault
+no_lexical_fault = no_lex_fault
+
+pub names_keep_their_values : NamesKeepTheirValues
+names_keep_their_values later older name value none is = whole_keeps later older none name value is
+
+pub no_fault_before_all : NoFaultBefore
+no_fault_before_all = no_fault_before

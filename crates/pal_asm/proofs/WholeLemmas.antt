@@ -146,7 +146,7 @@ no_fault_before [] older none = none
 no_fault_before (Ok s ∷ later) older none = no_fault_before later older (first_none _ _ none)
 no_fault_before (Err fault ∷ later) older none = no_fault_before later older (first_none _ _ none)
 
-whole_keeps : (later older : Source) → first_order (later ++ older) ≡ None → Grows (values older) (values (later ++ older))
+pub whole_keeps : (later older : Source) → first_order (later ++ older) ≡ None → Grows (values older) (values (later ++ older))
 whole_keeps [] older none n v is = is
 whole_keeps (Ok s ∷ later) older none n v is =
     statement_keeps s (later ++ older) none n v (whole_keeps later older (first_none _ _ none) n v is)

@@ -4,3 +4,4 @@ pub mod Words
 pub mod Faults
 pub mod Progress
 pub mod Passes
+pub mod Laws

@@ -77,7 +77,7 @@ impl Model for Assembler {
 }
 
 impl Assembler {
-    /// An assembler of no statement.
+    /// An assembler of no statement, at 0200 of field 0. It takes no memory.
     pub fn new(alloc: Global) -> Assembler
         ensures { IsFirst result [] }
     {
@@ -92,7 +92,9 @@ impl Assembler {
     /// Takes the next statement of the source in the first pass: its tags and its body define names, and its location is
     /// counted.
     ///
-    /// A call that answers want of memory took nothing; after another fault each call answers the same.
+    /// Its fault is the first of the source in the order of its statements. A call that answers want of memory took
+    /// nothing, and comes only for a statement that defines names; after another fault each call answers the same
+    /// (PAL III Symbolic Assembler manual, and this project's profile of it).
     pub fn first(&mut self, statement: &Statement) -> Result<(), AsmFault>
         ensures answers { (older : Source) → IsFirst self.old older → AnswersFirst older statement.now result self.old self.new }
         ensures failed { StaysFailed result self.old self.new }
@@ -114,7 +116,8 @@ impl Assembler {
         }
     }
 
-    /// Turns from the first pass to the second, where `$` ended the last statement; a source with no word is answered NW.
+    /// Turns from the first pass to the second, where `$` ended the last statement; a source with no word is answered NW
+    /// with the line of that `$` (this project's profile of PAL III). It takes no memory.
     pub fn turn_over(&mut self) -> Result<(), AsmFault>
         ensures turns { (whole : Source) → IsFirst self.old whole → TurnsOver whole result self.old self.new }
         ensures failed { StaysFailed result self.old self.new }
@@ -130,7 +133,8 @@ impl Assembler {
     }
 
     /// Takes the next statement of the same source in the second pass, and hands out its word with the cell of that, if it
-    /// is one. It takes no memory.
+    /// is one. Its fault is a name in a word that no statement defines, or an address out of reach, the first of these in
+    /// the source (PAL III Symbolic Assembler manual, and this project's profile of it). It takes no memory.
     pub fn second(&mut self, statement: &Statement) -> Result<Option<(Cell, Word)>, AsmFault>
         ensures answers { (whole later older : Source) → whole ≡ later ++ Ok statement.now ∷ older → IsSecond self.old whole older → AnswersSecond whole older statement.now result self.old self.new }
         ensures failed { StaysFailed result self.old self.new }

@@ -9,6 +9,7 @@
 mod assemblers;
 mod expressions;
 mod faults;
+pub mod laws;
 mod names;
 mod spots;
 mod texts;

@@ -109,8 +109,8 @@ fn second_pass(
     Ok(pairs)
 }
 
-/// The words of a source, each with its cell, in the order of the source; or its first fault (PAL III Symbolic Assembler
-/// manual, and this project's profile of it).
+/// The words of a source, each with its cell, in the order of the source; or its first fault with its line, 1 and up (PAL
+/// III Symbolic Assembler manual, and this project's profile of it).
 pub fn assemble(alloc: Global, source: &[u8]) -> Result<Vec<(Cell, Word)>, AsmFault>
     ensures pairs { IfOk result (λ pairs. ArePairsOf (text_of source.now) pairs.items) }
     ensures fault { IfErr result (λ fault. IsFaultOf (text_of source.now) fault) }

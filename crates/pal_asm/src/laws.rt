@@ -1,0 +1,44 @@
+//! Laws about the faults and names of a source, which hold whatever assembles it. A call of one does nothing, and lets its
+//! caller use it.
+
+ghost use Rattle.pal_asm.specs.Laws.{NamesKeepTheirValues, FirstFaultStays, WordFaultStays, NoWordIsTold, LexicalFaultIsTold, NoLexicalFault, StatementsStay, NoFaultBefore};
+
+/// All definitions of a name agree, in a source with no fault before its words are made.
+pub fn names_keep_their_values()
+    ensures { NamesKeepTheirValues }
+{}
+
+/// The fault that the first pass meets is the fault of the text, whatever follows.
+pub fn first_fault_stays()
+    ensures { FirstFaultStays }
+{}
+
+/// The fault that the second pass meets is the fault of the text.
+pub fn word_fault_stays()
+    ensures { WordFaultStays }
+{}
+
+/// A text that is without fault but for its want of a word has that fault.
+pub fn no_word_is_told()
+    ensures { NoWordIsTold }
+{}
+
+/// The first fault of the lexer is the fault that the first pass meets.
+pub fn lexical_fault_is_told()
+    ensures { LexicalFaultIsTold }
+{}
+
+/// The lexer has no fault where the first pass met none.
+pub fn no_lexical_fault()
+    ensures { NoLexicalFault }
+{}
+
+/// Bytes more end further statements, and change none.
+pub fn statements_stay()
+    ensures { StatementsStay }
+{}
+
+/// A source with no fault of the first pass has none in its beginning.
+pub fn no_fault_before()
+    ensures { NoFaultBefore }
+{}
