@@ -11,7 +11,7 @@ pub apart_within : (from bound : ℕ) (files : List Placed) → AreApart from bo
 apart_within from bound [] h = h
 apart_within from bound (f ∷ fs) h = omega (arith, h.0, apart_within (f.place + f.size) bound fs h.2)
 
-find_within : (name from bound : ℕ) (files : List Placed) (f : Placed) → AreApart from bound files → find name files ≡ Some f → f.place + f.size ≤ bound
+pub find_within : (name from bound : ℕ) (files : List Placed) (f : Placed) → AreApart from bound files → find name files ≡ Some f → f.place + f.size ≤ bound
 find_within name from bound [] f apart found = cc
 find_within name from bound (g ∷ gs) f apart found =
     (elim (g.name == name) as (λ b. (if b then Some g else find name gs) ≡ Some f → f.place + f.size ≤ bound) [

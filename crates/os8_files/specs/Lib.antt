@@ -1,3 +1,6 @@
 pub mod Mounted
 pub mod Service
 pub mod Lengths
+pub mod Holds
+pub mod Calls
+pub mod Written

@@ -1,7 +1,9 @@
 -- What is seen of a mounted volume.
-use Rattle.std.specs.Prelude.{◌≡◌, ℕ, Bool, false, Option, List, Ok}
+use Rattle.std.specs.Prelude.{◌≡◌, ◌≤◌, ℕ, Bool, false, Option, Some, List, Ok}
 use Rattle.volume_image.specs.Volume.{IsVolume}
-use Rattle.os8_dir.specs.Entries.{Listed}
+use Rattle.os8_dir.specs.Entries.{Listed, IsNamed}
+use Rattle.os8_dir.specs.Found.{rooms_at}
+use Rattle.os8_dir.specs.Changes.{IsRoom}
 use Rattle.os8_dir.specs.Reading.{directory_of}
 
 -- a file that is being written: its name, its first block, the blocks that it may grow to, and those written
@@ -23,7 +25,14 @@ pub record Mounted : Type 0 where
   pub holds : List ℕ
   pub tentative : Option Begun
 
+-- a file that is being written lies at the beginning of an empty, and is no longer than that
+pub record IsBegun (directory : Listed) (begun : Begun) : Type 0 where
+  pub named : IsNamed begun.name
+  pub room : IsRoom begun.place begun.room (rooms_at directory.first directory.entries)
+  pub most : begun.written ≤ begun.room
+
 -- the entries that are kept are those of the volume, which is sound, until a write fails
-pub record IsKept (blocks : List (List ℕ)) (directory : Listed) (stopped : Bool) : Type 0 where
+pub record IsKept (blocks : List (List ℕ)) (directory : Listed) (stopped : Bool) (tentative : Option Begun) : Type 0 where
   pub volume : IsVolume blocks
   pub kept : stopped ≡ false → directory_of blocks ≡ Ok directory
+  pub begun : stopped ≡ false → (begun : Begun) → tentative ≡ Some begun → IsBegun directory begun

@@ -5,12 +5,17 @@
 //! blocks of 256 words.
 #![tactic(auto)]
 
+mod begun;
 mod faults;
+mod holds;
 mod lengths;
 mod service;
+mod tokens;
+mod writing;
 
 pub use faults::FileFault;
 pub use service::FileService;
+pub use tokens::{Hold, Squeezed, Tentative};
 
 #[cfg(test)]
 mod tests;

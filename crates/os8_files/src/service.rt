@@ -1,28 +1,37 @@
-ghost use Rattle.std.specs.Prelude.{◌≡◌, ℕ, ◌+◌, ◌<◌, ◌≤◌, ◌↔◌, List, [], true, false, None, Ok, IfOk, IfErr, OnErr};
+ghost use Rattle.std.specs.Prelude.{◌≡◌, ℕ, ◌+◌, ◌<◌, ◌≤◌, ◌↔◌, List, [], true, false, Option, Some, None, Ok, IfOk, IfErr, OnErr};
 ghost use Rattle.std.specs.FinMap.{get};
 ghost use Rattle.os8_dir.specs.Reading.{Sound, HasFault, Meets, directory_of};
 ghost use Rattle.os8_dir.specs.Files.{files_of, capacity_of};
 ghost use Rattle.os8_dir.specs.declared.faults.DirFault.TheVariants.{Device};
-ghost use Rattle.os8_files.specs.Service.{blocks_of, used_of, lengths_of};
-ghost use Rattle.os8_files.specs.declared.faults.FileFault.TheVariants.{Memory};
+ghost use Rattle.os8_files.specs.Service.{blocks_of, used_of};
+ghost use Rattle.os8_files.specs.Holds.{without_hold};
+ghost use Rattle.os8_files.specs.Calls.{Reads, Lists, Holds, IsLonger};
+ghost use Rattle.os8_dir.specs.Entries.{contains};
 
-use crate::FileFault;
+use crate::begun::Begun;
+use crate::holds::{first_of, place_of};
 use crate::lengths::files_by_name;
+use crate::{FileFault, Hold, Tentative};
 use os8_dir::laws::{directory_numbers, files_found, files_made, sound_directory};
 use os8_dir::{DirFault, Directory, Name};
 use std::alloc::Global;
 use std::marker::Model;
 use volume_image::BlockStore;
+use word12::Word;
+
+mod changes;
 
 /// The files of a sound volume.
 #[derive(Drop)]
 pub struct FileService<S: BlockStore> {
     store: S,
     directory: Directory,
+    stopped: bool,
+    holds: Vec<Name>,
+    tentative: Option<Begun>,
 }
 
 impl<S: BlockStore> Model for FileService<S> {
-    ghost use Rattle.std.specs.Prelude.{false, [], None};
     ghost use Rattle.os8_files.specs.Mounted.{Mounted, IsKept};
 
     ghost Value = { Mounted };
@@ -32,12 +41,12 @@ impl<S: BlockStore> Model for FileService<S> {
       reads = S.reads s.store;
       failed_reads = S.failed_reads s.store;
       failed_writes = S.failed_writes s.store;
-      stopped = false;
-      holds = [];
-      tentative = None;
+      stopped = s.stopped;
+      holds = s.holds.items;
+      tentative = s.tentative;
     } };
 
-    ghost invariant = { λ s. IsKept (S.contents s.store) s.directory false };
+    ghost invariant = { λ s. IsKept (S.contents s.store) s.directory s.stopped s.tentative };
 }
 
 impl<S: BlockStore> FileService<S> {
@@ -54,7 +63,13 @@ impl<S: BlockStore> FileService<S> {
     {
         let _blocks = store.blocks();
         match Directory::read(alloc, &mut store) {
-            Ok(directory) => Ok(FileService { store, directory }),
+            Ok(directory) => Ok(FileService {
+                store,
+                directory,
+                stopped: false,
+                holds: Vec::new(alloc),
+                tentative: None,
+            }),
             Err(fault) => Err((store, fault)),
         }
     }
@@ -64,8 +79,15 @@ impl<S: BlockStore> FileService<S> {
         ensures blocks { S.contents result ≡ self.blocks }
         ensures counts { (S.reads result ≡ self.reads) × (S.failed_reads result ≡ self.failed_reads) × (S.failed_writes result ≡ self.failed_writes) }
     {
-        let FileService { store, directory } = self;
+        let FileService {
+            store,
+            directory,
+            stopped: _,
+            holds,
+            tentative: _,
+        } = self;
         drop(directory);
+        drop(holds);
         store
     }
 
@@ -93,12 +115,93 @@ impl<S: BlockStore> FileService<S> {
 
     /// The names of the files in name order, each with its length in blocks.
     pub fn listing(&self, alloc: Global) -> Result<Vec<(Name, usize)>, FileFault>
-        ensures files { IfOk result (λ list. self.now.stopped ≡ false → list.items ≡ lengths_of (files_of self.now.blocks)) }
-        ensures fault { IfErr result (λ fault. fault ≡ Memory) }
+        ensures { Lists self.now result }
     {
+        if self.stopped {
+            return Err(FileFault::Stopped);
+        }
         sound_directory();
         files_made();
         let list = files_by_name(alloc, self.directory.entries())?;
         Ok(list)
+    }
+
+    /// Whether a write has failed. From then on each call that can answer a `FileFault` answers `Stopped`.
+    pub fn stopped(&self) -> bool
+        ensures { result ≡ self.now.stopped }
+    {
+        self.stopped
+    }
+
+    /// Reads block `k` of a file, counted from 0, by one read. A file that is there has more than `k` blocks. Where no
+    /// file has the name it is `NotFound`, and a read that fails is `Device`.
+    pub fn read_block(
+        &mut self,
+        name: &Name,
+        k: usize,
+        words: &mut [Word; 256],
+    ) -> Result<(), FileFault>
+        requires { IsLonger self.old name.now k }
+        ensures { Reads self.old name.now k words.old result self.new words.new }
+    {
+        if self.stopped {
+            return Err(FileFault::Stopped);
+        }
+        files_found();
+        sound_directory();
+        match self.directory.find(name) {
+            None => Err(FileFault::NotFound),
+            Some((place, _)) => match self.store.read(place + k, words) {
+                Ok(()) => Ok(()),
+                Err(_) => Err(FileFault::Device),
+            },
+        }
+    }
+
+    /// Holds a file, so that it is neither replaced nor deleted; it may be held more than once. Where no file has the
+    /// name it is `NotFound`.
+    pub fn hold(&mut self, name: &Name) -> Result<Hold, FileFault>
+        ensures { Holds self.old name.now result self.new }
+    {
+        if self.stopped {
+            return Err(FileFault::Stopped);
+        }
+        files_found();
+        match self.directory.find(name) {
+            None => Err(FileFault::NotFound),
+            Some(_) => {
+                let place = place_of(&self.holds, *name);
+                match self.holds.insert(place, *name) {
+                    Ok(()) => Ok(Hold::new(*name)),
+                    Err(_) => Err(FileFault::Memory),
+                }
+            }
+        }
+    }
+
+    /// Lets a held file go, as often as it stays held otherwise.
+    pub fn release(&mut self, hold: Hold)
+        ensures { self.new ≡ record self.old { holds = without_hold hold self.old.holds } }
+    {
+        let name = hold.spend();
+        let place = first_of(&self.holds, name);
+        if place < self.holds.len() {
+            let _name = self.holds.remove(place);
+        }
+    }
+
+    /// Whether a file is held.
+    fn is_held(&self, name: Name) -> bool
+        ensures { result ≡ contains self.now.holds name }
+    {
+        first_of(&self.holds, name) < self.holds.len()
+    }
+
+    /// Gives up the file that is being written. Its blocks stay those of no file.
+    pub fn give_up(&mut self, tentative: Tentative)
+        ensures { self.new ≡ record self.old { tentative = None } }
+    {
+        let _name = tentative.spend();
+        self.tentative = None;
     }
 }

@@ -9,7 +9,7 @@ pub returns : goal.returns
 returns g c = λ running.
     let d = c.self.inside.directory in
     let blocks = g.S.BlockStore.contents c.self.inside.store in
-    let kept = c.self.invariant.kept refl in
+    let kept = c.self.invariant.kept (ap (λ (m : Mounted). m.stopped) c.self.view_is ∙ running) in
     ap (λ (m : Mounted). c.free.result + used_of (files_of m.blocks)) (sym c.self.view_is)
     ∙ ap (λ n. c.free.result + n) (used_of-read blocks d c.self.invariant.volume.each (c.files_made.ensures blocks d kept) (c.sound_directory.ensures blocks d kept))
     ∙ c.free.ensures.files

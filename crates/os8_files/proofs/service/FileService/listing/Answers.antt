@@ -1,4 +1,4 @@
-use Rattle.std.proofs.Common.{ap, sym, refl, ◌∙◌}
+use Rattle.std.proofs.Common.{◌≡◌, false, ap, sym, subst, refl, ◌∙◌}
 use Rattle.os8_dir.specs.Files.{files_of}
 use Rattle.os8_files.specs.Mounted.{Mounted}
 use Rattle.os8_files.specs.Service.{lengths_of}
@@ -6,12 +6,10 @@ use Rattle.os8_files.specs.Lengths.{lengths_in}
 use Rattle.os8_files.proofs.ListingLemmas.{lengths_of-read}
 use Rattle.os8_files.proofs.service.FileService.listing.Goals as goal
 
-pub returns-clause-files : goal.returns-clause-files
-returns-clause-files g c = λ running.
+pub returns : goal.returns
+returns g c =
     let d = c.self.inside.directory in
     let blocks = g.S.BlockStore.contents c.self.inside.store in
-    let kept = c.self.invariant.kept refl in
-    c.in_ok-list.ensures
-    ∙ ap lengths_in c.entries.ensures.list
-    ∙ sym (lengths_of-read blocks d c.self.invariant.volume.each (c.files_made.ensures blocks d kept) (c.sound_directory.ensures blocks d kept))
-    ∙ ap (λ (m : Mounted). lengths_of (files_of m.blocks)) c.self.view_is
+    let kept = c.self.invariant.kept c.if-self.false in
+    subst (λ (m : Mounted). (m.stopped ≡ false) × (c.in_ok-list.list.items ≡ lengths_of (files_of m.blocks))) c.self.view_is
+    (c.if-self.false, c.in_ok-list.ensures ∙ ap lengths_in c.entries.ensures.list ∙ sym (lengths_of-read blocks d c.self.invariant.volume.each (c.files_made.ensures blocks d kept) (c.sound_directory.ensures blocks d kept)))

@@ -11,7 +11,7 @@ pub returns-in-Some : goal.returns-in-Some
 returns-in-Some g c = λ running.
     let d = c.self.inside.directory in
     let blocks = g.S.BlockStore.contents c.self.inside.store in
-    let kept = c.self.invariant.kept refl in
+    let kept = c.self.invariant.kept (ap (λ (m : Mounted). m.stopped) c.self.view_is ∙ running) in
     ap told (sym c.in-Some.is ∙ c.find.ensures)
     ∙ blocks_found blocks d.info c.args.name.now d.first (files_at d.first d.entries) c.self.invariant.volume.each (c.sound_directory.ensures blocks d kept).apart _ refl
     ∙ ap blocks_of (sym (c.files_found.ensures blocks d c.args.name.now kept))
@@ -21,7 +21,7 @@ pub returns-in-None : goal.returns-in-None
 returns-in-None g c = λ running.
     let d = c.self.inside.directory in
     let blocks = g.S.BlockStore.contents c.self.inside.store in
-    let kept = c.self.invariant.kept refl in
+    let kept = c.self.invariant.kept (ap (λ (m : Mounted). m.stopped) c.self.view_is ∙ running) in
     ap told (sym c.in-None.is ∙ c.find.ensures)
     ∙ blocks_found blocks d.info c.args.name.now d.first (files_at d.first d.entries) c.self.invariant.volume.each (c.sound_directory.ensures blocks d kept).apart _ refl
     ∙ ap blocks_of (sym (c.files_found.ensures blocks d c.args.name.now kept))

@@ -1,0 +1,39 @@
+-- What is left where a file is deleted.
+use Rattle.std.proofs.Common.{◌≡◌, ◌≢◌, ℕ, ◌≤◌, false, List, length, drop, Option, Some, None, Ok, refl, ap, sym, ◌∙◌, arith}
+use Rattle.std.specs.FinMap.{get}
+use Rattle.os8_dir.specs.declared.entries.DirEntry.{DirEntry}
+use Rattle.os8_dir.specs.Entries.{Listed, capacity, total}
+use Rattle.os8_dir.specs.Reading.{directory_of}
+use Rattle.os8_dir.specs.Found.{IsDirectory, files_at, find, limit}
+use Rattle.os8_dir.specs.Files.{Held, files_of, held_of, limit_of, capacity_of, of_directory}
+use Rattle.os8_dir.specs.Changes.{removed, relisted}
+use Rattle.os8_files.specs.Mounted.{Mounted}
+use Rattle.os8_files.specs.Calls.{IsReady, IsFree, HasDeleted}
+use Rattle.os8_files.specs.Written.{HasDirectory}
+use Rattle.os8_files.proofs.MapLemmas.{files-removed}
+use Rattle.os8_files.proofs.CallLemmas.{FindsFiles, file-kept}
+
+pub deleted : (finds : FindsFiles)
+    → (limits : (blocks : List (List ℕ)) (d : Listed) → directory_of blocks ≡ Ok d → limit_of blocks ≡ limit d)
+    → (covers : (blocks : List (List ℕ)) (d : Listed) → directory_of blocks ≡ Ok d → capacity_of blocks ≡ capacity d)
+    → (gone : (name first : ℕ) (es : List DirEntry) → find name (files_at first (removed name es)) ≡ None)
+    → (others : (name other first : ℕ) (es : List DirEntry) → name ≢ other → find other (files_at first (removed name es)) ≡ find other (files_at first es))
+    → (covered : (name : ℕ) (es : List DirEntry) → total (removed name es) ≡ total es)
+    → (old new : Mounted) (d : Listed) (name : ℕ) (h : Held) → IsReady old → directory_of old.blocks ≡ Ok d → IsDirectory (length old.blocks) d
+    → get (files_of old.blocks) name ≡ Some h → IsFree old name → length (removed name d.entries) ≤ limit d
+    → HasDirectory old (relisted d (removed name d.entries)) new → HasDeleted old name new
+deleted finds limits covers gone others covered old new d name h ready kept is there free fits done =
+    let d' = relisted d (removed name d.entries) in
+    record {
+      ready = ready;
+      file = h;
+      there = there;
+      free = free;
+      fits = omega (arith, fits, limits old.blocks d kept, ap (of_directory (λ (d : Listed). length (removed name d.entries))) kept);
+      files = files-removed (files_of old.blocks) (files_of new.blocks) name
+          (finds new.blocks d' name done.read ∙ ap (held_of new.blocks d.info) (gone name d.first d.entries))
+          (λ q other. finds new.blocks d' q done.read ∙ ap (held_of new.blocks d.info) (others name q d.first d.entries other) ∙ file-kept old.blocks new.blocks d q is done.high ∙ sym (finds old.blocks d q kept));
+      capacity = covers new.blocks d' done.read ∙ covered name d.entries ∙ sym (covers old.blocks d kept);
+      limit = limits new.blocks d' done.read ∙ sym (limits old.blocks d kept);
+      others = done.others;
+    }

@@ -1,0 +1,62 @@
+use Rattle.std.proofs.Common.{List, ◌≡◌, ◌≤◌, ◌<◌, false, true, None, Some, Ok, Err, length, refl, ap, sym, subst, ◌∙◌, arith}
+use Rattle.std.specs.FinMap.{get}
+use Rattle.os8_dir.specs.Files.{files_of}
+use Rattle.os8_dir.specs.Found.{files_at, find}
+use Rattle.os8_files.specs.Mounted.{Mounted, Begun}
+use Rattle.std.specs.Option.{is_some}
+use Rattle.os8_dir.specs.Files.{held_of}
+use Rattle.os8_dir.specs.Found.{IsDirectory, limit}
+use Rattle.os8_dir.specs.Changes.{removed, relisted}
+use Rattle.os8_dir.specs.declared.entries.DirEntry.{DirEntry}
+use Rattle.os8_dir.specs.Entries.{Listed}
+use Rattle.os8_dir.specs.Reading.{directory_of}
+use Rattle.os8_files.specs.Written.{HasDirectory}
+use Rattle.os8_files.specs.Calls.{IsReady, Deletes}
+use Rattle.os8_files.proofs.CallLemmas.{some-of, none-of, held-none, found-some, by-rewrite}
+use Rattle.os8_files.proofs.DeleteLemmas.{deleted}
+use Rattle.os8_files.proofs.service.FileService.delete.Goals as goal
+
+pub returns-then-is_some : goal.returns-then-is_some
+returns-then-is_some g c =
+    let s = some-of c.self.inside.tentative (sym c.is_some.ensures ∙ c.if-is_some.true) in
+    subst (λ (m : Mounted). (m.stopped ≡ false) × (x : Begun) × (m.tentative ≡ Some x) × (m ≡ m)) c.self.view_is (c.if-self.false, s.0, s.1, refl)
+
+pub returns-then-is_none : goal.returns-then-is_none
+returns-then-is_none g c =
+    let blocks = g.S.BlockStore.contents c.self.inside.store in
+    let d = c.self.inside.directory in
+    let out : is_some c.find.result ≡ false = c.is_none.ensures ∙ rw c.if-is_none.true refl in
+    subst (λ (m : Mounted). IsReady m × (get (files_of m.blocks) c.args.name.now ≡ None) × (m ≡ m)) c.self.view_is (
+      record { running = c.if-self.false; none = none-of c.self.inside.tentative (sym c.is_some.ensures ∙ c.if-is_some.false) },
+      c.files_found.ensures blocks d c.args.name.now (c.self.invariant.kept c.if-self.false) ∙ held-none blocks d.info (find c.args.name.now (files_at d.first d.entries)) (sym c.find.ensures ∙ none-of c.find.result out),
+      refl,
+    )
+
+pub rewrite-requires-clause-sound : goal.rewrite-requires-clause-sound
+rewrite-requires-clause-sound g c =
+    let blocks = g.S.BlockStore.contents c.self.inside.store in
+    let d = c.self.inside.directory in
+    let kept = c.self.invariant.kept c.if-self.false in
+    subst (λ (m : Mounted). IsDirectory (length m.blocks) c.in-Ok.directory) c.self.view_is
+    (rw c.in-Ok.ensures.list (c.file_removed.ensures.directory (length blocks) c.args.name.now d (c.sound_directory.ensures blocks d kept)))
+
+pub returns-else-entries-limit : goal.returns-else-entries-limit
+returns-else-entries-limit g c =
+    let blocks = g.S.BlockStore.contents c.self.inside.store in
+    let d = c.self.inside.directory in
+    let name = c.args.name.now in
+    let old = c.args.self.now in
+    let same : old.blocks ≡ blocks = ap (λ (m : Mounted). m.blocks) (sym c.self.view_is) in
+    let kept : directory_of old.blocks ≡ Ok d = subst (λ bs. directory_of bs ≡ Ok d) (sym same) (c.self.invariant.kept c.if-self.false) in
+    let there : is_some c.find.result ≡ true = c.is_none.ensures ∙ rw c.if-is_none.false refl in
+    let p = some-of c.find.result there in
+    let f = found-some (find name (files_at d.first d.entries)) p.0.0 p.0.1 (sym c.find.ensures ∙ p.1) in
+    let ready : IsReady old = subst (λ (m : Mounted). IsReady m) c.self.view_is (record { running = c.if-self.false; none = none-of c.self.inside.tentative (sym c.is_some.ensures ∙ c.if-is_some.false) }) in
+    let list = c.in-Ok.ensures.list in
+    let full : length c.in-Ok.directory.entries ≤ limit c.in-Ok.directory = omega (arith, ap (λ (es : List DirEntry). length es) c.entries.ensures.list, c.limit.ensures.value, c.if-entries-limit.false) in
+    let fits : length (removed name d.entries) ≤ limit d = subst (λ (x : Listed). length x.entries ≤ limit x) list full in
+    by-rewrite old c.rewrite.new.self c.in-Ok.directory c.rewrite.result (λ r. Deletes old name r c.rewrite.new.self) c.rewrite.ensures
+    (λ done has. deleted c.files_found.ensures c.directory_numbers.ensures.limit c.directory_numbers.ensures.capacity c.file_removed.ensures.gone c.file_removed.ensures.others c.file_removed.ensures.covered
+    old c.rewrite.new.self d name _ ready kept (c.sound_directory.ensures old.blocks d kept) (c.files_found.ensures old.blocks d name kept ∙ ap (held_of old.blocks d.info) f.1) (sym c.is_held.ensures ∙ c.if-is_held.false)
+    fits (subst (λ (x : Listed). HasDirectory old x c.rewrite.new.self) list has))
+    (λ failed. (ready, failed))

@@ -1,0 +1,40 @@
+use Rattle.std.proofs.Common.{◌≡◌, ◌≤◌, ◌<◌, false, true, None, Some, Ok, Err, length, refl, ap, sym, subst, ◌∙◌, arith}
+use Rattle.std.specs.FinMap.{get}
+use Rattle.os8_dir.specs.Files.{files_of}
+use Rattle.os8_dir.specs.Found.{files_at, find}
+use Rattle.os8_files.specs.Mounted.{Mounted, Begun}
+use Rattle.std.specs.List.{insert}
+use Rattle.os8_files.specs.Calls.{Holds}
+use Rattle.os8_files.specs.Holds.{with_hold, place_of}
+use Rattle.os8_dir.specs.Files.{held, held_of}
+use Rattle.os8_files.proofs.HoldLemmas.{insert-place}
+use Rattle.os8_files.proofs.CallLemmas.{held-none, found-some}
+use Rattle.os8_files.proofs.service.FileService.hold.Goals as goal
+use Rattle.os8_files.proofs.service.FileService.hold.Goals.{in-Ok, in-Err}
+
+pub returns-in-None : goal.returns-in-None
+returns-in-None g c =
+    let blocks = g.S.BlockStore.contents c.self.inside.store in
+    let d = c.self.inside.directory in
+    subst (λ (m : Mounted). (m.stopped ≡ false) × (get (files_of m.blocks) c.args.name.now ≡ None) × (m ≡ m)) c.self.view_is
+    (c.if-self.false, c.files_found.ensures blocks d c.args.name.now (c.self.invariant.kept c.if-self.false) ∙ held-none blocks d.info (find c.args.name.now (files_at d.first d.entries)) (sym c.find.ensures ∙ c.in-None.is), refl)
+
+pub returns-after-insert : goal.returns-after-insert
+returns-after-insert g c =
+    let blocks = g.S.BlockStore.contents c.self.inside.store in
+    let d = c.self.inside.directory in
+    let name = c.args.name.now in
+    let f = found-some (find name (files_at d.first d.entries)) _ _ (sym c.find.ensures ∙ c.in-Some.is) in
+    elim c.match-insert.branch [
+      | in-Ok w ↦
+          let at : c.place_of-place.result ≡ place_of name c.self.inside.holds.items = c.place_of-place.ensures.value ∙ rw c.deref.ensures.value refl in
+          let e : c.insert.new.self.items ≡ with_hold name c.self.inside.holds.items = w.in-Ok.ensures.items ∙ ap (λ p. insert c.self.inside.holds.items p name) at ∙ insert-place name c.self.inside.holds.items in
+          rw (w.result-is, ← c.self.view_is) (record {
+            running = c.if-self.false;
+            file = held blocks d.info f.0;
+            there = c.files_found.ensures blocks d name (c.self.invariant.kept c.if-self.false) ∙ ap (held_of blocks d.info) f.1;
+            names = w.new.ensures;
+            others = rw e refl;
+          })
+      | in-Err w ↦ rw (w.result-is, ← c.self.view_is) (c.if-self.false, rw w.in-Err.ensures.items refl)
+    ]

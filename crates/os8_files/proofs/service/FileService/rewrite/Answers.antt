@@ -1,0 +1,37 @@
+use Rattle.std.proofs.Common.{◌≡◌, ◌≤◌, ◌<◌, None, length, drop, refl, ap, sym, subst, ◌∙◌, arith}
+use Rattle.os8_dir.specs.Found.{IsDirectory}
+use Rattle.os8_dir.specs.Segments.{segment_count}
+use Rattle.os8_files.specs.Mounted.{Mounted}
+use Rattle.os8_files.specs.Written.{HasDirectory}
+use Rattle.os8_files.proofs.WrittenLemmas.{length-segments, drop-segments}
+use Rattle.os8_files.proofs.CallLemmas.{holds-segments}
+use Rattle.os8_files.proofs.service.FileService.rewrite.Goals as goal
+
+pub invariant_of-self : goal.invariant_of-self
+invariant_of-self g c =
+    let old = g.S.BlockStore.contents c.self.inside.store in
+    let new = g.S.BlockStore.contents c.write_segments.new.store in
+    let d = c.args.directory in
+    let few = c.write_segments.ensures.few in
+    let size : length new ≡ length old = ap (λ bs. length bs) c.in-Ok.ensures.ok ∙ length-segments (segment_count d) d old in
+    let sound : IsDirectory (length new) d = subst (λ n. IsDirectory n d) (ap (λ (m : Mounted). length m.blocks) (sym c.self.view_is) ∙ sym size) c.requires.sound in
+    record {
+      volume = c.write_segments.ensures.volume;
+      kept = λ running. c.read_back.ensures new d sound c.write_segments.ensures.volume.most c.requires.fits (holds-segments old new d c.in-Ok.ensures.ok (omega (arith, few, c.self.invariant.volume.least)));
+      begun = λ running b is. let none = ap (λ (m : Mounted). m.tentative) c.self.view_is ∙ c.requires.none in cc;
+    }
+
+pub returns-in-Ok : goal.returns-in-Ok
+returns-in-Ok g c =
+    let old = g.S.BlockStore.contents c.self.inside.store in
+    let new = g.S.BlockStore.contents c.write_segments.new.store in
+    let d = c.args.directory in
+    let few = c.write_segments.ensures.few in
+    let size : length new ≡ length old = ap (λ bs. length bs) c.in-Ok.ensures.ok ∙ length-segments (segment_count d) d old in
+    let sound : IsDirectory (length new) d = subst (λ n. IsDirectory n d) (ap (λ (m : Mounted). length m.blocks) (sym c.self.view_is) ∙ sym size) c.requires.sound in
+    rw (← c.self.view_is) (record {
+      high = ap (drop 7) c.in-Ok.ensures.ok ∙ drop-segments (segment_count d) d old few;
+      size = size;
+      read = c.read_back.ensures new d sound c.write_segments.ensures.volume.most c.requires.fits (holds-segments old new d c.in-Ok.ensures.ok (omega (arith, few, c.self.invariant.volume.least)));
+      others = rw (c.write_segments.ensures.reads, c.write_segments.ensures.failed_reads, c.in-Ok.ensures.failed_writes) refl;
+    })

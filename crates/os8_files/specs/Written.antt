@@ -1,0 +1,26 @@
+-- What the blocks are where a directory is written.
+use Rattle.std.specs.Prelude.{◌≡◌, ℕ, zero, suc, List, length, drop, slice_set, Result, Ok, Err}
+use Rattle.os8_dir.specs.Entries.{Listed}
+use Rattle.os8_dir.specs.Reading.{directory_of}
+use Rattle.os8_dir.specs.Segments.{segment_count, segment_of}
+use Rattle.os8_files.specs.Mounted.{Mounted}
+use Rattle.os8_files.specs.Calls.{HasFailed}
+use Rattle.os8_files.specs.declared.faults.FileFault.{FileFault}
+use Rattle.os8_files.specs.declared.faults.FileFault.TheVariants.{NotFound, NoRoom, DirectoryFull, Busy, BadName, TooLong, TentativeOpen, Device, Stopped, Memory, NothingWritten}
+
+-- so many segments of a directory stand in blocks 1, 2 and so on
+abbrev pub with_segments : ℕ → Listed → List (List ℕ) → List (List ℕ)
+with_segments zero d blocks = blocks
+with_segments (suc k) d blocks = slice_set (with_segments k d blocks) (suc k) (segment_of d k)
+
+-- another directory is written, which is read back as it
+pub record HasDirectory (old : Mounted) (d : Listed) (new : Mounted) : Type 0 where
+  pub high : drop 7 new.blocks ≡ drop 7 old.blocks
+  pub size : length new.blocks ≡ length old.blocks
+  pub read : directory_of new.blocks ≡ Ok d
+  pub others : new ≡ record old { blocks = new.blocks }
+
+abbrev pub Rewrites : Mounted → Listed → Result (Unit {0}) FileFault → Mounted → Type 0
+Rewrites old d (Ok done) new = HasDirectory old d new
+Rewrites old d (Err Device) new = HasFailed old new
+Rewrites old d (Err fault) new = ⊥

@@ -1,0 +1,39 @@
+//! The list of holds.
+ghost use Rattle.std.specs.Prelude.{◌≡◌, ◌≤◌, length};
+ghost use Rattle.os8_files.specs.Holds.{place_of as place_among, first_of as first_among};
+
+use os8_dir::Name;
+
+/// How many holds of lower names the list begins with.
+pub(crate) fn place_of(holds: &[Name], name: Name) -> usize
+    ensures value { result ≡ place_among name holds.now }
+    ensures range { result ≤ length holds.now }
+{
+    match holds {
+        [] => 0,
+        [held, behind @ ..] => {
+            if *held < name {
+                1 + place_of(behind, name)
+            } else {
+                0
+            }
+        }
+    }
+}
+
+/// How many holds stand before the first of a name; all where there is none.
+pub(crate) fn first_of(holds: &[Name], name: Name) -> usize
+    ensures value { result ≡ first_among name holds.now }
+    ensures range { result ≤ length holds.now }
+{
+    match holds {
+        [] => 0,
+        [held, behind @ ..] => {
+            if *held == name {
+                0
+            } else {
+                1 + first_of(behind, name)
+            }
+        }
+    }
+}

@@ -1,0 +1,67 @@
+//! Changes of the directory.
+ghost use Rattle.std.specs.Prelude.{◌≡◌, ◌≤◌, false, None, length};
+ghost use Rattle.os8_dir.specs.Found.{IsDirectory, limit};
+ghost use Rattle.os8_files.specs.Calls.{Deletes};
+ghost use Rattle.os8_files.specs.Written.{Rewrites};
+
+use crate::writing::write_segments;
+use crate::{FileFault, FileService};
+use os8_dir::laws::{directory_numbers, file_removed, files_found, read_back, sound_directory};
+use os8_dir::{Directory, Name};
+use std::alloc::Global;
+use volume_image::BlockStore;
+
+impl<S: BlockStore> FileService<S> {
+    /// Writes another directory.
+    fn rewrite(&mut self, directory: Directory) -> Result<(), FileFault>
+        requires running { self.old.stopped ≡ false }
+        requires none { self.old.tentative ≡ None }
+        requires sound { IsDirectory (length self.old.blocks) directory }
+        requires fits { length directory.entries ≤ limit directory }
+        ensures { Rewrites self.old directory result self.new }
+    {
+        read_back();
+        match write_segments(&mut self.store, &directory) {
+            Ok(()) => {
+                self.directory = directory;
+                Ok(())
+            }
+            Err(_) => {
+                self.stopped = true;
+                Err(FileFault::Device)
+            }
+        }
+    }
+
+    /// Takes a file out of the directory, and writes that. While a file is written it is `TentativeOpen`; then come
+    /// `NotFound`, `Busy` where the file is held, and `DirectoryFull` where the list without it is too long.
+    pub fn delete(&mut self, alloc: Global, name: &Name) -> Result<(), FileFault>
+        ensures { Deletes self.old name.now result self.new }
+    {
+        if self.stopped {
+            return Err(FileFault::Stopped);
+        }
+        if self.tentative.is_some() {
+            return Err(FileFault::TentativeOpen);
+        }
+        files_found();
+        if self.directory.find(name).is_none() {
+            return Err(FileFault::NotFound);
+        }
+        if self.is_held(*name) {
+            return Err(FileFault::Busy(*name));
+        }
+        directory_numbers();
+        sound_directory();
+        file_removed();
+        match self.directory.removed(alloc, name) {
+            Err(_) => Err(FileFault::Memory),
+            Ok(directory) => {
+                if directory.entries().len() > directory.limit() {
+                    return Err(FileFault::DirectoryFull);
+                }
+                self.rewrite(directory)
+            }
+        }
+    }
+}
