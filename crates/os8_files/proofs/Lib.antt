@@ -6,3 +6,6 @@ pub mod WrittenLemmas
 pub mod MapLemmas
 pub mod CallLemmas
 pub mod DeleteLemmas
+pub mod SteadyLemmas
+pub mod RoomLemmas
+pub mod PlaceLemmas

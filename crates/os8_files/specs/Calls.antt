@@ -10,7 +10,7 @@ use Rattle.os8_dir.specs.Found.{rooms_at, files_at, largest, size_or_zero}
 use Rattle.os8_dir.specs.Files.{Held, files_of, held, run, of_directory, limit_of, above_of, capacity_of}
 use Rattle.os8_dir.specs.Changes.{removed, placed, new_file, moved_down, fitting, lowest_above}
 use Rattle.os8_dir.specs.declared.faults.DirFault.{DirFault}
-use Rattle.os8_files.specs.Mounted.{Mounted, Begun}
+use Rattle.os8_files.specs.Mounted.{Mounted, Begun, IsBegun}
 use Rattle.os8_files.specs.Service.{blocks_of, lengths_of}
 use Rattle.os8_files.specs.Holds.{with_hold, without_hold}
 use Rattle.os8_files.specs.declared.faults.FileFault.{FileFault}
@@ -104,3 +104,115 @@ Deletes old name (Err Device) new = IsReady old × HasFailed old new
 Deletes old name (Err Stopped) new = HasStopped old new
 Deletes old name (Err Memory) new = IsReady old × (new ≡ old)
 Deletes old name (Err fault) new = ⊥
+
+-- the empties of a volume with their places
+abbrev pub rooms_or : Result Listed DirFault → List (ℕ × ℕ)
+rooms_or (Ok d) = rooms_at d.first d.entries
+rooms_or (Err fault) = []
+
+abbrev pub rooms_of : List (List ℕ) → List (ℕ × ℕ)
+rooms_of blocks = rooms_or (directory_of blocks)
+
+-- how many information words a file of the volume has
+abbrev pub info_of : List (List ℕ) → ℕ
+info_of blocks = of_directory (λ d. d.info) (directory_of blocks)
+
+-- a file is begun in the empty for a wish
+pub record HasEntered (old : Mounted) (name wish tentative : ℕ) (new : Mounted) : Type 0 where
+  pub ready : IsReady old
+  pub named : IsNamed name
+  pub free : IsFree old name
+  pub token : tentative ≡ name
+  pub place : ℕ
+  pub room : ℕ
+  pub fits : fitting wish (rooms_of old.blocks) ≡ Some (place, room)
+  pub others : new ≡ record old { tentative = Some (record { name = name; place = place; room = room; written = 0 }) }
+
+abbrev pub Enters : Mounted → ℕ → ℕ → Result ℕ FileFault → Mounted → Type 0
+Enters old name wish (Ok tentative) new = HasEntered old name wish tentative new
+Enters old name wish (Err BadName) new = (old.stopped ≡ false) × (name / 68719476736 ≡ 0) × (new ≡ old)
+Enters old name wish (Err TentativeOpen) new = (old.stopped ≡ false) × IsNamed name × (begun : Begun) × (old.tentative ≡ Some begun) × (new ≡ old)
+Enters old name wish (Err (Busy other)) new = IsReady old × IsNamed name × (other ≡ name) × IsHeld old name × (new ≡ old)
+Enters old name wish (Err (NoRoom largest_room)) new = IsReady old × IsNamed name × IsFree old name × (fitting wish (rooms_of old.blocks) ≡ None) × (largest_room ≡ size_or_zero (largest (rooms_of old.blocks))) × (new ≡ old)
+Enters old name wish (Err Stopped) new = HasStopped old new
+Enters old name wish (Err fault) new = ⊥
+
+-- the file that is being written has the name
+abbrev pub IsOf : Mounted → ℕ → Type 0
+IsOf m name = (begun : Begun) × (m.tentative ≡ Some begun) × (begun.name ≡ name)
+
+-- the next block of the file that is being written; no file's words are changed
+pub record HasWritten (old : Mounted) (words : List ℕ) (new : Mounted) : Type 0 where
+  pub running : old.stopped ≡ false
+  pub begun : Begun
+  pub was : old.tentative ≡ Some begun
+  pub short : begun.written < begun.room
+  pub blocks : new.blocks ≡ slice_set old.blocks (begun.place + begun.written) words
+  pub directory : directory_of new.blocks ≡ directory_of old.blocks
+  pub files : files_of new.blocks ≡ files_of old.blocks
+  pub others : new ≡ record old { blocks = new.blocks; tentative = Some (record { name = begun.name; place = begun.place; room = begun.room; written = begun.written + 1 }) }
+
+abbrev pub Writes : Mounted → List ℕ → Result (Unit {0}) FileFault → Mounted → Type 0
+Writes old words (Ok done) new = HasWritten old words new
+Writes old words (Err TooLong) new = (old.stopped ≡ false) × (begun : Begun) × (old.tentative ≡ Some begun) × (begun.room ≤ begun.written) × (new ≡ old)
+Writes old words (Err Device) new = (old.stopped ≡ false) × HasFailed old new
+Writes old words (Err Stopped) new = HasStopped old new
+Writes old words (Err fault) new = ⊥
+
+-- how many entries the directory has with a file that was written
+abbrev pub entries_with : Begun → List ℕ → List (List ℕ) → ℕ
+entries_with begun info blocks = of_directory (λ d. length (placed d.first (new_file d begun.name info begun.place begun.written) d.entries)) (directory_of blocks)
+
+-- the file that is being written is gone, and all else is as before
+abbrev pub Spent : Mounted → Mounted
+Spent m = record m { tentative = None }
+
+-- a file has the blocks that were written, and these information words; an older one of its name is gone
+pub record HasClosed (old : Mounted) (name : ℕ) (info : List ℕ) (new : Mounted) : Type 0 where
+  pub running : old.stopped ≡ false
+  pub begun : Begun
+  pub was : old.tentative ≡ Some begun
+  pub names : begun.name ≡ name
+  pub some : 0 < begun.written
+  pub free : IsFree old name
+  pub files : files_of new.blocks ≡ insert (files_of old.blocks) name (padded (info_of old.blocks) info, run old.blocks begun.place begun.written)
+  pub capacity : capacity_of new.blocks ≡ capacity_of old.blocks
+  pub limit : limit_of new.blocks ≡ limit_of old.blocks
+  pub tight : get (files_of old.blocks) name ≡ None → above_of old.blocks ≡ 0 → above_of new.blocks ≡ 0
+  pub others : new ≡ record (Spent old) { blocks = new.blocks }
+
+abbrev pub Closes : Mounted → ℕ → List ℕ → Result (Unit {0}) FileFault → Mounted → Type 0
+Closes old name info (Ok done) new = HasClosed old name info new
+Closes old name info (Err NothingWritten) new = (old.stopped ≡ false) × (begun : Begun) × (old.tentative ≡ Some begun) × (begun.written ≡ 0) × (new ≡ Spent old)
+Closes old name info (Err (Busy other)) new = (old.stopped ≡ false) × (other ≡ name) × IsHeld old name × (new ≡ Spent old)
+Closes old name info (Err DirectoryFull) new = (old.stopped ≡ false) × IsFree old name × (begun : Begun) × (old.tentative ≡ Some begun) × (limit_of old.blocks < entries_with begun info old.blocks) × (new ≡ Spent old)
+Closes old name info (Err Device) new = (old.stopped ≡ false) × HasFailed (Spent old) new
+Closes old name info (Err Stopped) new = (old.stopped ≡ true) × (new ≡ Spent old)
+Closes old name info (Err Memory) new = (old.stopped ≡ false) × (new ≡ Spent old)
+Closes old name info (Err fault) new = ⊥
+
+-- no write has failed, no file is being written, and this one lies at the beginning of an empty
+pub record IsPlaced (m : Mounted) (begun : Begun) : Type 0 where
+  pub ready : IsReady m
+  pub directory : Listed
+  pub read : directory_of m.blocks ≡ Ok directory
+  pub lies : IsBegun directory begun
+
+-- what is done where that file is placed in the directory
+pub record HasPlaced (old : Mounted) (name : ℕ) (begun : Begun) (info : List ℕ) (new : Mounted) : Type 0 where
+  pub some : 0 < begun.written
+  pub free : IsFree old name
+  pub files : files_of new.blocks ≡ insert (files_of old.blocks) name (padded (info_of old.blocks) info, run old.blocks begun.place begun.written)
+  pub capacity : capacity_of new.blocks ≡ capacity_of old.blocks
+  pub limit : limit_of new.blocks ≡ limit_of old.blocks
+  pub tight : get (files_of old.blocks) name ≡ None → above_of old.blocks ≡ 0 → above_of new.blocks ≡ 0
+  pub others : new ≡ record old { blocks = new.blocks }
+
+abbrev pub Places : Mounted → ℕ → Begun → List ℕ → Result (Unit {0}) FileFault → Mounted → Type 0
+Places old name begun info (Ok done) new = HasPlaced old name begun info new
+Places old name begun info (Err NothingWritten) new = (begun.written ≡ 0) × (new ≡ old)
+Places old name begun info (Err (Busy other)) new = (other ≡ name) × IsHeld old name × (new ≡ old)
+Places old name begun info (Err DirectoryFull) new = IsFree old name × (limit_of old.blocks < entries_with begun info old.blocks) × (new ≡ old)
+Places old name begun info (Err Device) new = HasFailed old new
+Places old name begun info (Err Memory) new = new ≡ old
+Places old name begun info (Err fault) new = ⊥

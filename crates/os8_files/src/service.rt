@@ -20,6 +20,7 @@ use volume_image::BlockStore;
 use word12::Word;
 
 mod changes;
+mod writing;
 
 /// The files of a sound volume.
 #[derive(Drop)]

@@ -13,7 +13,7 @@ use volume_image::BlockStore;
 
 impl<S: BlockStore> FileService<S> {
     /// Writes another directory.
-    fn rewrite(&mut self, directory: Directory) -> Result<(), FileFault>
+    pub(crate) fn rewrite(&mut self, directory: Directory) -> Result<(), FileFault>
         requires running { self.old.stopped ≡ false }
         requires none { self.old.tentative ≡ None }
         requires sound { IsDirectory (length self.old.blocks) directory }

@@ -1,0 +1,74 @@
+use Rattle.std.proofs.Common.{◌≡◌, ℕ, ◌<◌, ◌≤◌, false, List, length, Ok, Result, refl, ap, sym, subst, ◌∙◌, arith}
+use Rattle.os8_dir.specs.declared.entries.DirEntry.{DirEntry}
+use Rattle.os8_dir.specs.Entries.{Listed, IsNamed}
+use Rattle.os8_dir.specs.Reading.{directory_of}
+use Rattle.os8_dir.specs.Found.{IsDirectory, limit}
+use Rattle.os8_dir.specs.Files.{of_directory}
+use Rattle.os8_dir.specs.Changes.{placed, relisted, new_file}
+use Rattle.os8_files.specs.Mounted.{Mounted, Begun, IsBegun}
+use Rattle.os8_files.specs.Calls.{IsFree, Places}
+use Rattle.os8_files.specs.Written.{HasDirectory}
+use Rattle.os8_files.proofs.CallLemmas.{by-rewrite}
+use Rattle.os8_files.proofs.PlaceLemmas.{ok-same, placed-file}
+use Rattle.os8_files.proofs.service.FileService.place.Goals as goal
+
+pub returns-then-entries-limit : goal.returns-then-entries-limit
+returns-then-entries-limit g c =
+    let blocks = g.S.BlockStore.contents c.self.inside.store in
+    let old = c.args.self.now in
+    let d = c.self.inside.directory in
+    let name = c.args.name in
+    let b = c.args.begun in
+    let info = c.args.info.now in
+    let same : old.blocks ≡ blocks = ap (λ (m : Mounted). m.blocks) (sym c.self.view_is) in
+    let running : c.self.inside.stopped ≡ false = ap (λ (m : Mounted). m.stopped) c.self.view_is ∙ c.requires.begun.ready.running in
+    let kept : directory_of old.blocks ≡ Ok d = subst (λ bs. directory_of bs ≡ Ok d) (sym same) (c.self.invariant.kept running) in
+    let is = c.sound_directory.ensures old.blocks d kept in
+    let lies : IsBegun d b = subst (λ (x : Listed). IsBegun x b) (ok-same (directory_of old.blocks) c.requires.begun.directory d c.requires.begun.read kept) c.requires.begun.lies in
+    let list : c.in-Ok.directory ≡ relisted d (placed d.first (new_file d name info b.place b.written) d.entries) = c.in-Ok.ensures.list ∙ ap (λ (x : Begun). relisted d (placed d.first (new_file d name info x.place x.written) d.entries)) c.begun.view_is in
+    let some : 0 < b.written = omega (arith, c.if-begun-eq0.false, ap (λ (x : Begun). x.written) c.begun.view_is) in
+    let free : IsFree old name = sym c.is_held.ensures ∙ c.if-is_held.false in
+    let full : limit c.in-Ok.directory < length c.in-Ok.directory.entries = omega (arith, ap (λ (es : List DirEntry). length es) c.entries.ensures.list, c.limit.ensures.value, c.if-entries-limit.true) in
+    let more : limit d < length (placed d.first (new_file d name info b.place b.written) d.entries) = subst (λ (x : Listed). limit x < length x.entries) list full in
+    let named : limit d < length (placed d.first (new_file d b.name info b.place b.written) d.entries) = subst (λ n. limit d < length (placed d.first (new_file d n info b.place b.written) d.entries)) (sym c.requires.names) more in
+    (free, omega (arith, named, c.directory_numbers.ensures.limit old.blocks d kept, ap (of_directory (λ (x : Listed). length (placed x.first (new_file x b.name info b.place b.written) x.entries))) kept), refl)
+
+pub rewrite-requires-clause-sound : goal.rewrite-requires-clause-sound
+rewrite-requires-clause-sound g c =
+    let blocks = g.S.BlockStore.contents c.self.inside.store in
+    let old = c.args.self.now in
+    let d = c.self.inside.directory in
+    let name = c.args.name in
+    let b = c.args.begun in
+    let info = c.args.info.now in
+    let same : old.blocks ≡ blocks = ap (λ (m : Mounted). m.blocks) (sym c.self.view_is) in
+    let running : c.self.inside.stopped ≡ false = ap (λ (m : Mounted). m.stopped) c.self.view_is ∙ c.requires.begun.ready.running in
+    let kept : directory_of old.blocks ≡ Ok d = subst (λ bs. directory_of bs ≡ Ok d) (sym same) (c.self.invariant.kept running) in
+    let is = c.sound_directory.ensures old.blocks d kept in
+    let lies : IsBegun d b = subst (λ (x : Listed). IsBegun x b) (ok-same (directory_of old.blocks) c.requires.begun.directory d c.requires.begun.read kept) c.requires.begun.lies in
+    let list : c.in-Ok.directory ≡ relisted d (placed d.first (new_file d name info b.place b.written) d.entries) = c.in-Ok.ensures.list ∙ ap (λ (x : Begun). relisted d (placed d.first (new_file d name info x.place x.written) d.entries)) c.begun.view_is in
+    let some : 0 < b.written = omega (arith, c.if-begun-eq0.false, ap (λ (x : Begun). x.written) c.begun.view_is) in
+    let free : IsFree old name = sym c.is_held.ensures ∙ c.if-is_held.false in
+    subst (λ (x : Listed). IsDirectory (length old.blocks) x) (sym list) (c.file_placed.ensures.directory (length old.blocks) name b.place b.written info d is (subst IsNamed c.requires.names lies.named) some)
+
+pub returns-else-entries-limit : goal.returns-else-entries-limit
+returns-else-entries-limit g c =
+    let blocks = g.S.BlockStore.contents c.self.inside.store in
+    let old = c.args.self.now in
+    let d = c.self.inside.directory in
+    let name = c.args.name in
+    let b = c.args.begun in
+    let info = c.args.info.now in
+    let same : old.blocks ≡ blocks = ap (λ (m : Mounted). m.blocks) (sym c.self.view_is) in
+    let running : c.self.inside.stopped ≡ false = ap (λ (m : Mounted). m.stopped) c.self.view_is ∙ c.requires.begun.ready.running in
+    let kept : directory_of old.blocks ≡ Ok d = subst (λ bs. directory_of bs ≡ Ok d) (sym same) (c.self.invariant.kept running) in
+    let is = c.sound_directory.ensures old.blocks d kept in
+    let lies : IsBegun d b = subst (λ (x : Listed). IsBegun x b) (ok-same (directory_of old.blocks) c.requires.begun.directory d c.requires.begun.read kept) c.requires.begun.lies in
+    let list : c.in-Ok.directory ≡ relisted d (placed d.first (new_file d name info b.place b.written) d.entries) = c.in-Ok.ensures.list ∙ ap (λ (x : Begun). relisted d (placed d.first (new_file d name info x.place x.written) d.entries)) c.begun.view_is in
+    let some : 0 < b.written = omega (arith, c.if-begun-eq0.false, ap (λ (x : Begun). x.written) c.begun.view_is) in
+    let free : IsFree old name = sym c.is_held.ensures ∙ c.if-is_held.false in
+    by-rewrite old c.rewrite.new.self c.in-Ok.directory c.rewrite.result (λ r. Places old name b info r c.rewrite.new.self) c.rewrite.ensures
+    (λ done has. placed-file c.files_found.ensures c.rooms.ensures.lie c.directory_numbers.ensures.limit c.directory_numbers.ensures.capacity c.directory_numbers.ensures.above
+    c.file_placed.ensures.there c.file_placed.ensures.others c.file_placed.ensures.covered c.file_placed.ensures.tight
+    old c.rewrite.new.self d name b info kept is lies some free (subst (λ (x : Listed). HasDirectory old x c.rewrite.new.self) list has))
+    (λ failed. failed)

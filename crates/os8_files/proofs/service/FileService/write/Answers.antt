@@ -1,0 +1,66 @@
+use Rattle.std.proofs.Common.{◌≡◌, ℕ, ◌+◌, ◌<◌, List, Some, slice_set, length, refl, ap, sym, subst, ◌∙◌, arith}
+use Rattle.os8_dir.specs.Reading.{directory_of}
+use Rattle.os8_dir.specs.Files.{files_of}
+use Rattle.os8_files.specs.Mounted.{Mounted, Begun, IsBegun}
+use Rattle.os8_files.specs.Calls.{HasWritten}
+use Rattle.os8_files.proofs.PlaceLemmas.{some-same, write-inside, written-directory, written-files}
+use Rattle.os8_files.proofs.service.FileService.write.Goals as goal
+
+pub overflow_add-place : goal.overflow_add-place
+overflow_add-place g c =
+    let blocks = g.S.BlockStore.contents c.self.inside.store in
+    let d = c.self.inside.directory in
+    let kept = c.self.invariant.kept c.if-self.false in
+    let is = c.sound_directory.ensures blocks d kept in
+    let b : Begun = record { name = c.begun.inside.name; place = c.begun.inside.place; room = c.begun.inside.room; written = c.begun.inside.written } in
+    let lies : IsBegun d b = subst (λ (x : Begun). IsBegun d x) (sym c.begun.view_is) (c.self.invariant.begun c.if-self.false c.in-Some.begun c.in-Some.is) in
+    let inside = write-inside blocks d b is lies c.if-written-room.false in
+    omega (arith, inside.1, c.self.invariant.volume.most)
+
+pub write-result-requires : goal.write-result-requires
+write-result-requires g c =
+    let blocks = g.S.BlockStore.contents c.self.inside.store in
+    let d = c.self.inside.directory in
+    let kept = c.self.invariant.kept c.if-self.false in
+    let is = c.sound_directory.ensures blocks d kept in
+    let b : Begun = record { name = c.begun.inside.name; place = c.begun.inside.place; room = c.begun.inside.room; written = c.begun.inside.written } in
+    let lies : IsBegun d b = subst (λ (x : Begun). IsBegun d x) (sym c.begun.view_is) (c.self.invariant.begun c.if-self.false c.in-Some.begun c.in-Some.is) in
+    let inside = write-inside blocks d b is lies c.if-written-room.false in
+    inside.1
+
+pub invariant_of-self : goal.invariant_of-self
+invariant_of-self g c =
+    let blocks = g.S.BlockStore.contents c.self.inside.store in
+    let d = c.self.inside.directory in
+    let kept = c.self.invariant.kept c.if-self.false in
+    let is = c.sound_directory.ensures blocks d kept in
+    let b : Begun = record { name = c.begun.inside.name; place = c.begun.inside.place; room = c.begun.inside.room; written = c.begun.inside.written } in
+    let lies : IsBegun d b = subst (λ (x : Begun). IsBegun d x) (sym c.begun.view_is) (c.self.invariant.begun c.if-self.false c.in-Some.begun c.in-Some.is) in
+    let inside = write-inside blocks d b is lies c.if-written-room.false in
+    let k = b.place + b.written in
+    record {
+      volume = c.blocks-blocks.ensures.volume;
+      kept = λ running. ap (λ bs. directory_of bs) c.in-Ok.ensures.ok ∙ written-directory blocks k c.args.words.now (omega (arith, inside.0)) ∙ kept;
+      begun = λ running x same. subst (λ (y : Begun). IsBegun d y) (some-same _ x same) (record { named = lies.named; room = lies.room; most = omega (arith, c.if-written-room.false) });
+    }
+
+pub returns-in-Ok-clause-call : goal.returns-in-Ok-clause-call
+returns-in-Ok-clause-call g c =
+    let blocks = g.S.BlockStore.contents c.self.inside.store in
+    let d = c.self.inside.directory in
+    let kept = c.self.invariant.kept c.if-self.false in
+    let is = c.sound_directory.ensures blocks d kept in
+    let b : Begun = record { name = c.begun.inside.name; place = c.begun.inside.place; room = c.begun.inside.room; written = c.begun.inside.written } in
+    let lies : IsBegun d b = subst (λ (x : Begun). IsBegun d x) (sym c.begun.view_is) (c.self.invariant.begun c.if-self.false c.in-Some.begun c.in-Some.is) in
+    let inside = write-inside blocks d b is lies c.if-written-room.false in
+    let k = b.place + b.written in
+    rw (← c.self.view_is) (record {
+      running = c.if-self.false;
+      begun = b;
+      was = c.in-Some.is ∙ ap Some (sym c.begun.view_is);
+      short = c.if-written-room.false;
+      blocks = c.in-Ok.ensures.ok;
+      directory = ap (λ bs. directory_of bs) c.in-Ok.ensures.ok ∙ written-directory blocks k c.args.words.now (omega (arith, inside.0));
+      files = ap (λ bs. files_of bs) c.in-Ok.ensures.ok ∙ written-files c.files_found.ensures c.rooms.ensures.lie c.rooms.ensures.outside blocks d b c.args.words.now kept is lies c.if-written-room.false;
+      others = rw (c.write-result.ensures.reads, c.write-result.ensures.failed_reads, c.in-Ok.ensures.failed_writes) refl;
+    })
