@@ -51,6 +51,9 @@ pub found-some : (o : Option Placed) (place size : ℕ) → extent_of o ≡ Some
 found-some None place size is = cc
 found-some (Some f) place size is = (f, refl, ap first_or is, ap second_or is)
 
+pub extent-at : (f : Placed) (place size : ℕ) → extent_of (Some f) ≡ Some (place, size) → (f.place ≡ place) × (f.size ≡ size)
+extent-at f place size is = (ap first_or is, ap second_or is)
+
 pub find-from : (name from bound : ℕ) (files : List Placed) (f : Placed) → AreApart from bound files → find name files ≡ Some f → from ≤ f.place
 find-from name from bound [] f apart found = cc
 find-from name from bound (g ∷ gs) f apart found =

@@ -9,3 +9,5 @@ pub mod DeleteLemmas
 pub mod SteadyLemmas
 pub mod RoomLemmas
 pub mod PlaceLemmas
+pub mod RunLemmas
+pub mod SqueezeLemmas

@@ -1,18 +1,20 @@
 -- What each call of the file service does: one relation by cases on its answer (this project's profile).
-use Rattle.std.specs.Prelude.{◌≡◌, ℕ, ◌+◌, ◌*◌, ◌/◌, ◌<◌, ◌≤◌, Bool, true, false, Option, Some, None, List, [], length, take, drop, slice_set, Result, Ok, Err}
+use Rattle.std.specs.Prelude.{◌≡◌, ◌≢◌, ◌⊎◌, ◌-◌, ℕ, ◌+◌, ◌*◌, ◌/◌, ◌<◌, ◌≤◌, Bool, true, false, Option, Some, None, List, [], length, take, drop, slice_set, Result, Ok, Err}
 use Rattle.std.specs.Global.{Vec}
 use Rattle.std.specs.FinMap.{get, insert, remove}
 use Rattle.volume_image.specs.Volume.{counted}
 use Rattle.os8_dir.specs.Names.{padded}
 use Rattle.os8_dir.specs.Entries.{Listed, contains, IsNamed}
 use Rattle.os8_dir.specs.Reading.{directory_of}
-use Rattle.os8_dir.specs.Found.{rooms_at, files_at, largest, size_or_zero}
+use Rattle.os8_dir.specs.Found.{rooms_at, files_at, find, extent_of, largest, size_or_zero}
 use Rattle.os8_dir.specs.Files.{Held, files_of, held, run, of_directory, limit_of, above_of, capacity_of}
 use Rattle.os8_dir.specs.Changes.{removed, placed, new_file, moved_down, fitting, lowest_above}
 use Rattle.os8_dir.specs.declared.faults.DirFault.{DirFault}
 use Rattle.os8_files.specs.Mounted.{Mounted, Begun, IsBegun}
 use Rattle.os8_files.specs.Service.{blocks_of, lengths_of}
 use Rattle.os8_files.specs.Holds.{with_hold, without_hold}
+use Rattle.os8_files.specs.declared.tokens.Squeezed.{Squeezed}
+use Rattle.os8_files.specs.declared.tokens.Squeezed.TheVariants.{Moved, Nothing}
 use Rattle.os8_files.specs.declared.faults.FileFault.{FileFault}
 use Rattle.os8_files.specs.declared.faults.FileFault.TheVariants.{NotFound, NoRoom, DirectoryFull, Busy, BadName, TooLong, TentativeOpen, Device, Stopped, Memory, NothingWritten}
 
@@ -216,3 +218,49 @@ Places old name begun info (Err DirectoryFull) new = IsFree old name × (limit_o
 Places old name begun info (Err Device) new = HasFailed old new
 Places old name begun info (Err Memory) new = new ≡ old
 Places old name begun info (Err fault) new = ⊥
+
+-- the lowest file with an empty directly below it, and that empty's blocks
+abbrev pub lowest_or : Result Listed DirFault → Option (ℕ × ℕ)
+lowest_or (Ok d) = lowest_above d.entries
+lowest_or (Err fault) = None
+
+-- where the file of a name lies
+abbrev pub extent_or : ℕ → Result Listed DirFault → Option (ℕ × ℕ)
+extent_or name (Ok d) = extent_of (find name (files_at d.first d.entries))
+extent_or name (Err fault) = None
+
+-- an extent so many blocks further down
+abbrev pub lower : ℕ → Option (ℕ × ℕ) → Option (ℕ × ℕ)
+lower gap None = None
+lower gap (Some extent) = Some (extent.0 - gap, extent.1)
+
+-- the lowest file with an empty directly below it lies lower by that empty; the files are the same
+pub record HasMoved (old : Mounted) (name : ℕ) (new : Mounted) : Type 0 where
+  pub ready : IsReady old
+  pub gap : ℕ
+  pub lowest : lowest_or (directory_of old.blocks) ≡ Some (name, gap)
+  pub moved : extent_or name (directory_of new.blocks) ≡ lower gap (extent_or name (directory_of old.blocks))
+  pub places : (other : ℕ) → name ≢ other → extent_or other (directory_of new.blocks) ≡ extent_or other (directory_of old.blocks)
+  pub files : files_of new.blocks ≡ files_of old.blocks
+  pub above : above_of new.blocks + 1 ≡ above_of old.blocks
+  pub capacity : capacity_of new.blocks ≡ capacity_of old.blocks
+  pub limit : limit_of new.blocks ≡ limit_of old.blocks
+  pub others : new ≡ record old { blocks = new.blocks; reads = new.reads }
+
+-- how many entries the directory has with a file moved down
+abbrev pub entries_moved : ℕ → List (List ℕ) → ℕ
+entries_moved name blocks = of_directory (λ d. length (moved_down name d.entries)) (directory_of blocks)
+
+-- a read failed, and nothing is changed
+abbrev pub HasMissed : Mounted → Mounted → Type 0
+HasMissed old new = new ≡ record old { reads = new.reads; failed_reads = old.failed_reads + 1 }
+
+abbrev pub Squeezes : Mounted → Result Squeezed FileFault → Mounted → Type 0
+Squeezes old (Ok (Moved name)) new = HasMoved old name new
+Squeezes old (Ok Nothing) new = IsReady old × (above_of old.blocks ≡ 0) × (new ≡ old)
+Squeezes old (Err TentativeOpen) new = (old.stopped ≡ false) × (begun : Begun) × (old.tentative ≡ Some begun) × (new ≡ old)
+Squeezes old (Err DirectoryFull) new = IsReady old × (name : ℕ) × (gap : ℕ) × (lowest_or (directory_of old.blocks) ≡ Some (name, gap)) × (limit_of old.blocks < entries_moved name old.blocks) × (new ≡ old)
+Squeezes old (Err Device) new = IsReady old × (HasMissed old new ⊎ HasFailed (record old { reads = new.reads }) new)
+Squeezes old (Err Stopped) new = HasStopped old new
+Squeezes old (Err Memory) new = IsReady old × (new ≡ old)
+Squeezes old (Err fault) new = ⊥

@@ -1,10 +1,10 @@
 -- What the blocks are where a directory is written.
-use Rattle.std.specs.Prelude.{◌≡◌, ℕ, zero, suc, List, length, drop, slice_set, Result, Ok, Err}
+use Rattle.std.specs.Prelude.{◌≡◌, ◌⊎◌, ◌-◌, take, ℕ, zero, suc, List, [], ◌∷◌, length, drop, slice_set, Result, Ok, Err}
 use Rattle.os8_dir.specs.Entries.{Listed}
 use Rattle.os8_dir.specs.Reading.{directory_of}
 use Rattle.os8_dir.specs.Segments.{segment_count, segment_of}
 use Rattle.os8_files.specs.Mounted.{Mounted}
-use Rattle.os8_files.specs.Calls.{HasFailed}
+use Rattle.os8_files.specs.Calls.{HasFailed, HasMissed}
 use Rattle.os8_files.specs.declared.faults.FileFault.{FileFault}
 use Rattle.os8_files.specs.declared.faults.FileFault.TheVariants.{NotFound, NoRoom, DirectoryFull, Busy, BadName, TooLong, TentativeOpen, Device, Stopped, Memory, NothingWritten}
 
@@ -24,3 +24,15 @@ abbrev pub Rewrites : Mounted → Listed → Result (Unit {0}) FileFault → Mou
 Rewrites old d (Ok done) new = HasDirectory old d new
 Rewrites old d (Err Device) new = HasFailed old new
 Rewrites old d (Err fault) new = ⊥
+
+-- blocks are written one behind the other from a place on
+abbrev pub with_run : List (List ℕ) → ℕ → List (List ℕ) → List (List ℕ)
+with_run blocks place [] = blocks
+with_run blocks place (words ∷ run) = with_run (slice_set blocks place words) (suc place) run
+
+-- a run of blocks is copied so many blocks down
+abbrev pub Copies : Mounted → ℕ → ℕ → ℕ → Result (Unit {0}) FileFault → Mounted → Type 0
+Copies old place size gap (Ok done) new = (new.blocks ≡ with_run old.blocks (place - gap) (take size (drop place old.blocks))) × (new ≡ record old { blocks = new.blocks; reads = new.reads })
+Copies old place size gap (Err Device) new = HasMissed old new ⊎ HasFailed (record old { reads = new.reads }) new
+Copies old place size gap (Err Memory) new = new ≡ old
+Copies old place size gap (Err fault) new = ⊥

@@ -6,6 +6,7 @@
 #![tactic(auto)]
 
 mod begun;
+mod copying;
 mod faults;
 mod holds;
 mod lengths;

@@ -20,6 +20,7 @@ use volume_image::BlockStore;
 use word12::Word;
 
 mod changes;
+mod squeezing;
 mod writing;
 
 /// The files of a sound volume.

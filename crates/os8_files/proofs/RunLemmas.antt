@@ -1,0 +1,106 @@
+-- What blocks hold where a run of blocks is written to them.
+use Rattle.std.proofs.Common.{◌≡◌, ◌≢◌, ℕ, zero, suc, ◌+◌, ◌-◌, ◌<◌, ◌≤◌, ◌==◌, if◌then◌else◌, Bool, true, false, eqb, List, [], ◌∷◌, ◌++◌, length, take, drop, get_or, slice_set, Option, Some, None, refl, ap, sym, ◌∙◌, arith, inl, inr, append_assoc, get_or-set_other}
+use Rattle.std.specs.Prelude.{◌⊎◌}
+use Rattle.std.proofs.Math.ListN.{length-set}
+use Rattle.std.proofs.Math.Seq.{take-append_seam, drop-append_seam, sets}
+use Rattle.std.proofs.lemmas.List.Edits.{sets-eq}
+use Rattle.std.proofs.lemmas.List.{length-take-le}
+use Rattle.std.proofs.lemmas.Bool.{true≢false}
+use Rattle.std.proofs.lemmas.Bool.Decides.{eqb_tells}
+use Rattle.std.proofs.lemmas.List.{take_more}
+use Rattle.std.proofs.lemmas.Grind.{take-set_at}
+use Rattle.os8_dir.specs.Reading.{block}
+use Rattle.os8_dir.specs.Found.{Placed, AreApart, find}
+use Rattle.os8_dir.specs.Files.{joined, run}
+use Rattle.os8_files.specs.Written.{with_run}
+use Rattle.os8_files.proofs.RoomLemmas.{run-other}
+use Rattle.os8_files.proofs.CallLemmas.{find-from}
+
+pub with_run-more : (blocks : List (List ℕ)) (place : ℕ) (ws : List (List ℕ)) (w : List ℕ) → with_run blocks place (ws ++ w ∷ []) ≡ slice_set (with_run blocks place ws) (place + length ws) w
+with_run-more blocks place [] w = let e : place ≡ place + 0 = omega arith in ap (λ p. slice_set blocks p w) e
+with_run-more blocks place (x ∷ ws) w =
+    let e : suc place + length ws ≡ place + length (x ∷ ws) = omega arith in
+    with_run-more (slice_set blocks place x) (suc place) ws w ∙ ap (λ p. slice_set (with_run (slice_set blocks place x) (suc place) ws) p w) e
+
+pub length-with_run : (blocks : List (List ℕ)) (place : ℕ) (ws : List (List ℕ)) → length (with_run blocks place ws) ≡ length blocks
+length-with_run blocks place [] = refl
+length-with_run blocks place (x ∷ ws) = length-with_run (slice_set blocks place x) (suc place) ws ∙ length-set blocks place x
+
+pub block-with_run : (blocks : List (List ℕ)) (place : ℕ) (ws : List (List ℕ)) (k : ℕ) → k < place → block (with_run blocks place ws) k ≡ block blocks k
+block-with_run blocks place [] k low = refl
+block-with_run blocks place (x ∷ ws) k low = block-with_run (slice_set blocks place x) (suc place) ws k (omega (arith, low)) ∙ get_or-set_other blocks place k x [] (omega (arith, low))
+
+pub run-beside : (blocks : List (List ℕ)) (place : ℕ) (ws : List (List ℕ)) (from size : ℕ) → (from + size ≤ place) ⊎ (place + length ws ≤ from) → run (with_run blocks place ws) from size ≡ run blocks from size
+run-beside blocks place [] from size apart = refl
+run-beside blocks place (x ∷ ws) from size apart =
+    elim apart [
+      | inl low ↦ run-beside (slice_set blocks place x) (suc place) ws from size (inl (omega (arith, low))) ∙ run-other blocks place from size x (inl low)
+      | inr up ↦ let behind : suc place + length ws ≤ from = omega (arith, up) in run-beside (slice_set blocks place x) (suc place) ws from size (inr behind) ∙ run-other blocks place from size x (inr (omega (arith, behind)))
+    ]
+
+with_run-sets : (blocks : List (List ℕ)) (place : ℕ) (ws : List (List ℕ)) → with_run blocks place ws ≡ sets blocks place ws
+with_run-sets blocks place [] = refl
+with_run-sets blocks place (x ∷ ws) = with_run-sets (slice_set blocks place x) (suc place) ws
+
+seam : {A : Type 0} (n : ℕ) (front ws rest : List A) → length front ≡ n → take (length ws) (drop n (front ++ ws ++ rest)) ≡ ws
+seam n front ws rest long =
+    ap (λ j. take (length ws) (drop j (front ++ ws ++ rest))) (sym long)
+    ∙ ap (λ xs. take (length ws) (drop (length front) xs)) (append_assoc front ws rest)
+    ∙ ap (take (length ws)) (drop-append_seam front (ws ++ rest))
+    ∙ take-append_seam ws rest
+
+pub run-written : (blocks : List (List ℕ)) (place : ℕ) (ws : List (List ℕ)) → place + length ws ≤ length blocks → run (with_run blocks place ws) place (length ws) ≡ joined ws
+run-written blocks place ws inside =
+    ap (λ bs. joined (take (length ws) (drop place bs))) (with_run-sets blocks place ws ∙ sets-eq ws blocks place inside)
+    ∙ ap joined (seam place (take place blocks) ws (drop (place + length ws) blocks) (length-take-le place blocks (omega (arith, inside))))
+
+-- Files that lie apart.
+pub find-some : (name from bound : ℕ) (files : List Placed) (f : Placed) → AreApart from bound files → find name files ≡ Some f → 0 < f.size
+find-some name from bound [] f apart found = cc
+find-some name from bound (g ∷ gs) f apart found =
+    (elim (g.name == name) as (λ b. (if b then Some g else find name gs) ≡ Some f → 0 < f.size) [
+      | true ↦ λ here. let same : g ≡ f = cc in omega (arith, apart.1, ap (λ (p : Placed). p.size) same)
+      | false ↦ λ behind. find-some name (g.place + g.size) bound gs f apart.2 behind
+    ]) found
+
+head-found : (b : Bool) (h : Placed) (rest : Option Placed) (f : Placed) → b ≡ true → (if b then Some h else rest) ≡ Some f → h ≡ f
+head-found true h rest f e found = cc
+head-found false h rest f e found = absurd (true≢false (sym e))
+
+tail-found : (b : Bool) (h : Placed) (rest : Option Placed) (f : Placed) → b ≡ false → (if b then Some h else rest) ≡ Some f → rest ≡ Some f
+tail-found true h rest f e found = absurd (true≢false e)
+tail-found false h rest f e found = found
+
+pub two-apart : (one two from bound : ℕ) (files : List Placed) (f g : Placed) → one ≢ two → AreApart from bound files → find one files ≡ Some f → find two files ≡ Some g → (g.place + g.size ≤ f.place) ⊎ (f.place + f.size ≤ g.place)
+two-apart one two from bound [] f g differ apart first second = cc
+two-apart one two from bound (h ∷ hs) f g differ apart first second =
+    (elim (eqb_tells h.name one) [
+      | inl here ↦ elim (eqb_tells h.name two) [
+        | inl also ↦ absurd (differ (sym here.1 ∙ also.1))
+        | inr apart' ↦
+            let f-is : h ≡ f = head-found (eqb h.name one) h (find one hs) f here.0 first in
+            let behind = find-from two (h.place + h.size) bound hs g apart.2 (tail-found (eqb h.name two) h (find two hs) g apart'.0 second) in
+            inr (omega (arith, behind, ap (λ (p : Placed). p.place + p.size) f-is))
+      ]
+      | inr other ↦ elim (eqb_tells h.name two) [
+        | inl here ↦
+            let g-is : h ≡ g = head-found (eqb h.name two) h (find two hs) g here.0 second in
+            let behind = find-from one (h.place + h.size) bound hs f apart.2 (tail-found (eqb h.name one) h (find one hs) f other.0 first) in
+            inl (omega (arith, behind, ap (λ (p : Placed). p.place + p.size) g-is))
+        | inr apart' ↦ two-apart one two (h.place + h.size) bound hs f g differ apart.2 (tail-found (eqb h.name one) h (find one hs) f other.0 first) (tail-found (eqb h.name two) h (find two hs) g apart'.0 second)
+      ]
+    ])
+
+-- One block more of a run.
+pub read-more : (xs ys : List (List ℕ)) (k : ℕ) (w : List ℕ) → k < length xs → k < length ys → take k xs ≡ take k ys → get_or ys k [] ≡ w → take (k + 1) (slice_set xs k w) ≡ take (k + 1) ys
+read-more xs ys k w inside within same at =
+    take-set_at xs k (k + 1) w refl inside
+    ∙ ap (λ zs. zs ++ w ∷ []) same
+    ∙ ap (λ v. take k ys ++ v ∷ []) (sym at)
+    ∙ sym (take_more ys k [] within)
+
+pub write-more : (blocks : List (List ℕ)) (place k : ℕ) (ws : List (List ℕ)) → k < length ws → with_run blocks place (take (k + 1) ws) ≡ slice_set (with_run blocks place (take k ws)) (place + k) (get_or ws k [])
+write-more blocks place k ws inside =
+    ap (with_run blocks place) (take_more ws k [] inside)
+    ∙ with_run-more blocks place (take k ws) (get_or ws k [])
+    ∙ ap (λ n. slice_set (with_run blocks place (take k ws)) (place + n) (get_or ws k [])) (length-take-le k ws (omega (arith, inside)))

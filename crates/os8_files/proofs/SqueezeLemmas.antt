@@ -1,0 +1,102 @@
+-- What is left where a file is moved down.
+use Rattle.std.proofs.Common.{◌≡◌, ◌≢◌, ℕ, ◌+◌, ◌-◌, ◌<◌, ◌≤◌, List, length, take, drop, Option, Some, None, Ok, refl, ap, sym, subst, ◌∙◌, arith, inl, inr}
+use Rattle.std.specs.Prelude.{◌⊎◌}
+use Rattle.std.specs.FinMap.{get}
+use Rattle.std.proofs.lemmas.List.{length-take-le, length-drop}
+use Rattle.std.proofs.lemmas.Bool.Decides.{eqb_tells}
+use Rattle.os8_dir.specs.declared.entries.DirEntry.{DirEntry}
+use Rattle.os8_dir.specs.Entries.{Listed, capacity, total, IsTidy}
+use Rattle.os8_dir.specs.Reading.{directory_of, block}
+use Rattle.os8_dir.specs.Found.{Placed, IsDirectory, files_at, rooms_at, find, extent_of, limit, above}
+use Rattle.os8_dir.specs.Files.{files_of, held_of, run, limit_of, capacity_of, above_of}
+use Rattle.os8_dir.specs.Changes.{moved_down, relisted, lowest_above, gap_below, lowered, IsRoom}
+use Rattle.os8_files.specs.Mounted.{Mounted}
+use Rattle.os8_files.specs.Calls.{IsReady, HasMoved, lowest_or, extent_or, lower}
+use Rattle.os8_files.specs.Written.{HasDirectory, with_run}
+use Rattle.os8_files.proofs.LookupLemmas.{find_within}
+use Rattle.os8_files.proofs.MapLemmas.{files-same}
+use Rattle.os8_files.proofs.WrittenLemmas.{run-high, held-kept}
+use Rattle.os8_files.proofs.SteadyLemmas.{same-directory}
+use Rattle.os8_files.proofs.RoomLemmas.{room-inside}
+use Rattle.os8_files.proofs.CallLemmas.{FindsFiles, find-from}
+use Rattle.os8_files.proofs.PlaceLemmas.{LieInside, LieOutside}
+use Rattle.os8_files.proofs.RunLemmas.{length-with_run, block-with_run, run-beside, run-written, two-apart, find-some}
+
+pub run-directory : (blocks : List (List ℕ)) (place : ℕ) (ws : List (List ℕ)) → 7 ≤ place → directory_of (with_run blocks place ws) ≡ directory_of blocks
+run-directory blocks place ws high = same-directory blocks (with_run blocks place ws) (length-with_run blocks place ws) (λ k low. block-with_run blocks place ws k (omega (arith, low, high)))
+
+-- the file that is moved, with the empty below it
+abbrev pub LiesAbove : Listed → ℕ → ℕ → Type 0
+LiesAbove d name gap = (f : Placed) × ((find name (files_at d.first d.entries) ≡ Some f) × (gap ≤ f.place) × IsRoom (f.place - gap) gap (rooms_at d.first d.entries))
+
+pub lies-above : (gaps : (es : List DirEntry) (name gap : ℕ) → IsTidy es → lowest_above es ≡ Some (name, gap) → (0 < gap) × (gap_below name es ≡ gap))
+    → (found : (volume name : ℕ) (d : Listed) → IsDirectory volume d → 0 < gap_below name d.entries → (f : Placed) × ((find name (files_at d.first d.entries) ≡ Some f) × (gap_below name d.entries ≤ f.place) × IsRoom (f.place - gap_below name d.entries) (gap_below name d.entries) (rooms_at d.first d.entries)))
+    → (volume name gap : ℕ) (d : Listed) → IsDirectory volume d → lowest_above d.entries ≡ Some (name, gap) → LiesAbove d name gap
+lies-above gaps found volume name gap d is low =
+    let g = gaps d.entries name gap is.neat low in
+    subst (λ n. LiesAbove d name n) g.1 (found volume name d is (omega (arith, g.0, g.1)))
+
+extent-lowered : (gap : ℕ) (o : Option Placed) → extent_of (lowered gap o) ≡ lower gap (extent_of o)
+extent-lowered gap None = refl
+extent-lowered gap (Some f) = refl
+
+pub moved-file : (finds : FindsFiles) (lie : LieInside) (outside : LieOutside)
+    → (limits : (blocks : List (List ℕ)) (d : Listed) → directory_of blocks ≡ Ok d → limit_of blocks ≡ limit d)
+    → (covers : (blocks : List (List ℕ)) (d : Listed) → directory_of blocks ≡ Ok d → capacity_of blocks ≡ capacity d)
+    → (aboves : (blocks : List (List ℕ)) (d : Listed) → directory_of blocks ≡ Ok d → above_of blocks ≡ above d.entries)
+    → (gaps : (es : List DirEntry) (name gap : ℕ) → IsTidy es → lowest_above es ≡ Some (name, gap) → (0 < gap) × (gap_below name es ≡ gap))
+    → (fewer : (es : List DirEntry) (name gap : ℕ) → IsTidy es → lowest_above es ≡ Some (name, gap) → above (moved_down name es) + 1 ≡ above es)
+    → (there : (volume name : ℕ) (d : Listed) → IsDirectory volume d → 0 < gap_below name d.entries → find name (files_at d.first (moved_down name d.entries)) ≡ lowered (gap_below name d.entries) (find name (files_at d.first d.entries)))
+    → (others : (name other first : ℕ) (es : List DirEntry) → name ≢ other → find other (files_at first (moved_down name es)) ≡ find other (files_at first es))
+    → (covered : (name : ℕ) (es : List DirEntry) → total (moved_down name es) ≡ total es)
+    → (old mid new : Mounted) (d : Listed) (name gap : ℕ) → IsReady old → directory_of old.blocks ≡ Ok d → IsDirectory (length old.blocks) d → lowest_above d.entries ≡ Some (name, gap)
+    → (r : LiesAbove d name gap) → mid.blocks ≡ with_run old.blocks (r.0.place - gap) (take r.0.size (drop r.0.place old.blocks)) → mid ≡ record old { blocks = mid.blocks; reads = mid.reads }
+    → HasDirectory mid (relisted d (moved_down name d.entries)) new → HasMoved old name new
+moved-file finds lie outside limits covers aboves gaps fewer there others covered old mid new d name gap ready kept is low r copied same done =
+    let f = r.0 in
+    let fs = files_at d.first d.entries in
+    let d' = relisted d (moved_down name d.entries) in
+    let ws = take f.size (drop f.place old.blocks) in
+    let to = f.place - gap in
+    let g = gaps d.entries name gap is.neat low in
+    let within = find_within name d.first (length old.blocks) fs f is.apart r.1.0 in
+    let inside = room-inside to gap d.first d.entries r.1.2 in
+    let below = r.1.1 in
+    let high : 7 ≤ to = omega (arith, inside.0, is.starts) in
+    let long : length ws ≡ f.size = length-take-le f.size (drop f.place old.blocks) (omega (arith, length-drop f.place old.blocks, within)) in
+    let lain = lie to gap to gap (rooms_at d.first d.entries) r.1.2 (omega arith) (omega arith) in
+    let lies : find name (files_at d.first (moved_down name d.entries)) ≡ lowered gap (find name fs) = subst (λ n. find name (files_at d.first (moved_down name d.entries)) ≡ lowered n (find name fs)) g.1 (there (length old.blocks) name d is (omega (arith, g.0, g.1))) in
+    let moved : run new.blocks to f.size ≡ run old.blocks f.place f.size =
+    run-high mid.blocks new.blocks to f.size done.high high
+    ∙ ap (λ bs. run bs to f.size) copied
+    ∙ ap (λ n. run (with_run old.blocks to ws) to n) (sym long)
+    ∙ run-written old.blocks to ws (omega (arith, long, within, below)) in
+    record {
+      ready = ready;
+      gap = gap;
+      lowest = ap lowest_or kept ∙ low;
+      moved = ap (extent_or name) done.read ∙ ap extent_of lies ∙ extent-lowered gap (find name fs) ∙ ap (lower gap) (sym (ap (extent_or name) kept));
+      places = λ other differ. ap (extent_or other) done.read ∙ ap extent_of (others name other d.first d.entries differ) ∙ sym (ap (extent_or other) kept);
+      files = files-same (files_of old.blocks) (files_of new.blocks) (λ q. elim (eqb_tells name q) [
+        | inl p ↦ ap (get (files_of new.blocks)) (sym p.1)
+            ∙ finds new.blocks d' name done.read ∙ ap (held_of new.blocks d.info) (lies ∙ ap (lowered gap) r.1.0)
+            ∙ ap (λ words. Some (take d.info f.info, words)) moved
+            ∙ sym (finds old.blocks d name kept ∙ ap (held_of old.blocks d.info) r.1.0)
+            ∙ ap (get (files_of old.blocks)) p.1
+        | inr p ↦ finds new.blocks d' q done.read ∙ ap (held_of new.blocks d.info) (others name q d.first d.entries p.1)
+            ∙ held-kept old.blocks new.blocks d.info (find q fs) (λ h found.
+            let from = find-from q d.first (length old.blocks) fs h is.apart found in
+            let some = find-some q d.first (length old.blocks) fs h is.apart found in
+            run-high mid.blocks new.blocks h.place h.size done.high (omega (arith, from, is.starts))
+            ∙ ap (λ bs. run bs h.place h.size) copied
+            ∙ run-beside old.blocks to ws h.place h.size (elim (two-apart name q d.first (length old.blocks) fs f h p.1 is.apart r.1.0 found) [
+              | inl lower' ↦ elim (outside to gap q d.first d.entries h lain found) [ inl under ↦ inl under | inr over ↦ absurd (omega (arith, over, lower', some, below)) ]
+              | inr higher ↦ inr (omega (arith, higher, long, below))
+            ]))
+            ∙ sym (finds old.blocks d q kept)
+      ]);
+      above = omega (arith, aboves new.blocks d' done.read, fewer d.entries name gap is.neat low, aboves old.blocks d kept);
+      capacity = covers new.blocks d' done.read ∙ covered name d.entries ∙ sym (covers old.blocks d kept);
+      limit = limits new.blocks d' done.read ∙ sym (limits old.blocks d kept);
+      others = done.others ∙ ap (λ (m : Mounted). record m { blocks = new.blocks }) same ∙ ap (λ n. record old { blocks = new.blocks; reads = n }) (sym (ap (λ (m : Mounted). m.reads) done.others));
+    }

@@ -1,0 +1,23 @@
+use Rattle.std.proofs.Common.{◌≡◌, ◌+◌, List, ℕ, length, take, get_or, slice_set, [], refl, ap, sym, ◌∙◌, arith}
+use Rattle.std.proofs.lemmas.List.{get_or_default}
+use Rattle.os8_files.specs.Written.{with_run}
+use Rattle.os8_files.proofs.RunLemmas.{length-with_run, write-more}
+use Rattle.os8_files.proofs.copying.write_run.Goals as goal
+
+pub write-written-requires : goal.write-written-requires
+write-written-requires g c =
+    let old = g.S.BlockStore.contents c.args.store.now in
+    omega (arith, c.requires, c.loop-k-test.true, ap (λ (bs : List (List ℕ)). length bs) c.loop-k.invariant.contents, length-with_run old c.args.place (take c.loop-k.k c.args.run.now))
+
+pub loop-k-preserved : goal.loop-k-preserved
+loop-k-preserved g c =
+    let old = g.S.BlockStore.contents c.args.store.now in
+    let i = c.loop-k.invariant in
+    let at : c.index-run-k.result ≡ get_or c.args.run.now c.loop-k.k [] = c.index-run-k.is ∙ get_or_default c.args.run.now c.loop-k.k c.index-run-k.result [] c.loop-k-test.true in
+    record {
+      contents = c.in-Ok.ensures.ok ∙ ap (λ bs. slice_set bs (c.args.place + c.loop-k.k) c.index-run-k.result) i.contents ∙ ap (λ w. slice_set (with_run old c.args.place (take c.loop-k.k c.args.run.now)) (c.args.place + c.loop-k.k) w) at ∙ sym (write-more old c.args.place c.loop-k.k c.args.run.now c.loop-k-test.true);
+      volume = c.blocks-blocks-in-loop-k.ensures.volume;
+      reads = c.in-Ok.ensures.reads ∙ i.reads;
+      failed_reads = c.in-Ok.ensures.failed_reads ∙ i.failed_reads;
+      failed_writes = c.in-Ok.ensures.failed_writes ∙ i.failed_writes;
+    }

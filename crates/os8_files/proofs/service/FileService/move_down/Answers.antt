@@ -1,0 +1,123 @@
+use Rattle.std.proofs.Common.{◌≡◌, ℕ, ◌-◌, ◌+◌, ◌<◌, ◌≤◌, false, List, length, take, drop, Some, None, Ok, refl, ap, sym, subst, ◌∙◌, arith}
+use Rattle.os8_dir.specs.Entries.{Listed}
+use Rattle.os8_dir.specs.Reading.{directory_of}
+use Rattle.os8_dir.specs.Found.{IsDirectory, files_at, find, extent_of}
+use Rattle.os8_dir.specs.Changes.{lowest_above, moved_down, relisted}
+use Rattle.os8_files.specs.Mounted.{Mounted}
+use Rattle.os8_files.specs.Calls.{lowest_or}
+use Rattle.os8_files.specs.Written.{HasDirectory, with_run}
+use Rattle.os8_files.proofs.LookupLemmas.{find_within}
+use Rattle.os8_files.proofs.CallLemmas.{extent-at}
+use Rattle.os8_files.proofs.RoomLemmas.{room-inside}
+use Rattle.os8_files.proofs.RunLemmas.{length-with_run}
+use Rattle.os8_files.proofs.SqueezeLemmas.{lies-above, moved-file}
+use Rattle.os8_files.proofs.service.FileService.move_down.Goals as goal
+
+pub moved_down-requires : goal.moved_down-requires
+moved_down-requires g c =
+    let blocks = g.S.BlockStore.contents c.self.inside.store in
+    let old = c.args.self.now in
+    let d = c.self.inside.directory in
+    let name = c.args.name in
+    let gap = c.args.gap in
+    let same : old.blocks ≡ blocks = ap (λ (m : Mounted). m.blocks) (sym c.self.view_is) in
+    let running : c.self.inside.stopped ≡ false = ap (λ (m : Mounted). m.stopped) c.self.view_is ∙ c.requires.ready.running in
+    let kept : directory_of old.blocks ≡ Ok d = subst (λ bs. directory_of bs ≡ Ok d) (sym same) (c.self.invariant.kept running) in
+    let is = c.sound_directory.ensures old.blocks d kept in
+    let low : lowest_above d.entries ≡ Some (name, gap) = sym (ap lowest_or kept) ∙ c.requires.lowest in
+    let up = c.lowest_file.ensures.gap d.entries name gap is.neat low in
+    record { gap = omega (arith, up.0, up.1) }
+
+pub unreachable-requires : goal.unreachable-requires
+unreachable-requires g c =
+    let blocks = g.S.BlockStore.contents c.self.inside.store in
+    let old = c.args.self.now in
+    let d = c.self.inside.directory in
+    let name = c.args.name in
+    let gap = c.args.gap in
+    let same : old.blocks ≡ blocks = ap (λ (m : Mounted). m.blocks) (sym c.self.view_is) in
+    let running : c.self.inside.stopped ≡ false = ap (λ (m : Mounted). m.stopped) c.self.view_is ∙ c.requires.ready.running in
+    let kept : directory_of old.blocks ≡ Ok d = subst (λ bs. directory_of bs ≡ Ok d) (sym same) (c.self.invariant.kept running) in
+    let is = c.sound_directory.ensures old.blocks d kept in
+    let low : lowest_above d.entries ≡ Some (name, gap) = sym (ap lowest_or kept) ∙ c.requires.lowest in
+    let r = lies-above c.lowest_file.ensures.gap c.file_moved_down.ensures.found (length old.blocks) name gap d is low in
+    let there = ap extent_of (sym r.1.0) ∙ sym c.find.ensures ∙ c.in-None.is in
+    cc
+
+pub copy_down-requires-clause-high : goal.copy_down-requires-clause-high
+copy_down-requires-clause-high g c =
+    let blocks = g.S.BlockStore.contents c.self.inside.store in
+    let old = c.args.self.now in
+    let d = c.self.inside.directory in
+    let name = c.args.name in
+    let gap = c.args.gap in
+    let same : old.blocks ≡ blocks = ap (λ (m : Mounted). m.blocks) (sym c.self.view_is) in
+    let running : c.self.inside.stopped ≡ false = ap (λ (m : Mounted). m.stopped) c.self.view_is ∙ c.requires.ready.running in
+    let kept : directory_of old.blocks ≡ Ok d = subst (λ bs. directory_of bs ≡ Ok d) (sym same) (c.self.invariant.kept running) in
+    let is = c.sound_directory.ensures old.blocks d kept in
+    let low : lowest_above d.entries ≡ Some (name, gap) = sym (ap lowest_or kept) ∙ c.requires.lowest in
+    let r = lies-above c.lowest_file.ensures.gap c.file_moved_down.ensures.found (length old.blocks) name gap d is low in
+    let at = extent-at r.0 c.in-Some.place c.in-Some.size (ap extent_of (sym r.1.0) ∙ sym c.find.ensures ∙ c.in-Some.is) in
+    let within = find_within name d.first (length old.blocks) (files_at d.first d.entries) r.0 is.apart r.1.0 in
+    let inside = room-inside (r.0.place - gap) gap d.first d.entries r.1.2 in
+    omega (arith, inside.0, is.starts, at.0, r.1.1)
+
+pub copy_down-requires-clause-inside : goal.copy_down-requires-clause-inside
+copy_down-requires-clause-inside g c =
+    let blocks = g.S.BlockStore.contents c.self.inside.store in
+    let old = c.args.self.now in
+    let d = c.self.inside.directory in
+    let name = c.args.name in
+    let gap = c.args.gap in
+    let same : old.blocks ≡ blocks = ap (λ (m : Mounted). m.blocks) (sym c.self.view_is) in
+    let running : c.self.inside.stopped ≡ false = ap (λ (m : Mounted). m.stopped) c.self.view_is ∙ c.requires.ready.running in
+    let kept : directory_of old.blocks ≡ Ok d = subst (λ bs. directory_of bs ≡ Ok d) (sym same) (c.self.invariant.kept running) in
+    let is = c.sound_directory.ensures old.blocks d kept in
+    let low : lowest_above d.entries ≡ Some (name, gap) = sym (ap lowest_or kept) ∙ c.requires.lowest in
+    let r = lies-above c.lowest_file.ensures.gap c.file_moved_down.ensures.found (length old.blocks) name gap d is low in
+    let at = extent-at r.0 c.in-Some.place c.in-Some.size (ap extent_of (sym r.1.0) ∙ sym c.find.ensures ∙ c.in-Some.is) in
+    let within = find_within name d.first (length old.blocks) (files_at d.first d.entries) r.0 is.apart r.1.0 in
+    let inside = room-inside (r.0.place - gap) gap d.first d.entries r.1.2 in
+    omega (arith, within, at.0, at.1)
+
+pub rewrite-requires-clause-sound : goal.rewrite-requires-clause-sound
+rewrite-requires-clause-sound g c =
+    let blocks = g.S.BlockStore.contents c.self.inside.store in
+    let old = c.args.self.now in
+    let d = c.self.inside.directory in
+    let name = c.args.name in
+    let gap = c.args.gap in
+    let same : old.blocks ≡ blocks = ap (λ (m : Mounted). m.blocks) (sym c.self.view_is) in
+    let running : c.self.inside.stopped ≡ false = ap (λ (m : Mounted). m.stopped) c.self.view_is ∙ c.requires.ready.running in
+    let kept : directory_of old.blocks ≡ Ok d = subst (λ bs. directory_of bs ≡ Ok d) (sym same) (c.self.invariant.kept running) in
+    let is = c.sound_directory.ensures old.blocks d kept in
+    let low : lowest_above d.entries ≡ Some (name, gap) = sym (ap lowest_or kept) ∙ c.requires.lowest in
+    let copied = c.in_ok-copy_down-in-Some.ensures in
+    let long : length c.copy_down.new.self.blocks ≡ length old.blocks = ap (λ (bs : List (List ℕ)). length bs) copied.0 ∙ length-with_run old.blocks (c.in-Some.place - gap) (take c.in-Some.size (drop c.in-Some.place old.blocks)) in
+    subst (λ n. IsDirectory n c.in-Ok.directory) (sym long) (subst (λ (x : Listed). IsDirectory (length old.blocks) x) (sym c.in-Ok.ensures.list) (c.file_moved_down.ensures.directory (length old.blocks) name d is))
+
+pub returns-in_ok-rewrite-in-Some : goal.returns-in_ok-rewrite-in-Some
+returns-in_ok-rewrite-in-Some g c =
+    let blocks = g.S.BlockStore.contents c.self.inside.store in
+    let old = c.args.self.now in
+    let d = c.self.inside.directory in
+    let name = c.args.name in
+    let gap = c.args.gap in
+    let same : old.blocks ≡ blocks = ap (λ (m : Mounted). m.blocks) (sym c.self.view_is) in
+    let running : c.self.inside.stopped ≡ false = ap (λ (m : Mounted). m.stopped) c.self.view_is ∙ c.requires.ready.running in
+    let kept : directory_of old.blocks ≡ Ok d = subst (λ bs. directory_of bs ≡ Ok d) (sym same) (c.self.invariant.kept running) in
+    let is = c.sound_directory.ensures old.blocks d kept in
+    let low : lowest_above d.entries ≡ Some (name, gap) = sym (ap lowest_or kept) ∙ c.requires.lowest in
+    let r = lies-above c.lowest_file.ensures.gap c.file_moved_down.ensures.found (length old.blocks) name gap d is low in
+    let at = extent-at r.0 c.in-Some.place c.in-Some.size (ap extent_of (sym r.1.0) ∙ sym c.find.ensures ∙ c.in-Some.is) in
+    let within = find_within name d.first (length old.blocks) (files_at d.first d.entries) r.0 is.apart r.1.0 in
+    let inside = room-inside (r.0.place - gap) gap d.first d.entries r.1.2 in
+    let copied = c.in_ok-copy_down-in-Some.ensures in
+    let mid = c.copy_down.new.self in
+    let put : mid.blocks ≡ with_run old.blocks (r.0.place - gap) (take r.0.size (drop r.0.place old.blocks)) = copied.0
+    ∙ ap (λ p. with_run old.blocks (p - gap) (take c.in-Some.size (drop p old.blocks))) (sym at.0)
+    ∙ ap (λ n. with_run old.blocks (r.0.place - gap) (take n (drop r.0.place old.blocks))) (sym at.1) in
+    moved-file c.files_found.ensures c.rooms.ensures.lie c.rooms.ensures.outside c.directory_numbers.ensures.limit c.directory_numbers.ensures.capacity c.directory_numbers.ensures.above
+    c.lowest_file.ensures.gap c.lowest_file.ensures.fewer c.file_moved_down.ensures.there c.file_moved_down.ensures.others c.file_moved_down.ensures.covered
+    old mid c.rewrite.new.self d name gap c.requires.ready kept is low r put copied.1
+    (subst (λ (x : Listed). HasDirectory mid x c.rewrite.new.self) c.in-Ok.ensures.list c.in_ok-rewrite-in-Some.ensures)

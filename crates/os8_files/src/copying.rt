@@ -1,0 +1,63 @@
+//! Runs of blocks, read and written in rising order.
+ghost use Rattle.std.specs.Prelude.{◌≡◌, ◌+◌, ◌≤◌, length, take, drop, is_ok, if◌then◌else◌, IfOk, OnOk, MatchResult, IfErr};
+ghost use Rattle.volume_image.specs.Volume.{IsVolume};
+ghost use Rattle.os8_files.specs.Written.{with_run};
+
+use std::alloc::{AllocError, Global};
+use volume_image::{BlockStore, DeviceFault};
+use word12::Word;
+
+/// Room for so many blocks.
+pub(crate) fn blank_run(alloc: Global, size: usize) -> Result<Vec<[Word; 256]>, AllocError>
+    ensures { IfOk result (λ run. length run.items ≡ size) }
+{
+    vec![in alloc; [Word::ZERO; 256]; size]
+}
+
+/// Reads a run of blocks.
+pub(crate) fn read_run<S: BlockStore>(
+    store: &mut S,
+    place: usize,
+    run: &mut [[Word; 256]],
+) -> Result<(), DeviceFault>
+    requires { place + length run.old ≤ length (S.contents store.old) }
+    ensures ok { OnOk result (run.new ≡ take (length run.old) (drop place (S.contents store.old))) }
+    ensures same { S.contents store.new ≡ S.contents store.old }
+    ensures failed_reads { S.failed_reads store.new ≡ (if is_ok result then S.failed_reads store.old else S.failed_reads store.old + 1) }
+    ensures failed_writes { S.failed_writes store.new ≡ S.failed_writes store.old }
+{
+    let _blocks = store.blocks();
+    for k in 0..run.len() {
+        let mut words = [Word::ZERO; 256];
+        match store.read(place + k, &mut words) {
+            Ok(()) => run[k] = words,
+            Err(fault) => return Err(fault),
+        }
+    }
+    Ok(())
+}
+
+/// Writes a run of blocks.
+pub(crate) fn write_run<S: BlockStore>(
+    store: &mut S,
+    place: usize,
+    run: &[[Word; 256]],
+) -> Result<(), DeviceFault>
+    requires { place + length run.now ≤ length (S.contents store.old) }
+    ensures ok { OnOk result (S.contents store.new ≡ with_run (S.contents store.old) place run.now) }
+    ensures volume { IsVolume (S.contents store.new) }
+    ensures reads { S.reads store.new ≡ S.reads store.old }
+    ensures failed_reads { S.failed_reads store.new ≡ S.failed_reads store.old }
+    ensures failed_writes { S.failed_writes store.new ≡ (if is_ok result then S.failed_writes store.old else S.failed_writes store.old + 1) }
+{
+    let _blocks = store.blocks();
+    for k in 0..run.len() {
+        let written = store.write(place + k, &run[k]);
+        let _blocks = store.blocks();
+        match written {
+            Ok(()) => {}
+            Err(fault) => return Err(fault),
+        }
+    }
+    Ok(())
+}

@@ -1,0 +1,98 @@
+//! The moving of files to lower blocks.
+ghost use Rattle.std.specs.Prelude.{◌≡◌, ◌+◌, ◌<◌, ◌≤◌, false, None, Some, length};
+ghost use Rattle.os8_files.specs.Calls.{Squeezes, IsReady, lowest_or};
+ghost use Rattle.os8_files.specs.Written.{Copies};
+ghost use Rattle.os8_dir.specs.Reading.{directory_of};
+
+use crate::copying::{blank_run, read_run, write_run};
+use crate::{FileFault, FileService, Squeezed};
+use os8_dir::laws::{
+    directory_numbers, file_moved_down, files_found, lowest_file, rooms, sound_directory,
+};
+use os8_dir::{Directory, Name};
+use std::alloc::Global;
+use volume_image::BlockStore;
+
+impl<S: BlockStore> FileService<S> {
+    /// Moves the lowest file with an empty directly below it down by that empty's blocks, and writes the directory; where
+    /// there is none it is `Nothing` (this project's profile). A held file is moved too. While a file is written it is
+    /// `TentativeOpen`; then comes `DirectoryFull` where the new list is too long. All blocks of the file are read before
+    /// the first is written, so a read that fails changes nothing.
+    pub fn squeeze_turn(&mut self, alloc: Global) -> Result<Squeezed, FileFault>
+        ensures { Squeezes self.old result self.new }
+    {
+        if self.stopped {
+            return Err(FileFault::Stopped);
+        }
+        if self.tentative.is_some() {
+            return Err(FileFault::TentativeOpen);
+        }
+        lowest_file();
+        directory_numbers();
+        sound_directory();
+        match self.directory.lowest_above() {
+            None => Ok(Squeezed::Nothing),
+            Some((name, gap)) => self.move_down(alloc, name, gap),
+        }
+    }
+
+    /// Moves the file of a name down by the empty directly below it.
+    fn move_down(&mut self, alloc: Global, name: Name, gap: usize) -> Result<Squeezed, FileFault>
+        requires ready { IsReady self.old }
+        requires lowest { lowest_or (directory_of self.old.blocks) ≡ Some (name, gap) }
+        ensures { Squeezes self.old result self.new }
+    {
+        lowest_file();
+        directory_numbers();
+        sound_directory();
+        files_found();
+        rooms();
+        file_moved_down();
+        match self.directory.moved_down(alloc, &name) {
+            Err(_) => Err(FileFault::Memory),
+            Ok(directory) => {
+                if directory.entries().len() > directory.limit() {
+                    return Err(FileFault::DirectoryFull);
+                }
+                match self.directory.find(&name) {
+                    None => unreachable!(),
+                    Some((place, size)) => {
+                        self.copy_down(alloc, place, size, gap)?;
+                        self.rewrite(directory)?;
+                        Ok(Squeezed::Moved(name))
+                    }
+                }
+            }
+        }
+    }
+
+    /// Copies a run of blocks so many blocks down. All are read before the first is written.
+    fn copy_down(
+        &mut self,
+        alloc: Global,
+        place: usize,
+        size: usize,
+        gap: usize,
+    ) -> Result<(), FileFault>
+        requires running { self.old.stopped ≡ false }
+        requires none { self.old.tentative ≡ None }
+        requires high { 7 + gap ≤ place }
+        requires inside { place + size ≤ length self.old.blocks }
+        ensures { Copies self.old place size gap result self.new }
+    {
+        let mut run = match blank_run(alloc, size) {
+            Ok(run) => run,
+            Err(_) => return Err(FileFault::Memory),
+        };
+        if read_run(&mut self.store, place, &mut run).is_err() {
+            return Err(FileFault::Device);
+        }
+        match write_run(&mut self.store, place - gap, &run) {
+            Ok(()) => Ok(()),
+            Err(_) => {
+                self.stopped = true;
+                Err(FileFault::Device)
+            }
+        }
+    }
+}
