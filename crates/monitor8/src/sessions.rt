@@ -1,9 +1,10 @@
-ghost use Rattle.std.specs.Prelude.{◌≡◌, ℕ, ◌+◌, ◌<◌, ◌≤◌, ◌↔◌, List, [], false, None, IfOk, IfErr, OnErr, IsErrOf, ◌++◌, ◌∷◌, vec_len, vec_capacity};
+ghost use Rattle.std.specs.Prelude.{◌≡◌, ℕ, ◌+◌, ◌<◌, ◌≤◌, ◌↔◌, ◌⊎◌, List, [], false, None, IfOk, IfErr, OnErr, IsErrOf, ◌++◌, ◌∷◌, vec_len, vec_capacity};
 ghost use Rattle.os8_dir.specs.Reading.{Sound, Meets, directory_of};
 ghost use Rattle.os8_dir.specs.declared.faults.DirFault.TheVariants.{Device};
 ghost use Rattle.monitor8.specs.System.{Step, DirectStep, Run, is_memory};
 ghost use Rattle.monitor8.specs.Session.{state_of, IsQuiet, IsLater};
-ghost use Rattle.script8.specs.declared.faults.SessionFault.TheVariants.{Memory};
+ghost use Rattle.os8_files.specs.declared.faults.FileFault.TheVariants.{Stopped};
+ghost use Rattle.script8.specs.declared.faults.SessionFault.TheVariants.{File, Memory};
 
 use os8_dir::DirFault;
 use os8_files::FileService;
@@ -74,13 +75,14 @@ impl<S: BlockStore> Session<S> {
         files.into_store()
     }
 
-    /// Does an entry: one step of the system machine, where no block call fails. After `Memory` all is as before.
+    /// Does an entry: one step of the system machine, where no block call fails. After `Memory` all is as before; the
+    /// refusal `Stopped` comes only where a write has failed.
     pub fn enter(&mut self, alloc: Global, entry: Entry) -> Result<Reply, SessionFault>
         ensures step { IsQuiet self.old self.new → Step (state_of self.old) entry result (state_of self.new) }
         ensures later { IsLater self.old self.new }
         ensures running { IsQuiet self.old self.new → self.new.volume.stopped ≡ false }
         ensures memory { IsErrOf result Memory → self.new ≡ self.old }
-        ensures kind { IfErr result (λ fault. fault ≡ Memory) }
+        ensures kind { IfErr result (λ fault. (fault ≡ Memory) ⊎ (fault ≡ File Stopped)) }
     {
         self.step(alloc, &entry)
     }
@@ -119,7 +121,7 @@ impl<S: BlockStore> Session<S> {
         ensures later { IsLater self.old self.new }
         ensures running { IsQuiet self.old self.new → self.new.volume.stopped ≡ false }
         ensures memory { IsErrOf result Memory → self.new ≡ self.old }
-        ensures kind { IfErr result (λ fault. fault ≡ Memory) }
+        ensures kind { IfErr result (λ fault. (fault ≡ Memory) ⊎ (fault ≡ File Stopped)) }
     {
         match entry {
             Entry::Direct => self.direct(alloc),
@@ -129,7 +131,7 @@ impl<S: BlockStore> Session<S> {
     /// The files in name order, and the free blocks.
     fn direct(&self, alloc: Global) -> Result<Reply, SessionFault>
         ensures step { self.now.volume.stopped ≡ false → DirectStep (state_of self.now) result (state_of self.now) }
-        ensures kind { IfErr result (λ fault. fault ≡ Memory) }
+        ensures kind { IfErr result (λ fault. (fault ≡ Memory) ⊎ (fault ≡ File Stopped)) }
     {
         let files = self.files.listing(alloc)?;
         let free = self.files.free();
