@@ -88,7 +88,8 @@ lexical (lex.NU line) = At NU line
 lexical (lex.NE line) = At NE line
 lexical lex.Memory = Memory
 
--- the first fault of the first order
+-- The first fault of the first order: in the order of the source, what the lexer refuses, and what a statement is refused
+-- by the statements before it.
 abbrev pub first_order : Source → Option AsmFault
 first_order [] = None
 first_order (Err fault ∷ older) = first_of (first_order older) (Some (lexical fault))
@@ -144,7 +145,7 @@ last_line (Ok s ∷ older) = s.line
 abbrev pub no_word : Source → Option AsmFault
 no_word source = if has_word source then None else Some (At NW (last_line source))
 
--- ## The first fault of a text
+-- ## The first fault of a text: one of the first order, else the missing `$`, else that of a word, else that there is none
 
 abbrev pub fault_by : Source → Option AsmFault → Option AsmFault
 fault_by source unended = first_of (first_order source) (first_of unended (first_of (words_fault (values source) source) (no_word source)))
