@@ -4,6 +4,8 @@ use std::alloc::Global;
 use std::test::Fail;
 use word12::{Cell, Word};
 
+mod plain;
+
 /// Sources, in which a bar stands for CR and LF, each with its words and their cells, or with its first fault and the line
 /// of that, by the rules of the language.
 const SOURCES: [(&str, &str); 86] = [
