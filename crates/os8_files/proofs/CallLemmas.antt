@@ -14,7 +14,7 @@ use Rattle.os8_dir.specs.Files.{Held, files_of, held, held_of, run, limit_of, ca
 use Rattle.os8_dir.specs.Segments.{HoldsSegments, segment_count, segment_of}
 use Rattle.os8_files.specs.Mounted.{Mounted, Begun, IsKept}
 use Rattle.os8_files.specs.Service.{blocks_of}
-use Rattle.os8_files.specs.Calls.{HasFailed, IsLonger, HasRead}
+use Rattle.os8_files.specs.Calls.{HasFailed, HasBlock, HasRead}
 use Rattle.os8_files.specs.Written.{with_segments, HasDirectory, Rewrites}
 use Rattle.os8_files.specs.declared.faults.FileFault.{FileFault}
 use Rattle.os8_files.specs.declared.faults.FileFault.TheVariants.{NotFound, NoRoom, DirectoryFull, Busy, BadName, TooLong, TentativeOpen, Device, Stopped, Memory, NothingWritten}
@@ -64,7 +64,7 @@ find-from name from bound (g ∷ gs) f apart found =
 
 -- A block that is read.
 pub read-inside : (finds : FindsFiles) (m : Mounted) (d : Listed) (name k place size : ℕ) → IsVolume m.blocks → directory_of m.blocks ≡ Ok d → IsDirectory (length m.blocks) d
-    → extent_of (find name (files_at d.first d.entries)) ≡ Some (place, size) → IsLonger m name k → (k < size) × (place + size ≤ length m.blocks)
+    → extent_of (find name (files_at d.first d.entries)) ≡ Some (place, size) → HasBlock m name k → (k < size) × (place + size ≤ length m.blocks)
 read-inside finds m d name k place size volume kept is found longer =
     let f = found-some (find name (files_at d.first d.entries)) place size found in
     let within = find_within name d.first (length m.blocks) (files_at d.first d.entries) f.0 is.apart f.1 in
@@ -73,7 +73,7 @@ read-inside finds m d name k place size volume kept is found longer =
     (longer size told', omega (arith, within, f.2, f.3))
 
 pub read-done : (finds : FindsFiles) (m new : Mounted) (d : Listed) (name k place size : ℕ) (words : List ℕ) → IsVolume m.blocks → m.stopped ≡ false → directory_of m.blocks ≡ Ok d → IsDirectory (length m.blocks) d
-    → extent_of (find name (files_at d.first d.entries)) ≡ Some (place, size) → IsLonger m name k → slice_get m.blocks (place + k) ≡ Some words
+    → extent_of (find name (files_at d.first d.entries)) ≡ Some (place, size) → HasBlock m name k → slice_get m.blocks (place + k) ≡ Some words
     → new ≡ record m { reads = counted m.reads } → HasRead m name k words new
 read-done finds m new d name k place size words volume running kept is found longer read others =
     let f = found-some (find name (files_at d.first d.entries)) place size found in

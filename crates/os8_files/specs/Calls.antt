@@ -35,8 +35,12 @@ abbrev pub HasStopped : Mounted → Mounted → Type 0
 HasStopped old new = (old.stopped ≡ true) × (new ≡ old)
 
 -- the file of a name, where there is one, has more than so many blocks
+abbrev pub HasBlock : Mounted → ℕ → ℕ → Type 0
+HasBlock m name k = (size : ℕ) → blocks_of (get (files_of m.blocks) name) ≡ Some size → k < size
+
+-- the same, until a write fails
 abbrev pub IsLonger : Mounted → ℕ → ℕ → Type 0
-IsLonger m name k = (size : ℕ) → blocks_of (get (files_of m.blocks) name) ≡ Some size → k < size
+IsLonger m name k = m.stopped ≡ false → HasBlock m name k
 
 -- block k of a file is read by one read
 pub record HasRead (old : Mounted) (name k : ℕ) (words : List ℕ) (new : Mounted) : Type 0 where

@@ -8,6 +8,9 @@ use std::test::Fail;
 use volume_image::{BlockStore, CountVolume, FuseVolume, ImageFault, MemoryVolume};
 use word12::Word;
 
+mod calls;
+mod steps;
+
 /// A volume of 20 blocks whose block 1 begins with these words.
 fn volume_of(alloc: Global, words: &[u16]) -> Result<MemoryVolume, ImageFault> {
     let mut volume = MemoryVolume::create(alloc, 20)?;

@@ -16,10 +16,11 @@ overflow_add-place g c =
     let blocks = g.S.BlockStore.contents c.self.inside.store in
     let d = c.self.inside.directory in
     let old = c.args.self.now in
+    let running : old.stopped ≡ false = ap (λ (m : Mounted). m.stopped) (sym c.self.view_is) ∙ c.if-self.false in
     let same : old.blocks ≡ blocks = ap (λ (m : Mounted). m.blocks) (sym c.self.view_is) in
     let volume : IsVolume old.blocks = subst IsVolume (sym same) c.self.invariant.volume in
     let kept : directory_of old.blocks ≡ Ok d = subst (λ bs. directory_of bs ≡ Ok d) (sym same) (c.self.invariant.kept c.if-self.false) in
-    let inside = read-inside c.files_found.ensures old d c.args.name.now c.args.k c.in-Some.place c.in-Some.field-0-1 volume kept (c.sound_directory.ensures old.blocks d kept) (sym c.find.ensures ∙ c.in-Some.is) c.requires in
+    let inside = read-inside c.files_found.ensures old d c.args.name.now c.args.k c.in-Some.place c.in-Some.field-0-1 volume kept (c.sound_directory.ensures old.blocks d kept) (sym c.find.ensures ∙ c.in-Some.is) (c.requires running) in
     omega (arith, inside.0, inside.1, volume.most)
 
 pub read-requires : goal.read-requires
@@ -27,10 +28,11 @@ read-requires g c =
     let blocks = g.S.BlockStore.contents c.self.inside.store in
     let d = c.self.inside.directory in
     let old = c.args.self.now in
+    let running : old.stopped ≡ false = ap (λ (m : Mounted). m.stopped) (sym c.self.view_is) ∙ c.if-self.false in
     let same : old.blocks ≡ blocks = ap (λ (m : Mounted). m.blocks) (sym c.self.view_is) in
     let volume : IsVolume old.blocks = subst IsVolume (sym same) c.self.invariant.volume in
     let kept : directory_of old.blocks ≡ Ok d = subst (λ bs. directory_of bs ≡ Ok d) (sym same) (c.self.invariant.kept c.if-self.false) in
-    let inside = read-inside c.files_found.ensures old d c.args.name.now c.args.k c.in-Some.place c.in-Some.field-0-1 volume kept (c.sound_directory.ensures old.blocks d kept) (sym c.find.ensures ∙ c.in-Some.is) c.requires in
+    let inside = read-inside c.files_found.ensures old d c.args.name.now c.args.k c.in-Some.place c.in-Some.field-0-1 volume kept (c.sound_directory.ensures old.blocks d kept) (sym c.find.ensures ∙ c.in-Some.is) (c.requires running) in
     omega (arith, inside.0, inside.1, ap (λ (bs : List (List ℕ)). length bs) same)
 
 pub returns-in-None : goal.returns-in-None
@@ -45,12 +47,12 @@ returns-after-read g c =
     let blocks = g.S.BlockStore.contents c.self.inside.store in
     let d = c.self.inside.directory in
     let old = c.args.self.now in
+    let running : old.stopped ≡ false = ap (λ (m : Mounted). m.stopped) (sym c.self.view_is) ∙ c.if-self.false in
     let same : old.blocks ≡ blocks = ap (λ (m : Mounted). m.blocks) (sym c.self.view_is) in
     let volume : IsVolume old.blocks = subst IsVolume (sym same) c.self.invariant.volume in
     let kept : directory_of old.blocks ≡ Ok d = subst (λ bs. directory_of bs ≡ Ok d) (sym same) (c.self.invariant.kept c.if-self.false) in
-    let running : old.stopped ≡ false = ap (λ (m : Mounted). m.stopped) (sym c.self.view_is) ∙ c.if-self.false in
     elim c.match-read.branch [
-      | in-Ok w ↦ rw w.result-is (read-done c.files_found.ensures old _ d c.args.name.now c.args.k c.in-Some.place c.in-Some.field-0-1 c.read.new.words volume running kept (c.sound_directory.ensures old.blocks d kept) (sym c.find.ensures ∙ c.in-Some.is) c.requires
+      | in-Ok w ↦ rw w.result-is (read-done c.files_found.ensures old _ d c.args.name.now c.args.k c.in-Some.place c.in-Some.field-0-1 c.read.new.words volume running kept (c.sound_directory.ensures old.blocks d kept) (sym c.find.ensures ∙ c.in-Some.is) (c.requires running)
           (ap (λ bs. slice_get bs (c.in-Some.place + c.args.k)) same ∙ w.in-Ok.ensures.ok)
           (rw (← c.self.view_is, c.read.ensures.same, c.read.ensures.reads, w.in-Ok.ensures.failed_reads, c.read.ensures.failed_writes) refl))
       | in-Err w ↦ rw w.result-is (running, rw (← c.self.view_is, c.read.ensures.same, c.read.ensures.reads, w.in-Err.ensures.failed_reads, c.read.ensures.failed_writes) refl, w.in-Err.ensures.err)
