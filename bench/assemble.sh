@@ -4,9 +4,10 @@
 # how many times as fast this assembler is. Takes palbart from Debian's packages where it is missing.
 set -eu
 top=$(cd "$(dirname "${BASH_SOURCE[0]}")/.." && pwd)
+. "$top/bench/seconds.sh"
 dpkg -s palbart >/dev/null 2>&1 || { apt-get update && apt-get install -y palbart; } >&2
 ours=$top/crates/asm_bench/out/asm_bench
-[ -x "$ours" ] || (cd "$top/crates/asm_bench" && rt run <stdin >/dev/null)
+(cd "$top/crates/asm_bench" && rt run <stdin >/dev/null) 2>/dev/null
 
 folder=$(mktemp -d)
 trap 'rm -rf "$folder"' EXIT
@@ -29,16 +30,6 @@ source_of() {
     }' | sed 's/$/\r/'
 }
 
-# The processor seconds of a command, the least of five runs.
-seconds() {
-    local best= run
-    for _ in 1 2 3 4 5; do
-        TIMEFORMAT='%U %S'
-        run=$({ time "$@" >/dev/null 2>&1; } 2>&1 | awk '{ printf "%.3f", $1 + $2 }')
-        best=$(printf '%s\n%s\n' "${best:-$run}" "$run" | sort -g | head -n 1)
-    done
-    printf '%s' "$best"
-}
 run_ours() { "$ours" <"$1.pal" >"$1.tape"; }
 run_palbart() { palbart "$1.pal"; }
 

@@ -4,28 +4,19 @@
 # at once, and how many times as fast this processor is. Takes simh and palbart from Debian's packages where they are missing.
 set -eu
 top=$(cd "$(dirname "${BASH_SOURCE[0]}")/.." && pwd)
+. "$top/bench/seconds.sh"
 for package in simh palbart; do
     dpkg -s $package >/dev/null 2>&1 || { apt-get update && apt-get install -y $package; } >&2
 done
 simh=/usr/bin/pdp8
 ours=$top/crates/cpu_bench/out/cpu_bench
-[ -x "$ours" ] || (cd "$top/crates/cpu_bench" && rt run <stdin >/dev/null)
+(cd "$top/crates/cpu_bench" && rt run <stdin >/dev/null) 2>/dev/null
 
 folder=$(mktemp -d)
 trap 'rm -rf "$folder"' EXIT
 cp "$top"/bench/cpu/*.pal "$folder"
 cd "$folder"
 
-# The processor seconds of a command, the least of five runs.
-seconds() {
-    local best= run
-    for _ in 1 2 3 4 5; do
-        TIMEFORMAT='%U %S'
-        run=$({ time "$@" >/dev/null 2>&1; } 2>&1 | awk '{ printf "%.3f", $1 + $2 }')
-        best=$(printf '%s\n%s\n' "${best:-$run}" "$run" | sort -g | head -n 1)
-    done
-    printf '%s' "$best"
-}
 run_ours() { "$ours" <"$1.bin"; }
 run_simh() { "$simh" "$1.sim" </dev/null; }
 

@@ -4,6 +4,7 @@
 # memory that the program held.
 set -eu
 top=$(cd "$(dirname "${BASH_SOURCE[0]}")/.." && pwd)
+. "$top/bench/seconds.sh"
 program=$top/crates/pdp8/out/pdp8
 folder=$(mktemp -d)
 trap 'rm -rf "$folder"' EXIT
@@ -16,16 +17,7 @@ script_of() {
     yes "$1" | head -c "$2" || true
 }
 
-# The processor seconds of a script, the least of three runs.
-seconds() {
-    local best= run
-    for _ in 1 2 3; do
-        TIMEFORMAT='%U %S'
-        run=$({ time "$program" run V <"$1" >/dev/null; } 2>&1 | awk '{ printf "%.3f", $1 + $2 }')
-        best=$(printf '%s\n%s\n' "${best:-$run}" "$run" | sort -g | head -n 1)
-    done
-    printf '%s' "$best"
-}
+run_script() { "$program" run V <"$1"; }
 
 # The most memory in kilobytes of a script's run.
 memory() {
@@ -39,7 +31,7 @@ PYTHON
 for line in '' DIRECT; do
     script_of "$line" 16777216 >long
     script_of "$line" 1677721 >short
-    awk -v name="${line:-empty}" -v long="$(seconds long)" -v short="$(seconds short)" -v memory="$(memory long)" 'BEGIN {
+    awk -v name="${line:-empty}" -v long="$(seconds run_script long)" -v short="$(seconds run_script short)" -v memory="$(memory long)" 'BEGIN {
         printf "%-7s 16777216 bytes: %.1f MB/s, 1677721 bytes: %.1f MB/s, %d kB\n", name, 16.777216 / long, 1.677721 / short, memory
     }'
 done

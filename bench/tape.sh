@@ -3,6 +3,7 @@
 # numbers are alike where the time is linear in the frames. `md5sum` on the longer tape, in the same run, is the scale.
 set -eu
 top=$(cd "$(dirname "${BASH_SOURCE[0]}")/.." && pwd)
+. "$top/bench/seconds.sh"
 folder=$(mktemp -d)
 trap 'rm -rf "$folder"' EXIT
 
@@ -16,24 +17,18 @@ make_tape() {
     head -c $(($1 - leader - 2 - words - 3)) /dev/zero
 }
 
-# The processor seconds of a command on a file, the least of five runs.
-seconds() {
-    local file=$1 best= run
+run_on() {
+    local file=$1
     shift
-    for run in 1 2 3 4 5; do
-        TIMEFORMAT='%U %S'
-        run=$({ time "$@" <"$file" >/dev/null; } 2>&1 | awk '{ printf "%.3f", $1 + $2 }')
-        best=$(printf '%s\n%s\n' "${best:-$run}" "$run" | sort -g | head -n 1)
-    done
-    printf '%s' "$best"
+    "$@" <"$file"
 }
 
 make_tape 16777216 >"$folder/long.bin"
 make_tape 1677721 >"$folder/short.bin"
 "$top/pdp8" tape <"$folder/short.bin" | tail -n 1
-long=$(seconds "$folder/long.bin" "$top/crates/pdp8/out/pdp8" tape)
-short=$(seconds "$folder/short.bin" "$top/crates/pdp8/out/pdp8" tape)
-scale=$(seconds "$folder/long.bin" md5sum)
+long=$(seconds run_on "$folder/long.bin" "$top/crates/pdp8/out/pdp8" tape)
+short=$(seconds run_on "$folder/short.bin" "$top/crates/pdp8/out/pdp8" tape)
+scale=$(seconds run_on "$folder/long.bin" md5sum)
 awk -v long="$long" -v short="$short" -v scale="$scale" 'BEGIN {
     printf "16777216 frames: %.1f MB/s\n", 16.777216 / long
     printf " 1677721 frames: %.1f MB/s\n", 1.677721 / short
