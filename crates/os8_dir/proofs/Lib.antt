@@ -14,3 +14,4 @@ pub mod ChangeLemmas
 pub mod FileLemmas
 pub mod CountLemmas
 pub mod ApartLemmas
+pub mod SteadyLemmas

@@ -3,7 +3,7 @@ ghost use Rattle.std.specs.Prelude.{◌≡◌, ◌≢◌, ◌+◌, ◌-◌, ◌*
 ghost use Rattle.std.specs.FinMap.{get, from_entries};
 ghost use Rattle.os8_dir.specs.Names.{name_of, padded, IsFourWords, IsBefore};
 ghost use Rattle.os8_dir.specs.Entries.{Listed, capacity, total, IsTidy, IsNamed};
-ghost use Rattle.os8_dir.specs.Reading.{Sound, HasFault, IsOfWords, directory_of};
+ghost use Rattle.os8_dir.specs.Reading.{Sound, HasFault, IsOfWords, block, directory_of};
 ghost use Rattle.os8_dir.specs.Found.{Placed, IsDirectory, files_at, find, rooms_at, largest, size_or_zero, free_blocks, count_files, count_empties, limit, above, IsTight};
 ghost use Rattle.os8_dir.specs.Files.{files_of, held_of, capacity_of, limit_of, above_of, held_by};
 ghost use Rattle.os8_dir.specs.Segments.{HoldsSegments};
@@ -33,6 +33,11 @@ pub fn sound_directory()
 /// take its entries.
 pub fn read_back()
     ensures { (blocks : List (List ℕ)) (d : Listed) → IsDirectory (length blocks) d → length blocks ≤ 4095 → length d.entries ≤ limit d → HoldsSegments blocks d → directory_of blocks ≡ Ok d }
+{}
+
+/// A volume is read as a directory by its number of blocks and blocks 1 to 6 alone.
+pub fn directory_blocks()
+    ensures { (old new : List (List ℕ)) → length new ≡ length old → ((k : ℕ) → k < 7 → block new k ≡ block old k) → directory_of new ≡ directory_of old }
 {}
 
 /// The map of a sound volume's files has, for each name, what the blocks hold of the file that is found under it.

@@ -8,7 +8,7 @@ use Rattle.std.proofs.lemmas.Option.{get_or_from_slice_get}
 use Rattle.std.specs.FinMap.{get, remove}
 use Rattle.volume_image.specs.Volume.{IsVolume, IsBlock, counted}
 use Rattle.os8_dir.specs.Entries.{Listed, capacity}
-use Rattle.os8_dir.specs.Reading.{directory_of}
+use Rattle.os8_dir.specs.Reading.{block, directory_of}
 use Rattle.os8_dir.specs.Found.{Placed, IsDirectory, AreApart, files_at, find, extent_of, limit}
 use Rattle.os8_dir.specs.Files.{Held, files_of, held, held_of, run, limit_of, capacity_of}
 use Rattle.os8_dir.specs.Segments.{HoldsSegments, segment_count, segment_of}
@@ -25,6 +25,10 @@ use Rattle.os8_files.proofs.WrittenLemmas.{block-segments, drop-segments, length
 -- The files of a directory, where it is what the blocks are read as.
 abbrev pub FindsFiles : Type 0
 FindsFiles = (blocks : List (List ℕ)) (d : Listed) (name : ℕ) → directory_of blocks ≡ Ok d → get (files_of blocks) name ≡ held_of blocks d.info (find name (files_at d.first d.entries))
+
+-- What a directory is read of.
+abbrev pub ReadsLow : Type 0
+ReadsLow = (old new : List (List ℕ)) → length new ≡ length old → ((k : ℕ) → k < 7 → block new k ≡ block old k) → directory_of new ≡ directory_of old
 
 -- Options.
 pub some-of : {A : Type 0} (o : Option A) → is_some o ≡ true → (x : A) × (o ≡ Some x)

@@ -6,8 +6,8 @@ pub mod WrittenLemmas
 pub mod MapLemmas
 pub mod CallLemmas
 pub mod DeleteLemmas
-pub mod SteadyLemmas
 pub mod RoomLemmas
 pub mod PlaceLemmas
 pub mod RunLemmas
 pub mod SqueezeLemmas
+pub mod KeptLemmas

@@ -16,9 +16,8 @@ use Rattle.os8_files.specs.Calls.{IsFree, HasPlaced, HasWritten, HasEntered, IsO
 use Rattle.os8_files.specs.Written.{HasDirectory}
 use Rattle.os8_files.proofs.MapLemmas.{files-inserted, files-same}
 use Rattle.os8_files.proofs.WrittenLemmas.{run-high, held-kept}
-use Rattle.os8_files.proofs.SteadyLemmas.{same-directory}
 use Rattle.os8_files.proofs.RoomLemmas.{room-inside, run-other, info-again}
-use Rattle.os8_files.proofs.CallLemmas.{FindsFiles, file-kept}
+use Rattle.os8_files.proofs.CallLemmas.{ReadsLow, FindsFiles, file-kept}
 
 abbrev or_else : {A : Type 0} → Option A → A → A
 or_else None d = d
@@ -43,8 +42,8 @@ write-inside blocks d b is lies short =
     let inside = room-inside b.place b.room d.first d.entries lies.room in
     (omega (arith, inside.0, is.starts), omega (arith, inside.1, is.inside, short))
 
-pub written-directory : (blocks : List (List ℕ)) (k : ℕ) (words : List ℕ) → 7 ≤ k → directory_of (slice_set blocks k words) ≡ directory_of blocks
-written-directory blocks k words high = same-directory blocks (slice_set blocks k words) (length-set blocks k words) (λ j low. get_or-set_other blocks k j words [] (omega (arith, low, high)))
+pub written-directory : (reads : ReadsLow) (blocks : List (List ℕ)) (k : ℕ) (words : List ℕ) → 7 ≤ k → directory_of (slice_set blocks k words) ≡ directory_of blocks
+written-directory reads blocks k words high = reads blocks (slice_set blocks k words) (length-set blocks k words) (λ j low. get_or-set_other blocks k j words [] (omega (arith, low, high)))
 
 abbrev pub LieInside : Type 0
 LieInside = (place size from count : ℕ) (rooms : List (ℕ × ℕ)) → IsRoom place size rooms → place ≤ from → from + count ≤ place + size → LieIn from count rooms
@@ -52,13 +51,13 @@ LieInside = (place size from count : ℕ) (rooms : List (ℕ × ℕ)) → IsRoom
 abbrev pub LieOutside : Type 0
 LieOutside = (from count name first : ℕ) (es : List DirEntry) (f : Placed) → LieIn from count (rooms_at first es) → find name (files_at first es) ≡ Some f → (f.place + f.size ≤ from) ⊎ (from + count ≤ f.place)
 
-pub written-files : (finds : FindsFiles) (lie : LieInside) (outside : LieOutside) (blocks : List (List ℕ)) (d : Listed) (b : Begun) (words : List ℕ) → directory_of blocks ≡ Ok d → IsDirectory (length blocks) d → IsBegun d b → b.written < b.room
+pub written-files : (reads : ReadsLow) (finds : FindsFiles) (lie : LieInside) (outside : LieOutside) (blocks : List (List ℕ)) (d : Listed) (b : Begun) (words : List ℕ) → directory_of blocks ≡ Ok d → IsDirectory (length blocks) d → IsBegun d b → b.written < b.room
     → files_of (slice_set blocks (b.place + b.written) words) ≡ files_of blocks
-written-files finds lie outside blocks d b words kept is lies short =
+written-files reads finds lie outside blocks d b words kept is lies short =
     let k = b.place + b.written in
     let new = slice_set blocks k words in
     let high = write-inside blocks d b is lies short in
-    let steady = written-directory blocks k words (omega (arith, high.0)) in
+    let steady = written-directory reads blocks k words (omega (arith, high.0)) in
     let lain = lie b.place b.room k 1 (rooms_at d.first d.entries) lies.room (omega arith) (omega (arith, short)) in
     files-same (files_of blocks) (files_of new) (λ q.
     finds new d q (steady ∙ kept)

@@ -16,14 +16,13 @@ use Rattle.os8_files.specs.Written.{HasDirectory, with_run}
 use Rattle.os8_files.proofs.LookupLemmas.{find_within}
 use Rattle.os8_files.proofs.MapLemmas.{files-same}
 use Rattle.os8_files.proofs.WrittenLemmas.{run-high, held-kept}
-use Rattle.os8_files.proofs.SteadyLemmas.{same-directory}
 use Rattle.os8_files.proofs.RoomLemmas.{room-inside}
-use Rattle.os8_files.proofs.CallLemmas.{FindsFiles, find-from}
+use Rattle.os8_files.proofs.CallLemmas.{ReadsLow, FindsFiles, find-from}
 use Rattle.os8_files.proofs.PlaceLemmas.{LieInside, LieOutside}
 use Rattle.os8_files.proofs.RunLemmas.{length-with_run, block-with_run, run-beside, run-written, two-apart, find-some}
 
-pub run-directory : (blocks : List (List ℕ)) (place : ℕ) (ws : List (List ℕ)) → 7 ≤ place → directory_of (with_run blocks place ws) ≡ directory_of blocks
-run-directory blocks place ws high = same-directory blocks (with_run blocks place ws) (length-with_run blocks place ws) (λ k low. block-with_run blocks place ws k (omega (arith, low, high)))
+pub run-directory : (reads : ReadsLow) (blocks : List (List ℕ)) (place : ℕ) (ws : List (List ℕ)) → 7 ≤ place → directory_of (with_run blocks place ws) ≡ directory_of blocks
+run-directory reads blocks place ws high = reads blocks (with_run blocks place ws) (length-with_run blocks place ws) (λ k low. block-with_run blocks place ws k (omega (arith, low, high)))
 
 -- the file that is moved, with the empty below it
 abbrev pub LiesAbove : Listed → ℕ → ℕ → Type 0

@@ -4,3 +4,4 @@ pub mod Lengths
 pub mod Holds
 pub mod Calls
 pub mod Written
+pub mod Laws

@@ -9,6 +9,7 @@ mod begun;
 mod copying;
 mod faults;
 mod holds;
+pub mod laws;
 mod lengths;
 mod service;
 mod tokens;

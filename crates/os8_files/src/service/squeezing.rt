@@ -7,7 +7,8 @@ ghost use Rattle.os8_dir.specs.Reading.{directory_of};
 use crate::copying::{blank_run, read_run, write_run};
 use crate::{FileFault, FileService, Squeezed};
 use os8_dir::laws::{
-    directory_numbers, file_moved_down, files_found, lowest_file, rooms, sound_directory,
+    directory_blocks, directory_numbers, file_moved_down, files_found, lowest_file, rooms,
+    sound_directory,
 };
 use os8_dir::{Directory, Name};
 use std::alloc::Global;
@@ -80,6 +81,7 @@ impl<S: BlockStore> FileService<S> {
         requires inside { place + size ≤ length self.old.blocks }
         ensures { Copies self.old place size gap result self.new }
     {
+        directory_blocks();
         let mut run = match blank_run(alloc, size) {
             Ok(run) => run,
             Err(_) => return Err(FileFault::Memory),

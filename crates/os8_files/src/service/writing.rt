@@ -6,7 +6,8 @@ use crate::begun::Begun;
 use crate::{FileFault, FileService, Tentative};
 use os8_dir::Name;
 use os8_dir::laws::{
-    directory_numbers, file_placed, files_found, files_made, rooms, sound_directory,
+    directory_blocks, directory_numbers, file_placed, files_found, files_made, rooms,
+    sound_directory,
 };
 use std::alloc::Global;
 use volume_image::BlockStore;
@@ -85,6 +86,7 @@ impl<S: BlockStore> FileService<S> {
                 if written >= room {
                     return Err(FileFault::TooLong);
                 }
+                directory_blocks();
                 files_found();
                 sound_directory();
                 rooms();

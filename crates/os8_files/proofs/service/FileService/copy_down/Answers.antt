@@ -11,6 +11,6 @@ invariant_of-self-in-Ok-write_run g c =
     let to = c.args.place - c.args.gap in
     record {
       volume = c.write_run.ensures.volume;
-      kept = λ running. ap (λ bs. directory_of bs) (c.in-Ok-write_run.ensures.ok ∙ ap (λ bs. with_run bs to c.deref.result.now) c.read_run.ensures.same) ∙ run-directory old to c.deref.result.now (omega (arith, c.requires.high)) ∙ c.self.invariant.kept running;
+      kept = λ running. ap (λ bs. directory_of bs) (c.in-Ok-write_run.ensures.ok ∙ ap (λ bs. with_run bs to c.deref.result.now) c.read_run.ensures.same) ∙ run-directory c.directory_blocks.ensures old to c.deref.result.now (omega (arith, c.requires.high)) ∙ c.self.invariant.kept running;
       begun = λ running b is. let none = ap (λ (m : Mounted). m.tentative) c.self.view_is ∙ c.requires.none in cc;
     }

@@ -40,7 +40,7 @@ invariant_of-self g c =
     let k = b.place + b.written in
     record {
       volume = c.blocks-blocks.ensures.volume;
-      kept = λ running. ap (λ bs. directory_of bs) c.in-Ok.ensures.ok ∙ written-directory blocks k c.args.words.now (omega (arith, inside.0)) ∙ kept;
+      kept = λ running. ap (λ bs. directory_of bs) c.in-Ok.ensures.ok ∙ written-directory c.directory_blocks.ensures blocks k c.args.words.now (omega (arith, inside.0)) ∙ kept;
       begun = λ running x same. subst (λ (y : Begun). IsBegun d y) (some-same _ x same) (record { named = lies.named; room = lies.room; most = omega (arith, c.if-written-room.false) });
     }
 
@@ -60,7 +60,7 @@ returns-in-Ok-clause-call g c =
       was = c.in-Some.is ∙ ap Some (sym c.begun.view_is);
       short = c.if-written-room.false;
       blocks = c.in-Ok.ensures.ok;
-      directory = ap (λ bs. directory_of bs) c.in-Ok.ensures.ok ∙ written-directory blocks k c.args.words.now (omega (arith, inside.0));
-      files = ap (λ bs. files_of bs) c.in-Ok.ensures.ok ∙ written-files c.files_found.ensures c.rooms.ensures.lie c.rooms.ensures.outside blocks d b c.args.words.now kept is lies c.if-written-room.false;
+      directory = ap (λ bs. directory_of bs) c.in-Ok.ensures.ok ∙ written-directory c.directory_blocks.ensures blocks k c.args.words.now (omega (arith, inside.0));
+      files = ap (λ bs. files_of bs) c.in-Ok.ensures.ok ∙ written-files c.directory_blocks.ensures c.files_found.ensures c.rooms.ensures.lie c.rooms.ensures.outside blocks d b c.args.words.now kept is lies c.if-written-room.false;
       others = rw (c.write-result.ensures.reads, c.write-result.ensures.failed_reads, c.in-Ok.ensures.failed_writes) refl;
     })

@@ -1,0 +1,13 @@
+use Rattle.os8_files.proofs.KeptLemmas.{reads-keep, holds-keep, enters-keep, writes-keep, closes-keep, deletes-keep, squeezes-keep}
+use Rattle.os8_files.proofs.laws.held_files.Goals as goal
+
+pub returns : goal.returns
+returns c = record {
+  read_block = reads-keep;
+  hold = holds-keep;
+  enter = enters-keep;
+  write = writes-keep;
+  close = closes-keep;
+  delete = deletes-keep;
+  squeeze_turn = squeezes-keep;
+}
