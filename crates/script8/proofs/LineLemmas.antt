@@ -1,5 +1,5 @@
 -- Lines without the CR at their end, and the forms of commands.
-use Rattle.std.proofs.Common.{◌≡◌, suc, arith, true≢false, ℕ, refl, sym, ◌∙◌, ap, inl, inr, Bool, true, false, List, [], ◌∷◌, ◌++◌, Result, Ok, Err, ◌≢◌}
+use Rattle.std.proofs.Common.{◌≡◌, suc, arith, true≢false, ℕ, refl, sym, ◌∙◌, ap, inl, inr, true, false, List, [], ◌∷◌, ◌++◌, Ok, Err, ◌≢◌}
 use Rattle.std.specs.Prelude.{codes, length, ◌==◌}
 use Rattle.std.specs.Str.{bytes_eq}
 use Rattle.std.proofs.lemmas.Bool.Decides.{eqb_tells}

@@ -1,5 +1,4 @@
-use Rattle.std.proofs.Common.{sym, ◌∙◌, ap, refl}
-use Rattle.std.specs.Prelude.{codes}
+use Rattle.std.proofs.Common.{sym, ◌∙◌, ap}
 use Rattle.std.specs.Str.{bytes_eq}
 use Rattle.script8.proofs.LineLemmas.{empty_form, direct_form, no_form, says_form}
 use Rattle.script8.proofs.parsing.parse_line.Goals as goal

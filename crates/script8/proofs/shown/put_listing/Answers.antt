@@ -1,5 +1,4 @@
-use Rattle.std.proofs.Common.{[], ◌∙◌, sym, ap, ◌++◌, take, arith}
-use Rattle.script8.specs.Replies.{file_lines}
+use Rattle.std.proofs.Common.{arith}
 use Rattle.script8.proofs.ReplyLemmas.{line_err, all_lines, more_err, more_lines}
 use Rattle.script8.proofs.shown.put_listing.Goals as goal
 
