@@ -17,6 +17,7 @@ trap 'rm -rf "$folder"' EXIT
 cp "$top"/bench/cpu/*.pal "$folder"
 cd "$folder"
 
+least() { printf '%s\n%s\n' "${1:-$2}" "$2" | sort -g | head -n 1; }
 run_ours() { "$ours" <"$1.bin"; }
 run_simh() { "$simh" "$1.sim" </dev/null; }
 
@@ -32,7 +33,12 @@ for name in isz copy multiply operate indirect wait; do
     want=$(run_simh $name | awk '/^(AC|L|PC):/ { printf "%s%s", gap, $2; gap = " " }')
     got=$(run_ours $name)
     [ "$want" = "$got" ] || { echo "$name: simh ends with $want, we with $got" >&2; exit 1; }
-    awk -v name=$name -v ours="$(seconds run_ours $name)" -v simh="$(seconds run_simh $name)" \
+    ours_best= simh_best=
+    for _ in 1 2 3; do # alternately, since the machine's own speed may change
+        ours_best=$(least "$ours_best" "$(seconds run_ours $name)")
+        simh_best=$(least "$simh_best" "$(seconds run_simh $name)")
+    done
+    awk -v name=$name -v ours="$ours_best" -v simh="$simh_best" \
         -v idle_ours="$idle_ours" -v idle_simh="$idle_simh" \
         'BEGIN { ours -= idle_ours; simh -= idle_simh; printf "%-10s %8.3f %8.3f %6.2f\n", name, ours, simh, simh / ours }'
 done
