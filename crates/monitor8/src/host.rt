@@ -1,6 +1,7 @@
 //! The program over the files and the streams of a host. What it does with bytes is in the functions that it calls; here
 //! files are read and written, and exit statuses are given.
 
+use crate::readings::MOST;
 use crate::{ProgramLine, Session, Task, TaskFault, put_program, tape_text, task};
 use os8_dir::DirFault;
 use script8::{SessionFault, put_reply};
@@ -10,9 +11,6 @@ use std::fs::{self, Files};
 use std::io::{self, ErrorKind, Input, Read, Write};
 use std::process::ExitCode;
 use volume_image::{ImageFault, MemoryVolume};
-
-/// How many bytes of an image file are read at most.
-const MOST: usize = 16_777_216;
 
 /// Why the program ends before its work is done.
 #[derive(Drop)]
