@@ -16,7 +16,7 @@ pub use faults::SessionFault;
 pub use kinds::Line;
 pub use listings::Listing;
 pub use parsing::parse_line;
-pub use replies::Reply;
+pub use replies::{Reply, Why};
 pub use shown::put_reply;
 
 #[cfg(test)]
