@@ -12,10 +12,10 @@ use Rattle.os8_files.specs.Calls.{IsReady, IsFree, HasDeleted}
 use Rattle.os8_files.specs.Written.{HasDirectory}
 use Rattle.os8_files.proofs.MapLemmas.{files-removed}
 use Rattle.os8_files.proofs.CallLemmas.{FindsFiles, file-kept}
+use Rattle.os8_files.proofs.KeepLemmas.{directory-keeps, info-of}
+use Rattle.os8_files.proofs.BoundLemmas.{LimitIs, CapacityIs}
 
-pub deleted : (finds : FindsFiles)
-    → (limits : (blocks : List (List ℕ)) (d : Listed) → directory_of blocks ≡ Ok d → limit_of blocks ≡ limit d)
-    → (covers : (blocks : List (List ℕ)) (d : Listed) → directory_of blocks ≡ Ok d → capacity_of blocks ≡ capacity d)
+pub deleted : FindsFiles → LimitIs → CapacityIs
     → (gone : (name first : ℕ) (es : List DirEntry) → find name (files_at first (removed name es)) ≡ None)
     → (others : (name other first : ℕ) (es : List DirEntry) → name ≢ other → find other (files_at first (removed name es)) ≡ find other (files_at first es))
     → (covered : (name : ℕ) (es : List DirEntry) → total (removed name es) ≡ total es)
@@ -35,5 +35,7 @@ deleted finds limits covers gone others covered old new d name h ready kept is t
           (λ q other. finds new.blocks d' q done.read ∙ ap (held_of new.blocks d.info) (others name q d.first d.entries other) ∙ file-kept old.blocks new.blocks d q is done.high ∙ sym (finds old.blocks d q kept));
       capacity = covers new.blocks d' done.read ∙ covered name d.entries ∙ sym (covers old.blocks d kept);
       limit = limits new.blocks d' done.read ∙ sym (limits old.blocks d kept);
+      info = info-of new.blocks d' done.read ∙ sym (info-of old.blocks d kept);
+      blocks = directory-keeps old new d' done;
       others = done.others;
     }

@@ -70,7 +70,7 @@ enters-keep old new name wish (Ok token) entered = same-blocks old new (ap (λ (
 enters-keep old new name wish (Err BadName) entered = blocks-same old new entered.2
 enters-keep old new name wish (Err TentativeOpen) entered = blocks-same old new entered.4
 enters-keep old new name wish (Err (Busy n)) entered = blocks-same old new entered.4
-enters-keep old new name wish (Err (NoRoom n)) entered = blocks-same old new entered.5
+enters-keep old new name wish (Err (NoRoom n)) entered = blocks-same old new entered.7
 enters-keep old new name wish (Err Stopped) entered = blocks-same old new entered.1
 enters-keep old new name wish (Err NotFound) entered = absurd entered
 enters-keep old new name wish (Err DirectoryFull) entered = absurd entered
@@ -98,7 +98,7 @@ closes-keep old new name info (Ok done) closed = λ q held running.
     ap (λ m. get m q) closed.files ∙ kept-with (files_of old.blocks) name _ q (held-other old.holds name q closed.free held)
 closes-keep old new name info (Err NothingWritten) closed = same-blocks old new (ap (λ (m : Mounted). m.blocks) closed.4)
 closes-keep old new name info (Err (Busy n)) closed = same-blocks old new (ap (λ (m : Mounted). m.blocks) closed.3)
-closes-keep old new name info (Err DirectoryFull) closed = same-blocks old new (ap (λ (m : Mounted). m.blocks) closed.5)
+closes-keep old new name info (Err DirectoryFull) closed = same-blocks old new (ap (λ (m : Mounted). m.blocks) closed.6)
 closes-keep old new name info (Err Device) closed = has-failed old new (ap (λ (m : Mounted). m.stopped) closed.1)
 closes-keep old new name info (Err Stopped) closed = same-blocks old new (ap (λ (m : Mounted). m.blocks) closed.1)
 closes-keep old new name info (Err Memory) closed = same-blocks old new (ap (λ (m : Mounted). m.blocks) closed.1)
@@ -114,7 +114,7 @@ deletes-keep old new name (Ok done) deleted = λ q held running.
 deletes-keep old new name (Err TentativeOpen) deleted = blocks-same old new deleted.3
 deletes-keep old new name (Err NotFound) deleted = blocks-same old new deleted.2
 deletes-keep old new name (Err (Busy n)) deleted = blocks-same old new deleted.3
-deletes-keep old new name (Err DirectoryFull) deleted = blocks-same old new deleted.3
+deletes-keep old new name (Err DirectoryFull) deleted = blocks-same old new deleted.4
 deletes-keep old new name (Err Device) deleted = has-failed old new (ap (λ (m : Mounted). m.stopped) deleted.1)
 deletes-keep old new name (Err Stopped) deleted = blocks-same old new deleted.1
 deletes-keep old new name (Err Memory) deleted = blocks-same old new deleted.1
@@ -127,13 +127,13 @@ pub squeezes-keep : (old new : Mounted) (result : Result Squeezed FileFault) →
 squeezes-keep old new (Ok (Moved name)) squeezed = same-files old new squeezed.files
 squeezes-keep old new (Ok Nothing) squeezed = blocks-same old new squeezed.2
 squeezes-keep old new (Err TentativeOpen) squeezed = blocks-same old new squeezed.3
-squeezes-keep old new (Err DirectoryFull) squeezed = blocks-same old new squeezed.5
+squeezes-keep old new (Err DirectoryFull) squeezed = blocks-same old new squeezed.6
 squeezes-keep old new (Err Device) squeezed = elim squeezed.1 [
   | inl missed ↦ same-blocks old new (ap (λ (m : Mounted). m.blocks) missed)
   | inr failed ↦ has-failed old new (ap (λ (m : Mounted). m.stopped) failed)
 ]
 squeezes-keep old new (Err Stopped) squeezed = blocks-same old new squeezed.1
-squeezes-keep old new (Err Memory) squeezed = blocks-same old new squeezed.1
+squeezes-keep old new (Err Memory) squeezed = blocks-same old new squeezed.2
 squeezes-keep old new (Err NotFound) squeezed = absurd squeezed
 squeezes-keep old new (Err (NoRoom n)) squeezed = absurd squeezed
 squeezes-keep old new (Err (Busy n)) squeezed = absurd squeezed

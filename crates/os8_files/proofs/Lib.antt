@@ -5,6 +5,8 @@ pub mod HoldLemmas
 pub mod WrittenLemmas
 pub mod MapLemmas
 pub mod CallLemmas
+pub mod KeepLemmas
+pub mod BoundLemmas
 pub mod DeleteLemmas
 pub mod RoomLemmas
 pub mod PlaceLemmas

@@ -12,12 +12,14 @@ use Rattle.os8_dir.specs.Found.{Placed, IsDirectory, IsTight, files_at, rooms_at
 use Rattle.os8_dir.specs.Files.{files_of, held_of, run, limit_of, capacity_of, above_of, of_directory}
 use Rattle.os8_dir.specs.Changes.{placed, relisted, new_file, LieIn, IsRoom}
 use Rattle.os8_files.specs.Mounted.{Mounted, Begun, IsBegun}
-use Rattle.os8_files.specs.Calls.{IsFree, HasPlaced, HasWritten, HasEntered, IsOf, info_of}
+use Rattle.os8_files.specs.Calls.{IsFree, HasPlaced, HasWritten, HasEntered, IsOf, info_of, entries_with}
 use Rattle.os8_files.specs.Written.{HasDirectory}
 use Rattle.os8_files.proofs.MapLemmas.{files-inserted, files-same}
 use Rattle.os8_files.proofs.WrittenLemmas.{run-high, held-kept}
 use Rattle.os8_files.proofs.RoomLemmas.{room-inside, run-other, info-again}
 use Rattle.os8_files.proofs.CallLemmas.{ReadsLow, FindsFiles, file-kept}
+use Rattle.os8_files.proofs.KeepLemmas.{directory-keeps, info-of}
+use Rattle.os8_files.proofs.BoundLemmas.{LimitIs, CapacityIs, AboveIs}
 
 abbrev or_else : {A : Type 0} → Option A → A → A
 or_else None d = d
@@ -65,17 +67,14 @@ written-files reads finds lie outside blocks d b words kept is lies short =
     run-other blocks k g.place g.size words (elim (outside k 1 q d.first d.entries g lain found) [ inl low ↦ inl low | inr up ↦ inr (omega (arith, up)) ]))
     ∙ sym (finds blocks d q kept))
 
-pub placed-file : (finds : FindsFiles) (lie : LieInside)
-    → (limits : (blocks : List (List ℕ)) (d : Listed) → directory_of blocks ≡ Ok d → limit_of blocks ≡ limit d)
-    → (covers : (blocks : List (List ℕ)) (d : Listed) → directory_of blocks ≡ Ok d → capacity_of blocks ≡ capacity d)
-    → (aboves : (blocks : List (List ℕ)) (d : Listed) → directory_of blocks ≡ Ok d → above_of blocks ≡ above d.entries)
+pub placed-file : FindsFiles → LieInside → LimitIs → CapacityIs → AboveIs
     → (there : (first : ℕ) (f : Placed) (es : List DirEntry) → 0 < f.size → LieIn f.place f.size (rooms_at first es) → find f.name (files_at first (placed first f es)) ≡ Some f)
     → (others : (other first : ℕ) (f : Placed) (es : List DirEntry) → f.name ≢ other → find other (files_at first (placed first f es)) ≡ find other (files_at first es))
     → (covered : (first : ℕ) (f : Placed) (es : List DirEntry) → total (placed first f es) ≡ total es)
     → (tight : (first size : ℕ) (f : Placed) (es : List DirEntry) → IsTidy es → IsTight es → find f.name (files_at first es) ≡ None → 0 < f.size → f.size ≤ size → IsRoom f.place size (rooms_at first es) → IsTight (placed first f es))
-    → (old new : Mounted) (d : Listed) (name : ℕ) (b : Begun) (info : List ℕ) → directory_of old.blocks ≡ Ok d → IsDirectory (length old.blocks) d → IsBegun d b → 0 < b.written → IsFree old name
+    → (old new : Mounted) (d : Listed) (name : ℕ) (b : Begun) (info : List ℕ) → directory_of old.blocks ≡ Ok d → IsDirectory (length old.blocks) d → IsBegun d b → 0 < b.written → IsFree old name → entries_with b info old.blocks ≤ limit_of old.blocks
     → HasDirectory old (relisted d (placed d.first (new_file d name info b.place b.written) d.entries)) new → HasPlaced old name b info new
-placed-file finds lie limits covers aboves there others covered tight old new d name b info kept is lies some free done =
+placed-file finds lie limits covers aboves there others covered tight old new d name b info kept is lies some free fits done =
     let f = new_file d name info b.place b.written in
     let d' = relisted d (placed d.first f d.entries) in
     let lain = lie b.place b.room b.place b.written (rooms_at d.first d.entries) lies.room (omega arith) (omega (arith, lies.most)) in
@@ -85,12 +84,15 @@ placed-file finds lie limits covers aboves there others covered tight old new d 
     record {
       some = some;
       free = free;
+      fits = fits;
       files = files-inserted (files_of old.blocks) (files_of new.blocks) name (padded (info_of old.blocks) info, run old.blocks b.place b.written)
           (finds new.blocks d' name done.read ∙ ap (held_of new.blocks d.info) (there d.first f d.entries some lain) ∙ ap (λ ws. Some (ws, run new.blocks b.place b.written)) words ∙ ap (λ ws. Some (padded (info_of old.blocks) info, ws)) same)
           (λ q other. finds new.blocks d' q done.read ∙ ap (held_of new.blocks d.info) (others q d.first f d.entries other) ∙ file-kept old.blocks new.blocks d q is done.high ∙ sym (finds old.blocks d q kept));
       capacity = covers new.blocks d' done.read ∙ covered d.first f d.entries ∙ sym (covers old.blocks d kept);
       limit = limits new.blocks d' done.read ∙ sym (limits old.blocks d kept);
+      info = info-of new.blocks d' done.read ∙ sym (info-of old.blocks d kept);
       tight = λ none low. aboves new.blocks d' done.read ∙ tight d.first b.room f d.entries is.neat (sym (aboves old.blocks d kept) ∙ low) (find-none old.blocks d.info (find name (files_at d.first d.entries)) (sym (finds old.blocks d name kept) ∙ none)) some lies.most lies.room;
+      blocks = directory-keeps old new d' done;
       others = done.others;
     }
 

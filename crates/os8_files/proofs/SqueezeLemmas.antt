@@ -1,6 +1,6 @@
 -- What is left where a file is moved down.
-use Rattle.std.proofs.Common.{◌≡◌, ◌≢◌, ℕ, ◌+◌, ◌-◌, ◌<◌, ◌≤◌, List, length, take, drop, Option, Some, None, Ok, refl, ap, sym, subst, ◌∙◌, arith, inl, inr}
-use Rattle.std.specs.Prelude.{◌⊎◌}
+use Rattle.std.proofs.Common.{◌≡◌, ◌≢◌, ℕ, ◌+◌, ◌-◌, ◌<◌, ◌≤◌, List, length, take, drop, Option, Some, None, Ok, Err, refl, ap, sym, subst, ◌∙◌, arith, inl, inr}
+use Rattle.std.specs.Prelude.{◌⊎◌, ◌↔◌}
 use Rattle.std.specs.FinMap.{get}
 use Rattle.std.proofs.lemmas.List.{length-take-le, length-drop}
 use Rattle.std.proofs.lemmas.Bool.Decides.{eqb_tells}
@@ -11,13 +11,17 @@ use Rattle.os8_dir.specs.Found.{Placed, IsDirectory, files_at, rooms_at, find, e
 use Rattle.os8_dir.specs.Files.{files_of, held_of, run, limit_of, capacity_of, above_of}
 use Rattle.os8_dir.specs.Changes.{moved_down, relisted, lowest_above, gap_below, lowered, IsRoom}
 use Rattle.os8_files.specs.Mounted.{Mounted}
-use Rattle.os8_files.specs.Calls.{IsReady, HasMoved, lowest_or, extent_or, lower}
-use Rattle.os8_files.specs.Written.{HasDirectory, with_run}
+use Rattle.os8_files.specs.Calls.{IsReady, HasMoved, Squeezes, lowest_or, extent_or}
+use Rattle.os8_files.specs.Written.{HasDirectory, Copies, with_run}
+use Rattle.os8_files.specs.declared.faults.FileFault.{FileFault}
+use Rattle.os8_files.specs.declared.faults.FileFault.TheVariants.{NotFound, NoRoom, DirectoryFull, Busy, BadName, TooLong, TentativeOpen, Device, Stopped, Memory, NothingWritten}
 use Rattle.os8_files.proofs.LookupLemmas.{find_within}
 use Rattle.os8_files.proofs.MapLemmas.{files-same}
 use Rattle.os8_files.proofs.WrittenLemmas.{run-high, held-kept}
 use Rattle.os8_files.proofs.RoomLemmas.{room-inside}
 use Rattle.os8_files.proofs.CallLemmas.{ReadsLow, FindsFiles, find-from}
+use Rattle.os8_files.proofs.KeepLemmas.{moved-keeps, info-of}
+use Rattle.os8_files.proofs.BoundLemmas.{LimitIs, CapacityIs, AboveIs}
 use Rattle.os8_files.proofs.PlaceLemmas.{LieInside, LieOutside}
 use Rattle.os8_files.proofs.RunLemmas.{length-with_run, block-with_run, run-beside, run-written, two-apart, find-some}
 
@@ -35,14 +39,30 @@ lies-above gaps found volume name gap d is low =
     let g = gaps d.entries name gap is.neat low in
     subst (λ n. LiesAbove d name n) g.1 (found volume name d is (omega (arith, g.0, g.1)))
 
-extent-lowered : (gap : ℕ) (o : Option Placed) → extent_of (lowered gap o) ≡ lower gap (extent_of o)
-extent-lowered gap None = refl
-extent-lowered gap (Some f) = refl
+pub some-above : AboveIs → (none : (es : List DirEntry) → IsTidy es → (lowest_above es ≡ None) ↔ (above es ≡ 0))
+    → (blocks : List (List ℕ)) (d : Listed) (name gap : ℕ) → directory_of blocks ≡ Ok d → IsDirectory (length blocks) d → lowest_above d.entries ≡ Some (name, gap) → 0 < above_of blocks
+some-above aboves none blocks d name gap kept is low =
+    let same = aboves blocks d kept in
+    elim (eqb_tells (above d.entries) 0) [
+      | inl zero-above ↦ let gone : lowest_above d.entries ≡ None = (none d.entries is.neat).1 zero-above.1 in let other = sym low ∙ gone in cc
+      | inr more ↦ omega (arith, same, more.1)
+    ]
 
-pub moved-file : (finds : FindsFiles) (lie : LieInside) (outside : LieOutside)
-    → (limits : (blocks : List (List ℕ)) (d : Listed) → directory_of blocks ≡ Ok d → limit_of blocks ≡ limit d)
-    → (covers : (blocks : List (List ℕ)) (d : Listed) → directory_of blocks ≡ Ok d → capacity_of blocks ≡ capacity d)
-    → (aboves : (blocks : List (List ℕ)) (d : Listed) → directory_of blocks ≡ Ok d → above_of blocks ≡ above d.entries)
+-- A file's blocks were not copied.
+pub copy-refused : (old new : Mounted) (place size gap : ℕ) (fault : FileFault) → IsReady old → 0 < above_of old.blocks → Copies old place size gap (Err fault) new → Squeezes old (Err fault) new
+copy-refused old new place size gap NotFound ready some copies = absurd copies
+copy-refused old new place size gap (NoRoom n) ready some copies = absurd copies
+copy-refused old new place size gap DirectoryFull ready some copies = absurd copies
+copy-refused old new place size gap (Busy n) ready some copies = absurd copies
+copy-refused old new place size gap BadName ready some copies = absurd copies
+copy-refused old new place size gap TooLong ready some copies = absurd copies
+copy-refused old new place size gap TentativeOpen ready some copies = absurd copies
+copy-refused old new place size gap Device ready some copies = (ready, copies)
+copy-refused old new place size gap Stopped ready some copies = absurd copies
+copy-refused old new place size gap Memory ready some copies = (ready, some, copies)
+copy-refused old new place size gap NothingWritten ready some copies = absurd copies
+
+pub moved-file : FindsFiles → LieInside → LieOutside → LimitIs → CapacityIs → AboveIs
     → (gaps : (es : List DirEntry) (name gap : ℕ) → IsTidy es → lowest_above es ≡ Some (name, gap) → (0 < gap) × (gap_below name es ≡ gap))
     → (fewer : (es : List DirEntry) (name gap : ℕ) → IsTidy es → lowest_above es ≡ Some (name, gap) → above (moved_down name es) + 1 ≡ above es)
     → (there : (volume name : ℕ) (d : Listed) → IsDirectory volume d → 0 < gap_below name d.entries → find name (files_at d.first (moved_down name d.entries)) ≡ lowered (gap_below name d.entries) (find name (files_at d.first d.entries)))
@@ -74,7 +94,10 @@ moved-file finds lie outside limits covers aboves gaps fewer there others covere
       ready = ready;
       gap = gap;
       lowest = ap lowest_or kept ∙ low;
-      moved = ap (extent_or name) done.read ∙ ap extent_of lies ∙ extent-lowered gap (find name fs) ∙ ap (lower gap) (sym (ap (extent_or name) kept));
+      place = f.place;
+      size = f.size;
+      was = ap (extent_or name) kept ∙ ap extent_of r.1.0;
+      moved = ap (extent_or name) done.read ∙ ap extent_of (lies ∙ ap (lowered gap) r.1.0);
       places = λ other differ. ap (extent_or other) done.read ∙ ap extent_of (others name other d.first d.entries differ) ∙ sym (ap (extent_or other) kept);
       files = files-same (files_of old.blocks) (files_of new.blocks) (λ q. elim (eqb_tells name q) [
         | inl p ↦ ap (get (files_of new.blocks)) (sym p.1)
@@ -97,5 +120,7 @@ moved-file finds lie outside limits covers aboves gaps fewer there others covere
       above = omega (arith, aboves new.blocks d' done.read, fewer d.entries name gap is.neat low, aboves old.blocks d kept);
       capacity = covers new.blocks d' done.read ∙ covered name d.entries ∙ sym (covers old.blocks d kept);
       limit = limits new.blocks d' done.read ∙ sym (limits old.blocks d kept);
+      info = info-of new.blocks d' done.read ∙ sym (info-of old.blocks d kept);
+      blocks = moved-keeps old mid new d' to f.size ws copied long high done;
       others = done.others ∙ ap (λ (m : Mounted). record m { blocks = new.blocks }) same ∙ ap (λ n. record old { blocks = new.blocks; reads = n }) (sym (ap (λ (m : Mounted). m.reads) done.others));
     }

@@ -36,6 +36,10 @@ pub drop-segments : (n : ℕ) (d : Listed) (blocks : List (List ℕ)) → n ≤ 
 drop-segments zero d blocks few = refl
 drop-segments (suc n) d blocks few = drop-set-lt 7 (with_segments n d blocks) (suc n) (segment_of d n) (omega (arith, few)) ∙ drop-segments n d blocks (omega (arith, few))
 
+pub first-segments : (n : ℕ) (d : Listed) (blocks : List (List ℕ)) → block (with_segments n d blocks) 0 ≡ block blocks 0
+first-segments zero d blocks = refl
+first-segments (suc n) d blocks = get_or-set_other (with_segments n d blocks) (suc n) 0 (segment_of d n) [] (omega arith) ∙ first-segments n d blocks
+
 drop-none : {A : Type 0} (n : ℕ) → drop {A = A} n [] ≡ []
 drop-none zero = refl
 drop-none (suc n) = refl

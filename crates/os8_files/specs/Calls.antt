@@ -1,17 +1,17 @@
 -- What each call of the file service does: one relation by cases on its answer (this project's profile).
-use Rattle.std.specs.Prelude.{◌≡◌, ◌≢◌, ◌⊎◌, ◌-◌, ℕ, ◌+◌, ◌*◌, ◌/◌, ◌<◌, ◌≤◌, Bool, true, false, Option, Some, None, List, [], length, take, drop, slice_set, Result, Ok, Err}
+use Rattle.std.specs.Prelude.{◌≡◌, ◌≢◌, ◌⊎◌, ◌-◌, ℕ, ◌+◌, ◌*◌, ◌/◌, ◌<◌, ◌≤◌, Bool, true, false, Option, Some, None, List, [], ◌++◌, length, take, drop, slice_set, Result, Ok, Err}
 use Rattle.std.specs.Global.{Vec}
 use Rattle.std.specs.FinMap.{get, insert, remove}
 use Rattle.volume_image.specs.Volume.{counted}
 use Rattle.os8_dir.specs.Names.{padded}
 use Rattle.os8_dir.specs.Entries.{Listed, contains, IsNamed}
-use Rattle.os8_dir.specs.Reading.{directory_of}
+use Rattle.os8_dir.specs.Reading.{directory_of, block}
 use Rattle.os8_dir.specs.Found.{rooms_at, files_at, find, extent_of, largest, size_or_zero}
-use Rattle.os8_dir.specs.Files.{Held, files_of, held, run, of_directory, limit_of, above_of, capacity_of}
+use Rattle.os8_dir.specs.Files.{Held, Files, files_of, held, run, of_directory, limit_of, above_of, capacity_of}
 use Rattle.os8_dir.specs.Changes.{removed, placed, new_file, moved_down, fitting, lowest_above}
 use Rattle.os8_dir.specs.declared.faults.DirFault.{DirFault}
 use Rattle.os8_files.specs.Mounted.{Mounted, Begun, IsBegun}
-use Rattle.os8_files.specs.Service.{blocks_of, lengths_of}
+use Rattle.os8_files.specs.Service.{blocks_of, lengths_of, used_of, count_of}
 use Rattle.os8_files.specs.Holds.{with_hold, without_hold}
 use Rattle.os8_files.specs.declared.tokens.Squeezed.{Squeezed}
 use Rattle.os8_files.specs.declared.tokens.Squeezed.TheVariants.{Moved, Nothing}
@@ -84,6 +84,29 @@ pub record IsReady (m : Mounted) : Type 0 where
   pub running : m.stopped ≡ false
   pub none : m.tentative ≡ None
 
+-- The largest empty has so many blocks. The free blocks are no fewer, no more than so many for each file and once more, and
+-- exactly so many where no file has a free block below it.
+pub record IsLargest (blocks : List (List ℕ)) (most_room : ℕ) : Type 0 where
+  pub least : most_room + used_of (files_of blocks) ≤ capacity_of blocks
+  pub most : capacity_of blocks ≤ used_of (files_of blocks) + most_room * (count_of (files_of blocks) + 1)
+  pub tight : above_of blocks ≡ 0 → most_room + used_of (files_of blocks) ≡ capacity_of blocks
+
+-- The directory may have fewer entries than a change makes. Then it may have fewer than the files after the change, with an
+-- empty below each and one above all; and where no file has a free block below it, fewer than the files before and two more.
+pub record IsOver (blocks : List (List ℕ)) (after : Files) : Type 0 where
+  pub files : limit_of blocks < 2 * count_of after + 1
+  pub tight : above_of blocks ≡ 0 → limit_of blocks < count_of (files_of blocks) + 2
+
+-- of block 0 and of the blocks behind the directory's, only so many from a place on may differ
+pub record KeepsBlocks (old new : List (List ℕ)) (place size : ℕ) : Type 0 where
+  pub count : length new ≡ length old
+  pub first : block new 0 ≡ block old 0
+  pub behind : (k : ℕ) → 7 ≤ k → (k < place) ⊎ (place + size ≤ k) → block new k ≡ block old k
+
+-- how many information words a file of the volume has
+abbrev pub info_of : List (List ℕ) → ℕ
+info_of blocks = of_directory (λ d. d.info) (directory_of blocks)
+
 -- how many entries the directory has without the file of a name
 abbrev pub entries_without : ℕ → List (List ℕ) → ℕ
 entries_without name blocks = of_directory (λ d. length (removed name d.entries)) (directory_of blocks)
@@ -98,6 +121,8 @@ pub record HasDeleted (old : Mounted) (name : ℕ) (new : Mounted) : Type 0 wher
   pub files : files_of new.blocks ≡ remove (files_of old.blocks) name
   pub capacity : capacity_of new.blocks ≡ capacity_of old.blocks
   pub limit : limit_of new.blocks ≡ limit_of old.blocks
+  pub info : info_of new.blocks ≡ info_of old.blocks
+  pub blocks : KeepsBlocks old.blocks new.blocks 0 0
   pub others : new ≡ record old { blocks = new.blocks }
 
 abbrev pub Deletes : Mounted → ℕ → Result (Unit {0}) FileFault → Mounted → Type 0
@@ -105,7 +130,7 @@ Deletes old name (Ok done) new = HasDeleted old name new
 Deletes old name (Err TentativeOpen) new = (old.stopped ≡ false) × (begun : Begun) × (old.tentative ≡ Some begun) × (new ≡ old)
 Deletes old name (Err NotFound) new = IsReady old × (get (files_of old.blocks) name ≡ None) × (new ≡ old)
 Deletes old name (Err (Busy other)) new = IsReady old × (other ≡ name) × IsHeld old name × (new ≡ old)
-Deletes old name (Err DirectoryFull) new = IsReady old × IsFree old name × (limit_of old.blocks < entries_without name old.blocks) × (new ≡ old)
+Deletes old name (Err DirectoryFull) new = IsReady old × IsFree old name × (limit_of old.blocks < entries_without name old.blocks) × IsOver old.blocks (remove (files_of old.blocks) name) × (new ≡ old)
 Deletes old name (Err Device) new = IsReady old × HasFailed old new
 Deletes old name (Err Stopped) new = HasStopped old new
 Deletes old name (Err Memory) new = IsReady old × (new ≡ old)
@@ -118,10 +143,6 @@ rooms_or (Err fault) = []
 
 abbrev pub rooms_of : List (List ℕ) → List (ℕ × ℕ)
 rooms_of blocks = rooms_or (directory_of blocks)
-
--- how many information words a file of the volume has
-abbrev pub info_of : List (List ℕ) → ℕ
-info_of blocks = of_directory (λ d. d.info) (directory_of blocks)
 
 -- a file is begun in the empty for a wish
 pub record HasEntered (old : Mounted) (name wish tentative : ℕ) (new : Mounted) : Type 0 where
@@ -139,7 +160,7 @@ Enters old name wish (Ok tentative) new = HasEntered old name wish tentative new
 Enters old name wish (Err BadName) new = (old.stopped ≡ false) × (name / 68719476736 ≡ 0) × (new ≡ old)
 Enters old name wish (Err TentativeOpen) new = (old.stopped ≡ false) × IsNamed name × (begun : Begun) × (old.tentative ≡ Some begun) × (new ≡ old)
 Enters old name wish (Err (Busy other)) new = IsReady old × IsNamed name × (other ≡ name) × IsHeld old name × (new ≡ old)
-Enters old name wish (Err (NoRoom largest_room)) new = IsReady old × IsNamed name × IsFree old name × (fitting wish (rooms_of old.blocks) ≡ None) × (largest_room ≡ size_or_zero (largest (rooms_of old.blocks))) × (new ≡ old)
+Enters old name wish (Err (NoRoom largest_room)) new = IsReady old × IsNamed name × IsFree old name × (fitting wish (rooms_of old.blocks) ≡ None) × (largest_room ≡ size_or_zero (largest (rooms_of old.blocks))) × (0 < wish → largest_room < wish) × IsLargest old.blocks largest_room × (new ≡ old)
 Enters old name wish (Err Stopped) new = HasStopped old new
 Enters old name wish (Err fault) new = ⊥
 
@@ -154,8 +175,13 @@ pub record HasWritten (old : Mounted) (words : List ℕ) (new : Mounted) : Type 
   pub was : old.tentative ≡ Some begun
   pub short : begun.written < begun.room
   pub blocks : new.blocks ≡ slice_set old.blocks (begun.place + begun.written) words
+  pub text : run new.blocks begun.place (begun.written + 1) ≡ run old.blocks begun.place begun.written ++ words
   pub directory : directory_of new.blocks ≡ directory_of old.blocks
   pub files : files_of new.blocks ≡ files_of old.blocks
+  pub capacity : capacity_of new.blocks ≡ capacity_of old.blocks
+  pub limit : limit_of new.blocks ≡ limit_of old.blocks
+  pub info : info_of new.blocks ≡ info_of old.blocks
+  pub above : above_of new.blocks ≡ above_of old.blocks
   pub others : new ≡ record old { blocks = new.blocks; tentative = Some (record { name = begun.name; place = begun.place; room = begun.room; written = begun.written + 1 }) }
 
 abbrev pub Writes : Mounted → List ℕ → Result (Unit {0}) FileFault → Mounted → Type 0
@@ -169,29 +195,36 @@ Writes old words (Err fault) new = ⊥
 abbrev pub entries_with : Begun → List ℕ → List (List ℕ) → ℕ
 entries_with begun info blocks = of_directory (λ d. length (placed d.first (new_file d begun.name info begun.place begun.written) d.entries)) (directory_of blocks)
 
+-- what a file that was written is: the first of these words are its information words, and missing ones are 0
+abbrev pub new_held : Mounted → Begun → List ℕ → Held
+new_held m begun info = (padded (info_of m.blocks) info, run m.blocks begun.place begun.written)
+
 -- the file that is being written is gone, and all else is as before
 abbrev pub Spent : Mounted → Mounted
 Spent m = record m { tentative = None }
 
 -- a file has the blocks that were written, and these information words; an older one of its name is gone
-pub record HasClosed (old : Mounted) (name : ℕ) (info : List ℕ) (new : Mounted) : Type 0 where
+pub record HasClosed (old : Mounted) (name : ℕ) (given : List ℕ) (new : Mounted) : Type 0 where
   pub running : old.stopped ≡ false
   pub begun : Begun
   pub was : old.tentative ≡ Some begun
   pub names : begun.name ≡ name
   pub some : 0 < begun.written
   pub free : IsFree old name
-  pub files : files_of new.blocks ≡ insert (files_of old.blocks) name (padded (info_of old.blocks) info, run old.blocks begun.place begun.written)
+  pub fits : entries_with begun given old.blocks ≤ limit_of old.blocks
+  pub files : files_of new.blocks ≡ insert (files_of old.blocks) name (new_held old begun given)
   pub capacity : capacity_of new.blocks ≡ capacity_of old.blocks
   pub limit : limit_of new.blocks ≡ limit_of old.blocks
+  pub info : info_of new.blocks ≡ info_of old.blocks
   pub tight : get (files_of old.blocks) name ≡ None → above_of old.blocks ≡ 0 → above_of new.blocks ≡ 0
+  pub blocks : KeepsBlocks old.blocks new.blocks 0 0
   pub others : new ≡ record (Spent old) { blocks = new.blocks }
 
 abbrev pub Closes : Mounted → ℕ → List ℕ → Result (Unit {0}) FileFault → Mounted → Type 0
 Closes old name info (Ok done) new = HasClosed old name info new
 Closes old name info (Err NothingWritten) new = (old.stopped ≡ false) × (begun : Begun) × (old.tentative ≡ Some begun) × (begun.written ≡ 0) × (new ≡ Spent old)
 Closes old name info (Err (Busy other)) new = (old.stopped ≡ false) × (other ≡ name) × IsHeld old name × (new ≡ Spent old)
-Closes old name info (Err DirectoryFull) new = (old.stopped ≡ false) × IsFree old name × (begun : Begun) × (old.tentative ≡ Some begun) × (limit_of old.blocks < entries_with begun info old.blocks) × (new ≡ Spent old)
+Closes old name info (Err DirectoryFull) new = (old.stopped ≡ false) × IsFree old name × (begun : Begun) × (old.tentative ≡ Some begun) × (limit_of old.blocks < entries_with begun info old.blocks) × IsOver old.blocks (insert (files_of old.blocks) name (new_held old begun info)) × (new ≡ Spent old)
 Closes old name info (Err Device) new = (old.stopped ≡ false) × HasFailed (Spent old) new
 Closes old name info (Err Stopped) new = (old.stopped ≡ true) × (new ≡ Spent old)
 Closes old name info (Err Memory) new = (old.stopped ≡ false) × (new ≡ Spent old)
@@ -205,20 +238,23 @@ pub record IsPlaced (m : Mounted) (begun : Begun) : Type 0 where
   pub lies : IsBegun directory begun
 
 -- what is done where that file is placed in the directory
-pub record HasPlaced (old : Mounted) (name : ℕ) (begun : Begun) (info : List ℕ) (new : Mounted) : Type 0 where
+pub record HasPlaced (old : Mounted) (name : ℕ) (begun : Begun) (given : List ℕ) (new : Mounted) : Type 0 where
   pub some : 0 < begun.written
   pub free : IsFree old name
-  pub files : files_of new.blocks ≡ insert (files_of old.blocks) name (padded (info_of old.blocks) info, run old.blocks begun.place begun.written)
+  pub fits : entries_with begun given old.blocks ≤ limit_of old.blocks
+  pub files : files_of new.blocks ≡ insert (files_of old.blocks) name (new_held old begun given)
   pub capacity : capacity_of new.blocks ≡ capacity_of old.blocks
   pub limit : limit_of new.blocks ≡ limit_of old.blocks
+  pub info : info_of new.blocks ≡ info_of old.blocks
   pub tight : get (files_of old.blocks) name ≡ None → above_of old.blocks ≡ 0 → above_of new.blocks ≡ 0
+  pub blocks : KeepsBlocks old.blocks new.blocks 0 0
   pub others : new ≡ record old { blocks = new.blocks }
 
 abbrev pub Places : Mounted → ℕ → Begun → List ℕ → Result (Unit {0}) FileFault → Mounted → Type 0
 Places old name begun info (Ok done) new = HasPlaced old name begun info new
 Places old name begun info (Err NothingWritten) new = (begun.written ≡ 0) × (new ≡ old)
 Places old name begun info (Err (Busy other)) new = (other ≡ name) × IsHeld old name × (new ≡ old)
-Places old name begun info (Err DirectoryFull) new = IsFree old name × (limit_of old.blocks < entries_with begun info old.blocks) × (new ≡ old)
+Places old name begun info (Err DirectoryFull) new = IsFree old name × (limit_of old.blocks < entries_with begun info old.blocks) × IsOver old.blocks (insert (files_of old.blocks) name (new_held old begun info)) × (new ≡ old)
 Places old name begun info (Err Device) new = HasFailed old new
 Places old name begun info (Err Memory) new = new ≡ old
 Places old name begun info (Err fault) new = ⊥
@@ -233,22 +269,22 @@ abbrev pub extent_or : ℕ → Result Listed DirFault → Option (ℕ × ℕ)
 extent_or name (Ok d) = extent_of (find name (files_at d.first d.entries))
 extent_or name (Err fault) = None
 
--- an extent so many blocks further down
-abbrev pub lower : ℕ → Option (ℕ × ℕ) → Option (ℕ × ℕ)
-lower gap None = None
-lower gap (Some extent) = Some (extent.0 - gap, extent.1)
-
 -- the lowest file with an empty directly below it lies lower by that empty; the files are the same
 pub record HasMoved (old : Mounted) (name : ℕ) (new : Mounted) : Type 0 where
   pub ready : IsReady old
   pub gap : ℕ
   pub lowest : lowest_or (directory_of old.blocks) ≡ Some (name, gap)
-  pub moved : extent_or name (directory_of new.blocks) ≡ lower gap (extent_or name (directory_of old.blocks))
+  pub place : ℕ
+  pub size : ℕ
+  pub was : extent_or name (directory_of old.blocks) ≡ Some (place, size)
+  pub moved : extent_or name (directory_of new.blocks) ≡ Some (place - gap, size)
   pub places : (other : ℕ) → name ≢ other → extent_or other (directory_of new.blocks) ≡ extent_or other (directory_of old.blocks)
   pub files : files_of new.blocks ≡ files_of old.blocks
   pub above : above_of new.blocks + 1 ≡ above_of old.blocks
   pub capacity : capacity_of new.blocks ≡ capacity_of old.blocks
   pub limit : limit_of new.blocks ≡ limit_of old.blocks
+  pub info : info_of new.blocks ≡ info_of old.blocks
+  pub blocks : KeepsBlocks old.blocks new.blocks (place - gap) size
   pub others : new ≡ record old { blocks = new.blocks; reads = new.reads }
 
 -- how many entries the directory has with a file moved down
@@ -263,8 +299,8 @@ abbrev pub Squeezes : Mounted → Result Squeezed FileFault → Mounted → Type
 Squeezes old (Ok (Moved name)) new = HasMoved old name new
 Squeezes old (Ok Nothing) new = IsReady old × (above_of old.blocks ≡ 0) × (new ≡ old)
 Squeezes old (Err TentativeOpen) new = (old.stopped ≡ false) × (begun : Begun) × (old.tentative ≡ Some begun) × (new ≡ old)
-Squeezes old (Err DirectoryFull) new = IsReady old × (name : ℕ) × (gap : ℕ) × (lowest_or (directory_of old.blocks) ≡ Some (name, gap)) × (limit_of old.blocks < entries_moved name old.blocks) × (new ≡ old)
+Squeezes old (Err DirectoryFull) new = IsReady old × (name : ℕ) × (gap : ℕ) × (lowest_or (directory_of old.blocks) ≡ Some (name, gap)) × (limit_of old.blocks < entries_moved name old.blocks) × (0 < above_of old.blocks) × (new ≡ old)
 Squeezes old (Err Device) new = IsReady old × (HasMissed old new ⊎ HasFailed (record old { reads = new.reads }) new)
 Squeezes old (Err Stopped) new = HasStopped old new
-Squeezes old (Err Memory) new = IsReady old × (new ≡ old)
+Squeezes old (Err Memory) new = IsReady old × (0 < above_of old.blocks) × (new ≡ old)
 Squeezes old (Err fault) new = ⊥

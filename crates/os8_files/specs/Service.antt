@@ -24,3 +24,7 @@ total_of (file ∷ files) = blocks_in file.1 + total_of files
 -- the blocks of all files
 abbrev pub used_of : Files → ℕ
 used_of files = total_of (entries files)
+
+-- how many files
+abbrev pub count_of : Files → ℕ
+count_of files = length (entries files)

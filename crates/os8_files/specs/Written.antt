@@ -1,7 +1,7 @@
 -- What the blocks are where a directory is written.
 use Rattle.std.specs.Prelude.{◌≡◌, ◌⊎◌, ◌-◌, take, ℕ, zero, suc, List, [], ◌∷◌, length, drop, slice_set, Result, Ok, Err}
 use Rattle.os8_dir.specs.Entries.{Listed}
-use Rattle.os8_dir.specs.Reading.{directory_of}
+use Rattle.os8_dir.specs.Reading.{directory_of, block}
 use Rattle.os8_dir.specs.Segments.{segment_count, segment_of}
 use Rattle.os8_files.specs.Mounted.{Mounted}
 use Rattle.os8_files.specs.Calls.{HasFailed, HasMissed}
@@ -16,6 +16,7 @@ with_segments (suc k) d blocks = slice_set (with_segments k d blocks) (suc k) (s
 -- another directory is written, which is read back as it
 pub record HasDirectory (old : Mounted) (d : Listed) (new : Mounted) : Type 0 where
   pub high : drop 7 new.blocks ≡ drop 7 old.blocks
+  pub first : block new.blocks 0 ≡ block old.blocks 0
   pub size : length new.blocks ≡ length old.blocks
   pub read : directory_of new.blocks ≡ Ok d
   pub others : new ≡ record old { blocks = new.blocks }

@@ -6,7 +6,10 @@ ghost use Rattle.os8_files.specs.Written.{Rewrites};
 
 use crate::writing::write_segments;
 use crate::{FileFault, FileService};
-use os8_dir::laws::{directory_numbers, file_removed, files_found, read_back, sound_directory};
+use os8_dir::laws::{
+    directory_numbers, entry_counts, file_removed, files_found, files_made, read_back,
+    sound_directory,
+};
 use os8_dir::{Directory, Name};
 use std::alloc::Global;
 use volume_image::BlockStore;
@@ -54,6 +57,8 @@ impl<S: BlockStore> FileService<S> {
         directory_numbers();
         sound_directory();
         file_removed();
+        files_made();
+        entry_counts();
         match self.directory.removed(alloc, name) {
             Err(_) => Err(FileFault::Memory),
             Ok(directory) => {

@@ -6,7 +6,7 @@ use crate::begun::Begun;
 use crate::{FileFault, FileService, Tentative};
 use os8_dir::Name;
 use os8_dir::laws::{
-    directory_blocks, directory_numbers, file_placed, files_found, files_made, rooms,
+    directory_blocks, directory_numbers, entry_counts, file_placed, files_found, files_made, rooms,
     sound_directory,
 };
 use std::alloc::Global;
@@ -51,6 +51,10 @@ impl<S: BlockStore> FileService<S> {
             return Err(FileFault::Busy(name));
         }
         rooms();
+        directory_numbers();
+        sound_directory();
+        files_made();
+        entry_counts();
         match self.directory.fitting(wish) {
             None => Err(FileFault::NoRoom(self.directory.largest())),
             Some((place, room)) => {
@@ -87,6 +91,7 @@ impl<S: BlockStore> FileService<S> {
                     return Err(FileFault::TooLong);
                 }
                 directory_blocks();
+                directory_numbers();
                 files_found();
                 sound_directory();
                 rooms();
@@ -158,6 +163,8 @@ impl<S: BlockStore> FileService<S> {
         files_found();
         sound_directory();
         file_placed();
+        files_made();
+        entry_counts();
         rooms();
         match self
             .directory

@@ -1,10 +1,11 @@
-use Rattle.std.proofs.Common.{List, ◌≡◌, ◌≤◌, ◌<◌, false, true, None, Some, Ok, Err, length, refl, ap, sym, subst, ◌∙◌, arith}
-use Rattle.std.specs.FinMap.{get}
+use Rattle.std.proofs.Common.{List, All, ◌≡◌, ◌≤◌, ◌<◌, false, true, None, Some, Ok, Err, length, refl, ap, sym, subst, ◌∙◌, arith}
+use Rattle.std.specs.FinMap.{get, remove}
+use Rattle.volume_image.specs.Volume.{IsBlock}
 use Rattle.os8_dir.specs.Files.{files_of}
 use Rattle.os8_dir.specs.Found.{files_at, find}
 use Rattle.os8_files.specs.Mounted.{Mounted, Begun}
 use Rattle.std.specs.Option.{is_some}
-use Rattle.os8_dir.specs.Files.{held_of}
+use Rattle.os8_dir.specs.Files.{held_of, of_directory}
 use Rattle.os8_dir.specs.Found.{IsDirectory, limit}
 use Rattle.os8_dir.specs.Changes.{removed, relisted}
 use Rattle.os8_dir.specs.declared.entries.DirEntry.{DirEntry}
@@ -13,6 +14,7 @@ use Rattle.os8_dir.specs.Reading.{directory_of}
 use Rattle.os8_files.specs.Written.{HasDirectory}
 use Rattle.os8_files.specs.Calls.{IsReady, Deletes}
 use Rattle.os8_files.proofs.CallLemmas.{some-of, none-of, held-none, found-some, by-rewrite}
+use Rattle.os8_files.proofs.BoundLemmas.{is-over, removed-made}
 use Rattle.os8_files.proofs.DeleteLemmas.{deleted}
 use Rattle.os8_files.proofs.service.FileService.delete.Goals as goal
 
@@ -39,6 +41,24 @@ rewrite-requires-clause-sound g c =
     let kept = c.self.invariant.kept c.if-self.false in
     subst (λ (m : Mounted). IsDirectory (length m.blocks) c.in-Ok.directory) c.self.view_is
     (rw c.in-Ok.ensures.list (c.file_removed.ensures.directory (length blocks) c.args.name.now d (c.sound_directory.ensures blocks d kept)))
+
+pub returns-then-entries-limit : goal.returns-then-entries-limit
+returns-then-entries-limit g c =
+    let blocks = g.S.BlockStore.contents c.self.inside.store in
+    let d = c.self.inside.directory in
+    let name = c.args.name.now in
+    let old = c.args.self.now in
+    let same : old.blocks ≡ blocks = ap (λ (m : Mounted). m.blocks) (sym c.self.view_is) in
+    let kept : directory_of old.blocks ≡ Ok d = subst (λ bs. directory_of bs ≡ Ok d) (sym same) (c.self.invariant.kept c.if-self.false) in
+    let is = c.sound_directory.ensures old.blocks d kept in
+    let ready : IsReady old = subst (λ (m : Mounted). IsReady m) c.self.view_is (record { running = c.if-self.false; none = none-of c.self.inside.tentative (sym c.is_some.ensures ∙ c.if-is_some.false) }) in
+    let each : All IsBlock old.blocks = subst (λ bs. All IsBlock bs) (sym same) c.self.invariant.volume.each in
+    let full : limit c.in-Ok.directory < length c.in-Ok.directory.entries = omega (arith, ap (λ (es : List DirEntry). length es) c.entries.ensures.list, c.limit.ensures.value, c.if-entries-limit.true) in
+    let more : limit d < length (removed name d.entries) = subst (λ (x : Listed). limit x < length x.entries) c.in-Ok.ensures.list full in
+    let over = is-over c.directory_numbers.ensures.limit c.directory_numbers.ensures.above c.entry_counts.ensures.entries c.entry_counts.ensures.empties c.entry_counts.ensures.one
+    old.blocks d (removed name d.entries) (remove (files_of old.blocks) name) each kept (c.files_made.ensures old.blocks d kept) is (c.file_removed.ensures.directory (length old.blocks) name d is)
+    (removed-made c.files_found.ensures c.file_removed.ensures.gone c.file_removed.ensures.others old.blocks d name kept) (omega (arith, c.file_removed.ensures.entries name d.entries)) more in
+    (ready, sym c.is_held.ensures ∙ c.if-is_held.false, omega (arith, more, c.directory_numbers.ensures.limit old.blocks d kept, ap (of_directory (λ (x : Listed). length (removed name x.entries))) kept), over, refl)
 
 pub returns-else-entries-limit : goal.returns-else-entries-limit
 returns-else-entries-limit g c =

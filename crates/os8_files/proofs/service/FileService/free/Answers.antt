@@ -11,7 +11,7 @@ returns g c = λ running.
     let blocks = g.S.BlockStore.contents c.self.inside.store in
     let kept = c.self.invariant.kept (ap (λ (m : Mounted). m.stopped) c.self.view_is ∙ running) in
     ap (λ (m : Mounted). c.free.result + used_of (files_of m.blocks)) (sym c.self.view_is)
-    ∙ ap (λ n. c.free.result + n) (used_of-read blocks d c.self.invariant.volume.each (c.files_made.ensures blocks d kept) (c.sound_directory.ensures blocks d kept))
+    ∙ ap (λ n. c.free.result + n) (used_of-read blocks d (files_of blocks) c.self.invariant.volume.each (c.files_made.ensures blocks d kept) (c.sound_directory.ensures blocks d kept))
     ∙ c.free.ensures.files
     ∙ sym (c.directory_numbers.ensures.capacity blocks d kept)
     ∙ ap (λ (m : Mounted). capacity_of m.blocks) c.self.view_is

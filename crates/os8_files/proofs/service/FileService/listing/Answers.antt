@@ -12,4 +12,4 @@ returns g c =
     let blocks = g.S.BlockStore.contents c.self.inside.store in
     let kept = c.self.invariant.kept c.if-self.false in
     subst (λ (m : Mounted). (m.stopped ≡ false) × (c.in_ok-list.list.items ≡ lengths_of (files_of m.blocks))) c.self.view_is
-    (c.if-self.false, c.in_ok-list.ensures ∙ ap lengths_in c.entries.ensures.list ∙ sym (lengths_of-read blocks d c.self.invariant.volume.each (c.files_made.ensures blocks d kept) (c.sound_directory.ensures blocks d kept)))
+    (c.if-self.false, c.in_ok-list.ensures ∙ ap lengths_in c.entries.ensures.list ∙ sym (lengths_of-read blocks d (files_of blocks) c.self.invariant.volume.each (c.files_made.ensures blocks d kept) (c.sound_directory.ensures blocks d kept)))

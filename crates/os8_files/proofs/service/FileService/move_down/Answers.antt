@@ -1,16 +1,19 @@
 use Rattle.std.proofs.Common.{◌≡◌, ℕ, ◌-◌, ◌+◌, ◌<◌, ◌≤◌, false, List, length, take, drop, Some, None, Ok, refl, ap, sym, subst, ◌∙◌, arith}
+use Rattle.std.proofs.lemmas.Result.{err_from_is_err_and}
 use Rattle.os8_dir.specs.Entries.{Listed}
 use Rattle.os8_dir.specs.Reading.{directory_of}
-use Rattle.os8_dir.specs.Found.{IsDirectory, files_at, find, extent_of}
+use Rattle.os8_dir.specs.declared.entries.DirEntry.{DirEntry}
+use Rattle.os8_dir.specs.Files.{limit_of, of_directory}
+use Rattle.os8_dir.specs.Found.{IsDirectory, files_at, find, extent_of, limit}
 use Rattle.os8_dir.specs.Changes.{lowest_above, moved_down, relisted}
 use Rattle.os8_files.specs.Mounted.{Mounted}
-use Rattle.os8_files.specs.Calls.{lowest_or}
+use Rattle.os8_files.specs.Calls.{lowest_or, entries_moved}
 use Rattle.os8_files.specs.Written.{HasDirectory, with_run}
 use Rattle.os8_files.proofs.LookupLemmas.{find_within}
 use Rattle.os8_files.proofs.CallLemmas.{extent-at}
 use Rattle.os8_files.proofs.RoomLemmas.{room-inside}
 use Rattle.os8_files.proofs.RunLemmas.{length-with_run}
-use Rattle.os8_files.proofs.SqueezeLemmas.{lies-above, moved-file}
+use Rattle.os8_files.proofs.SqueezeLemmas.{lies-above, moved-file, some-above, copy-refused}
 use Rattle.os8_files.proofs.service.FileService.move_down.Goals as goal
 
 pub moved_down-requires : goal.moved_down-requires
@@ -121,3 +124,52 @@ returns-in_ok-rewrite-in-Some g c =
     c.lowest_file.ensures.gap c.lowest_file.ensures.fewer c.file_moved_down.ensures.there c.file_moved_down.ensures.others c.file_moved_down.ensures.covered
     old mid c.rewrite.new.self d name gap c.requires.ready kept is low r put copied.1
     (subst (λ (x : Listed). HasDirectory mid x c.rewrite.new.self) c.in-Ok.ensures.list c.in_ok-rewrite-in-Some.ensures)
+
+pub returns-then-entries-limit : goal.returns-then-entries-limit
+returns-then-entries-limit g c =
+    let blocks = g.S.BlockStore.contents c.self.inside.store in
+    let old = c.args.self.now in
+    let d = c.self.inside.directory in
+    let name = c.args.name in
+    let gap = c.args.gap in
+    let same : old.blocks ≡ blocks = ap (λ (m : Mounted). m.blocks) (sym c.self.view_is) in
+    let running : c.self.inside.stopped ≡ false = ap (λ (m : Mounted). m.stopped) c.self.view_is ∙ c.requires.ready.running in
+    let kept : directory_of old.blocks ≡ Ok d = subst (λ bs. directory_of bs ≡ Ok d) (sym same) (c.self.invariant.kept running) in
+    let is = c.sound_directory.ensures old.blocks d kept in
+    let low : lowest_above d.entries ≡ Some (name, gap) = sym (ap lowest_or kept) ∙ c.requires.lowest in
+    let some = some-above c.directory_numbers.ensures.above c.lowest_file.ensures.none old.blocks d name gap kept is low in
+    let full : limit c.in-Ok.directory < length c.in-Ok.directory.entries = omega (arith, ap (λ (es : List DirEntry). length es) c.entries.ensures.list, c.limit.ensures.value, c.if-entries-limit.true) in
+    let more : limit d < length (moved_down name d.entries) = subst (λ (x : Listed). limit x < length x.entries) c.in-Ok.ensures.list full in
+    let long : limit_of old.blocks < entries_moved name old.blocks = omega (arith, more, c.directory_numbers.ensures.limit old.blocks d kept, ap (of_directory (λ (x : Listed). length (moved_down name x.entries))) kept) in
+    (c.requires.ready, name, gap, c.requires.lowest, long, some, refl)
+
+pub returns-in_err-copy_down-in-Some : goal.returns-in_err-copy_down-in-Some
+returns-in_err-copy_down-in-Some g c =
+    let blocks = g.S.BlockStore.contents c.self.inside.store in
+    let old = c.args.self.now in
+    let d = c.self.inside.directory in
+    let name = c.args.name in
+    let gap = c.args.gap in
+    let same : old.blocks ≡ blocks = ap (λ (m : Mounted). m.blocks) (sym c.self.view_is) in
+    let running : c.self.inside.stopped ≡ false = ap (λ (m : Mounted). m.stopped) c.self.view_is ∙ c.requires.ready.running in
+    let kept : directory_of old.blocks ≡ Ok d = subst (λ bs. directory_of bs ≡ Ok d) (sym same) (c.self.invariant.kept running) in
+    let is = c.sound_directory.ensures old.blocks d kept in
+    let low : lowest_above d.entries ≡ Some (name, gap) = sym (ap lowest_or kept) ∙ c.requires.lowest in
+    let some = some-above c.directory_numbers.ensures.above c.lowest_file.ensures.none old.blocks d name gap kept is low in
+    let p = err_from_is_err_and c.from_residual.result c.from_residual.ensures.1 in
+    rw (p.1, p.2) (copy-refused old c.copy_down.new.self c.in-Some.place c.in-Some.size gap c.in_err-copy_down-in-Some.field-0.0 c.requires.ready some c.in_err-copy_down-in-Some.ensures)
+
+pub returns-in-Err : goal.returns-in-Err
+returns-in-Err g c =
+    let blocks = g.S.BlockStore.contents c.self.inside.store in
+    let old = c.args.self.now in
+    let d = c.self.inside.directory in
+    let name = c.args.name in
+    let gap = c.args.gap in
+    let same : old.blocks ≡ blocks = ap (λ (m : Mounted). m.blocks) (sym c.self.view_is) in
+    let running : c.self.inside.stopped ≡ false = ap (λ (m : Mounted). m.stopped) c.self.view_is ∙ c.requires.ready.running in
+    let kept : directory_of old.blocks ≡ Ok d = subst (λ bs. directory_of bs ≡ Ok d) (sym same) (c.self.invariant.kept running) in
+    let is = c.sound_directory.ensures old.blocks d kept in
+    let low : lowest_above d.entries ≡ Some (name, gap) = sym (ap lowest_or kept) ∙ c.requires.lowest in
+    let some = some-above c.directory_numbers.ensures.above c.lowest_file.ensures.none old.blocks d name gap kept is low in
+    (c.requires.ready, some, refl)

@@ -1,14 +1,17 @@
-use Rattle.std.proofs.Common.{◌≡◌, ℕ, ◌<◌, ◌≤◌, false, List, length, Ok, Result, refl, ap, sym, subst, ◌∙◌, arith}
+use Rattle.std.proofs.Common.{◌≡◌, ℕ, ◌<◌, ◌≤◌, false, All, List, length, Ok, Result, refl, ap, sym, subst, ◌∙◌, arith}
 use Rattle.os8_dir.specs.declared.entries.DirEntry.{DirEntry}
 use Rattle.os8_dir.specs.Entries.{Listed, IsNamed}
 use Rattle.os8_dir.specs.Reading.{directory_of}
-use Rattle.os8_dir.specs.Found.{IsDirectory, limit}
-use Rattle.os8_dir.specs.Files.{of_directory}
+use Rattle.std.specs.FinMap.{insert}
+use Rattle.volume_image.specs.Volume.{IsBlock}
+use Rattle.os8_dir.specs.Found.{IsDirectory, rooms_at, limit}
+use Rattle.os8_dir.specs.Files.{files_of, limit_of, of_directory}
 use Rattle.os8_dir.specs.Changes.{placed, relisted, new_file}
 use Rattle.os8_files.specs.Mounted.{Mounted, Begun, IsBegun}
-use Rattle.os8_files.specs.Calls.{IsFree, Places}
+use Rattle.os8_files.specs.Calls.{IsFree, Places, entries_with, new_held}
 use Rattle.os8_files.specs.Written.{HasDirectory}
 use Rattle.os8_files.proofs.CallLemmas.{by-rewrite}
+use Rattle.os8_files.proofs.BoundLemmas.{IsMade, is-over, placed-made}
 use Rattle.os8_files.proofs.PlaceLemmas.{ok-same, placed-file}
 use Rattle.os8_files.proofs.service.FileService.place.Goals as goal
 
@@ -31,7 +34,15 @@ returns-then-entries-limit g c =
     let full : limit c.in-Ok.directory < length c.in-Ok.directory.entries = omega (arith, ap (λ (es : List DirEntry). length es) c.entries.ensures.list, c.limit.ensures.value, c.if-entries-limit.true) in
     let more : limit d < length (placed d.first (new_file d name info b.place b.written) d.entries) = subst (λ (x : Listed). limit x < length x.entries) list full in
     let named : limit d < length (placed d.first (new_file d b.name info b.place b.written) d.entries) = subst (λ n. limit d < length (placed d.first (new_file d n info b.place b.written) d.entries)) (sym c.requires.names) more in
-    (free, omega (arith, named, c.directory_numbers.ensures.limit old.blocks d kept, ap (of_directory (λ (x : Listed). length (placed x.first (new_file x b.name info b.place b.written) x.entries))) kept), refl)
+    let lain = c.rooms.ensures.lie b.place b.room b.place b.written (rooms_at d.first d.entries) lies.room (omega arith) (omega (arith, lies.most)) in
+    let made : IsMade old.blocks d (files_of old.blocks) = c.files_made.ensures old.blocks d kept in
+    let next = c.file_placed.ensures.directory (length old.blocks) name b.place b.written info d is (subst IsNamed c.requires.names lies.named) some in
+    let each : All IsBlock old.blocks = subst (λ bs. All IsBlock bs) (sym same) c.self.invariant.volume.each in
+    let after = placed-made c.files_found.ensures c.file_placed.ensures.there c.file_placed.ensures.others old d name b info kept is some lain in
+    let over = is-over c.directory_numbers.ensures.limit c.directory_numbers.ensures.above c.entry_counts.ensures.entries c.entry_counts.ensures.empties c.entry_counts.ensures.one
+    old.blocks d (placed d.first (new_file d name info b.place b.written) d.entries) (insert (files_of old.blocks) name (new_held old b info)) each kept made is next after
+    (c.file_placed.ensures.entries d.first b.room (new_file d name info b.place b.written) d.entries some lies.most lies.room) more in
+    (free, omega (arith, named, c.directory_numbers.ensures.limit old.blocks d kept, ap (of_directory (λ (x : Listed). length (placed x.first (new_file x b.name info b.place b.written) x.entries))) kept), over, refl)
 
 pub rewrite-requires-clause-sound : goal.rewrite-requires-clause-sound
 rewrite-requires-clause-sound g c =
@@ -67,8 +78,12 @@ returns-else-entries-limit g c =
     let list : c.in-Ok.directory ≡ relisted d (placed d.first (new_file d name info b.place b.written) d.entries) = c.in-Ok.ensures.list ∙ ap (λ (x : Begun). relisted d (placed d.first (new_file d name info x.place x.written) d.entries)) c.begun.view_is in
     let some : 0 < b.written = omega (arith, c.if-begun-eq0.false, ap (λ (x : Begun). x.written) c.begun.view_is) in
     let free : IsFree old name = sym c.is_held.ensures ∙ c.if-is_held.false in
+    let room : length c.in-Ok.directory.entries ≤ limit c.in-Ok.directory = omega (arith, ap (λ (es : List DirEntry). length es) c.entries.ensures.list, c.limit.ensures.value, c.if-entries-limit.false) in
+    let less : length (placed d.first (new_file d name info b.place b.written) d.entries) ≤ limit d = subst (λ (x : Listed). length x.entries ≤ limit x) list room in
+    let named : length (placed d.first (new_file d b.name info b.place b.written) d.entries) ≤ limit d = subst (λ n. length (placed d.first (new_file d n info b.place b.written) d.entries) ≤ limit d) (sym c.requires.names) less in
+    let fits : entries_with b info old.blocks ≤ limit_of old.blocks = omega (arith, named, c.directory_numbers.ensures.limit old.blocks d kept, ap (of_directory (λ (x : Listed). length (placed x.first (new_file x b.name info b.place b.written) x.entries))) kept) in
     by-rewrite old c.rewrite.new.self c.in-Ok.directory c.rewrite.result (λ r. Places old name b info r c.rewrite.new.self) c.rewrite.ensures
     (λ done has. placed-file c.files_found.ensures c.rooms.ensures.lie c.directory_numbers.ensures.limit c.directory_numbers.ensures.capacity c.directory_numbers.ensures.above
     c.file_placed.ensures.there c.file_placed.ensures.others c.file_placed.ensures.covered c.file_placed.ensures.tight
-    old c.rewrite.new.self d name b info kept is lies some free (subst (λ (x : Listed). HasDirectory old x c.rewrite.new.self) list has))
+    old c.rewrite.new.self d name b info kept is lies some free fits (subst (λ (x : Listed). HasDirectory old x c.rewrite.new.self) list has))
     (λ failed. failed)

@@ -1,9 +1,10 @@
 use Rattle.std.proofs.Common.{◌≡◌, ◌≤◌, ◌<◌, None, length, drop, refl, ap, sym, subst, ◌∙◌, arith}
+use Rattle.os8_dir.specs.Reading.{block}
 use Rattle.os8_dir.specs.Found.{IsDirectory}
 use Rattle.os8_dir.specs.Segments.{segment_count}
 use Rattle.os8_files.specs.Mounted.{Mounted}
 use Rattle.os8_files.specs.Written.{HasDirectory}
-use Rattle.os8_files.proofs.WrittenLemmas.{length-segments, drop-segments}
+use Rattle.os8_files.proofs.WrittenLemmas.{length-segments, drop-segments, first-segments}
 use Rattle.os8_files.proofs.CallLemmas.{holds-segments}
 use Rattle.os8_files.proofs.service.FileService.rewrite.Goals as goal
 
@@ -31,6 +32,7 @@ returns-in-Ok g c =
     let sound : IsDirectory (length new) d = subst (λ n. IsDirectory n d) (ap (λ (m : Mounted). length m.blocks) (sym c.self.view_is) ∙ sym size) c.requires.sound in
     rw (← c.self.view_is) (record {
       high = ap (drop 7) c.in-Ok.ensures.ok ∙ drop-segments (segment_count d) d old few;
+      first = ap (λ bs. block bs 0) c.in-Ok.ensures.ok ∙ first-segments (segment_count d) d old;
       size = size;
       read = c.read_back.ensures new d sound c.write_segments.ensures.volume.most c.requires.fits (holds-segments old new d c.in-Ok.ensures.ok (omega (arith, few, c.self.invariant.volume.least)));
       others = rw (c.write_segments.ensures.reads, c.write_segments.ensures.failed_reads, c.in-Ok.ensures.failed_writes) refl;

@@ -1,8 +1,9 @@
 use Rattle.std.proofs.Common.{◌≡◌, ℕ, ◌+◌, ◌<◌, List, Some, slice_set, length, refl, ap, sym, subst, ◌∙◌, arith}
 use Rattle.os8_dir.specs.Reading.{directory_of}
-use Rattle.os8_dir.specs.Files.{files_of}
+use Rattle.os8_dir.specs.Files.{files_of, run}
 use Rattle.os8_files.specs.Mounted.{Mounted, Begun, IsBegun}
 use Rattle.os8_files.specs.Calls.{HasWritten}
+use Rattle.os8_files.proofs.KeepLemmas.{text-more, info-of}
 use Rattle.os8_files.proofs.PlaceLemmas.{some-same, write-inside, written-directory, written-files}
 use Rattle.os8_files.proofs.service.FileService.write.Goals as goal
 
@@ -54,13 +55,20 @@ returns-in-Ok-clause-call g c =
     let lies : IsBegun d b = subst (λ (x : Begun). IsBegun d x) (sym c.begun.view_is) (c.self.invariant.begun c.if-self.false c.in-Some.begun c.in-Some.is) in
     let inside = write-inside blocks d b is lies c.if-written-room.false in
     let k = b.place + b.written in
+    let new = g.S.BlockStore.contents c.write-result.new.self in
+    let steady : directory_of new ≡ directory_of blocks = ap (λ bs. directory_of bs) c.in-Ok.ensures.ok ∙ written-directory c.directory_blocks.ensures blocks k c.args.words.now (omega (arith, inside.0)) in
     rw (← c.self.view_is) (record {
       running = c.if-self.false;
       begun = b;
       was = c.in-Some.is ∙ ap Some (sym c.begun.view_is);
       short = c.if-written-room.false;
       blocks = c.in-Ok.ensures.ok;
-      directory = ap (λ bs. directory_of bs) c.in-Ok.ensures.ok ∙ written-directory c.directory_blocks.ensures blocks k c.args.words.now (omega (arith, inside.0));
+      text = ap (λ bs. run bs b.place (b.written + 1)) c.in-Ok.ensures.ok ∙ text-more blocks b.place b.written c.args.words.now inside.1;
+      directory = steady;
+      capacity = c.directory_numbers.ensures.capacity new d (steady ∙ kept) ∙ sym (c.directory_numbers.ensures.capacity blocks d kept);
+      limit = c.directory_numbers.ensures.limit new d (steady ∙ kept) ∙ sym (c.directory_numbers.ensures.limit blocks d kept);
+      info = info-of new d (steady ∙ kept) ∙ sym (info-of blocks d kept);
+      above = c.directory_numbers.ensures.above new d (steady ∙ kept) ∙ sym (c.directory_numbers.ensures.above blocks d kept);
       files = ap (λ bs. files_of bs) c.in-Ok.ensures.ok ∙ written-files c.directory_blocks.ensures c.files_found.ensures c.rooms.ensures.lie c.rooms.ensures.outside blocks d b c.args.words.now kept is lies c.if-written-room.false;
       others = rw (c.write-result.ensures.reads, c.write-result.ensures.failed_reads, c.in-Ok.ensures.failed_writes) refl;
     })
