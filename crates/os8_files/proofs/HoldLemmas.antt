@@ -3,7 +3,8 @@ use Rattle.std.proofs.Common.{◌≡◌, ℕ, suc, ◌<◌, ◌≤◌, true, fal
 use Rattle.std.specs.List.{insert, remove}
 use Rattle.std.proofs.lemmas.Bool.Decides.{nat_tests}
 use Rattle.os8_dir.specs.Entries.{contains}
-use Rattle.os8_files.specs.Holds.{with_hold, without_hold, place_of, first_of}
+use Rattle.os8_files.specs.Holds.{with_hold, without_hold}
+use Rattle.os8_files.specs.Steps.{place_of, first_of}
 
 pub insert-place : (name : ℕ) (hs : List ℕ) → insert hs (place_of name hs) name ≡ with_hold name hs
 insert-place name [] = refl

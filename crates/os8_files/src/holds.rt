@@ -1,6 +1,6 @@
 //! The list of holds.
 ghost use Rattle.std.specs.Prelude.{◌≡◌, ◌≤◌, length};
-ghost use Rattle.os8_files.specs.Holds.{place_of as place_among, first_of as first_among};
+ghost use Rattle.os8_files.specs.Steps.{place_of as place_among, first_of as first_among};
 
 use os8_dir::Name;
 

@@ -5,7 +5,8 @@ use Rattle.os8_dir.specs.Found.{files_at, find}
 use Rattle.os8_files.specs.Mounted.{Mounted, Begun}
 use Rattle.std.specs.List.{insert}
 use Rattle.os8_files.specs.Calls.{Holds}
-use Rattle.os8_files.specs.Holds.{with_hold, place_of}
+use Rattle.os8_files.specs.Holds.{with_hold}
+use Rattle.os8_files.specs.Steps.{place_of}
 use Rattle.os8_dir.specs.Files.{held, held_of}
 use Rattle.os8_files.proofs.HoldLemmas.{insert-place}
 use Rattle.os8_files.proofs.CallLemmas.{held-none, found-some}

@@ -1,6 +1,7 @@
 use Rattle.std.proofs.Common.{◌≡◌, ◌<◌, ◌≤◌, length, refl, ap, sym, ◌∙◌, arith}
 use Rattle.os8_files.specs.Mounted.{Mounted}
-use Rattle.os8_files.specs.Holds.{without_hold, first_of}
+use Rattle.os8_files.specs.Holds.{without_hold}
+use Rattle.os8_files.specs.Steps.{first_of}
 use Rattle.os8_files.proofs.HoldLemmas.{remove-first, without-none}
 use Rattle.os8_files.proofs.service.FileService.release.Goals as goal
 
