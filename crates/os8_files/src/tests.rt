@@ -9,6 +9,8 @@ use volume_image::{BlockStore, CountVolume, FuseVolume, ImageFault, MemoryVolume
 use word12::Word;
 
 mod calls;
+mod counts;
+mod memory;
 mod steps;
 
 /// A volume of 20 blocks whose block 1 begins with these words.

@@ -1,20 +1,11 @@
 use super::{mounted, name_of};
-use crate::tests::steps::{first_word, squeeze, store, while_held};
+use crate::tests::steps::{first_word, numbered, squeeze, store, while_held};
 use crate::{FileFault, Squeezed};
 use os8_dir::Name;
 use std::process::Abort;
 use std::test::Fail;
 use volume_image::{BlockStore, CountVolume, FuseVolume, MemoryVolume};
 use word12::Word;
-
-fn numbered(number: u16) -> Name {
-    Name::of([
-        Word::low(0o100).plus(Word::low(number)),
-        Word::ZERO,
-        Word::ZERO,
-        Word::ZERO,
-    ])
-}
 
 #[test]
 fn six_files_and_a_seventh(rt: HostRuntime) -> Result<(), Fail> {

@@ -8,6 +8,16 @@ use std::alloc::Global;
 use volume_image::BlockStore;
 use word12::Word;
 
+/// A name for each number.
+pub fn numbered(number: u16) -> Name {
+    Name::of([
+        Word::low(0o100).plus(Word::low(number)),
+        Word::ZERO,
+        Word::ZERO,
+        Word::ZERO,
+    ])
+}
+
 /// The words of a block that begins with a word.
 fn block_of(word: Word) -> [Word; 256] {
     let mut block = [Word::ZERO; 256];
