@@ -1,6 +1,6 @@
 //! How many blocks each call reads and writes where the directory takes six segments.
 use super::mounted;
-use crate::Squeezed;
+use crate::FileService;
 use crate::tests::steps::{numbered, store};
 use std::alloc::Global;
 use std::process::Abort;
@@ -18,43 +18,71 @@ fn filled(alloc: Global) -> Result<CountVolume<MemoryVolume>, Fail> {
     Ok(files.into_store())
 }
 
-/// The store with its counts at 0.
-fn counted_anew(count: CountVolume<MemoryVolume>) -> CountVolume<MemoryVolume> {
-    CountVolume::new(count.into_inner())
+/// The store with its counts at 0, mounted.
+fn mounted_anew(
+    alloc: Global,
+    count: CountVolume<MemoryVolume>,
+) -> Result<FileService<CountVolume<MemoryVolume>>, Fail> {
+    let files = mounted(alloc, CountVolume::new(count.into_inner()))?;
+    Ok(files)
+}
+
+/// The store with the counts of a mount alone.
+fn only_mounted(
+    alloc: Global,
+    count: CountVolume<MemoryVolume>,
+) -> Result<CountVolume<MemoryVolume>, Fail> {
+    let files = mounted_anew(alloc, count)?;
+    Ok(files.into_store())
+}
+
+/// The store with the counts of a mount and of a delete of the first file.
+fn deleted(
+    alloc: Global,
+    count: CountVolume<MemoryVolume>,
+) -> Result<CountVolume<MemoryVolume>, Fail> {
+    let mut files = mounted_anew(alloc, count)?;
+    files.delete(alloc, &numbered(1))?;
+    Ok(files.into_store())
+}
+
+/// The store with the counts of a mount and of a turn of squeezing.
+fn squeezed(
+    alloc: Global,
+    count: CountVolume<MemoryVolume>,
+) -> Result<CountVolume<MemoryVolume>, Fail> {
+    let mut files = mounted_anew(alloc, count)?;
+    let _squeezed = files.squeeze_turn(alloc)?;
+    Ok(files.into_store())
+}
+
+/// The store with the counts of a mount and of the storing of a file of one block.
+fn stored(
+    alloc: Global,
+    count: CountVolume<MemoryVolume>,
+) -> Result<CountVolume<MemoryVolume>, Fail> {
+    let mut files = mounted_anew(alloc, count)?;
+    store(alloc, &mut files, numbered(1), 1, 1, Word::ZERO)?;
+    Ok(files.into_store())
+}
+
+/// How many blocks were read and written.
+fn counts(count: &CountVolume<MemoryVolume>) -> (u64, u64) {
+    (count.reads(), count.writes())
 }
 
 #[test]
 fn counts_with_six_segments(rt: HostRuntime) -> Result<(), Fail> {
     let alloc = rt.alloc();
-    let files = mounted(alloc, counted_anew(filled(alloc)?))?;
-    assert_eq!(rt; files.listing(alloc)?.len(), 246);
-    assert_eq!(rt; files.free(), 0);
-    let count = files.into_store();
-    assert_eq!(rt; count.reads(), 6);
-    assert_eq!(rt; count.writes(), 0);
-
-    let mut files = mounted(alloc, counted_anew(count))?;
-    files.delete(alloc, &numbered(1))?;
-    let count = files.into_store();
-    assert_eq!(rt; count.reads(), 6);
-    assert_eq!(rt; count.writes(), 6);
-
-    let mut files = mounted(alloc, counted_anew(count))?;
-    assert_eq!(rt; files.squeeze_turn(alloc)?, Squeezed::Moved(numbered(2)));
-    let count = files.into_store();
-    assert_eq!(rt; count.reads(), 6 + 5);
-    assert_eq!(rt; count.writes(), 5 + 6);
-
-    let mut files = mounted(alloc, counted_anew(count))?;
-    store(alloc, &mut files, numbered(1), 1, 1, Word::ZERO)?;
-    let count = files.into_store();
-    assert_eq!(rt; count.reads(), 6);
-    assert_eq!(rt; count.writes(), 1 + 6);
-
-    let mut files = mounted(alloc, counted_anew(count))?;
-    assert_eq!(rt; files.squeeze_turn(alloc)?, Squeezed::Nothing);
-    let count = files.into_store();
-    assert_eq!(rt; count.reads(), 6);
-    assert_eq!(rt; count.writes(), 0);
+    let count = only_mounted(alloc, filled(alloc)?)?;
+    assert_eq!(rt; counts(&count), (6, 0));
+    let count = deleted(alloc, count)?;
+    assert_eq!(rt; counts(&count), (6, 6));
+    let count = squeezed(alloc, count)?;
+    assert_eq!(rt; counts(&count), (6 + 5, 5 + 6));
+    let count = stored(alloc, count)?;
+    assert_eq!(rt; counts(&count), (6, 1 + 6));
+    let count = squeezed(alloc, count)?;
+    assert_eq!(rt; counts(&count), (6, 0));
     Ok(())
 }
