@@ -1,5 +1,5 @@
 -- The bounds that refusals tell: of the largest empty, and of the entries of a list that is too long.
-use Rattle.std.proofs.Common.{◌≡◌, ◌≢◌, ℕ, zero, suc, ◌+◌, ◌*◌, ◌<◌, ◌≤◌, All, true, false, cond, eqb, List, [], ◌∷◌, length, take, Option, Some, None, Ok, refl, ap, sym, subst, ◌∙◌, arith}
+use Rattle.std.proofs.Common.{◌≡◌, ◌≢◌, ℕ, zero, suc, ◌+◌, ◌*◌, ◌<◌, ◌≤◌, All, true, false, cond, eqb, List, [], ◌∷◌, length, take, Some, None, Ok, refl, ap, sym, subst, ◌∙◌, arith}
 use Rattle.std.specs.Ordering.{nat_cmp, eq_by_cmp}
 use Rattle.std.specs.FinMap.{get, insert, remove, from_entries, get-from_entries}
 use Rattle.std.specs.FinMap as map
@@ -14,7 +14,7 @@ use Rattle.os8_dir.specs.Reading.{directory_of}
 use Rattle.os8_dir.specs.Found.{Placed, IsDirectory, IsTight, files_at, rooms_at, find, largest, size_or_zero, free_blocks, used_blocks, count_files, count_empties, limit, above}
 use Rattle.os8_dir.specs.Files.{Files, held, held_by, held_of, files_of, run, capacity_of, limit_of, above_of, of_directory}
 use Rattle.os8_dir.specs.Changes.{removed, placed, relisted, new_file, LieIn}
-use Rattle.os8_files.specs.Mounted.{Mounted, Begun, IsBegun}
+use Rattle.os8_files.specs.Mounted.{Mounted, Begun}
 use Rattle.os8_files.specs.Calls.{IsLargest, IsOver, info_of, new_held}
 use Rattle.os8_files.proofs.ListingLemmas.{used_of-read, count_of-read}
 use Rattle.os8_files.proofs.MapLemmas.{files-removed, files-inserted}

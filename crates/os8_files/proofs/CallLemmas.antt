@@ -1,26 +1,25 @@
 -- What the calls of the service do, from what the directory and the store answer.
-use Rattle.std.proofs.Common.{◌≡◌, ◌≢◌, ℕ, ◌+◌, ◌*◌, ◌<◌, ◌≤◌, Bool, true, false, not, All, List, [], ◌∷◌, length, take, drop, get_or, Option, Some, None, Result, Ok, Err, if◌then◌else◌, ◌==◌, refl, ap, sym, subst, ◌∙◌, arith}
+use Rattle.std.proofs.Common.{◌≡◌, ℕ, ◌+◌, ◌<◌, ◌≤◌, true, false, List, [], ◌∷◌, length, take, drop, get_or, Option, Some, None, Result, Ok, Err, if◌then◌else◌, ◌==◌, refl, ap, sym, subst, ◌∙◌, arith}
 use Rattle.std.specs.Prelude.{slice_get}
 use Rattle.std.specs.Option.{is_some}
 use Rattle.std.proofs.lemmas.List.{get_or-take, get_or-drop, length-take-le, length-drop}
 use Rattle.std.proofs.lemmas.List.Elements.{All-take, All-drop}
 use Rattle.std.proofs.lemmas.Option.{get_or_from_slice_get}
-use Rattle.std.specs.FinMap.{get, remove}
+use Rattle.std.specs.FinMap.{get}
 use Rattle.volume_image.specs.Volume.{IsVolume, IsBlock, counted}
-use Rattle.os8_dir.specs.Entries.{Listed, capacity}
+use Rattle.os8_dir.specs.Entries.{Listed}
 use Rattle.os8_dir.specs.Reading.{block, directory_of}
-use Rattle.os8_dir.specs.Found.{Placed, IsDirectory, AreApart, files_at, find, extent_of, limit}
-use Rattle.os8_dir.specs.Files.{Held, files_of, held, held_of, run, limit_of, capacity_of}
+use Rattle.os8_dir.specs.Found.{Placed, IsDirectory, AreApart, files_at, find, extent_of}
+use Rattle.os8_dir.specs.Files.{files_of, held, held_of}
 use Rattle.os8_dir.specs.Segments.{HoldsSegments, segment_count, segment_of}
-use Rattle.os8_files.specs.Mounted.{Mounted, Begun, IsKept}
+use Rattle.os8_files.specs.Mounted.{Mounted}
 use Rattle.os8_files.specs.Service.{blocks_of}
 use Rattle.os8_files.specs.Calls.{HasFailed, HasBlock, HasRead}
 use Rattle.os8_files.specs.Written.{with_segments, HasDirectory, Rewrites}
 use Rattle.os8_files.specs.declared.faults.FileFault.{FileFault}
 use Rattle.os8_files.specs.declared.faults.FileFault.TheVariants.{NotFound, NoRoom, DirectoryFull, Busy, BadName, TooLong, TentativeOpen, Device, Stopped, Memory, NothingWritten}
-use Rattle.os8_files.proofs.LengthLemmas.{length-run}
 use Rattle.os8_files.proofs.LookupLemmas.{told, blocks_found, find_within}
-use Rattle.os8_files.proofs.WrittenLemmas.{block-segments, drop-segments, length-segments, run-high, held-kept, block-joined}
+use Rattle.os8_files.proofs.WrittenLemmas.{block-segments, run-high, held-kept, block-joined}
 
 -- The files of a directory, where it is what the blocks are read as.
 abbrev pub FindsFiles : Type 0

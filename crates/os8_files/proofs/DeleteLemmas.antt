@@ -1,11 +1,11 @@
 -- What is left where a file is deleted.
-use Rattle.std.proofs.Common.{◌≡◌, ◌≢◌, ℕ, ◌≤◌, false, List, length, drop, Option, Some, None, Ok, refl, ap, sym, ◌∙◌, arith}
+use Rattle.std.proofs.Common.{◌≡◌, ◌≢◌, ℕ, ◌≤◌, List, length, Some, None, Ok, ap, sym, ◌∙◌, arith}
 use Rattle.std.specs.FinMap.{get}
 use Rattle.os8_dir.specs.declared.entries.DirEntry.{DirEntry}
-use Rattle.os8_dir.specs.Entries.{Listed, capacity, total}
+use Rattle.os8_dir.specs.Entries.{Listed, total}
 use Rattle.os8_dir.specs.Reading.{directory_of}
 use Rattle.os8_dir.specs.Found.{IsDirectory, files_at, find, limit}
-use Rattle.os8_dir.specs.Files.{Held, files_of, held_of, limit_of, capacity_of, of_directory}
+use Rattle.os8_dir.specs.Files.{Held, files_of, held_of, of_directory}
 use Rattle.os8_dir.specs.Changes.{removed, relisted}
 use Rattle.os8_files.specs.Mounted.{Mounted}
 use Rattle.os8_files.specs.Calls.{IsReady, IsFree, HasDeleted}

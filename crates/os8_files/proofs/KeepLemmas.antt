@@ -1,11 +1,10 @@
 -- What stays where a directory is written, and where a block is.
-use Rattle.std.proofs.Common.{◌≡◌, ℕ, zero, suc, ◌+◌, ◌-◌, ◌<◌, ◌≤◌, List, [], ◌∷◌, ◌++◌, length, take, drop, get_or, slice_set, Ok, refl, ap, sym, ◌∙◌, arith, inl, inr, get_or-set_other, append_assoc}
-use Rattle.std.specs.Prelude.{◌⊎◌}
+use Rattle.std.proofs.Common.{◌≡◌, ℕ, suc, ◌+◌, ◌-◌, ◌<◌, ◌≤◌, List, [], ◌∷◌, ◌++◌, length, take, drop, get_or, slice_set, Ok, refl, ap, sym, ◌∙◌, arith, inl, inr, get_or-set_other, append_assoc}
 use Rattle.std.proofs.lemmas.List.{get_or-drop, drop-set-add, length-drop}
 use Rattle.std.proofs.lemmas.Grind.{take-set_at}
 use Rattle.os8_dir.specs.Entries.{Listed}
 use Rattle.os8_dir.specs.Reading.{directory_of, block}
-use Rattle.os8_dir.specs.Files.{joined, run, of_directory, capacity_of, limit_of, above_of}
+use Rattle.os8_dir.specs.Files.{joined, run, of_directory}
 use Rattle.os8_files.specs.Mounted.{Mounted}
 use Rattle.os8_files.specs.Calls.{KeepsBlocks, info_of}
 use Rattle.os8_files.specs.Written.{HasDirectory, with_run}

@@ -1,11 +1,11 @@
 -- Files that are held keep their words through every call.
-use Rattle.std.proofs.Common.{◌≡◌, ◌≢◌, ℕ, Bool, true, false, true≢false, cond, eqb, ◌==◌, nat_lt, if◌then◌else◌, List, [], ◌∷◌, Option, Some, None, Result, Ok, Err, refl, ap, sym, ◌∙◌, arith, inl, inr}
+use Rattle.std.proofs.Common.{◌≡◌, ℕ, Bool, true, false, true≢false, cond, eqb, ◌==◌, nat_lt, if◌then◌else◌, List, [], ◌∷◌, Some, None, Result, Ok, Err, refl, ap, sym, ◌∙◌, arith, inl, inr}
 use Rattle.std.specs.FinMap.{get, insert}
 use Rattle.std.proofs.lemmas.Bool.Decides.{nat_tests, eqb_tells}
 use Rattle.os8_dir.specs.Entries.{contains}
 use Rattle.os8_dir.specs.Files.{Files, Held, files_of}
 use Rattle.os8_files.specs.Mounted.{Mounted}
-use Rattle.os8_files.specs.Calls.{IsHeld, IsFree, Reads, Holds, Deletes, Enters, Writes, Closes, Squeezes}
+use Rattle.os8_files.specs.Calls.{Reads, Holds, Deletes, Enters, Writes, Closes, Squeezes}
 use Rattle.os8_files.specs.Holds.{with_hold, without_hold}
 use Rattle.os8_files.specs.Laws.{KeepsHeld}
 use Rattle.os8_files.specs.declared.faults.FileFault.{FileFault}

@@ -1,15 +1,14 @@
 -- What is left where a block of a file is written, and where a file is placed in the directory.
-use Rattle.std.proofs.Common.{◌≡◌, ◌≢◌, ℕ, ◌+◌, ◌<◌, ◌≤◌, List, [], length, take, drop, slice_set, Option, Some, None, Result, Ok, Err, refl, ap, sym, subst, ◌∙◌, arith, inl, inr, get_or-set_other}
+use Rattle.std.proofs.Common.{◌≡◌, ◌≢◌, ℕ, ◌+◌, ◌<◌, ◌≤◌, List, [], length, take, slice_set, Option, Some, None, Result, Ok, Err, refl, ap, sym, ◌∙◌, arith, inl, inr, get_or-set_other}
 use Rattle.std.specs.Prelude.{◌⊎◌}
-use Rattle.std.specs.FinMap.{get}
 use Rattle.std.proofs.Math.ListN.{length-set}
 use Rattle.os8_dir.specs.declared.entries.DirEntry.{DirEntry}
 use Rattle.os8_dir.specs.declared.faults.DirFault.{DirFault}
 use Rattle.os8_dir.specs.Names.{padded}
-use Rattle.os8_dir.specs.Entries.{Listed, capacity, total, IsTidy}
+use Rattle.os8_dir.specs.Entries.{Listed, total, IsTidy}
 use Rattle.os8_dir.specs.Reading.{directory_of}
-use Rattle.os8_dir.specs.Found.{Placed, IsDirectory, IsTight, files_at, rooms_at, find, limit, above}
-use Rattle.os8_dir.specs.Files.{files_of, held_of, run, limit_of, capacity_of, above_of, of_directory}
+use Rattle.os8_dir.specs.Found.{Placed, IsDirectory, IsTight, files_at, rooms_at, find}
+use Rattle.os8_dir.specs.Files.{files_of, held_of, run, limit_of, of_directory}
 use Rattle.os8_dir.specs.Changes.{placed, relisted, new_file, LieIn, IsRoom}
 use Rattle.os8_files.specs.Mounted.{Mounted, Begun, IsBegun}
 use Rattle.os8_files.specs.Calls.{IsFree, HasPlaced, HasWritten, HasEntered, IsOf, info_of, entries_with}

@@ -1,14 +1,14 @@
 -- What is left where a file is moved down.
-use Rattle.std.proofs.Common.{◌≡◌, ◌≢◌, ℕ, ◌+◌, ◌-◌, ◌<◌, ◌≤◌, List, length, take, drop, Option, Some, None, Ok, Err, refl, ap, sym, subst, ◌∙◌, arith, inl, inr}
-use Rattle.std.specs.Prelude.{◌⊎◌, ◌↔◌}
+use Rattle.std.proofs.Common.{◌≡◌, ◌≢◌, ℕ, ◌+◌, ◌-◌, ◌<◌, ◌≤◌, List, length, take, drop, Some, None, Ok, Err, ap, sym, subst, ◌∙◌, arith, inl, inr}
+use Rattle.std.specs.Prelude.{◌↔◌}
 use Rattle.std.specs.FinMap.{get}
 use Rattle.std.proofs.lemmas.List.{length-take-le, length-drop}
 use Rattle.std.proofs.lemmas.Bool.Decides.{eqb_tells}
 use Rattle.os8_dir.specs.declared.entries.DirEntry.{DirEntry}
-use Rattle.os8_dir.specs.Entries.{Listed, capacity, total, IsTidy}
-use Rattle.os8_dir.specs.Reading.{directory_of, block}
-use Rattle.os8_dir.specs.Found.{Placed, IsDirectory, files_at, rooms_at, find, extent_of, limit, above}
-use Rattle.os8_dir.specs.Files.{files_of, held_of, run, limit_of, capacity_of, above_of}
+use Rattle.os8_dir.specs.Entries.{Listed, total, IsTidy}
+use Rattle.os8_dir.specs.Reading.{directory_of}
+use Rattle.os8_dir.specs.Found.{Placed, IsDirectory, files_at, rooms_at, find, extent_of, above}
+use Rattle.os8_dir.specs.Files.{files_of, held_of, run, above_of}
 use Rattle.os8_dir.specs.Changes.{moved_down, relisted, lowest_above, gap_below, lowered, IsRoom}
 use Rattle.os8_files.specs.Mounted.{Mounted}
 use Rattle.os8_files.specs.Calls.{IsReady, HasMoved, Squeezes, lowest_or, extent_or}

@@ -1,5 +1,5 @@
 -- What each call of the file service does: one relation by cases on its answer (this project's profile).
-use Rattle.std.specs.Prelude.{◌≡◌, ◌≢◌, ◌⊎◌, ◌-◌, ℕ, ◌+◌, ◌*◌, ◌/◌, ◌<◌, ◌≤◌, Bool, true, false, Option, Some, None, List, [], ◌++◌, length, take, drop, slice_set, Result, Ok, Err}
+use Rattle.std.specs.Prelude.{◌≡◌, ◌≢◌, ◌⊎◌, ◌-◌, ℕ, ◌+◌, ◌*◌, ◌/◌, ◌<◌, ◌≤◌, true, false, Option, Some, None, List, [], ◌++◌, length, take, drop, slice_set, Result, Ok, Err}
 use Rattle.std.specs.Global.{Vec}
 use Rattle.std.specs.FinMap.{get, insert, remove}
 use Rattle.volume_image.specs.Volume.{counted}
@@ -7,12 +7,12 @@ use Rattle.os8_dir.specs.Names.{padded}
 use Rattle.os8_dir.specs.Entries.{Listed, contains, IsNamed}
 use Rattle.os8_dir.specs.Reading.{directory_of, block}
 use Rattle.os8_dir.specs.Found.{rooms_at, files_at, find, extent_of, largest, size_or_zero}
-use Rattle.os8_dir.specs.Files.{Held, Files, files_of, held, run, of_directory, limit_of, above_of, capacity_of}
+use Rattle.os8_dir.specs.Files.{Held, Files, files_of, run, of_directory, limit_of, above_of, capacity_of}
 use Rattle.os8_dir.specs.Changes.{removed, placed, new_file, moved_down, fitting, lowest_above}
 use Rattle.os8_dir.specs.declared.faults.DirFault.{DirFault}
 use Rattle.os8_files.specs.Mounted.{Mounted, Begun, IsBegun}
 use Rattle.os8_files.specs.Service.{blocks_of, lengths_of, used_of, count_of}
-use Rattle.os8_files.specs.Holds.{with_hold, without_hold}
+use Rattle.os8_files.specs.Holds.{with_hold}
 use Rattle.os8_files.specs.declared.tokens.Squeezed.{Squeezed}
 use Rattle.os8_files.specs.declared.tokens.Squeezed.TheVariants.{Moved, Nothing}
 use Rattle.os8_files.specs.declared.faults.FileFault.{FileFault}

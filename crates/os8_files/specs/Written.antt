@@ -2,11 +2,11 @@
 use Rattle.std.specs.Prelude.{◌≡◌, ◌⊎◌, ◌-◌, take, ℕ, zero, suc, List, [], ◌∷◌, length, drop, slice_set, Result, Ok, Err}
 use Rattle.os8_dir.specs.Entries.{Listed}
 use Rattle.os8_dir.specs.Reading.{directory_of, block}
-use Rattle.os8_dir.specs.Segments.{segment_count, segment_of}
+use Rattle.os8_dir.specs.Segments.{segment_of}
 use Rattle.os8_files.specs.Mounted.{Mounted}
 use Rattle.os8_files.specs.Calls.{HasFailed, HasMissed}
 use Rattle.os8_files.specs.declared.faults.FileFault.{FileFault}
-use Rattle.os8_files.specs.declared.faults.FileFault.TheVariants.{NotFound, NoRoom, DirectoryFull, Busy, BadName, TooLong, TentativeOpen, Device, Stopped, Memory, NothingWritten}
+use Rattle.os8_files.specs.declared.faults.FileFault.TheVariants.{Device, Memory}
 
 -- so many segments of a directory stand in blocks 1, 2 and so on
 abbrev pub with_segments : ℕ → Listed → List (List ℕ) → List (List ℕ)

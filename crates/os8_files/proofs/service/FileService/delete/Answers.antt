@@ -1,4 +1,4 @@
-use Rattle.std.proofs.Common.{List, All, ◌≡◌, ◌≤◌, ◌<◌, false, true, None, Some, Ok, Err, length, refl, ap, sym, subst, ◌∙◌, arith}
+use Rattle.std.proofs.Common.{List, All, ◌≡◌, ◌≤◌, ◌<◌, false, true, None, Some, Ok, length, refl, ap, sym, subst, ◌∙◌, arith}
 use Rattle.std.specs.FinMap.{get, remove}
 use Rattle.volume_image.specs.Volume.{IsBlock}
 use Rattle.os8_dir.specs.Files.{files_of}
@@ -7,7 +7,7 @@ use Rattle.os8_files.specs.Mounted.{Mounted, Begun}
 use Rattle.std.specs.Option.{is_some}
 use Rattle.os8_dir.specs.Files.{held_of, of_directory}
 use Rattle.os8_dir.specs.Found.{IsDirectory, limit}
-use Rattle.os8_dir.specs.Changes.{removed, relisted}
+use Rattle.os8_dir.specs.Changes.{removed}
 use Rattle.os8_dir.specs.declared.entries.DirEntry.{DirEntry}
 use Rattle.os8_dir.specs.Entries.{Listed}
 use Rattle.os8_dir.specs.Reading.{directory_of}

@@ -1,10 +1,9 @@
-use Rattle.std.proofs.Common.{◌≡◌, ◌≤◌, ◌<◌, false, true, None, Some, Ok, Err, length, refl, ap, sym, subst, ◌∙◌, arith}
+use Rattle.std.proofs.Common.{◌≡◌, false, None, refl, ap, sym, subst, ◌∙◌}
 use Rattle.std.specs.FinMap.{get}
 use Rattle.os8_dir.specs.Files.{files_of}
 use Rattle.os8_dir.specs.Found.{files_at, find}
-use Rattle.os8_files.specs.Mounted.{Mounted, Begun}
+use Rattle.os8_files.specs.Mounted.{Mounted}
 use Rattle.std.specs.List.{insert}
-use Rattle.os8_files.specs.Calls.{Holds}
 use Rattle.os8_files.specs.Holds.{with_hold}
 use Rattle.os8_files.specs.Steps.{place_of}
 use Rattle.os8_dir.specs.Files.{held, held_of}

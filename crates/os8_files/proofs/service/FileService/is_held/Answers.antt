@@ -1,4 +1,4 @@
-use Rattle.std.proofs.Common.{◌≡◌, ltb, length, refl, ap, sym, ◌∙◌}
+use Rattle.std.proofs.Common.{◌≡◌, length, ap, sym, ◌∙◌}
 use Rattle.os8_dir.specs.Entries.{contains}
 use Rattle.os8_files.specs.Mounted.{Mounted}
 use Rattle.os8_files.proofs.HoldLemmas.{contains-first}

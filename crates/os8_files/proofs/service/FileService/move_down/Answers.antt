@@ -1,11 +1,11 @@
-use Rattle.std.proofs.Common.{◌≡◌, ℕ, ◌-◌, ◌+◌, ◌<◌, ◌≤◌, false, List, length, take, drop, Some, None, Ok, refl, ap, sym, subst, ◌∙◌, arith}
+use Rattle.std.proofs.Common.{◌≡◌, ℕ, ◌-◌, ◌<◌, false, List, length, take, drop, Some, Ok, refl, ap, sym, subst, ◌∙◌, arith}
 use Rattle.std.proofs.lemmas.Result.{err_from_is_err_and}
 use Rattle.os8_dir.specs.Entries.{Listed}
 use Rattle.os8_dir.specs.Reading.{directory_of}
 use Rattle.os8_dir.specs.declared.entries.DirEntry.{DirEntry}
 use Rattle.os8_dir.specs.Files.{limit_of, of_directory}
-use Rattle.os8_dir.specs.Found.{IsDirectory, files_at, find, extent_of, limit}
-use Rattle.os8_dir.specs.Changes.{lowest_above, moved_down, relisted}
+use Rattle.os8_dir.specs.Found.{IsDirectory, files_at, extent_of, limit}
+use Rattle.os8_dir.specs.Changes.{lowest_above, moved_down}
 use Rattle.os8_files.specs.Mounted.{Mounted}
 use Rattle.os8_files.specs.Calls.{lowest_or, entries_moved}
 use Rattle.os8_files.specs.Written.{HasDirectory, with_run}

@@ -1,12 +1,11 @@
-use Rattle.std.proofs.Common.{ℕ, List, ◌+◌, ◌≡◌, ◌≤◌, ◌<◌, false, true, None, Some, Ok, Err, length, refl, ap, sym, subst, ◌∙◌, arith}
+use Rattle.std.proofs.Common.{ℕ, List, ◌+◌, ◌≡◌, false, None, Ok, length, refl, ap, sym, subst, ◌∙◌, arith}
 use Rattle.std.specs.FinMap.{get}
 use Rattle.os8_dir.specs.Files.{files_of}
 use Rattle.os8_dir.specs.Found.{files_at, find}
-use Rattle.os8_files.specs.Mounted.{Mounted, Begun}
+use Rattle.os8_files.specs.Mounted.{Mounted}
 use Rattle.std.specs.Prelude.{slice_get}
 use Rattle.volume_image.specs.Volume.{IsVolume}
 use Rattle.os8_dir.specs.Reading.{directory_of}
-use Rattle.os8_files.specs.Calls.{Reads, IsLonger}
 use Rattle.os8_files.proofs.CallLemmas.{held-none, read-inside, read-done}
 use Rattle.os8_files.proofs.service.FileService.read_block.Goals as goal
 use Rattle.os8_files.proofs.service.FileService.read_block.Goals.{in-Ok, in-Err}

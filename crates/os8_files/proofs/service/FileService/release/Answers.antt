@@ -1,5 +1,4 @@
-use Rattle.std.proofs.Common.{◌≡◌, ◌<◌, ◌≤◌, length, refl, ap, sym, ◌∙◌, arith}
-use Rattle.os8_files.specs.Mounted.{Mounted}
+use Rattle.std.proofs.Common.{◌≡◌, refl, ◌∙◌, arith}
 use Rattle.os8_files.specs.Holds.{without_hold}
 use Rattle.os8_files.specs.Steps.{first_of}
 use Rattle.os8_files.proofs.HoldLemmas.{remove-first, without-none}

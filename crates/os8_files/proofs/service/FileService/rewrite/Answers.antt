@@ -1,9 +1,8 @@
-use Rattle.std.proofs.Common.{◌≡◌, ◌≤◌, ◌<◌, None, length, drop, refl, ap, sym, subst, ◌∙◌, arith}
+use Rattle.std.proofs.Common.{◌≡◌, length, drop, refl, ap, sym, subst, ◌∙◌, arith}
 use Rattle.os8_dir.specs.Reading.{block}
 use Rattle.os8_dir.specs.Found.{IsDirectory}
 use Rattle.os8_dir.specs.Segments.{segment_count}
 use Rattle.os8_files.specs.Mounted.{Mounted}
-use Rattle.os8_files.specs.Written.{HasDirectory}
 use Rattle.os8_files.proofs.WrittenLemmas.{length-segments, drop-segments, first-segments}
 use Rattle.os8_files.proofs.CallLemmas.{holds-segments}
 use Rattle.os8_files.proofs.service.FileService.rewrite.Goals as goal

@@ -1,4 +1,4 @@
-use Rattle.std.proofs.Common.{◌≡◌, false, Some, refl, ap, sym, subst, ◌∙◌}
+use Rattle.std.proofs.Common.{◌≡◌, false, Some, refl, sym, subst, ◌∙◌}
 use Rattle.os8_dir.specs.Files.{above_of}
 use Rattle.os8_files.specs.Mounted.{Mounted, Begun}
 use Rattle.os8_files.specs.Calls.{IsReady}

@@ -1,8 +1,7 @@
-use Rattle.std.proofs.Common.{◌≡◌, ℕ, ◌+◌, ◌<◌, List, Some, slice_set, length, refl, ap, sym, subst, ◌∙◌, arith}
+use Rattle.std.proofs.Common.{◌≡◌, ◌+◌, Some, refl, ap, sym, subst, ◌∙◌, arith}
 use Rattle.os8_dir.specs.Reading.{directory_of}
 use Rattle.os8_dir.specs.Files.{files_of, run}
-use Rattle.os8_files.specs.Mounted.{Mounted, Begun, IsBegun}
-use Rattle.os8_files.specs.Calls.{HasWritten}
+use Rattle.os8_files.specs.Mounted.{Begun, IsBegun}
 use Rattle.os8_files.proofs.KeepLemmas.{text-more, info-of}
 use Rattle.os8_files.proofs.PlaceLemmas.{some-same, write-inside, written-directory, written-files}
 use Rattle.os8_files.proofs.service.FileService.write.Goals as goal
