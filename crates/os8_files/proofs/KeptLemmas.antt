@@ -113,8 +113,8 @@ deletes-keep old new name (Ok done) deleted = λ q held running.
     ap (λ m. get m q) deleted.files ∙ get-without (files_of old.blocks) name q ∙ ap (λ b. cond b None (get (files_of old.blocks) q)) (held-other old.holds name q deleted.free held)
 deletes-keep old new name (Err TentativeOpen) deleted = blocks-same old new deleted.3
 deletes-keep old new name (Err NotFound) deleted = blocks-same old new deleted.2
-deletes-keep old new name (Err (Busy n)) deleted = blocks-same old new deleted.3
-deletes-keep old new name (Err DirectoryFull) deleted = blocks-same old new deleted.4
+deletes-keep old new name (Err (Busy n)) deleted = blocks-same old new deleted.4
+deletes-keep old new name (Err DirectoryFull) deleted = blocks-same old new deleted.5
 deletes-keep old new name (Err Device) deleted = has-failed old new (ap (λ (m : Mounted). m.stopped) deleted.1)
 deletes-keep old new name (Err Stopped) deleted = blocks-same old new deleted.1
 deletes-keep old new name (Err Memory) deleted = blocks-same old new deleted.1
@@ -127,7 +127,7 @@ pub squeezes-keep : (old new : Mounted) (result : Result Squeezed FileFault) →
 squeezes-keep old new (Ok (Moved name)) squeezed = same-files old new squeezed.files
 squeezes-keep old new (Ok Nothing) squeezed = blocks-same old new squeezed.2
 squeezes-keep old new (Err TentativeOpen) squeezed = blocks-same old new squeezed.3
-squeezes-keep old new (Err DirectoryFull) squeezed = blocks-same old new squeezed.6
+squeezes-keep old new (Err DirectoryFull) squeezed = blocks-same old new squeezed.7
 squeezes-keep old new (Err Device) squeezed = elim squeezed.1 [
   | inl missed ↦ same-blocks old new (ap (λ (m : Mounted). m.blocks) missed)
   | inr failed ↦ has-failed old new (ap (λ (m : Mounted). m.stopped) failed)

@@ -111,6 +111,10 @@ info_of blocks = of_directory (λ d. d.info) (directory_of blocks)
 abbrev pub entries_without : ℕ → List (List ℕ) → ℕ
 entries_without name blocks = of_directory (λ d. length (removed name d.entries)) (directory_of blocks)
 
+-- there is a file of the name
+abbrev pub IsThere : Mounted → ℕ → Type 0
+IsThere m name = (file : Held) × (get (files_of m.blocks) name ≡ Some file)
+
 -- a file is taken out
 pub record HasDeleted (old : Mounted) (name : ℕ) (new : Mounted) : Type 0 where
   pub ready : IsReady old
@@ -129,8 +133,8 @@ abbrev pub Deletes : Mounted → ℕ → Result (Unit {0}) FileFault → Mounted
 Deletes old name (Ok done) new = HasDeleted old name new
 Deletes old name (Err TentativeOpen) new = (old.stopped ≡ false) × (begun : Begun) × (old.tentative ≡ Some begun) × (new ≡ old)
 Deletes old name (Err NotFound) new = IsReady old × (get (files_of old.blocks) name ≡ None) × (new ≡ old)
-Deletes old name (Err (Busy other)) new = IsReady old × (other ≡ name) × IsHeld old name × (new ≡ old)
-Deletes old name (Err DirectoryFull) new = IsReady old × IsFree old name × (limit_of old.blocks < entries_without name old.blocks) × IsOver old.blocks (remove (files_of old.blocks) name) × (new ≡ old)
+Deletes old name (Err (Busy other)) new = IsReady old × IsThere old name × (other ≡ name) × IsHeld old name × (new ≡ old)
+Deletes old name (Err DirectoryFull) new = IsReady old × IsThere old name × IsFree old name × (limit_of old.blocks < entries_without name old.blocks) × IsOver old.blocks (remove (files_of old.blocks) name) × (new ≡ old)
 Deletes old name (Err Device) new = IsReady old × HasFailed old new
 Deletes old name (Err Stopped) new = HasStopped old new
 Deletes old name (Err Memory) new = IsReady old × (new ≡ old)
@@ -299,7 +303,7 @@ abbrev pub Squeezes : Mounted → Result Squeezed FileFault → Mounted → Type
 Squeezes old (Ok (Moved name)) new = HasMoved old name new
 Squeezes old (Ok Nothing) new = IsReady old × (above_of old.blocks ≡ 0) × (new ≡ old)
 Squeezes old (Err TentativeOpen) new = (old.stopped ≡ false) × (begun : Begun) × (old.tentative ≡ Some begun) × (new ≡ old)
-Squeezes old (Err DirectoryFull) new = IsReady old × (name : ℕ) × (gap : ℕ) × (lowest_or (directory_of old.blocks) ≡ Some (name, gap)) × (limit_of old.blocks < entries_moved name old.blocks) × (0 < above_of old.blocks) × (new ≡ old)
+Squeezes old (Err DirectoryFull) new = IsReady old × (name : ℕ) × (gap : ℕ) × (lowest_or (directory_of old.blocks) ≡ Some (name, gap)) × (limit_of old.blocks < entries_moved name old.blocks) × (0 < above_of old.blocks) × IsOver old.blocks (files_of old.blocks) × (new ≡ old)
 Squeezes old (Err Device) new = IsReady old × (HasMissed old new ⊎ HasFailed (record old { reads = new.reads }) new)
 Squeezes old (Err Stopped) new = HasStopped old new
 Squeezes old (Err Memory) new = IsReady old × (0 < above_of old.blocks) × (new ≡ old)

@@ -7,8 +7,8 @@ ghost use Rattle.os8_dir.specs.Reading.{directory_of};
 use crate::copying::{blank_run, read_run, write_run};
 use crate::{FileFault, FileService, Squeezed};
 use os8_dir::laws::{
-    directory_blocks, directory_numbers, file_moved_down, files_found, lowest_file, rooms,
-    sound_directory,
+    directory_blocks, directory_numbers, entry_counts, file_moved_down, files_found, files_made,
+    lowest_file, rooms, sound_directory,
 };
 use os8_dir::{Directory, Name};
 use std::alloc::Global;
@@ -48,6 +48,8 @@ impl<S: BlockStore> FileService<S> {
         sound_directory();
         files_found();
         rooms();
+        files_made();
+        entry_counts();
         file_moved_down();
         match self.directory.moved_down(alloc, &name) {
             Err(_) => Err(FileFault::Memory),

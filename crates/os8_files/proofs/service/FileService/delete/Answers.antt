@@ -58,7 +58,10 @@ returns-then-entries-limit g c =
     let over = is-over c.directory_numbers.ensures.limit c.directory_numbers.ensures.above c.entry_counts.ensures.entries c.entry_counts.ensures.empties c.entry_counts.ensures.one
     old.blocks d (removed name d.entries) (remove (files_of old.blocks) name) each kept (c.files_made.ensures old.blocks d kept) is (c.file_removed.ensures.directory (length old.blocks) name d is)
     (removed-made c.files_found.ensures c.file_removed.ensures.gone c.file_removed.ensures.others old.blocks d name kept) (omega (arith, c.file_removed.ensures.entries name d.entries)) more in
-    (ready, sym c.is_held.ensures ∙ c.if-is_held.false, omega (arith, more, c.directory_numbers.ensures.limit old.blocks d kept, ap (of_directory (λ (x : Listed). length (removed name x.entries))) kept), over, refl)
+    let there : is_some c.find.result ≡ true = c.is_none.ensures ∙ rw c.if-is_none.false refl in
+    let p = some-of c.find.result there in
+    let f = found-some (find name (files_at d.first d.entries)) p.0.0 p.0.1 (sym c.find.ensures ∙ p.1) in
+    (ready, (_, c.files_found.ensures old.blocks d name kept ∙ ap (held_of old.blocks d.info) f.1), sym c.is_held.ensures ∙ c.if-is_held.false, omega (arith, more, c.directory_numbers.ensures.limit old.blocks d kept, ap (of_directory (λ (x : Listed). length (removed name x.entries))) kept), over, refl)
 
 pub returns-else-entries-limit : goal.returns-else-entries-limit
 returns-else-entries-limit g c =
@@ -80,3 +83,17 @@ returns-else-entries-limit g c =
     old c.rewrite.new.self d name _ ready kept (c.sound_directory.ensures old.blocks d kept) (c.files_found.ensures old.blocks d name kept ∙ ap (held_of old.blocks d.info) f.1) (sym c.is_held.ensures ∙ c.if-is_held.false)
     fits (subst (λ (x : Listed). HasDirectory old x c.rewrite.new.self) list has))
     (λ failed. (ready, failed))
+
+pub returns-then-is_held : goal.returns-then-is_held
+returns-then-is_held g c =
+    let blocks = g.S.BlockStore.contents c.self.inside.store in
+    let d = c.self.inside.directory in
+    let name = c.args.name.now in
+    let old = c.args.self.now in
+    let same : old.blocks ≡ blocks = ap (λ (m : Mounted). m.blocks) (sym c.self.view_is) in
+    let kept : directory_of old.blocks ≡ Ok d = subst (λ bs. directory_of bs ≡ Ok d) (sym same) (c.self.invariant.kept c.if-self.false) in
+    let ready : IsReady old = subst (λ (m : Mounted). IsReady m) c.self.view_is (record { running = c.if-self.false; none = none-of c.self.inside.tentative (sym c.is_some.ensures ∙ c.if-is_some.false) }) in
+    let there : is_some c.find.result ≡ true = c.is_none.ensures ∙ rw c.if-is_none.false refl in
+    let p = some-of c.find.result there in
+    let f = found-some (find name (files_at d.first d.entries)) p.0.0 p.0.1 (sym c.find.ensures ∙ p.1) in
+    (ready, (_, c.files_found.ensures old.blocks d name kept ∙ ap (held_of old.blocks d.info) f.1), refl, sym c.is_held.ensures ∙ c.if-is_held.true, refl)

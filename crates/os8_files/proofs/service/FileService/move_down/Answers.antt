@@ -1,15 +1,17 @@
-use Rattle.std.proofs.Common.{◌≡◌, ℕ, ◌-◌, ◌<◌, false, List, length, take, drop, Some, Ok, refl, ap, sym, subst, ◌∙◌, arith}
+use Rattle.std.proofs.Common.{All, ◌≡◌, ℕ, ◌-◌, ◌<◌, false, List, length, take, drop, Some, Ok, refl, ap, sym, subst, ◌∙◌, arith}
 use Rattle.std.proofs.lemmas.Result.{err_from_is_err_and}
 use Rattle.os8_dir.specs.Entries.{Listed}
 use Rattle.os8_dir.specs.Reading.{directory_of}
 use Rattle.os8_dir.specs.declared.entries.DirEntry.{DirEntry}
-use Rattle.os8_dir.specs.Files.{limit_of, of_directory}
+use Rattle.volume_image.specs.Volume.{IsBlock}
+use Rattle.os8_dir.specs.Files.{files_of, limit_of, of_directory}
 use Rattle.os8_dir.specs.Found.{IsDirectory, files_at, extent_of, limit}
 use Rattle.os8_dir.specs.Changes.{lowest_above, moved_down}
 use Rattle.os8_files.specs.Mounted.{Mounted}
 use Rattle.os8_files.specs.Calls.{lowest_or, entries_moved}
 use Rattle.os8_files.specs.Written.{HasDirectory, with_run}
 use Rattle.os8_files.proofs.LookupLemmas.{find_within}
+use Rattle.os8_files.proofs.BoundLemmas.{is-over}
 use Rattle.os8_files.proofs.CallLemmas.{extent-at}
 use Rattle.os8_files.proofs.RoomLemmas.{room-inside}
 use Rattle.os8_files.proofs.RunLemmas.{length-with_run}
@@ -141,7 +143,11 @@ returns-then-entries-limit g c =
     let full : limit c.in-Ok.directory < length c.in-Ok.directory.entries = omega (arith, ap (λ (es : List DirEntry). length es) c.entries.ensures.list, c.limit.ensures.value, c.if-entries-limit.true) in
     let more : limit d < length (moved_down name d.entries) = subst (λ (x : Listed). limit x < length x.entries) c.in-Ok.ensures.list full in
     let long : limit_of old.blocks < entries_moved name old.blocks = omega (arith, more, c.directory_numbers.ensures.limit old.blocks d kept, ap (of_directory (λ (x : Listed). length (moved_down name x.entries))) kept) in
-    (c.requires.ready, name, gap, c.requires.lowest, long, some, refl)
+    let each : All IsBlock old.blocks = subst (λ bs. All IsBlock bs) (sym same) c.self.invariant.volume.each in
+    let made = c.files_made.ensures old.blocks d kept in
+    let over = is-over c.directory_numbers.ensures.limit c.directory_numbers.ensures.above c.entry_counts.ensures.entries c.entry_counts.ensures.empties c.entry_counts.ensures.one
+    old.blocks d d.entries (files_of old.blocks) each kept made is is made (omega arith) (omega (arith, more, c.file_moved_down.ensures.entries name d.entries)) in
+    (c.requires.ready, name, gap, c.requires.lowest, long, some, over, refl)
 
 pub returns-in_err-copy_down-in-Some : goal.returns-in_err-copy_down-in-Some
 returns-in_err-copy_down-in-Some g c =
