@@ -1,7 +1,8 @@
 #!/usr/bin/env bash
 # Runs scripts of 16,777,216 bytes, and of a tenth of that, of empty lines and of DIRECT lines over a volume of three files.
 # Prints megabytes of script a second of processor time, which are alike where the time is linear in the script, and the most
-# memory that the program held.
+# memory that the program held. Then scripts of STORE and DELETE over volumes of 4095 blocks: one text that fills the volume,
+# one of 999,999 lines, which is refused there, and 100,000 lines of STORE and DELETE.
 set -eu
 top=$(cd "$(dirname "${BASH_SOURCE[0]}")/.." && pwd)
 . "$top/bench/seconds.sh"
@@ -35,3 +36,38 @@ for line in '' DIRECT; do
         printf "%-7s 16777216 bytes: %.1f MB/s, 1677721 bytes: %.1f MB/s, %d kB\n", name, 16.777216 / long, 1.677721 / short, memory
     }'
 done
+
+# A STORE of so many lines.
+store_of() {
+    printf 'STORE A.TX %d\n' "$2"
+    yes "$1" | head -n "$2" || true
+}
+
+# The same over an empty volume of 4095 blocks.
+run_fresh() {
+    cp E V
+    run_script "$1"
+}
+
+report() {
+    cp E V
+    awk -v name="$1" -v bytes="$(stat -c %s "$2")" -v time="$(seconds run_fresh "$2")" -v memory="$(memory "$2")" 'BEGIN {
+        printf "%-22s %9d bytes: %.2f s, %.1f MB/s, %d kB\n", name, bytes, time, bytes / 1000000 / time, memory
+    }'
+}
+
+"$top/pdp8" create E 4095 >/dev/null
+# 4088 blocks of 384 characters less the control Z: 24,526 lines of 64 characters with CR and LF.
+store_of "$(printf '%062d' 0)" 24526 >full
+report 'a text of 4088 blocks' full
+store_of /23456789012345 999999 >lines
+report '999,999 lines' lines
+store_of /23456789012345 99999 >lines
+report '99,999 lines' lines
+# 120 names that come and go: the directory has up to 240 entries.
+for round in $(seq 417); do
+    for name in $(seq 120); do
+        printf 'STORE F%d 0\nDELETE F%d\n' "$name" "$(((name + 60 * (round % 2)) % 120 + 1))"
+    done
+done | head -n 100000 >changes
+report '100,000 changes' changes

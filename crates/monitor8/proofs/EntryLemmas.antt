@@ -1,6 +1,5 @@
 -- Runs of entries.
-use Rattle.std.proofs.Common.{ℕ, arith, IsErrOf, true≢false, ◌≡◌, ◌≢◌, ◌+◌, ◌<◌, refl, sym, ◌∙◌, ap, subst, true, false, Bool, List, [], ◌∷◌, ◌++◌, length, take, drop, get_or, take-append-drop, add-one, Result, Ok, Err}
-use Rattle.std.proofs.Math.Seq.{take-suc}
+use Rattle.std.proofs.Common.{ℕ, arith, IsErrOf, OnOk, true≢false, ◌≡◌, ◌≢◌, ◌+◌, refl, sym, ◌∙◌, ap, subst, true, false, List, [], ◌∷◌, ◌++◌, Result, Ok, Err}
 use Rattle.script8.specs.declared.entries.Entry.{Entry}
 use Rattle.script8.specs.declared.faults.SessionFault.{SessionFault}
 use Rattle.script8.specs.declared.faults.SessionFault.TheVariants as fault
@@ -41,3 +40,11 @@ memory_err a is = subst (λ (x : Answer). IsErrOf x fault.Memory) (sym (memory_i
 
 pub not_first : (n : ℕ) → n + 1 ≡ 0 → ⊥
 not_first n is = omega (arith, is)
+
+-- an answer that is not want of memory
+pub not_err : (a : Answer) → is_memory a ≡ false → IsErrOf a fault.Memory → ⊥
+not_err a other is = true≢false (sym (ap is_memory is) ∙ other)
+
+pub on_ok : {A : Type 0} {P : Type 0} (r : Result A SessionFault) → P → OnOk r P
+on_ok (Ok x) p = p
+on_ok (Err e) p = tt

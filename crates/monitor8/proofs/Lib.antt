@@ -1,8 +1,10 @@
 pub mod ByteLemmas
 pub mod LineLemmas
 pub mod MarkLemmas
-pub mod CutLemmas
 pub mod QuietLemmas
+pub mod StoreLemmas
+pub mod SessionLemmas
+pub mod NameLemmas
 pub mod ToldLemmas
 pub mod EntryLemmas
 pub mod TextLemmas

@@ -1,66 +1,124 @@
 -- Runs of the texts that readers give.
-use Rattle.std.proofs.Common.{arith, true≢false, false, ℕ, ◌≡◌, ◌≤◌, ◌==◌, ◌⊎◌, inl, inr, true, IfErr, refl, sym, ◌∙◌, ap, subst, List, [], ◌∷◌, ◌++◌, length, append_assoc, append-nil, Option, Result, Ok, Err}
+use Rattle.std.proofs.Common.{arith, true≢false, true, false, Bool, ℕ, ◌+◌, ◌≡◌, ◌≤◌, inl, inr, refl, sym, ◌∙◌, ap, subst, List, [], ◌∷◌, ◌++◌, drop, drop-drop, length, append_assoc, append-nil, Option, Result, Ok, Err}
 use Rattle.std.specs.Io.KnownBytes.{Appends, Consumes}
-use Rattle.std.proofs.lemmas.Bool.Decides.{eqb_tells}
+use Rattle.std.proofs.KnownBytes.{Appends-nil}
+use Rattle.script8.specs.Items.{script_of, whole_of, Gives, IsOut}
 use Rattle.script8.specs.Replies.{fault_line}
 use Rattle.script8.specs.declared.faults.SessionFault.{SessionFault}
 use Rattle.script8.specs.declared.faults.SessionFault.TheVariants as fault
-use Rattle.monitor8.specs.Items.{Item, script_of, whole_lines}
-use Rattle.monitor8.specs.Reading.{IsRead, IsTaken}
+use Rattle.script8.specs.declared.kinds.Item.{Item}
+use Rattle.monitor8.specs.Reading.{IsRead, ReadsWithin, Takes}
 use Rattle.monitor8.specs.System.{State}
-use Rattle.monitor8.specs.Script.{lines_for, Writes, WritesFront, AnswersFront, RunsItems, RunsCut, RunsFull, RunsText, IsEnded, unwritten}
-use Rattle.monitor8.proofs.ByteLemmas.{appends_more, consumes_none}
-use Rattle.monitor8.proofs.CutLemmas.{whole_front}
-use Rattle.monitor8.proofs.ToldLemmas.{runs_stopped}
+use Rattle.monitor8.specs.Script.{all_lines, Writes, WritesFront, RunsItems, RunsNext, RunsFront, RunsCut, RunsFull, RunsText, IsEnded, unwritten}
+use Rattle.monitor8.proofs.ByteLemmas.{appends_more}
+use Rattle.monitor8.proofs.ToldLemmas.{front_all, front_none, front_more, behind_more, writes_front_more, writes_append}
 
--- where no byte is left, all items are answered
-pub all_told : (items front : List Item) (rest : List ℕ) (old new : State) (w w' : Option (List ℕ)) → true ≡ (length rest == 0) → items ≡ front ++ script_of rest → Writes old front new w w' [] → Writes old items new w w' []
-all_told items front [] old new w w' none is told = subst (λ (l : List Item). Writes old l new w w' []) (sym (is ∙ append-nil front)) told
-all_told items front (b ∷ bs) old new w w' none is told = elim (eqb_tells (length (b ∷ bs)) 0) [ inl h ↦ absurd (some h.1) | inr h ↦ absurd (differ (none ∙ h.0)) ]
-  where
-    some : length (b ∷ bs) ≡ 0 → ⊥
-    some h = omega (arith, h)
+-- a front that was run is that of all items, or of all whole ones, where none is left
+pub front_out : (text : List ℕ) (bytes : ℕ) (is_end : Bool) (front : List Item) (old new : State) (w w' : Option (List ℕ))
+    → script_of text ≡ front ++ script_of (drop bytes text) → (is_end ≡ false → whole_of text ≡ front ++ whole_of (drop bytes text)) → IsOut (drop bytes text) is_end
+    → Writes old front new w w' [] → RunsFront text is_end old new w w' (Ok bytes)
+front_out text bytes true front old new w w' script whole out writes = (front, script, (λ _. script ∙ ap (λ l. front ++ l) out ∙ append-nil front), (λ is. absurd (true≢false is)), writes)
+front_out text bytes false front old new w w' script whole out writes = (front, script, (λ is. absurd (true≢false (sym is))), (λ _. whole refl ∙ ap (λ l. front ++ l) out ∙ append-nil front), writes)
 
-    differ : true ≡ false → ⊥
-    differ = true≢false
+-- the rest of a text begins with an item that want of memory or the writer stopped
+pub front_stopped : (text rest : List ℕ) (is_end : Bool) (front : List Item) (old mid new : State) (w w1 w2 : Option (List ℕ)) (why : SessionFault)
+    → script_of text ≡ front ++ script_of rest → Writes old front mid w w1 [] → RunsNext rest is_end mid new w1 w2 (Err why) → RunsFront text is_end old new w w2 (Err why)
+front_stopped text rest is_end front old mid new w w1 w2 fault.Memory is first run = writes_front_more (script_of text) front (script_of rest) [] old mid new w w1 w2 (is ∙ ap (λ (l : List Item). front ++ l) (sym (append-nil _))) first run
+front_stopped text rest is_end front old mid new w w1 w2 fault.Writer is first run = (_, front_more (script_of text) front (script_of rest) [] old mid new w w1 run.0 (is ∙ ap (λ (l : List Item). front ++ l) (sym (append-nil _))) first run.1)
+front_stopped text rest is_end front old mid new w w1 w2 fault.Reader is first run = absurd run
+front_stopped text rest is_end front old mid new w w1 w2 fault.BadLine is first run = absurd run
+front_stopped text rest is_end front old mid new w w1 w2 fault.NoJob is first run = absurd run
+front_stopped text rest is_end front old mid new w w1 w2 fault.TooManyJobs is first run = absurd run
+front_stopped text rest is_end front old mid new w w1 w2 (fault.File why) is first run = absurd run
+front_stopped text rest is_end front old mid new w w1 w2 (fault.Tape why) is first run = absurd run
+front_stopped text rest is_end front old mid new w w1 w2 fault.BadText is first run = absurd run
+front_stopped text rest is_end front old mid new w w1 w2 fault.TooManyBreaks is first run = absurd run
 
--- whole lines that want of memory or the writer stopped
-pub runs_cut : (text whole rest : List ℕ) (old new : State) (w w' : Option (List ℕ)) (why : SessionFault) → script_of text ≡ script_of whole ++ script_of rest → (why ≡ fault.Memory) ⊎ (why ≡ fault.Writer) → RunsItems (script_of whole) old new w w' (Err why) → RunsCut text old new w w' (Err why)
-runs_cut text whole rest old new w w' why is kind run = stopped_cut text old new w w' why kind (runs_stopped (script_of text) (script_of whole) (script_of rest) old new w w' why is run)
-  where
-    stopped_cut : (text : List ℕ) (old new : State) (w w' : Option (List ℕ)) (why : SessionFault) → (why ≡ fault.Memory) ⊎ (why ≡ fault.Writer) → RunsItems (script_of text) old new w w' (Err why) → RunsCut text old new w w' (Err why)
-    stopped_cut text old new w w' why kind run = elim kind [
-      | inl is ↦ subst (λ (e : SessionFault). RunsCut text old new w w' (Err e)) (sym is) (subst (λ (e : SessionFault). RunsItems (script_of text) old new w w' (Err e)) is run)
-      | inr is ↦ subst (λ (e : SessionFault). RunsCut text old new w w' (Err e)) (sym is) (subst (λ (e : SessionFault). RunsItems (script_of text) old new w w' (Err e)) is run)
-    ]
+-- an item that want of memory or the writer stopped
+pub item_stopped : (text : List ℕ) (is_end : Bool) (item : Item) (bytes : ℕ) (old new : State) (w w' : Option (List ℕ)) (why : SessionFault)
+    → Gives text is_end (item ∷ []) bytes → RunsItems (item ∷ []) old new w w' (Err why) → RunsNext text is_end old new w w' (Err why)
+item_stopped text is_end item bytes old new w w' fault.Memory gives run = (run.0, behind_more (item ∷ []) (script_of (drop bytes text)) (script_of text) old new run.0 gives.script run.1, run.2)
+item_stopped text is_end item bytes old new w w' fault.Writer gives run = (run.0, behind_more (item ∷ []) (script_of (drop bytes text)) (script_of text) old new run.0 gives.script run.1)
+item_stopped text is_end item bytes old new w w' fault.Reader gives run = absurd run
+item_stopped text is_end item bytes old new w w' fault.BadLine gives run = absurd run
+item_stopped text is_end item bytes old new w w' fault.NoJob gives run = absurd run
+item_stopped text is_end item bytes old new w w' fault.TooManyJobs gives run = absurd run
+item_stopped text is_end item bytes old new w w' (fault.File why) gives run = absurd run
+item_stopped text is_end item bytes old new w w' (fault.Tape why) gives run = absurd run
+item_stopped text is_end item bytes old new w w' fault.BadText gives run = absurd run
+item_stopped text is_end item bytes old new w w' fault.TooManyBreaks gives run = absurd run
 
--- a text that is as long as one may be, and then no more
-pub runs_full : (text : List ℕ) (old new : State) (r r' w w' : Option (List ℕ)) (result : Result (Unit {0}) SessionFault) → IsRead r r' [] → IfErr result (λ e. (e ≡ fault.Memory) ⊎ (e ≡ fault.Writer)) → RunsItems (script_of text) old new w w' result → RunsFull text old new r r' w w' result
-runs_full text old new r r' w w' (Ok done) read kind run = (read, run)
-runs_full text old new r r' w w' (Err why) read kind run = ([], read.taken, omega arith, runs_cut text text [] old new w w' why (sym (append-nil _)) kind run)
+-- one more item, or a blank line
+pub front_next : (text : List ℕ) (is_end : Bool) (done bytes : ℕ) (front items : List Item) → script_of text ≡ front ++ script_of (drop done text) → (is_end ≡ false → whole_of text ≡ front ++ whole_of (drop done text)) → Gives (drop done text) is_end items bytes
+    → (script_of text ≡ (front ++ items) ++ script_of (drop (done + bytes) text)) × (is_end ≡ false → whole_of text ≡ (front ++ items) ++ whole_of (drop (done + bytes) text))
+front_next text is_end done bytes front items script whole gives = (
+  script ∙ ap (λ (l : List Item). front ++ l) (gives.script ∙ ap (λ (t : List ℕ). items ++ script_of t) (drop-drop bytes done text)) ∙ sym (append_assoc front items _),
+  (λ on. whole on ∙ ap (λ (l : List Item). front ++ l) (gives.whole on ∙ ap (λ (t : List ℕ). items ++ whole_of t) (drop-drop bytes done text)) ∙ sym (append_assoc front items _)),
+)
+
+-- a text that is run to its end
+pub runs_end : (text : List ℕ) (old new : State) (w w' : Option (List ℕ)) (why : SessionFault) → RunsFront text true old new w w' (Err why) → RunsItems (script_of text) old new w w' (Err why)
+runs_end text old new w w' fault.Memory run = run
+runs_end text old new w w' fault.Writer run = run
+runs_end text old new w w' fault.Reader run = absurd run
+runs_end text old new w w' fault.BadLine run = absurd run
+runs_end text old new w w' fault.NoJob run = absurd run
+runs_end text old new w w' fault.TooManyJobs run = absurd run
+runs_end text old new w w' (fault.File why) run = absurd run
+runs_end text old new w w' (fault.Tape why) run = absurd run
+runs_end text old new w w' fault.BadText run = absurd run
+runs_end text old new w w' fault.TooManyBreaks run = absurd run
+
+pub runs_all : (text : List ℕ) (bytes : ℕ) (old new : State) (w w' : Option (List ℕ)) → RunsFront text true old new w w' (Ok bytes) → Writes old (script_of text) new w w' []
+runs_all text bytes old new w w' run = subst (λ (l : List Item). Writes old l new w w' []) (sym (run.2 refl)) run.4
+
+-- whole items that want of memory or the writer stopped
+pub runs_cut : (text : List ℕ) (old new : State) (w w' : Option (List ℕ)) (why : SessionFault) → RunsFront text false old new w w' (Err why) → RunsCut text old new w w' (Err why)
+runs_cut text old new w w' fault.Memory run = run
+runs_cut text old new w w' fault.Writer run = run
+runs_cut text old new w w' fault.Reader run = absurd run
+runs_cut text old new w w' fault.BadLine run = absurd run
+runs_cut text old new w w' fault.NoJob run = absurd run
+runs_cut text old new w w' fault.TooManyJobs run = absurd run
+runs_cut text old new w w' (fault.File why) run = absurd run
+runs_cut text old new w w' (fault.Tape why) run = absurd run
+runs_cut text old new w w' fault.BadText run = absurd run
+runs_cut text old new w w' fault.TooManyBreaks run = absurd run
+
+pub whole_run : (text : List ℕ) (bytes : ℕ) (old new : State) (w w' : Option (List ℕ)) → RunsFront text false old new w w' (Ok bytes) → RunsCut text old new w w' (Err fault.Reader)
+whole_run text bytes old new w w' run = ((script_of (drop bytes text), run.1 ∙ ap (λ (l : List Item). l ++ script_of (drop bytes text)) (sym (run.3 refl))), subst (λ (l : List Item). Writes old l new w w' []) (sym (run.3 refl)) run.4)
+
+-- a text whose whole items were run, and then what is left of it, which is the end
+pub runs_full : (text : List ℕ) (bytes : ℕ) (old mid new : State) (r r' w w1 w2 : Option (List ℕ)) (result : Result (Unit {0}) SessionFault) → IsRead r r' []
+    → RunsFront text false old mid w w1 (Ok bytes) → RunsItems (script_of (drop bytes text)) mid new w1 w2 result → RunsFull text old new r r' w w2 result
+runs_full text bytes old mid new r r' w w1 w2 (Ok done) read first run = (read, subst (λ (l : List Item). Writes old l new w w2 []) (sym first.1) (writes_append first.0 (script_of (drop bytes text)) old mid new w w1 w2 [] first.4 run))
+runs_full text bytes old mid new r r' w w1 w2 (Err fault.Memory) read first run = ([], read.taken, omega arith, writes_front_more (script_of text) first.0 (script_of (drop bytes text)) [] old mid new w w1 w2 (first.1 ∙ ap (λ (l : List Item). first.0 ++ l) (sym (append-nil _))) first.4 run)
+runs_full text bytes old mid new r r' w w1 w2 (Err fault.Writer) read first run = ([], read.taken, omega arith, (_, front_more (script_of text) first.0 (script_of (drop bytes text)) [] old mid new w w1 run.0 (first.1 ∙ ap (λ (l : List Item). first.0 ++ l) (sym (append-nil _))) first.4 run.1))
+runs_full text bytes old mid new r r' w w1 w2 (Err fault.Reader) read first run = absurd run
+runs_full text bytes old mid new r r' w w1 w2 (Err fault.BadLine) read first run = absurd run
+runs_full text bytes old mid new r r' w w1 w2 (Err fault.NoJob) read first run = absurd run
+runs_full text bytes old mid new r r' w w1 w2 (Err fault.TooManyJobs) read first run = absurd run
+runs_full text bytes old mid new r r' w w1 w2 (Err (fault.File why)) read first run = absurd run
+runs_full text bytes old mid new r r' w w1 w2 (Err (fault.Tape why)) read first run = absurd run
+runs_full text bytes old mid new r r' w w1 w2 (Err fault.BadText) read first run = absurd run
+runs_full text bytes old mid new r r' w w1 w2 (Err fault.TooManyBreaks) read first run = absurd run
 
 -- a last line behind what is written
 pub writes_last : (old : State) (items : List Item) (new : State) (w w1 w2 : Option (List ℕ)) (last : List ℕ) → Writes old items new w w1 [] → Appends w1 w2 last → Writes old items new w w2 last
 writes_last old items new w w1 w2 last told more = record {
-  answers = told.answers;
+  lines = told.lines;
   told = told.told;
-  written = subst (λ (l : List ℕ). Appends w w2 l) (ap (λ l. l ++ last) (append-nil _)) (appends_more w w1 w2 (lines_for told.answers ++ []) last told.written more);
+  written = subst (λ (l : List ℕ). Appends w w2 l) (ap (λ l. l ++ last) (append-nil _)) (appends_more w w1 w2 (all_lines told.lines ++ []) last told.written more);
 }
 
 front_last : (old : State) (items : List Item) (new : State) (w w1 w2 : Option (List ℕ)) (last : List ℕ) → WritesFront old items new w w1 [] → Appends w1 w2 last → WritesFront old items new w w2 last
-front_last old items new w w1 w2 last told more = record { front = told.front; rest = told.rest; parts = told.parts; writes = writes_last old told.front new w w1 w2 last told.writes more }
+front_last old items new w w1 w2 last told more = (told.0, told.1, subst (λ (l : List ℕ). Appends w w2 l) (ap (λ l. l ++ last) (append-nil _)) (appends_more w w1 w2 (told.0 ++ []) last told.2 more))
 
 -- whatever was run, a front of the items is answered
 text_answers : (most : ℕ) (old new : State) (r r' w w' w2 : Option (List ℕ)) (run : Result (Unit {0}) SessionFault) → RunsText most unwritten old new r r' w w' run → RunsText most fault_line old new r r' w w2 (Err fault.Writer)
-text_answers most old new r r' w w' w2 (Ok done) told = (told.0, [], subst (λ (l : List ℕ). Consumes r r' l) (sym (append-nil told.0)) told.1.read.taken, record { front = script_of told.0; rest = []; parts = sym (append-nil _); answers = told.2.answers; told = told.2.told })
-text_answers most old new r r' w w' w2 (Err fault.Reader) told =
-    let split = whole_front told.0 in (
-      whole_lines told.0,
-      split.0 ++ told.1.more,
-      subst (λ (l : List ℕ). Consumes r r' l) (ap (λ l. l ++ told.1.more) split.1 ∙ append_assoc (whole_lines told.0) split.0 told.1.more) told.1.taken,
-      record { front = script_of (whole_lines told.0); rest = []; parts = sym (append-nil _); answers = told.2.answers; told = told.2.told },
-    )
-text_answers most old new r r' w w' w2 (Err fault.Memory) told = (told.0, told.1, told.2, record { front = told.3.front; rest = told.3.rest; parts = told.3.parts; answers = told.3.writes.answers; told = told.3.writes.told })
+text_answers most old new r r' w w' w2 (Ok done) told = (told.0, [], subst (λ (l : List ℕ). Consumes r r' l) (sym (append-nil told.0)) told.1.read.taken, (_, front_all (script_of told.0) old new told.2.lines told.2.told))
+text_answers most old new r r' w w' w2 (Err fault.Reader) told = (told.0, told.1.more, told.1.taken, (_, record { front = whole_of told.0; rest = told.2.0; parts = told.2.1; lines = told.3.lines; mid = new; told = told.3.told; turns = []; taken = refl; begun = tt; shown = sym (append-nil _) }))
+text_answers most old new r r' w w' w2 (Err fault.Memory) told = (told.0, told.1, told.2, (told.3.0, told.3.1))
 text_answers most old new r r' w w' w2 (Err fault.Writer) told = told
 text_answers most old new r r' w w' w2 (Err fault.BadLine) told = absurd told
 text_answers most old new r r' w w' w2 (Err fault.NoJob) told = absurd told
@@ -72,7 +130,7 @@ text_answers most old new r r' w w' w2 (Err fault.TooManyBreaks) told = absurd t
 
 -- a fault's line behind a run that it ended
 fault_ends : (most : ℕ) (old new : State) (r r' w w1 w2 : Option (List ℕ)) (why : SessionFault) → RunsText most unwritten old new r r' w w1 (Err why) → Appends w1 w2 (fault_line why) → RunsText most fault_line old new r r' w w2 (Err why)
-fault_ends most old new r r' w w1 w2 fault.Reader told more = (told.0, told.1, writes_last old _ new w w1 w2 _ told.2 more)
+fault_ends most old new r r' w w1 w2 fault.Reader told more = (told.0, told.1, told.2, writes_last old _ new w w1 w2 _ told.3 more)
 fault_ends most old new r r' w w1 w2 fault.Memory told more = (told.0, told.1, told.2, front_last old _ new w w1 w2 _ told.3 more)
 fault_ends most old new r r' w w1 w2 fault.Writer told more = told
 fault_ends most old new r r' w w1 w2 fault.BadLine told more = told
@@ -91,4 +149,17 @@ text_ended most old new r r' w w1 w2 run (Ok done) told ended =
 text_ended most old new r r' w w1 w2 run (Err why) told ended = elim ended [
   | inl is ↦ subst (λ (e : SessionFault). RunsText most fault_line old new r r' w w2 (Err e)) (sym is) (text_answers most old new r r' w w1 w2 run told)
   | inr is ↦ fault_ends most old new r r' w w1 w2 why (subst (λ (x : Result (Unit {0}) SessionFault). RunsText most unwritten old new r r' w w1 x) is.0 told) is.1
+]
+
+-- a script that can't be kept for want of memory
+pub unread_told : (most : ℕ) (r r' : Option (List ℕ)) (bytes : List ℕ) (e : SessionFault) (old : State) (w : Option (List ℕ)) → ReadsWithin most r r' bytes (Err e) → RunsText most unwritten old old r r' w w (Err fault.Memory)
+unread_told most r r' bytes e old w reads = elim reads [
+  | inl h ↦ ([], bytes, h.1, ([], front_none _ old old refl, Appends-nil w))
+  | inr h ↦ ([], h.1.1.bytes, h.1.1.taken, ([], front_none _ old old refl, Appends-nil w))
+]
+
+pub unread_taken : (most : ℕ) (r r' : Option (List ℕ)) (bytes : List ℕ) (e : SessionFault) → ReadsWithin most r r' bytes (Err e) → (count : ℕ) × Takes r r' count × (count ≤ most)
+unread_taken most r r' bytes e reads = elim reads [
+  | inl h ↦ (length bytes, record { bytes = bytes; taken = h.1; count_is = refl }, h.2)
+  | inr h ↦ h.1
 ]

@@ -1,11 +1,16 @@
 -- What is seen of a session, and the state of the system machine in it.
-use Rattle.std.specs.Prelude.{◌≡◌, ℕ, ◌≤◌, false, nat_eq}
+use Rattle.std.specs.Prelude.{◌≡◌, ◌≤◌, false, nat_eq, Option, List, [], None, Ok, Err}
 use Rattle.os8_dir.specs.Files.{files_of, capacity_of, limit_of, above_of}
+use Rattle.os8_files.specs.Calls.{info_of}
 use Rattle.os8_files.specs.Mounted.{Mounted}
-use Rattle.monitor8.specs.System.{State}
+use Rattle.script8.specs.declared.faults.SessionFault.TheVariants.{BadLine, NoJob, TooManyJobs, File, Tape, BadText, Reader, Writer, Memory, TooManyBreaks}
+use Rattle.monitor8.specs.System.{State, Answer}
+use Rattle.monitor8.specs.declared.jobs.Job.{Job}
 
 pub record Seen : Type 0 where
   pub volume : Mounted
+  -- the jobs by their numbers
+  pub jobs : List (Option Job)
 
 -- the state of the system machine: the files are those of the store's blocks
 abbrev pub state_of : Seen → State
@@ -13,7 +18,9 @@ state_of s = record {
   files = files_of s.volume.blocks;
   capacity = capacity_of s.volume.blocks;
   limit = limit_of s.volume.blocks;
+  info = info_of s.volume.blocks;
   tight = nat_eq (above_of s.volume.blocks) 0;
+  jobs = s.jobs;
 }
 
 -- no block call failed between, and no write before
@@ -26,3 +33,37 @@ pub record IsQuiet (old new : Seen) : Type 0 where
 pub record IsLater (old new : Seen) : Type 0 where
   pub reads : old.volume.failed_reads ≤ new.volume.failed_reads
   pub writes : old.volume.failed_writes ≤ new.volume.failed_writes
+
+-- nothing that the system machine has is changed, and no block call failed
+pub record IsSame (old new : Seen) : Type 0 where
+  pub state : state_of new ≡ state_of old
+  pub stopped : new.volume.stopped ≡ old.volume.stopped
+  pub reads : new.volume.failed_reads ≡ old.volume.failed_reads
+  pub writes : new.volume.failed_writes ≡ old.volume.failed_writes
+
+-- an answer to an entry is neither the reader's nor the writer's fault
+abbrev pub IsReply : Answer → Type 0
+IsReply (Ok reply) = Unit {0}
+IsReply (Err BadLine) = Unit {0}
+IsReply (Err NoJob) = Unit {0}
+IsReply (Err TooManyJobs) = Unit {0}
+IsReply (Err (File why)) = Unit {0}
+IsReply (Err (Tape why)) = Unit {0}
+IsReply (Err BadText) = Unit {0}
+IsReply (Err Reader) = ⊥
+IsReply (Err Writer) = ⊥
+IsReply (Err Memory) = Unit {0}
+IsReply (Err TooManyBreaks) = Unit {0}
+
+-- What doing an entry comes to: these steps of the system machine where no block call fails, and nothing for want of memory.
+pub record Does (steps : State → Answer → State → Type 0) (old : Seen) (answer : Answer) (new : Seen) : Type 0 where
+  pub step : IsQuiet old new → steps (state_of old) answer (state_of new)
+  pub later : IsLater old new
+  pub running : IsQuiet old new → new.volume.stopped ≡ false
+  pub memory : answer ≡ Err Memory → IsSame old new
+  pub reply : IsReply answer
+
+-- between entries no file is being written, and no file is held
+pub record IsSettled (volume : Mounted) : Type 0 where
+  pub none : volume.tentative ≡ None
+  pub free : volume.holds ≡ []

@@ -3,6 +3,7 @@
 #![tactic(auto)]
 
 mod host;
+mod jobs;
 mod kinds;
 mod listings;
 mod programs;
@@ -11,6 +12,7 @@ mod sessions;
 mod tasks;
 
 pub use host::program;
+pub use jobs::{Job, Work};
 pub use kinds::{Task, TaskFault};
 pub use listings::tape_text;
 pub use programs::{ProgramLine, put_program};

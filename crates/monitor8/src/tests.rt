@@ -1,3 +1,4 @@
 mod programs;
 mod sessions;
+mod stores;
 mod tapes;

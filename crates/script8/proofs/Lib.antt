@@ -1,2 +1,5 @@
+pub mod CutLemmas
+pub mod ItemLemmas
 pub mod LineLemmas
+pub mod NumberLemmas
 pub mod ReplyLemmas

@@ -1,12 +1,9 @@
--- Lines without the CR at their end, and the forms of commands.
-use Rattle.std.proofs.Common.{◌≡◌, suc, arith, true≢false, ℕ, refl, sym, ◌∙◌, ap, inl, inr, true, false, List, [], ◌∷◌, ◌++◌, Ok, Err, ◌≢◌}
-use Rattle.std.specs.Prelude.{codes, length, ◌==◌}
-use Rattle.std.specs.Str.{bytes_eq}
+-- Lines without the CR at their end, and the words of commands.
+use Rattle.std.proofs.Common.{◌≡◌, ◌<◌, ◌≤◌, ◌-◌, suc, arith, ℕ, refl, sym, ◌∙◌, ap, inl, inr, Bool, false, if◌then◌else◌, List, [], ◌∷◌, ◌++◌, ◌≢◌, length, take, drop, take_all, Err}
 use Rattle.std.proofs.lemmas.Bool.Decides.{eqb_tells}
-use Rattle.script8.specs.Lines.{command_of, form_of, says}
-use Rattle.script8.specs.declared.entries.Entry.TheVariants.{Direct}
+use Rattle.script8.specs.Lines.{command_of, onto_first, words_of, form_of}
+use Rattle.script8.specs.Cuts.{word_of}
 use Rattle.script8.specs.declared.faults.SessionFault.TheVariants.{BadLine}
-use Rattle.script8.specs.declared.kinds.Line.TheVariants.{Empty, Whole}
 
 -- the CR at the end of a line is dropped
 pub without_return : (line front : List ℕ) → line ≡ front ++ 13 ∷ [] → front ≡ command_of line
@@ -23,24 +20,49 @@ no_return [] other = refl
 no_return (b ∷ []) other = elim (eqb_tells b 13) [ inl h ↦ absurd (other [] (ap (λ t. t ∷ []) h.1)) | inr h ↦ rw h.0 refl ]
 no_return (b ∷ c ∷ bs) other = ap (λ t. b ∷ t) (no_return (c ∷ bs) (λ front is. other (b ∷ front) (ap (λ t. b ∷ t) is)))
 
-suc_nonzero : (n : ℕ) → suc n ≢ 0
-suc_nonzero n is = omega (arith, is)
+-- what stands behind the first word of a command
+abbrev pub behind_word : List ℕ → List (List ℕ)
+behind_word [] = []
+behind_word (b ∷ bs) = words_of bs
 
--- an empty command
-pub empty_form : (command : List ℕ) → true ≡ (length command == 0) → Ok Empty ≡ form_of command
-empty_form [] is = refl
-empty_form (b ∷ bs) is = elim (eqb_tells (length (b ∷ bs)) 0) [ inl h ↦ absurd (suc_nonzero (length bs) h.1) | inr h ↦ absurd (true≢false (is ∙ h.0)) ]
+-- a command is its first word, and the words behind it
+cut : (text : List ℕ) → words_of text ≡ take (length (word_of text)) text ∷ behind_word (drop (length (word_of text)) text)
+cut [] = refl
+cut (b ∷ bs) = elim (eqb_tells b 32) [ inl is ↦ rw is.0 refl | inr other ↦ rw other.0 (ap (onto_first b) (cut bs)) ]
 
--- a command that is a word
-pub direct_form : (command : List ℕ) → false ≡ (length command == 0) → bytes_eq command (codes "DIRECT") ≡ true → Ok (Whole Direct) ≡ form_of command
-direct_form [] some is = absurd (true≢false (sym some))
-direct_form (b ∷ bs) some is = rw is refl
+cut_at : (text word rest : List ℕ) (size : ℕ) → size ≡ length (word_of text) → word ≡ take size text → rest ≡ drop size text → words_of text ≡ word ∷ behind_word rest
+cut_at text word rest size is word_is rest_is =
+    cut text
+    ∙ ap (λ w. w ∷ behind_word (drop (length (word_of text)) text)) (sym (word_is ∙ ap (λ n. take n text) is))
+    ∙ ap (λ r. word ∷ behind_word r) (sym (rest_is ∙ ap (λ n. drop n text) is))
 
-pub no_form : (command : List ℕ) → false ≡ (length command == 0) → bytes_eq command (codes "DIRECT") ≡ false → Err BadLine ≡ form_of command
-no_form [] some is = absurd (true≢false (sym some))
-no_form (b ∷ bs) some is = rw is refl
+some_length : (n : ℕ) → suc n < 1 → ⊥
+some_length n h = omega (arith, h)
 
--- what a line says is what its command is of the forms
-pub says_form : (command line : List ℕ) → command ≡ command_of line → form_of command ≡ says line
-unfolding says
-says_form command line is = ap form_of is
+none_length : 1 ≤ 0 → ⊥
+none_length h = omega (arith, h)
+
+-- the last word of a command
+pub last_word : (text word rest : List ℕ) (size : ℕ) → size ≡ length (word_of text) → word ≡ take size text → rest ≡ drop size text → length rest < 1 → words_of text ≡ word ∷ []
+last_word text word rest size is word_is rest_is none = cut_at text word rest size is word_is rest_is ∙ ap (λ w. word ∷ w) (nothing rest none)
+  where
+    nothing : (rest : List ℕ) → length rest < 1 → behind_word rest ≡ []
+    nothing [] none = refl
+    nothing (b ∷ bs) none = absurd (some_length (length bs) none)
+
+-- a word that a blank ends
+pub ended_word : (text word rest : List ℕ) (size : ℕ) → size ≡ length (word_of text) → word ≡ take size text → rest ≡ drop size text → 1 ≤ length rest → words_of text ≡ word ∷ words_of (take (length rest - 1) (drop 1 rest))
+ended_word text word rest size is word_is rest_is some = cut_at text word rest size is word_is rest_is ∙ ap (λ w. word ∷ w) (all rest some)
+  where
+    all : (rest : List ℕ) → 1 ≤ length rest → behind_word rest ≡ words_of (take (length rest - 1) (drop 1 rest))
+    all [] some = absurd (none_length some)
+    all (b ∷ bs) some = ap words_of (sym (take_all (length (b ∷ bs) - 1) bs (omega arith)))
+
+-- four words or more are none of the forms
+pub many_words : (command second third fourth verb word other : List ℕ) (is_one is_two is_three : Bool) → words_of command ≡ verb ∷ (if is_one then [] else words_of second) → is_one ≡ false
+    → words_of second ≡ word ∷ (if is_two then [] else words_of third) → is_two ≡ false → words_of third ≡ other ∷ (if is_three then [] else words_of fourth) → is_three ≡ false
+    → Err BadLine ≡ form_of (words_of command)
+many_words command second third fourth verb word other is_one is_two is_three one some two more three most =
+    sym (ap form_of (one ∙ ap (λ b. verb ∷ (if b then [] else words_of second)) some
+    ∙ ap (λ w. verb ∷ w) (two ∙ ap (λ b. word ∷ (if b then [] else words_of third)) more
+    ∙ ap (λ w. word ∷ w) (three ∙ ap (λ b. other ∷ (if b then [] else words_of fourth)) most ∙ ap (λ w. other ∷ w) (cut fourth)))))

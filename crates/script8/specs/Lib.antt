@@ -1,4 +1,6 @@
+pub mod Cuts
 pub mod Faults
+pub mod Items
 pub mod Lines
 pub mod Replies
 pub mod Shown

@@ -3,17 +3,21 @@
 //! In each contract a line is the list of its bytes, without the LF that ends it.
 #![tactic(auto)]
 
+mod bytes;
 mod entries;
 mod faults;
+mod items;
 mod kinds;
 mod listings;
 mod parsing;
 mod replies;
 mod shown;
 
+pub use bytes::Bytes;
 pub use entries::Entry;
 pub use faults::SessionFault;
-pub use kinds::Line;
+pub use items::next_item;
+pub use kinds::{Item, Line, Next};
 pub use listings::Listing;
 pub use parsing::parse_line;
 pub use replies::{Reply, Why};

@@ -1,8 +1,9 @@
-ghost use Rattle.std.specs.Prelude.{◌≡◌, ◌+◌, ◌≤◌, ◌<◌, ◌++◌, ℕ, List, [], ◌∷◌, decimal, length, OnOk, OnErr, IsOk, IsOkUnless, IfSome, vec_len, vec_capacity, Ok};
+ghost use Rattle.std.specs.Prelude.{◌≡◌, ◌+◌, ◌≤◌, ◌<◌, ◌++◌, ℕ, List, [], ◌∷◌, decimal, length, OnOk, OnErr, IsOk, IsOkUnless, IfSome, vec_len, vec_capacity, Ok, Err};
 ghost use Rattle.arrayvec.specs.ArrayVec.{array_vec_len};
 ghost use Rattle.os8_dir.specs.Names.{words_of_name};
 ghost use Rattle.script8.specs.Faults.{fault_text, tape_fault_text, file_fault_text};
-ghost use Rattle.script8.specs.Replies.{answer_lines, reply_lines, fault_line, file_line, file_lines, free_line, IsShort};
+ghost use Rattle.script8.specs.Replies.{answer_lines, lent, reply_lines, begin_text, end_text, job_text, line_of, file_line, file_lines, free_line, IsShort};
+ghost use Rattle.script8.specs.declared.replies.Reply.TheVariants.{Stored, Deleted, Working};
 ghost use Rattle.script8.specs.Shown.{shown, shown_code, shown_words};
 ghost use Rattle.script8.specs.declared.faults.SessionFault.TheVariants.{Memory};
 
@@ -27,18 +28,35 @@ pub fn put_reply(
     answer: &Result<Reply, SessionFault>,
     out: &mut Vec<u8>,
 ) -> Result<(), SessionFault>
-    ensures ok { OnOk result (out.new.items ≡ out.old.items ++ answer_lines answer.now) }
+    ensures ok { OnOk result (out.new.items ≡ out.old.items ++ answer_lines (lent entry.entry) answer.now) }
     ensures err { OnErr result (out.new.items ≡ out.old.items) }
     ensures room { IsShort answer.now → vec_len out.old + 80 ≤ vec_capacity out.old → IsOk result }
     ensures capacity { vec_capacity out.old ≤ vec_capacity out.new }
     ensures memory { IsOkUnless result Memory }
 {
-    let _ = entry;
     match answer {
-        Ok(Reply::Direct { files, free }) => put_direct(files.files(), *free, out)?,
-        Err(fault) => put_fault(*fault, out)?,
+        Ok(reply) => put_lines(reply, out)?,
+        Err(fault) => put_fault(entry, *fault, out)?,
     }
     Ok(())
+}
+
+/// Appends the lines of a reply. Where it is one line, and the vector has room for 80 bytes, no memory is taken.
+fn put_lines(reply: &Reply, out: &mut Vec<u8>) -> Result<(), AllocError>
+    ensures ok { OnOk result (out.new.items ≡ out.old.items ++ reply_lines reply.now) }
+    ensures err { OnErr result (out.new.items ≡ out.old.items) }
+    ensures room { IsShort (Ok reply.now) → vec_len out.old + 80 ≤ vec_capacity out.old → IsOk result }
+    ensures capacity { vec_capacity out.old ≤ vec_capacity out.new }
+{
+    match reply {
+        Reply::Stored { name, blocks } => put_stored(*name, *blocks, out),
+        Reply::Deleted { name } => put_deleted(*name, out),
+        Reply::Direct { files, free } => put_direct(files.files(), *free, out),
+        Reply::Job(job) => put_said(*job, b"", out),
+        Reply::Working(job) => put_working(*job, out),
+        Reply::Squeezed(job) => put_said(*job, b" SQUEEZED", out),
+        Reply::Finished => out.extend_from_slice(b"FINISHED\n"),
+    }
 }
 
 /// Appends the lines of files and of the free blocks; where memory is refused, nothing.
@@ -97,24 +115,127 @@ fn put_free(free: usize, out: &mut Vec<u8>) -> Result<(), AllocError>
     out.extend_from_slice(line.as_slice())
 }
 
-/// Appends the line of a fault. Where the vector has room for 80 bytes, no memory is taken.
-fn put_fault(fault: SessionFault, out: &mut Vec<u8>) -> Result<(), AllocError>
-    ensures ok { OnOk result (out.new.items ≡ out.old.items ++ fault_line fault) }
+/// Appends the line of a stored text.
+fn put_stored(name: Name, blocks: usize, out: &mut Vec<u8>) -> Result<(), AllocError>
+    ensures ok { OnOk result (out.new.items ≡ out.old.items ++ reply_lines (Stored name blocks)) }
     ensures err { OnErr result (out.new.items ≡ out.old.items) }
     ensures room { vec_len out.old + 80 ≤ vec_capacity out.old → IsOk result }
     ensures capacity { vec_capacity out.old ≤ vec_capacity out.new }
 {
     let mut line = TextLine::new();
-    put_text(&mut line, fault);
+    put(&mut line, b"STORED ");
+    put_name(&mut line, name);
+    put(&mut line, b" ");
+    put_number(&mut line, blocks as u64);
     put(&mut line, b"\n");
     out.extend_from_slice(line.as_slice())
+}
+
+/// Appends the line of a file that was taken out.
+fn put_deleted(name: Name, out: &mut Vec<u8>) -> Result<(), AllocError>
+    ensures ok { OnOk result (out.new.items ≡ out.old.items ++ reply_lines (Deleted name)) }
+    ensures err { OnErr result (out.new.items ≡ out.old.items) }
+    ensures room { vec_len out.old + 80 ≤ vec_capacity out.old → IsOk result }
+    ensures capacity { vec_capacity out.old ≤ vec_capacity out.new }
+{
+    let mut line = TextLine::new();
+    put(&mut line, b"DELETED ");
+    put_name(&mut line, name);
+    put(&mut line, b"\n");
+    out.extend_from_slice(line.as_slice())
+}
+
+/// Appends the line of a job that is not at its end.
+fn put_working(job: u32, out: &mut Vec<u8>) -> Result<(), AllocError>
+    ensures ok { OnOk result (out.new.items ≡ out.old.items ++ reply_lines (Working job)) }
+    ensures err { OnErr result (out.new.items ≡ out.old.items) }
+    ensures room { vec_len out.old + 80 ≤ vec_capacity out.old → IsOk result }
+    ensures capacity { vec_capacity out.old ≤ vec_capacity out.new }
+{
+    let mut line = TextLine::new();
+    put(&mut line, b"WORKING ");
+    put_number(&mut line, u64::from(job));
+    put(&mut line, b"\n");
+    out.extend_from_slice(line.as_slice())
+}
+
+/// Appends the line of a job of which something is said.
+fn put_said(job: u32, said: &[u8], out: &mut Vec<u8>) -> Result<(), AllocError>
+    requires { length said.now ≤ 20 }
+    ensures ok { OnOk result (out.new.items ≡ out.old.items ++ line_of (job_text job said.now)) }
+    ensures err { OnErr result (out.new.items ≡ out.old.items) }
+    ensures room { vec_len out.old + 80 ≤ vec_capacity out.old → IsOk result }
+    ensures capacity { vec_capacity out.old ≤ vec_capacity out.new }
+{
+    let mut line = TextLine::new();
+    put_job(&mut line, job);
+    put(&mut line, said);
+    put(&mut line, b"\n");
+    out.extend_from_slice(line.as_slice())
+}
+
+/// Puts the number of a job into an empty line.
+fn put_job(line: &mut ArrayVec<u8, 80>, job: u32)
+    requires { array_vec_len line.old ≡ 0 }
+    ensures text { line.new.items ≡ line.old.items ++ job_text job [] }
+    ensures short { array_vec_len line.new ≤ 24 }
+{
+    put(line, b"JOB ");
+    put_number(line, u64::from(job));
+}
+
+/// Appends the line of a fault; one of a job's end begins with the job. Where the vector has room for 80 bytes, no memory is
+/// taken.
+fn put_fault(
+    entry: Option<&Entry>,
+    fault: SessionFault,
+    out: &mut Vec<u8>,
+) -> Result<(), AllocError>
+    ensures ok { OnOk result (out.new.items ≡ out.old.items ++ answer_lines (lent entry.entry) (Err fault)) }
+    ensures err { OnErr result (out.new.items ≡ out.old.items) }
+    ensures room { vec_len out.old + 80 ≤ vec_capacity out.old → IsOk result }
+    ensures capacity { vec_capacity out.old ≤ vec_capacity out.new }
+{
+    let mut line = TextLine::new();
+    let again = fault;
+    put_begin(&mut line, entry, fault);
+    let mut text = TextLine::new();
+    put_text(&mut text, again);
+    put(&mut line, text.as_slice());
+    put(&mut line, b"\n");
+    out.extend_from_slice(line.as_slice())
+}
+
+/// Puts what stands before a fault of an entry into an empty line.
+fn put_begin(line: &mut ArrayVec<u8, 80>, entry: Option<&Entry>, fault: SessionFault)
+    requires { array_vec_len line.old ≡ 0 }
+    ensures text { line.new.items ≡ line.old.items ++ begin_text (lent entry.entry) fault }
+    ensures short { array_vec_len line.new ≤ 25 }
+{
+    match entry {
+        Some(Entry::Turn(job)) => put_end(line, *job, fault),
+        Some(Entry::Store { .. } | Entry::Delete { .. } | Entry::Direct | Entry::Squeeze) => {}
+        None => {}
+    }
+}
+
+/// Puts the job of a fault that is its end into an empty line.
+fn put_end(line: &mut ArrayVec<u8, 80>, job: u32, fault: SessionFault)
+    requires { array_vec_len line.old ≡ 0 }
+    ensures text { line.new.items ≡ line.old.items ++ end_text job fault }
+    ensures short { array_vec_len line.new ≤ 25 }
+{
+    if let SessionFault::File(_) | SessionFault::Tape(_) = fault {
+        put_job(line, job);
+        put(line, b" ");
+    }
 }
 
 /// Puts the text of a fault into an empty line.
 fn put_text(line: &mut ArrayVec<u8, 80>, fault: SessionFault)
     requires { array_vec_len line.old ≡ 0 }
     ensures text { line.new.items ≡ line.old.items ++ fault_text fault }
-    ensures short { array_vec_len line.new ≤ 60 }
+    ensures short { array_vec_len line.new ≤ 50 }
 {
     match fault {
         SessionFault::BadLine => put(line, b"? 1 BAD LINE"),
@@ -134,7 +255,7 @@ fn put_text(line: &mut ArrayVec<u8, 80>, fault: SessionFault)
 fn put_file_fault(line: &mut ArrayVec<u8, 80>, fault: FileFault)
     requires { array_vec_len line.old ≡ 0 }
     ensures text { line.new.items ≡ line.old.items ++ file_fault_text fault }
-    ensures short { array_vec_len line.new ≤ 60 }
+    ensures short { array_vec_len line.new ≤ 50 }
 {
     match fault {
         FileFault::NotFound => put(line, b"? 4.1 NOT FOUND"),
@@ -161,7 +282,7 @@ fn put_file_fault(line: &mut ArrayVec<u8, 80>, fault: FileFault)
 fn put_tape_fault(line: &mut ArrayVec<u8, 80>, fault: TapeFault)
     requires { array_vec_len line.old ≡ 0 }
     ensures text { line.new.items ≡ line.old.items ++ tape_fault_text fault }
-    ensures short { array_vec_len line.new ≤ 60 }
+    ensures short { array_vec_len line.new ≤ 50 }
 {
     match fault {
         TapeFault::BadFrame(place) => {

@@ -1,18 +1,21 @@
 //! Scripts: the lines of a reader, whose answers a writer gets.
 
-ghost use Rattle.std.specs.Prelude.{◌≡◌, ℕ, ◌<◌, ◌≤◌, ◌++◌, ◌∷◌, List, [], length, vec_capacity, OnOk, IfErr, ◌⊎◌, false, Ok, Err};
-ghost use Rattle.std.specs.Io.KnownBytes.{Appends, Keeps};
-ghost use Rattle.script8.specs.Lines.{says};
-ghost use Rattle.script8.specs.Replies.{answer_lines, fault_line, IsShort};
-ghost use Rattle.monitor8.specs.Items.{Do, script_of, items_of_line, lines_of, whole_lines, first_line};
+ghost use Rattle.std.specs.Prelude.{◌≡◌, ℕ, ◌<◌, ◌≤◌, ◌++◌, ◌∷◌, List, [], length, vec_capacity, OnOk, IfOk, IfSome, IfErr, ◌⊎◌, true, false, Ok, Err, None, Some};
+ghost use Rattle.std.specs.Io.KnownBytes.{Appends};
+ghost use Rattle.script8.specs.Items.{script_of};
+ghost use Rattle.script8.specs.Replies.{answer_lines, lent, fault_line, IsShort};
 ghost use Rattle.script8.specs.declared.faults.SessionFault.TheVariants as fault;
+ghost use Rattle.script8.specs.declared.kinds.Item.TheVariants.{Do, Finish};
+ghost use Rattle.monitor8.specs.Jobs.{job_count};
+ghost use Rattle.monitor8.specs.Jobs as jobs;
 ghost use Rattle.monitor8.specs.Reading.{Takes};
-ghost use Rattle.monitor8.specs.Script.{RunsItems, RunsText, RunsFull, RunsCut, IsEnded, unwritten};
+ghost use Rattle.monitor8.specs.Script.{RunsItems, RunsTurn, RunsNext, RunsFront, RunsText, RunsFull, RunsCut, IsEnded, unwritten};
 ghost use Rattle.monitor8.specs.Session.{state_of, IsQuiet, IsLater};
 
 use super::{Session, is_memory};
+use crate::jobs::lowest_place;
 use crate::readings::{ends, read_within};
-use script8::{Entry, Line, Reply, SessionFault, parse_line, put_reply};
+use script8::{Entry, Item, Next, Reply, SessionFault, next_item, put_reply};
 use std::alloc::Global;
 use std::io::{Read, Write};
 use volume_image::BlockStore;
@@ -60,7 +63,7 @@ impl<S: BlockStore> Session<S> {
         match read_within(alloc, reader, &mut text) {
             Ok(at_end) => {
                 if at_end {
-                    return self.run_lines(alloc, &text, writer);
+                    return self.run_end(alloc, &text, writer);
                 }
                 self.run_full(alloc, &text, reader, writer)
             }
@@ -85,15 +88,15 @@ impl<S: BlockStore> Session<S> {
             × (count ≡ 1 → result ≡ Err fault.Reader) }
         ensures kind { IfErr result (λ e. (e ≡ fault.Reader) ⊎ (e ≡ fault.Memory) ⊎ (e ≡ fault.Writer)) }
     {
-        let (whole, rest) = split_whole(text);
-        self.run_lines(alloc, whole, writer)?;
+        let bytes = self.run_items(alloc, text, false, writer)?;
         if ends(reader) {
-            return self.run_lines(alloc, rest, writer);
+            let (_, rest) = text.split_at(bytes);
+            return self.run_end(alloc, rest, writer);
         }
         Err(SessionFault::Reader)
     }
 
-    /// Runs the whole lines of a script that a failed reader cut short.
+    /// Runs the whole items of a script that a failed reader cut short.
     fn run_cut<W: Write>(
         &mut self,
         alloc: Global,
@@ -105,13 +108,12 @@ impl<S: BlockStore> Session<S> {
         ensures running { IsQuiet self.old self.new → self.new.volume.stopped ≡ false }
         ensures kind { IfErr result (λ e. (e ≡ fault.Reader) ⊎ (e ≡ fault.Memory) ⊎ (e ≡ fault.Writer)) }
     {
-        let (whole, _) = split_whole(text);
-        self.run_lines(alloc, whole, writer)?;
+        let _bytes = self.run_items(alloc, text, false, writer)?;
         Err(SessionFault::Reader)
     }
 
-    /// Runs the lines of a text.
-    fn run_lines<W: Write>(
+    /// Runs a text that is the end of a script.
+    fn run_end<W: Write>(
         &mut self,
         alloc: Global,
         text: &[u8],
@@ -122,31 +124,75 @@ impl<S: BlockStore> Session<S> {
         ensures running { IsQuiet self.old self.new → self.new.volume.stopped ≡ false }
         ensures kind { IfErr result (λ e. (e ≡ fault.Memory) ⊎ (e ≡ fault.Writer)) }
     {
-        let mut rest = text;
-        while !rest.is_empty() {
-            let (line, behind) = next_line(rest);
-            self.run_line(alloc, line, writer)?;
-            rest = behind;
-        }
+        let _bytes = self.run_items(alloc, text, true, writer)?;
         Ok(())
     }
 
-    /// Runs a line.
-    fn run_line<W: Write>(
+    /// Runs the items of a text that is the end of a script, or goes on; and answers how many bytes they have.
+    fn run_items<W: Write>(
         &mut self,
         alloc: Global,
-        line: &[u8],
+        text: &[u8],
+        is_end: bool,
         writer: &mut W,
-    ) -> Result<(), SessionFault>
-        ensures told { IsQuiet self.old self.new → RunsItems (items_of_line (says line.now)) (state_of self.old) (state_of self.new) (W.contents writer.old) (W.contents writer.new) result }
+    ) -> Result<usize, SessionFault>
+        ensures told { IsQuiet self.old self.new → RunsFront text.now is_end (state_of self.old) (state_of self.new) (W.contents writer.old) (W.contents writer.new) result }
+        ensures within { IfOk result (λ bytes. bytes ≤ length text.now) }
         ensures later { IsLater self.old self.new }
         ensures running { IsQuiet self.old self.new → self.new.volume.stopped ≡ false }
         ensures kind { IfErr result (λ e. (e ≡ fault.Memory) ⊎ (e ≡ fault.Writer)) }
     {
-        match parse_line(line) {
-            Ok(Line::Empty) => Ok(()),
-            Ok(Line::Whole(entry)) => self.run_entry(alloc, &entry, writer),
-            Err(why) => self.refuse(why, writer),
+        let mut done = 0;
+        loop {
+            let (_, rest) = text.split_at(done);
+            match self.run_next(alloc, rest, is_end, writer)? {
+                None => return Ok(done),
+                Some(bytes) => done += bytes,
+            }
+        }
+    }
+
+    /// Runs what a text begins with, and answers how many bytes that has; nothing where there is no item.
+    fn run_next<W: Write>(
+        &mut self,
+        alloc: Global,
+        text: &[u8],
+        is_end: bool,
+        writer: &mut W,
+    ) -> Result<Option<usize>, SessionFault>
+        ensures told { IsQuiet self.old self.new → RunsNext text.now is_end (state_of self.old) (state_of self.new) (W.contents writer.old) (W.contents writer.new) result }
+        ensures within { IfOk result (λ found. IfSome found (λ bytes. (0 < bytes) × (bytes ≤ length text.now))) }
+        ensures later { IsLater self.old self.new }
+        ensures running { IsQuiet self.old self.new → self.new.volume.stopped ≡ false }
+        ensures kind { IfErr result (λ e. (e ≡ fault.Memory) ⊎ (e ≡ fault.Writer)) }
+    {
+        match next_item(alloc, text, is_end) {
+            Ok(Next::End) => Ok(None),
+            Ok(Next::Blank(bytes)) => Ok(Some(bytes)),
+            Ok(Next::Item { item, bytes }) => {
+                self.run_item(alloc, &item, writer)?;
+                Ok(Some(bytes))
+            }
+            Err(_) => Err(SessionFault::Memory),
+        }
+    }
+
+    /// Runs an item.
+    fn run_item<W: Write>(
+        &mut self,
+        alloc: Global,
+        item: &Item,
+        writer: &mut W,
+    ) -> Result<(), SessionFault>
+        ensures told { IsQuiet self.old self.new → RunsItems (item.now ∷ []) (state_of self.old) (state_of self.new) (W.contents writer.old) (W.contents writer.new) result }
+        ensures later { IsLater self.old self.new }
+        ensures running { IsQuiet self.old self.new → self.new.volume.stopped ≡ false }
+        ensures kind { IfErr result (λ e. (e ≡ fault.Memory) ⊎ (e ≡ fault.Writer)) }
+    {
+        match item {
+            Item::Do(entry) => self.run_entry(alloc, entry, writer),
+            Item::Finish => self.run_finish(alloc, writer),
+            Item::Refused(why) => self.refuse(*why, writer),
         }
     }
 
@@ -166,20 +212,58 @@ impl<S: BlockStore> Session<S> {
         if is_memory(&answer) {
             return Err(SessionFault::Memory);
         }
-        self.tell(&answer, writer)
+        self.tell(Some(entry), &answer, writer)
+    }
+
+    /// Lets the lowest job take turns until no job is left, and writes the lines of their ends.
+    fn run_finish<W: Write>(&mut self, alloc: Global, writer: &mut W) -> Result<(), SessionFault>
+        ensures told { IsQuiet self.old self.new → RunsItems (Finish ∷ []) (state_of self.old) (state_of self.new) (W.contents writer.old) (W.contents writer.new) result }
+        ensures later { IsLater self.old self.new }
+        ensures running { IsQuiet self.old self.new → self.new.volume.stopped ≡ false }
+        ensures kind { IfErr result (λ e. (e ≡ fault.Memory) ⊎ (e ≡ fault.Writer)) }
+    {
+        while let Some(place) = lowest_place(&self.jobs) {
+            self.run_turn(alloc, place as u32 + 1, writer)?;
+        }
+        self.tell(None, &Ok(Reply::Finished), writer)
+    }
+
+    /// Lets the lowest job take a turn, and writes the line of its end.
+    fn run_turn<W: Write>(
+        &mut self,
+        alloc: Global,
+        number: u32,
+        writer: &mut W,
+    ) -> Result<(), SessionFault>
+        requires { jobs.lowest_job self.old.jobs ≡ Some number }
+        ensures told { IsQuiet self.old self.new → RunsTurn number (state_of self.old) (state_of self.new) (W.contents writer.old) (W.contents writer.new) result }
+        ensures fewer { OnOk result (job_count self.new.jobs < job_count self.old.jobs) }
+        ensures later { IsLater self.old self.new }
+        ensures running { IsQuiet self.old self.new → self.new.volume.stopped ≡ false }
+        ensures kind { IfErr result (λ e. (e ≡ fault.Memory) ⊎ (e ≡ fault.Writer)) }
+    {
+        let answer = self.turn(alloc, number);
+        if is_memory(&answer) {
+            return Err(SessionFault::Memory);
+        }
+        if let Ok(Reply::Working(_)) = answer {
+            return Ok(());
+        }
+        self.tell(Some(&Entry::Turn(number)), &answer, writer)
     }
 
     /// Writes the lines of an answer. `Memory` comes only where they are several, and then nothing is written.
     fn tell<W: Write>(
         &mut self,
+        entry: Option<&Entry>,
         answer: &Result<Reply, SessionFault>,
         writer: &mut W,
     ) -> Result<(), SessionFault>
-        ensures ok { OnOk result (Appends (W.contents writer.old) (W.contents writer.new) (answer_lines answer.now)) }
+        ensures ok { OnOk result (Appends (W.contents writer.old) (W.contents writer.new) (answer_lines (lent entry.entry) answer.now)) }
         ensures err { IfErr result (λ e. (e ≡ fault.Writer) ⊎ ((e ≡ fault.Memory) × Appends (W.contents writer.old) (W.contents writer.new) [] × (IsShort answer.now → ⊥))) }
         ensures same { self.new ≡ self.old }
     {
-        write_lines(&mut self.line, answer, writer)
+        write_lines(&mut self.line, entry, answer, writer)
     }
 
     /// Writes the line of a fault that belongs to no entry.
@@ -188,7 +272,7 @@ impl<S: BlockStore> Session<S> {
         ensures same { self.new ≡ self.old }
         ensures kind { IfErr result (λ e. e ≡ fault.Writer) }
     {
-        self.tell(&Err(why), writer)
+        self.tell(None, &Err(why), writer)
     }
 
     /// Ends a run: the line of want of memory or of the reader is the last.
@@ -222,16 +306,17 @@ impl<S: BlockStore> Session<S> {
 /// Writes the lines of an answer, which are built in a line that is lent.
 fn write_lines<W: Write>(
     line: &mut Vec<u8>,
+    entry: Option<&Entry>,
     answer: &Result<Reply, SessionFault>,
     writer: &mut W,
 ) -> Result<(), SessionFault>
     requires { 80 ≤ vec_capacity line.old }
-    ensures ok { OnOk result (Appends (W.contents writer.old) (W.contents writer.new) (answer_lines answer.now)) }
+    ensures ok { OnOk result (Appends (W.contents writer.old) (W.contents writer.new) (answer_lines (lent entry.entry) answer.now)) }
     ensures err { IfErr result (λ e. (e ≡ fault.Writer) ⊎ ((e ≡ fault.Memory) × Appends (W.contents writer.old) (W.contents writer.new) [] × (IsShort answer.now → ⊥))) }
     ensures room { 80 ≤ vec_capacity line.new }
 {
     line.clear();
-    put_reply(None, answer, line)?;
+    put_reply(entry, answer, line)?;
     if writer.write_all(line).is_err() {
         return Err(SessionFault::Writer);
     }
@@ -246,42 +331,4 @@ fn flush<W: Write>(writer: &mut W) -> Result<(), SessionFault>
         return Err(SessionFault::Writer);
     }
     Ok(())
-}
-
-/// The first line of a text, and what stands behind it.
-fn next_line(text: &[u8]) -> (&[u8], &[u8])
-    requires { 0 < length text.now }
-    ensures lines { lines_of text.now ≡ result.0.now ∷ lines_of result.1.now }
-    ensures shorter { length result.1.now < length text.now }
-{
-    let (line, rest) = text.split_at(line_length(text));
-    match rest {
-        [] => (line, rest),
-        [_, behind @ ..] => (line, behind),
-    }
-}
-
-/// How many bytes stand before the first LF of a text.
-fn line_length(text: &[u8]) -> usize
-    ensures place { result ≡ length (first_line text.now) }
-    ensures range { result ≤ length text.now }
-{
-    for (place, byte) in text.iter().enumerate() {
-        if *byte == b'\n' {
-            return place;
-        }
-    }
-    text.len()
-}
-
-/// A text up to its last LF, and what stands behind that.
-fn split_whole(text: &[u8]) -> (&[u8], &[u8])
-    ensures whole { result.0.now ≡ whole_lines text.now }
-    ensures items { script_of text.now ≡ script_of result.0.now ++ script_of result.1.now }
-{
-    let mut end = text.len();
-    while end > 0 && text[end - 1] != b'\n' {
-        end -= 1;
-    }
-    text.split_at(end)
 }

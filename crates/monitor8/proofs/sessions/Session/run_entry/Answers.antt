@@ -1,9 +1,13 @@
-use Rattle.std.proofs.Common.{sym, ◌∙◌, ap, subst, arith}
+use Rattle.std.proofs.Common.{sym, subst}
 use Rattle.monitor8.specs.Session.{state_of, IsQuiet, Seen}
-use Rattle.monitor8.specs.System.{Step, State}
-use Rattle.monitor8.proofs.ToldLemmas.{entry_told}
-use Rattle.monitor8.proofs.EntryLemmas.{no_memory}
+use Rattle.monitor8.specs.System.{Step}
+use Rattle.std.proofs.KnownBytes.{Appends-nil}
+use Rattle.monitor8.proofs.ToldLemmas.{entry_told, entry_undone}
+use Rattle.monitor8.proofs.EntryLemmas.{memory_is, no_memory}
 use Rattle.monitor8.proofs.sessions.Session.run_entry.Goals as goal
+
+pub returns-then-is_memory-clause-told : goal.returns-then-is_memory-clause-told
+returns-then-is_memory-clause-told g c quiet = entry_undone c.args.entry.now _ _ _ (c.step-answer.ensures.memory (memory_is _ (sym c.if-is_memory.ensures))).state (Appends-nil _)
 
 pub returns-clause-told : goal.returns-clause-told
 returns-clause-told g c quiet =

@@ -1,5 +1,6 @@
-use Rattle.std.proofs.Common.{◌+◌, ◌++◌, ◌∙◌, ap, subst, Bool, Ok, arith, length, length-append}
+use Rattle.std.proofs.Common.{refl, inl, inr, ℕ, ◌≡◌, ◌≤◌, ◌+◌, ◌++◌, ◌∙◌, ap, subst, Bool, Ok, arith, length, length-append}
 use Rattle.monitor8.specs.Reading.{ReadsWithin}
+use Rattle.monitor8.proofs.TextLemmas.{unread_told, unread_taken}
 use Rattle.monitor8.proofs.ByteLemmas.{consumes_more}
 use Rattle.monitor8.proofs.sessions.Session.run_read.Goals as goal
 
@@ -17,3 +18,17 @@ returns-in-Ok-clause-taken g c =
       omega (arith, all.1, more.2),
       λ last. more.3 (omega (arith, all.1, last)),
     )
+
+pub returns : goal.returns
+returns g c =
+    let t = unread_taken 16777216 _ _ _ _ c.in-Err.ensures in
+    record {
+      told = λ quiet. unread_told 16777216 _ _ _ _ _ _ c.in-Err.ensures;
+      later = record { reads = omega arith; writes = omega arith };
+      running = λ quiet. quiet.running;
+      taken = (t.0, t.1, omega (arith, t.2), λ last. absurd (past t.0 t.2 last));
+      kind = inr (inl refl);
+    }
+  where
+    past : (n : ℕ) → n ≤ 16777216 → n ≡ 16777217 → ⊥
+    past n most is = omega (arith, most, is)

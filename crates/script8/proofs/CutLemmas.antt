@@ -1,0 +1,273 @@
+-- Lines that are counted from the front of a text.
+use Rattle.std.proofs.Common.{◌≡◌, ◌<◌, ◌≤◌, ◌+◌, ◌-◌, zero, suc, arith, true≢false, ℕ, refl, sym, ◌∙◌, ap, inl, inr, Bool, true, false, if◌then◌else◌, Option, Some, None, List, [], ◌∷◌, ◌++◌, ◌≢◌, length, take, drop, get_or, add-one, ◌⊎◌}
+use Rattle.std.specs.Prelude.{◌==◌}
+use Rattle.std.proofs.lemmas.Bool.Decides.{eqb_tells}
+use Rattle.std.proofs.lemmas.List.{drop_all}
+use Rattle.script8.specs.Lines.{onto_first}
+use Rattle.script8.specs.Items.{lines_of, onto_ended, ended_lines, text_of}
+use Rattle.script8.specs.Cuts.{ended_behind, ended, Cuts, Cut}
+
+-- a byte before some bytes
+abbrev pub onto : ℕ → Option (List ℕ) → Option (List ℕ)
+onto b None = None
+onto b (Some bs) = Some (b ∷ bs)
+
+-- no further byte, where the line that is left may end so
+abbrev pub last_of : Bool → Bool → ℕ → Option (List ℕ)
+last_of true true zero = Some []
+last_of true true (suc n) = None
+last_of true false n = None
+last_of false begun n = None
+
+-- the bytes of so many lines at the front of a text, the first of which is begun or not
+abbrev pub taken : Bool → Bool → ℕ → List ℕ → Option (List ℕ)
+taken is_end begun zero bs = Some []
+taken is_end begun (suc n) [] = last_of is_end begun n
+taken is_end begun (suc n) (b ∷ bs) = if b == 10 then onto b (taken is_end false n bs) else onto b (taken is_end true (suc n) bs)
+
+-- the number of some bytes behind so many
+abbrev pub size_from : ℕ → Option (List ℕ) → Option ℕ
+size_from i None = None
+size_from i (Some bs) = Some (i + length bs)
+
+-- the lines of a text, the first of which is begun or not
+abbrev pub lines_in : Bool → List ℕ → List (List ℕ)
+lines_in begun [] = if begun then [] ∷ [] else []
+lines_in begun (b ∷ bs) = if b == 10 then [] ∷ lines_in false bs else onto_first b (lines_in true bs)
+
+onto_begun : (b : ℕ) (bs : List ℕ) → lines_in false bs ≡ lines_of bs → onto_first b (lines_in true bs) ≡ onto_first b (lines_of bs)
+onto_begun b [] same = refl
+onto_begun b (c ∷ cs) same = ap (onto_first b) same
+
+-- the lines of a text of which none is begun
+lines_same : (bs : List ℕ) → lines_in false bs ≡ lines_of bs
+lines_same [] = refl
+lines_same (b ∷ bs) = elim (eqb_tells b 10) [ inl is ↦ rw is.0 (ap (λ l. [] ∷ l) (lines_same bs)) | inr other ↦ rw other.0 (onto_begun b bs (lines_same bs)) ]
+
+-- these are the bytes of so many lines
+pub record Front (is_end begun : Bool) (n : ℕ) (bs xs : List ℕ) : Type 0 where
+  pub rest : List ℕ
+  pub front : List (List ℕ)
+  pub parts : bs ≡ xs ++ rest
+  pub size : length front ≡ n
+  pub content : text_of front ≡ ended_behind begun xs
+  pub script : lines_in begun bs ≡ front ++ lines_of rest
+  pub whole : is_end ≡ false → ended_lines bs ≡ front ++ ended_lines rest
+
+abbrev pub Few : Bool → Bool → ℕ → List ℕ → Type 0
+Few true begun n bs = length (lines_in begun bs) < n
+Few false begun n bs = length (ended_lines bs) < n
+
+abbrev pub Met : Bool → Bool → ℕ → List ℕ → Option (List ℕ) → Type 0
+Met is_end begun n bs None = Few is_end begun n bs
+Met is_end begun n bs (Some xs) = Front is_end begun n bs xs
+
+-- an LF ends a line
+lf_met : (is_end begun : Bool) (n b : ℕ) (bs : List ℕ) (r : Option (List ℕ)) → (b == 10) ≡ true → b ≡ 10 → Met is_end false n bs r → Met is_end begun (suc n) (b ∷ bs) (onto b r)
+lf_met true begun n b bs None is same few = rw is (omega (arith, few))
+lf_met false begun n b bs None is same few = rw is (omega (arith, few))
+lf_met is_end begun n b bs (Some xs) is same met = record {
+  rest = met.rest;
+  front = [] ∷ met.front;
+  parts = ap (λ l. b ∷ l) met.parts;
+  size = ap suc met.size;
+  content = rw is (ap (λ l. 10 ∷ l) met.content ∙ ap (λ x. x ∷ ended_behind false xs) (sym same));
+  script = rw is (ap (λ l. [] ∷ l) met.script);
+  whole = λ goes_on. rw is (ap (λ l. [] ∷ l) (met.whole goes_on));
+}
+
+onto_length : (b : ℕ) (bs : List ℕ) → length (onto_first b (lines_in true bs)) ≡ length (lines_in true bs)
+onto_length b [] = refl
+onto_length b (c ∷ cs) = elim (eqb_tells c 10) [ inl is ↦ rw is.0 refl | inr other ↦ rw other.0 (twice b c (lines_in true cs)) ]
+  where
+    twice : (b c : ℕ) (lines : List (List ℕ)) → length (onto_first b (onto_first c lines)) ≡ length (onto_first c lines)
+    twice b c [] = refl
+    twice b c (line ∷ lines) = refl
+
+ended_length : (b : ℕ) (lines : List (List ℕ)) → length (onto_ended b lines) ≡ length lines
+ended_length b [] = refl
+ended_length b (line ∷ lines) = refl
+
+none_some : (n : ℕ) → 0 ≡ suc n → ⊥
+none_some n is = omega (arith, is)
+
+-- any other byte stands in a line
+in_some : (is_end begun : Bool) (n b : ℕ) (bs xs rest : List ℕ) (front : List (List ℕ)) → (b == 10) ≡ false → bs ≡ xs ++ rest → length front ≡ suc n → text_of front ≡ ended_behind true xs
+    → lines_in true bs ≡ front ++ lines_of rest → (is_end ≡ false → ended_lines bs ≡ front ++ ended_lines rest) → Front is_end begun (suc n) (b ∷ bs) (b ∷ xs)
+in_some is_end begun n b bs xs rest [] other parts size content script whole = absurd (none_some n size)
+in_some is_end begun n b bs xs rest (line ∷ lines) other parts size content script whole = record {
+  rest = rest;
+  front = (b ∷ line) ∷ lines;
+  parts = ap (λ l. b ∷ l) parts;
+  size = size;
+  content = rw other (ap (λ l. b ∷ l) content);
+  script = rw other (ap (onto_first b) script);
+  whole = λ goes_on. rw other (ap (onto_ended b) (whole goes_on));
+}
+
+in_met : (is_end begun : Bool) (n b : ℕ) (bs : List ℕ) (r : Option (List ℕ)) → (b == 10) ≡ false → Met is_end true (suc n) bs r → Met is_end begun (suc n) (b ∷ bs) (onto b r)
+in_met true begun n b bs None other few = rw other (rw (onto_length b bs) few)
+in_met false begun n b bs None other few = rw other (rw (ended_length b (ended_lines bs)) few)
+in_met is_end begun n b bs (Some xs) other met = in_some is_end begun n b bs xs met.rest met.front other met.parts met.size met.content met.script met.whole
+
+-- the bytes that are taken are those of so many lines, and where none are, the lines are too few
+met_by : (is_end begun : Bool) (n : ℕ) (bs : List ℕ) → (n ≡ 0 → begun ≡ false) → Met is_end begun n bs (taken is_end begun n bs)
+met_by is_end true zero bs fit = absurd (true≢false (fit refl))
+met_by is_end false zero bs fit = record { rest = bs; front = []; parts = refl; size = refl; content = refl; script = lines_same bs; whole = λ goes_on. refl }
+met_by true true (suc zero) [] fit = record { rest = []; front = [] ∷ []; parts = refl; size = refl; content = refl; script = refl; whole = λ goes_on. absurd (true≢false goes_on) }
+met_by true true (suc (suc n)) [] fit = omega arith
+met_by true false (suc n) [] fit = omega arith
+met_by false begun (suc n) [] fit = omega arith
+met_by is_end begun (suc n) (b ∷ bs) fit = elim (eqb_tells b 10) [
+  | inl is ↦ rw is.0 (lf_met is_end begun n b bs (taken is_end false n bs) is.0 is.1 (met_by is_end false n bs (λ none. refl)))
+  | inr other ↦ rw other.0 (in_met is_end begun n b bs (taken is_end true (suc n) bs) other.0 (met_by is_end true (suc n) bs (λ none. absurd (none_some n (sym none)))))
+]
+
+take_front : (xs rest : List ℕ) → take (length xs) (xs ++ rest) ≡ xs
+take_front [] rest = refl
+take_front (b ∷ xs) rest = ap (λ l. b ∷ l) (take_front xs rest)
+
+drop_front : (xs rest : List ℕ) → drop (length xs) (xs ++ rest) ≡ rest
+drop_front [] rest = refl
+drop_front (b ∷ xs) rest = drop_front xs rest
+
+front_within : (xs rest : List ℕ) → length xs ≤ length (xs ++ rest)
+front_within [] rest = omega arith
+front_within (b ∷ xs) rest = omega (arith, front_within xs rest)
+
+cuts_by : (text : List ℕ) (is_end : Bool) (count bytes : ℕ) (xs : List ℕ) → bytes ≡ length xs → Front is_end false count text xs → Cuts text is_end count bytes
+cuts_by text is_end count bytes xs is met = record {
+  front = met.front;
+  within = rw is (rw met.parts (front_within xs met.rest));
+  size = met.size;
+  content = met.content ∙ ap ended (sym (ap (λ n. take n text) is ∙ ap (take (length xs)) met.parts ∙ take_front xs met.rest));
+  script = sym (lines_same text) ∙ met.script ∙ ap (λ r. met.front ++ lines_of r) (sym behind);
+  whole = λ goes_on. met.whole goes_on ∙ ap (λ r. met.front ++ ended_lines r) (sym behind);
+}
+  where
+    behind : drop bytes text ≡ met.rest
+    behind = ap (λ n. drop n text) is ∙ ap (drop (length xs)) met.parts ∙ drop_front xs met.rest
+
+cut_by : (text : List ℕ) (is_end : Bool) (count : ℕ) (r : Option (List ℕ)) → Met is_end false count text r → Cut text is_end count (size_from 0 r)
+cut_by text true count None few = rw (sym (lines_same text)) few
+cut_by text false count None few = few
+cut_by text is_end count (Some xs) met = cuts_by text is_end count (0 + length xs) xs (omega arith) met
+
+-- how many bytes so many lines have
+pub counted : (text : List ℕ) (is_end : Bool) (count : ℕ) (size : Option ℕ) → size_from 0 (taken is_end false count text) ≡ size → Cut text is_end count size
+counted text is_end count size is = rw (sym is) (cut_by text is_end count (taken is_end false count text) (met_by is_end false count text (λ none. refl)))
+
+-- a text whose last byte is an LF
+pub is_ended : (text front : List ℕ) → text ≡ front ++ 10 ∷ [] → ended text ≡ text
+is_ended text front is = ap ended is ∙ whole false front ∙ sym is
+  where
+    whole : (begun : Bool) (front : List ℕ) → ended_behind begun (front ++ 10 ∷ []) ≡ front ++ 10 ∷ []
+    whole begun [] = refl
+    whole begun (b ∷ bs) = elim (eqb_tells b 10) [ inl is ↦ rw is.0 (ap (λ l. b ∷ l) (whole false bs)) | inr other ↦ rw other.0 (ap (λ l. b ∷ l) (whole true bs)) ]
+
+none_length : 0 < 0 → ⊥
+none_length h = omega (arith, h)
+
+open_end : (begun : Bool) (text : List ℕ) → (begun ≡ false → 0 < length text) → ((front : List ℕ) → text ≢ front ++ 10 ∷ []) → ended_behind begun text ≡ text ++ 10 ∷ []
+open_end true [] some other = refl
+open_end false [] some other = absurd (none_length (some refl))
+open_end begun (b ∷ []) some other = elim (eqb_tells b 10) [ inl is ↦ absurd (other [] (ap (λ x. x ∷ []) is.1)) | inr is ↦ rw is.0 refl ]
+open_end begun (b ∷ c ∷ cs) some other = elim (eqb_tells b 10) [
+  | inl is ↦ rw is.0 (ap (λ l. b ∷ l) (open_end false (c ∷ cs) (λ none. omega arith) (λ front same. other (b ∷ front) (ap (λ l. b ∷ l) same))))
+  | inr is ↦ rw is.0 (ap (λ l. b ∷ l) (open_end true (c ∷ cs) (λ none. omega arith) (λ front same. other (b ∷ front) (ap (λ l. b ∷ l) same))))
+]
+
+-- a text whose last byte is another
+pub is_open : (text : List ℕ) → 0 < length text → ((front : List ℕ) → text ≢ front ++ 10 ∷ []) → ended text ≡ text ++ 10 ∷ []
+is_open text some other = open_end false text (λ none. some) other
+
+size_onto : (i b : ℕ) (r : Option (List ℕ)) → size_from i (onto b r) ≡ size_from (suc i) r
+size_onto i b None = refl
+size_onto i b (Some xs) = ap Some (omega arith)
+
+drop_at : (text : List ℕ) (i : ℕ) → i < length text → drop i text ≡ get_or text i 0 ∷ drop (suc i) text
+drop_at [] i inside = absurd (no_place i inside)
+  where
+    no_place : (i : ℕ) → i < 0 → ⊥
+    no_place i h = omega (arith, h)
+drop_at (b ∷ bs) zero inside = refl
+drop_at (b ∷ bs) (suc i) inside = drop_at bs i (omega (arith, inside))
+
+-- behind an LF a line is found
+pub next_end : (is_end begun : Bool) (left less i : ℕ) (text : List ℕ) → i < length text → 0 < left → less ≡ left - 1 → get_or text i 0 ≡ 10
+    → size_from i (taken is_end begun left (drop i text)) ≡ size_from (i + 1) (taken is_end false less (drop (i + 1) text))
+next_end is_end begun zero less i text inside some is same = absurd (none_length some)
+next_end is_end begun (suc n) less i text inside some is same =
+    ap (λ l. size_from i (taken is_end begun (suc n) l)) (drop_at text i inside)
+    ∙ found
+    ∙ size_onto i (get_or text i 0) (taken is_end false n (drop (suc i) text))
+    ∙ ap (λ m. size_from (suc i) (taken is_end false m (drop (suc i) text))) (sym fewer)
+    ∙ ap (λ m. size_from m (taken is_end false less (drop m text))) (sym (add-one i))
+  where
+    fewer : less ≡ n
+    fewer = omega (arith, is)
+
+    found : size_from i (taken is_end begun (suc n) (get_or text i 0 ∷ drop (suc i) text)) ≡ size_from i (onto (get_or text i 0) (taken is_end false n (drop (suc i) text)))
+    found = elim (eqb_tells (get_or text i 0) 10) [ inl h ↦ rw h.0 refl | inr h ↦ absurd (h.1 same) ]
+
+-- behind any other byte it is begun
+pub next_byte : (is_end begun : Bool) (left i : ℕ) (text : List ℕ) → i < length text → 0 < left → get_or text i 0 ≢ 10
+    → size_from i (taken is_end begun left (drop i text)) ≡ size_from (i + 1) (taken is_end true left (drop (i + 1) text))
+next_byte is_end begun zero i text inside some other = absurd (none_length some)
+next_byte is_end begun (suc n) i text inside some other =
+    ap (λ l. size_from i (taken is_end begun (suc n) l)) (drop_at text i inside)
+    ∙ found
+    ∙ size_onto i (get_or text i 0) (taken is_end true (suc n) (drop (suc i) text))
+    ∙ ap (λ m. size_from m (taken is_end true (suc n) (drop m text))) (sym (add-one i))
+  where
+    found : size_from i (taken is_end begun (suc n) (get_or text i 0 ∷ drop (suc i) text)) ≡ size_from i (onto (get_or text i 0) (taken is_end true (suc n) (drop (suc i) text)))
+    found = elim (eqb_tells (get_or text i 0) 10) [ inl h ↦ absurd (other h.1) | inr h ↦ rw h.0 refl ]
+
+-- all lines are found
+pub all_found : (text : List ℕ) (is_end begun : Bool) (count left place end : ℕ) → size_from 0 (taken is_end false count text) ≡ size_from place (taken is_end begun left (drop place text)) → left ≡ 0 → end ≡ place → Cut text is_end count (Some end)
+all_found text is_end begun count left place end so_far none same =
+    counted text is_end count (Some end) (so_far ∙ ap (λ n. size_from place (taken is_end begun n (drop place text))) none ∙ ap Some (omega (arith, same)))
+
+at_end : (text : List ℕ) (is_end begun : Bool) (left place : ℕ) → length text ≤ place → size_from place (taken is_end begun left (drop place text)) ≡ size_from place (taken is_end begun left [])
+at_end text is_end begun left place past = ap (λ l. size_from place (taken is_end begun left l)) (drop_all place text past)
+
+-- the last line lacks its LF
+pub last_found : (text : List ℕ) (is_end begun : Bool) (count left place end : ℕ) → size_from 0 (taken is_end false count text) ≡ size_from place (taken is_end begun left (drop place text)) → length text ≤ place
+    → left ≡ 1 → begun ≡ true → is_end ≡ true → end ≡ place → Cut text is_end count (Some end)
+last_found text is_end begun count left place end so_far past one midst over same =
+    counted text is_end count (Some end)
+    (so_far ∙ at_end text is_end begun left place past ∙ ap (λ n. size_from place (taken is_end begun n [])) one
+    ∙ ap (λ g. size_from place (taken is_end g 1 [])) midst ∙ ap (λ e. size_from place (taken e true 1 [])) over ∙ ap Some (omega (arith, same)))
+
+-- a line is wanted yet
+pub none_found : (text : List ℕ) (is_end begun : Bool) (count left place : ℕ) → size_from 0 (taken is_end false count text) ≡ size_from place (taken is_end begun left (drop place text)) → length text ≤ place
+    → 0 < left → (1 < left) ⊎ (begun ≡ false) ⊎ (is_end ≡ false) → Cut text is_end count None
+none_found text is_end begun count left place so_far past some why =
+    counted text is_end count None (so_far ∙ at_end text is_end begun left place past ∙ ap (size_from place) (none is_end begun left some why))
+  where
+    one_line : 1 < 1 → ⊥
+    one_line h = omega (arith, h)
+
+    none : (is_end begun : Bool) (left : ℕ) → 0 < left → (1 < left) ⊎ (begun ≡ false) ⊎ (is_end ≡ false) → taken is_end begun left [] ≡ None
+    none is_end begun zero some why = absurd (none_length some)
+    none true true (suc zero) some (inl h) = absurd (one_line h)
+    none true true (suc zero) some (inr (inl h)) = absurd (true≢false h)
+    none true true (suc zero) some (inr (inr h)) = absurd (true≢false h)
+    none true true (suc (suc n)) some why = refl
+    none true false (suc n) some why = refl
+    none false begun (suc n) some why = refl
+
+-- a text that isn't empty
+pub some_text : (text : List ℕ) → false ≡ (length text == 0) → 0 < length text
+some_text [] some = absurd (true≢false (sym some))
+some_text (b ∷ bs) some = omega arith
+
+-- the bytes of a line are some
+pub some_line : (text front : List ℕ) (is_end : Bool) (bytes : ℕ) → Cuts text is_end 1 bytes → front ≡ take bytes text → 0 < length front
+some_line text [] is_end bytes cuts is = absurd (no_text cuts.front cuts.size (cuts.content ∙ ap ended (sym is)))
+  where
+    no_text : (front : List (List ℕ)) → length front ≡ 1 → text_of front ≡ [] → ⊥
+    no_text [] size none = none_some 0 size
+    no_text ([] ∷ lines) size none = none_some (length (text_of lines)) (sym (ap length none))
+    no_text ((b ∷ bs) ∷ lines) size none = none_some (length (bs ++ 10 ∷ text_of lines)) (sym (ap length none))
+some_line text (b ∷ bs) is_end bytes cuts is = omega arith

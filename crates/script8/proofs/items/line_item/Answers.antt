@@ -1,0 +1,22 @@
+use Rattle.std.proofs.Common.{refl}
+use Rattle.script8.proofs.CutLemmas.{some_line}
+use Rattle.script8.proofs.ItemLemmas.{opens, gives, said_ok, said_bad}
+use Rattle.script8.proofs.items.line_item.Goals as goal
+
+pub without_end-requires : goal.without_end-requires
+without_end-requires c = some_line _ _ _ _ c.requires c.split_at.ensures.front
+
+pub store_item-requires : goal.store_item-requires
+store_item-requires c = opens _ _ _ _ _ _ c.requires c.split_at.ensures.front c.without_end.ensures (said_ok _ _ _ c.in-Ok-Store.ensures c.in-Ok-Store.field-0-is)
+
+pub returns-in-Ok-Empty : goal.returns-in-Ok-Empty
+returns-in-Ok-Empty c = gives _ _ _ _ _ refl (λ short lines. refl) (opens _ _ _ _ _ _ c.requires c.split_at.ensures.front c.without_end.ensures (said_ok _ _ _ c.in-Ok-Empty.ensures c.in-Ok-Empty.field-0-is))
+
+pub returns-in-Ok-Finish : goal.returns-in-Ok-Finish
+returns-in-Ok-Finish c = gives _ _ _ _ _ refl (λ short lines. refl) (opens _ _ _ _ _ _ c.requires c.split_at.ensures.front c.without_end.ensures (said_ok _ _ _ c.in-Ok-Finish.ensures c.in-Ok-Finish.field-0-is))
+
+pub returns-in-Ok-Whole : goal.returns-in-Ok-Whole
+returns-in-Ok-Whole c = gives _ _ _ _ _ refl (λ short lines. refl) (opens _ _ _ _ _ _ c.requires c.split_at.ensures.front c.without_end.ensures (said_ok _ _ _ c.in-Ok-Whole.ensures c.in-Ok-Whole.field-0-is))
+
+pub returns-in-Err-BadLine : goal.returns-in-Err-BadLine
+returns-in-Err-BadLine c = gives _ _ _ _ _ refl (λ short lines. refl) (opens _ _ _ _ _ _ c.requires c.split_at.ensures.front c.without_end.ensures (said_bad _ _ c.in-Err-BadLine.ensures c.in-Err-BadLine.field-0-is))

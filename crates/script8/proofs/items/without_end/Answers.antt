@@ -1,0 +1,14 @@
+use Rattle.std.proofs.Common.{sym, ◌∙◌, ap, ◌++◌, Some, None}
+use Rattle.std.proofs.lemmas.Slice.Eq.{strip_suffix_is}
+use Rattle.std.proofs.lemmas.Bool.Decides.{Decides-eqb}
+use Rattle.script8.proofs.CutLemmas.{is_ended, is_open}
+use Rattle.script8.proofs.items.without_end.Goals as goal
+
+pub returns-in-Some : goal.returns-in-Some
+returns-in-Some c =
+    let parts = strip_suffix_is Decides-eqb _ _ (Some c.in-Some.front) (c.in-Some.ensures).cases ∙ ap (λ p. c.in-Some.front.now ++ p) c.as_slice.ensures in
+    is_ended _ _ parts ∙ parts
+
+pub returns-in-None : goal.returns-in-None
+returns-in-None c =
+    is_open _ c.requires (λ front is. strip_suffix_is Decides-eqb _ _ None (c.in-None.ensures).cases front (is ∙ ap (λ p. front ++ p) (sym c.as_slice.ensures)))

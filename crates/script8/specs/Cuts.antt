@@ -1,0 +1,48 @@
+-- How many bytes some lines of a text have, and the first word of a command.
+use Rattle.std.specs.Prelude.{◌≡◌, ℕ, ◌<◌, ◌≤◌, ◌==◌, Bool, true, false, if◌then◌else◌, Option, Some, None, List, [], ◌∷◌, ◌++◌, length, take, drop, Result}
+use Rattle.script8.specs.Lines.{says}
+use Rattle.script8.specs.declared.faults.SessionFault.{SessionFault}
+use Rattle.script8.specs.declared.kinds.Line.{Line}
+use Rattle.script8.specs.Items.{lines_of, ended_lines, text_of}
+
+-- the first of the words of a command
+abbrev pub word_of : List ℕ → List ℕ
+word_of [] = []
+word_of (b ∷ bs) = if b == 32 then [] else b ∷ word_of bs
+
+-- a text behind bytes of a line, or behind none, with an LF at its end
+abbrev pub ended_behind : Bool → List ℕ → List ℕ
+ended_behind begun [] = if begun then 10 ∷ [] else []
+ended_behind begun (b ∷ bs) = if b == 10 then b ∷ ended_behind false bs else b ∷ ended_behind true bs
+
+-- a text with an LF at its end
+abbrev pub ended : List ℕ → List ℕ
+ended text = ended_behind false text
+
+-- so many lines of a text have so many bytes; where it goes on, an LF ends each
+pub record Cuts (text : List ℕ) (is_end : Bool) (count bytes : ℕ) : Type 0 where
+  pub front : List (List ℕ)
+  pub within : bytes ≤ length text
+  pub size : length front ≡ count
+  pub content : text_of front ≡ ended (take bytes text)
+  pub script : lines_of text ≡ front ++ lines_of (drop bytes text)
+  pub whole : is_end ≡ false → ended_lines text ≡ front ++ ended_lines (drop bytes text)
+
+-- the first line of a text has so many bytes, and says this
+pub record Opens (text : List ℕ) (is_end : Bool) (said : Result Line SessionFault) (bytes : ℕ) : Type 0 where
+  pub line : List ℕ
+  pub said_is : says line ≡ said
+  pub some : 0 < bytes
+  pub within : bytes ≤ length text
+  pub script : lines_of text ≡ line ∷ lines_of (drop bytes text)
+  pub whole : is_end ≡ false → ended_lines text ≡ line ∷ ended_lines (drop bytes text)
+
+-- a text has fewer lines
+abbrev pub TooFew : List ℕ → Bool → ℕ → Type 0
+TooFew text true count = length (lines_of text) < count
+TooFew text false count = length (ended_lines text) < count
+
+-- How many bytes so many lines have, where a text has them.
+abbrev pub Cut : List ℕ → Bool → ℕ → Option ℕ → Type 0
+Cut text is_end count None = TooFew text is_end count
+Cut text is_end count (Some bytes) = Cuts text is_end count bytes

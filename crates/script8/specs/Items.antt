@@ -1,0 +1,81 @@
+-- The items of a script (this project's profile).
+use Rattle.std.specs.Prelude.{◌≡◌, ℕ, zero, suc, ◌<◌, ◌≤◌, ◌==◌, nat_lt, Bool, true, false, if◌then◌else◌, List, [], ◌∷◌, ◌++◌, length, take, drop, Result, Ok, Err}
+use Rattle.script8.specs.Lines.{says, onto_first}
+use Rattle.script8.specs.declared.entries.Entry.TheVariants as entry
+use Rattle.script8.specs.declared.faults.SessionFault.{SessionFault}
+use Rattle.script8.specs.declared.faults.SessionFault.TheVariants.{BadLine, Memory}
+use Rattle.script8.specs.declared.kinds.Line.{Line}
+use Rattle.script8.specs.declared.kinds.Line.TheVariants as line
+use Rattle.script8.specs.declared.kinds.Item.{Item}
+use Rattle.script8.specs.declared.kinds.Item.TheVariants.{Do, Finish, Refused}
+use Rattle.script8.specs.declared.kinds.Next.{Next}
+use Rattle.script8.specs.declared.kinds.Next.TheVariants as next
+
+-- the lines of a text: each is ended by LF, but that the last may lack it, and then isn't empty
+abbrev pub lines_of : List ℕ → List (List ℕ)
+lines_of [] = []
+lines_of (b ∷ bs) = if b == 10 then [] ∷ lines_of bs else onto_first b (lines_of bs)
+
+-- a byte before the first of some lines that are ended; where there are none, it belongs to none
+abbrev pub onto_ended : ℕ → List (List ℕ) → List (List ℕ)
+onto_ended b [] = []
+onto_ended b (line ∷ lines) = (b ∷ line) ∷ lines
+
+-- the lines of a text that an LF ends
+abbrev pub ended_lines : List ℕ → List (List ℕ)
+ended_lines [] = []
+ended_lines (b ∷ bs) = if b == 10 then [] ∷ ended_lines bs else onto_ended b (ended_lines bs)
+
+-- the text of lines, each followed by LF
+abbrev pub text_of : List (List ℕ) → List ℕ
+text_of [] = []
+text_of (line ∷ lines) = line ++ 10 ∷ text_of lines
+
+-- the items that a line gives, with the lines behind it; a STORE whose lines are not all there gives `cut`
+abbrev pub items_of_line : List Item → Result Line SessionFault → List (List ℕ) → List Item
+items_of_line cut (Ok line.Empty) lines = []
+items_of_line cut (Ok line.Finish) lines = Finish ∷ []
+items_of_line cut (Ok (line.Store name count)) lines = if nat_lt (length lines) count then cut else Do (entry.Store name (text_of (take count lines))) ∷ []
+items_of_line cut (Ok (line.Whole entry)) lines = Do entry ∷ []
+items_of_line cut (Err fault) lines = Refused fault ∷ []
+
+-- how many lines behind a line belong to it
+abbrev pub lines_taken : Result Line SessionFault → ℕ
+lines_taken (Ok line.Empty) = 0
+lines_taken (Ok line.Finish) = 0
+lines_taken (Ok (line.Store name count)) = count
+lines_taken (Ok (line.Whole entry)) = 0
+lines_taken (Err fault) = 0
+
+-- the items of lines, of which the first belong, so many, to a STORE above them
+abbrev pub items_of : List Item → ℕ → List (List ℕ) → List Item
+items_of cut above [] = []
+items_of cut zero (line ∷ lines) = items_of_line cut (says line) lines ++ items_of cut (lines_taken (says line)) lines
+items_of cut (suc above) (line ∷ lines) = items_of cut above lines
+
+-- the items of a script: a STORE that its end cuts off is refused
+unfoldable pub script_of : List ℕ → List Item
+script_of text = items_of (Refused BadLine ∷ []) 0 (lines_of text)
+
+-- the items of a text that goes on: those whose last line is ended
+unfoldable pub whole_of : List ℕ → List Item
+whole_of text = items_of [] 0 (ended_lines text)
+
+-- a text gives these items and then those of what stands behind so many bytes; where it goes on, these are whole
+pub record Gives (text : List ℕ) (is_end : Bool) (items : List Item) (bytes : ℕ) : Type 0 where
+  pub some : 0 < bytes
+  pub within : bytes ≤ length text
+  pub script : script_of text ≡ items ++ script_of (drop bytes text)
+  pub whole : is_end ≡ false → whole_of text ≡ items ++ whole_of (drop bytes text)
+
+-- a text that is a script's end has no item, or one that goes on has none that is whole
+abbrev pub IsOut : List ℕ → Bool → Type 0
+IsOut text true = script_of text ≡ []
+IsOut text false = whole_of text ≡ []
+
+-- What a text begins with, where it is a script's end or goes on.
+abbrev pub Begins : List ℕ → Bool → Result Next SessionFault → Type 0
+Begins text is_end (Ok next.End) = IsOut text is_end
+Begins text is_end (Ok (next.Blank bytes)) = Gives text is_end [] bytes
+Begins text is_end (Ok (next.Item item bytes)) = Gives text is_end (item ∷ []) bytes
+Begins text is_end (Err fault) = fault ≡ Memory

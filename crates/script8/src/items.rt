@@ -1,0 +1,147 @@
+//! The items of a script, one after another.
+ghost use Rattle.std.specs.Prelude.{◌≡◌, if◌then◌else◌, ◌∷◌, ◌++◌, ◌<◌, ◌≤◌, [], length, drop, Ok, Err, IfOk, true, false};
+ghost use Rattle.script8.specs.Cuts.{Cuts, Cut, Opens, ended};
+ghost use Rattle.script8.specs.Items.{Begins};
+ghost use Rattle.script8.specs.declared.faults.SessionFault.TheVariants.{BadLine};
+ghost use Rattle.script8.specs.declared.kinds.Item.TheVariants.{Refused};
+ghost use Rattle.script8.specs.declared.kinds.Line.TheVariants.{Store};
+ghost use Rattle.script8.specs.declared.kinds.Next.TheVariants as next;
+
+use crate::{Bytes, Entry, Item, Line, Next, SessionFault, parse_line};
+use std::alloc::{AllocError, Global};
+
+/// What a text begins with, where it is the end of a script, or goes on. The lines of a STORE are taken with it; where they are
+/// not all there, it is refused as `BadLine` at a script's end, and is no whole item otherwise (this project's profile).
+pub fn next_item(alloc: Global, text: &[u8], is_end: bool) -> Result<Next, SessionFault>
+    ensures { Begins text.now is_end result }
+{
+    match lines_length(text, 1, is_end) {
+        Some(bytes) => line_item(alloc, text, bytes, is_end),
+        None => Ok(Next::End),
+    }
+}
+
+/// What a text begins with whose first line has so many bytes, its LF with them.
+fn line_item(alloc: Global, text: &[u8], bytes: usize, is_end: bool) -> Result<Next, SessionFault>
+    requires { Cuts text.now is_end 1 bytes }
+    ensures { Begins text.now is_end result }
+{
+    let (line, _) = text.split_at(bytes);
+    match parse_line(alloc, without_end(line)) {
+        Ok(Line::Empty) => Ok(Next::Blank(bytes)),
+        Ok(Line::Finish) => Ok(Next::Item {
+            item: Item::Finish,
+            bytes,
+        }),
+        Ok(Line::Whole(entry)) => Ok(Next::Item {
+            item: Item::Do(entry),
+            bytes,
+        }),
+        Ok(Line::Store { name, lines }) => store_item(alloc, text, bytes, name, lines, is_end),
+        Err(SessionFault::BadLine) => Ok(Next::Item {
+            item: Item::Refused(SessionFault::BadLine),
+            bytes,
+        }),
+        Err(_) => Err(SessionFault::Memory),
+    }
+}
+
+/// What a text begins with whose first line is a STORE, and has so many bytes.
+fn store_item(
+    alloc: Global,
+    text: &[u8],
+    bytes: usize,
+    name: Bytes,
+    lines: u32,
+    is_end: bool,
+) -> Result<Next, SessionFault>
+    requires { Opens text.now is_end (Ok (Store name lines)) bytes }
+    ensures { Begins text.now is_end result }
+{
+    let (_, behind) = text.split_at(bytes);
+    let Some(more) = lines_length(behind, lines, is_end) else {
+        return Ok(cut_off(text, is_end));
+    };
+    let (lines, _) = behind.split_at(more);
+    let text = ended_text(alloc, lines)?;
+    Ok(Next::Item {
+        item: Item::Do(Entry::Store { name, text }),
+        bytes: bytes + more,
+    })
+}
+
+/// What a text begins with that is a STORE without all its lines.
+fn cut_off(text: &[u8], is_end: bool) -> Next
+    ensures over { is_end ≡ true → result ≡ next.Item (Refused BadLine) (length text.now) }
+    ensures on { is_end ≡ false → result ≡ next.End }
+{
+    if !is_end {
+        return Next::End;
+    }
+    Next::Item {
+        item: Item::Refused(SessionFault::BadLine),
+        bytes: text.len(),
+    }
+}
+
+/// How many bytes so many lines have, the LFs with them; the last line of a script may lack its own.
+fn lines_length(text: &[u8], lines: u32, is_end: bool) -> Option<usize>
+    ensures { Cut text.now is_end lines result }
+{
+    let mut left = lines;
+    let mut is_begun = false;
+    for (place, byte) in text.iter().enumerate() {
+        if left == 0 {
+            return Some(place);
+        }
+        if *byte == b'\n' {
+            left -= 1;
+            is_begun = false;
+        } else {
+            is_begun = true;
+        }
+    }
+    if left == 0 {
+        return Some(text.len());
+    }
+    if left > 1 || !is_begun || !is_end {
+        return None;
+    }
+    Some(text.len())
+}
+
+/// A line without the LF that may stand at its end.
+fn without_end(line: &[u8]) -> &[u8]
+    requires { 0 < length line.now }
+    ensures { ended line.now ≡ result.now ++ 10 ∷ [] }
+{
+    match line.strip_suffix(b"\n".as_slice()) {
+        Some(front) => front,
+        None => line,
+    }
+}
+
+/// A text, with an LF at its end.
+fn ended_text(alloc: Global, text: &[u8]) -> Result<Bytes, AllocError>
+    ensures { IfOk result (λ own. own ≡ ended text.now) }
+{
+    let mut items = Vec::with_capacity(alloc, text.len().saturating_add(1))?;
+    items.extend_from_slice(text)?;
+    if needs_end(text) {
+        items.push(b'\n')?;
+    }
+    Ok(Bytes::new(items))
+}
+
+/// Whether a text ends in the midst of a line.
+fn needs_end(text: &[u8]) -> bool
+    ensures { ended text.now ≡ text.now ++ (if result then 10 ∷ [] else []) }
+{
+    if text.is_empty() {
+        return false;
+    }
+    match text.strip_suffix(b"\n".as_slice()) {
+        Some(_) => false,
+        None => true,
+    }
+}
