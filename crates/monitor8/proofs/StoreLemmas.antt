@@ -286,21 +286,21 @@ closed old m1 m2 new name blocks token words begun (Ok done) none some e filled 
   where
     kept : HasKept old (Spent m2)
     kept = spent_kept old m1 m2 (Spent m2) name blocks token words begun none e filled refl
-closed old m1 m2 new name blocks token words begun (Err NothingWritten) none some e filled has = absurd (written (ap (λ (b : Begun). b.written) (some_same _ _ (sym has.2 ∙ begun_now m1 begun words blocks m2 filled))) has.3)
+closed old m1 m2 new name blocks token words begun (Err NothingWritten) none some e filled has = absurd (written (ap (λ (b : Begun). b.written) (some_same _ _ (sym has.1.was ∙ begun_now m1 begun words blocks m2 filled))) has.2)
   where
     written : {n : ℕ} → n ≡ blocks → n ≡ 0 → ⊥
     written one two = omega (arith, one, two, some)
-closed old m1 m2 new name blocks token words begun (Err (Busy other)) none some e filled has = (has.1, held, spent_kept old m1 m2 new name blocks token words begun none e filled has.3)
+closed old m1 m2 new name blocks token words begun (Err (Busy other)) none some e filled has = (has.3, held, spent_kept old m1 m2 new name blocks token words begun none e filled has.5)
   where
     held : contains old.holds name ≡ true
-    held = subst (λ (l : List ℕ). contains l name ≡ true) (ap (λ (m : Mounted). m.holds) filled.others ∙ ap (λ (m : Mounted). m.holds) e.others) has.2
+    held = subst (λ (l : List ℕ). contains l name ≡ true) (ap (λ (m : Mounted). m.holds) filled.others ∙ ap (λ (m : Mounted). m.holds) e.others) has.4
 closed old m1 m2 new name blocks token words begun (Err DirectoryFull) none some e filled has = (e.free, over, spent_kept old m1 m2 new name blocks token words begun none e filled has.6)
   where
     kept : HasKept old (Spent m2)
     kept = spent_kept old m1 m2 (Spent m2) name blocks token words begun none e filled refl
 
-    files : insert (files_of m2.blocks) name (new_held m2 has.2 []) ≡ insert (files_of old.blocks) name (plain_file old words)
-    files = ap (λ h. insert (files_of m2.blocks) name h) (new_is old m1 m2 name blocks token words begun has.2 e filled has.3) ∙ ap (λ fs. insert fs name (plain_file old words)) kept.files
+    files : insert (files_of m2.blocks) name (new_held m2 has.0 []) ≡ insert (files_of old.blocks) name (plain_file old words)
+    files = ap (λ h. insert (files_of m2.blocks) name h) (new_is old m1 m2 name blocks token words begun has.0 e filled has.1.was) ∙ ap (λ fs. insert fs name (plain_file old words)) kept.files
 
     over : IsOver old.blocks (insert (files_of old.blocks) name (plain_file old words))
     over = record {
@@ -309,17 +309,17 @@ closed old m1 m2 new name blocks token words begun (Err DirectoryFull) none some
     }
 closed old m1 m2 new name blocks token words begun (Err Device) none some e filled has = record {
   behind = record {
-    reads = omega (arith, ap (λ (m : Mounted). m.failed_reads) has.1, ap (λ (m : Mounted). m.failed_reads) filled.others, ap (λ (m : Mounted). m.failed_reads) e.others);
-    writes = omega (arith, ap (λ (m : Mounted). m.failed_writes) has.1, ap (λ (m : Mounted). m.failed_writes) filled.others, ap (λ (m : Mounted). m.failed_writes) e.others);
-    holds = ap (λ (m : Mounted). m.holds) has.1 ∙ ap (λ (m : Mounted). m.holds) filled.others ∙ ap (λ (m : Mounted). m.holds) e.others;
+    reads = omega (arith, ap (λ (m : Mounted). m.failed_reads) has.5, ap (λ (m : Mounted). m.failed_reads) filled.others, ap (λ (m : Mounted). m.failed_reads) e.others);
+    writes = omega (arith, ap (λ (m : Mounted). m.failed_writes) has.5, ap (λ (m : Mounted). m.failed_writes) filled.others, ap (λ (m : Mounted). m.failed_writes) e.others);
+    holds = ap (λ (m : Mounted). m.holds) has.5 ∙ ap (λ (m : Mounted). m.holds) filled.others ∙ ap (λ (m : Mounted). m.holds) e.others;
   };
-  more = inr (omega (arith, ap (λ (m : Mounted). m.failed_writes) has.1, ap (λ (m : Mounted). m.failed_writes) filled.others, ap (λ (m : Mounted). m.failed_writes) e.others));
+  more = inr (omega (arith, ap (λ (m : Mounted). m.failed_writes) has.5, ap (λ (m : Mounted). m.failed_writes) filled.others, ap (λ (m : Mounted). m.failed_writes) e.others));
 }
 closed old m1 m2 new name blocks token words begun (Err Stopped) none some e filled has = absurd (never (sym has.0 ∙ ap (λ (m : Mounted). m.stopped) filled.others ∙ ap (λ (m : Mounted). m.stopped) e.others ∙ e.ready.running))
   where
     never : true ≡ false → ⊥
     never = true≢false
-closed old m1 m2 new name blocks token words begun (Err Memory) none some e filled has = spent_kept old m1 m2 new name blocks token words begun none e filled has.1
+closed old m1 m2 new name blocks token words begun (Err Memory) none some e filled has = spent_kept old m1 m2 new name blocks token words begun none e filled has.4
 closed old m1 m2 new name blocks token words begun (Err NotFound) none some e filled has = absurd has
 closed old m1 m2 new name blocks token words begun (Err (NoRoom n)) none some e filled has = absurd has
 closed old m1 m2 new name blocks token words begun (Err BadName) none some e filled has = absurd has

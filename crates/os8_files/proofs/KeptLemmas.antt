@@ -96,12 +96,12 @@ writes-keep old new words (Err NothingWritten) written = absurd written
 pub closes-keep : (old new : Mounted) (name : ℕ) (info : List ℕ) (result : Result (Unit {0}) FileFault) → Closes old name info result new → KeepsHeld old new
 closes-keep old new name info (Ok done) closed = λ q held running.
     ap (λ m. get m q) closed.files ∙ kept-with (files_of old.blocks) name _ q (held-other old.holds name q closed.free held)
-closes-keep old new name info (Err NothingWritten) closed = same-blocks old new (ap (λ (m : Mounted). m.blocks) closed.4)
-closes-keep old new name info (Err (Busy n)) closed = same-blocks old new (ap (λ (m : Mounted). m.blocks) closed.3)
+closes-keep old new name info (Err NothingWritten) closed = same-blocks old new (ap (λ (m : Mounted). m.blocks) closed.3)
+closes-keep old new name info (Err (Busy n)) closed = same-blocks old new (ap (λ (m : Mounted). m.blocks) closed.5)
 closes-keep old new name info (Err DirectoryFull) closed = same-blocks old new (ap (λ (m : Mounted). m.blocks) closed.6)
-closes-keep old new name info (Err Device) closed = has-failed old new (ap (λ (m : Mounted). m.stopped) closed.1)
+closes-keep old new name info (Err Device) closed = has-failed old new (ap (λ (m : Mounted). m.stopped) closed.5)
 closes-keep old new name info (Err Stopped) closed = same-blocks old new (ap (λ (m : Mounted). m.blocks) closed.1)
-closes-keep old new name info (Err Memory) closed = same-blocks old new (ap (λ (m : Mounted). m.blocks) closed.1)
+closes-keep old new name info (Err Memory) closed = same-blocks old new (ap (λ (m : Mounted). m.blocks) closed.4)
 closes-keep old new name info (Err NotFound) closed = absurd closed
 closes-keep old new name info (Err (NoRoom n)) closed = absurd closed
 closes-keep old new name info (Err BadName) closed = absurd closed

@@ -11,7 +11,7 @@ use Rattle.os8_dir.specs.Found.{Placed, IsDirectory, files_at, rooms_at, find, e
 use Rattle.os8_dir.specs.Files.{files_of, held_of, run, above_of}
 use Rattle.os8_dir.specs.Changes.{moved_down, relisted, lowest_above, gap_below, lowered, IsRoom}
 use Rattle.os8_files.specs.Mounted.{Mounted}
-use Rattle.os8_files.specs.Calls.{IsReady, HasMoved, Squeezes, lowest_or, extent_or}
+use Rattle.os8_files.specs.Calls.{IsReady, HasMoved, Squeezes, lowest_or, extent_or, counted_more}
 use Rattle.os8_files.specs.Written.{HasDirectory, Copies, with_run}
 use Rattle.os8_files.specs.declared.faults.FileFault.{FileFault}
 use Rattle.os8_files.specs.declared.faults.FileFault.TheVariants.{NotFound, NoRoom, DirectoryFull, Busy, BadName, TooLong, TentativeOpen, Device, Stopped, Memory, NothingWritten}
@@ -69,9 +69,9 @@ pub moved-file : FindsFiles → LieInside → LieOutside → LimitIs → Capacit
     → (others : (name other first : ℕ) (es : List DirEntry) → name ≢ other → find other (files_at first (moved_down name es)) ≡ find other (files_at first es))
     → (covered : (name : ℕ) (es : List DirEntry) → total (moved_down name es) ≡ total es)
     → (old mid new : Mounted) (d : Listed) (name gap : ℕ) → IsReady old → directory_of old.blocks ≡ Ok d → IsDirectory (length old.blocks) d → lowest_above d.entries ≡ Some (name, gap)
-    → (r : LiesAbove d name gap) → mid.blocks ≡ with_run old.blocks (r.0.place - gap) (take r.0.size (drop r.0.place old.blocks)) → mid ≡ record old { blocks = mid.blocks; reads = mid.reads }
+    → (r : LiesAbove d name gap) → mid.blocks ≡ with_run old.blocks (r.0.place - gap) (take r.0.size (drop r.0.place old.blocks)) → mid ≡ record old { blocks = mid.blocks; reads = mid.reads } → mid.reads ≡ counted_more r.0.size old.reads
     → HasDirectory mid (relisted d (moved_down name d.entries)) new → HasMoved old name new
-moved-file finds lie outside limits covers aboves gaps fewer there others covered old mid new d name gap ready kept is low r copied same done =
+moved-file finds lie outside limits covers aboves gaps fewer there others covered old mid new d name gap ready kept is low r copied same counts done =
     let f = r.0 in
     let fs = files_at d.first d.entries in
     let d' = relisted d (moved_down name d.entries) in
@@ -122,5 +122,6 @@ moved-file finds lie outside limits covers aboves gaps fewer there others covere
       limit = limits new.blocks d' done.read ∙ sym (limits old.blocks d kept);
       info = info-of new.blocks d' done.read ∙ sym (info-of old.blocks d kept);
       blocks = moved-keeps old mid new d' to f.size ws copied long high done;
+      reads = ap (λ (m : Mounted). m.reads) done.others ∙ counts;
       others = done.others ∙ ap (λ (m : Mounted). record m { blocks = new.blocks }) same ∙ ap (λ n. record old { blocks = new.blocks; reads = n }) (sym (ap (λ (m : Mounted). m.reads) done.others));
     }

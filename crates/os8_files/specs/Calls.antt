@@ -1,5 +1,5 @@
 -- What each call of the file service does: one relation by cases on its answer (this project's profile).
-use Rattle.std.specs.Prelude.{◌≡◌, ◌≢◌, ◌⊎◌, ◌-◌, ℕ, ◌+◌, ◌*◌, ◌/◌, ◌<◌, ◌≤◌, true, false, Option, Some, None, List, [], ◌++◌, length, take, drop, slice_set, Result, Ok, Err}
+use Rattle.std.specs.Prelude.{◌≡◌, ◌≢◌, ◌⊎◌, ◌-◌, ℕ, zero, suc, ◌+◌, ◌*◌, ◌/◌, ◌<◌, ◌≤◌, true, false, Option, Some, None, List, [], ◌++◌, length, take, drop, slice_set, Result, Ok, Err}
 use Rattle.std.specs.Global.{Vec}
 use Rattle.std.specs.FinMap.{get, insert, remove}
 use Rattle.volume_image.specs.Volume.{counted}
@@ -224,14 +224,19 @@ pub record HasClosed (old : Mounted) (name : ℕ) (given : List ℕ) (new : Moun
   pub blocks : KeepsBlocks old.blocks new.blocks 0 0
   pub others : new ≡ record (Spent old) { blocks = new.blocks }
 
+-- no write has failed, and this file is being written
+pub record IsWriting (m : Mounted) (begun : Begun) : Type 0 where
+  pub running : m.stopped ≡ false
+  pub was : m.tentative ≡ Some begun
+
 abbrev pub Closes : Mounted → ℕ → List ℕ → Result (Unit {0}) FileFault → Mounted → Type 0
 Closes old name info (Ok done) new = HasClosed old name info new
-Closes old name info (Err NothingWritten) new = (old.stopped ≡ false) × (begun : Begun) × (old.tentative ≡ Some begun) × (begun.written ≡ 0) × (new ≡ Spent old)
-Closes old name info (Err (Busy other)) new = (old.stopped ≡ false) × (other ≡ name) × IsHeld old name × (new ≡ Spent old)
-Closes old name info (Err DirectoryFull) new = (old.stopped ≡ false) × IsFree old name × (begun : Begun) × (old.tentative ≡ Some begun) × (limit_of old.blocks < entries_with begun info old.blocks) × IsOver old.blocks (insert (files_of old.blocks) name (new_held old begun info)) × (new ≡ Spent old)
-Closes old name info (Err Device) new = (old.stopped ≡ false) × HasFailed (Spent old) new
+Closes old name info (Err NothingWritten) new = (begun : Begun) × IsWriting old begun × (begun.written ≡ 0) × (new ≡ Spent old)
+Closes old name info (Err (Busy other)) new = (begun : Begun) × IsWriting old begun × (0 < begun.written) × (other ≡ name) × IsHeld old name × (new ≡ Spent old)
+Closes old name info (Err DirectoryFull) new = (begun : Begun) × IsWriting old begun × (0 < begun.written) × IsFree old name × (limit_of old.blocks < entries_with begun info old.blocks) × IsOver old.blocks (insert (files_of old.blocks) name (new_held old begun info)) × (new ≡ Spent old)
+Closes old name info (Err Device) new = (begun : Begun) × IsWriting old begun × (0 < begun.written) × IsFree old name × (entries_with begun info old.blocks ≤ limit_of old.blocks) × HasFailed (Spent old) new
 Closes old name info (Err Stopped) new = (old.stopped ≡ true) × (new ≡ Spent old)
-Closes old name info (Err Memory) new = (old.stopped ≡ false) × (new ≡ Spent old)
+Closes old name info (Err Memory) new = (begun : Begun) × IsWriting old begun × (0 < begun.written) × IsFree old name × (new ≡ Spent old)
 Closes old name info (Err fault) new = ⊥
 
 -- no write has failed, no file is being written, and this one lies at the beginning of an empty
@@ -257,10 +262,10 @@ pub record HasPlaced (old : Mounted) (name : ℕ) (begun : Begun) (given : List 
 abbrev pub Places : Mounted → ℕ → Begun → List ℕ → Result (Unit {0}) FileFault → Mounted → Type 0
 Places old name begun info (Ok done) new = HasPlaced old name begun info new
 Places old name begun info (Err NothingWritten) new = (begun.written ≡ 0) × (new ≡ old)
-Places old name begun info (Err (Busy other)) new = (other ≡ name) × IsHeld old name × (new ≡ old)
-Places old name begun info (Err DirectoryFull) new = IsFree old name × (limit_of old.blocks < entries_with begun info old.blocks) × IsOver old.blocks (insert (files_of old.blocks) name (new_held old begun info)) × (new ≡ old)
-Places old name begun info (Err Device) new = HasFailed old new
-Places old name begun info (Err Memory) new = new ≡ old
+Places old name begun info (Err (Busy other)) new = (0 < begun.written) × (other ≡ name) × IsHeld old name × (new ≡ old)
+Places old name begun info (Err DirectoryFull) new = (0 < begun.written) × IsFree old name × (limit_of old.blocks < entries_with begun info old.blocks) × IsOver old.blocks (insert (files_of old.blocks) name (new_held old begun info)) × (new ≡ old)
+Places old name begun info (Err Device) new = (0 < begun.written) × IsFree old name × (entries_with begun info old.blocks ≤ limit_of old.blocks) × HasFailed old new
+Places old name begun info (Err Memory) new = (0 < begun.written) × IsFree old name × (new ≡ old)
 Places old name begun info (Err fault) new = ⊥
 
 -- the lowest file with an empty directly below it, and that empty's blocks
@@ -273,7 +278,13 @@ abbrev pub extent_or : ℕ → Result Listed DirFault → Option (ℕ × ℕ)
 extent_or name (Ok d) = extent_of (find name (files_at d.first d.entries))
 extent_or name (Err fault) = None
 
--- the lowest file with an empty directly below it lies lower by that empty; the files are the same
+-- a count after so many more
+abbrev pub counted_more : ℕ → ℕ → ℕ
+counted_more zero count = count
+counted_more (suc k) count = counted (counted_more k count)
+
+-- the lowest file with an empty directly below it lies lower by that empty; each of its blocks is read once, and the files
+-- are the same
 pub record HasMoved (old : Mounted) (name : ℕ) (new : Mounted) : Type 0 where
   pub ready : IsReady old
   pub gap : ℕ
@@ -289,6 +300,7 @@ pub record HasMoved (old : Mounted) (name : ℕ) (new : Mounted) : Type 0 where
   pub limit : limit_of new.blocks ≡ limit_of old.blocks
   pub info : info_of new.blocks ≡ info_of old.blocks
   pub blocks : KeepsBlocks old.blocks new.blocks (place - gap) size
+  pub reads : new.reads ≡ counted_more size old.reads
   pub others : new ≡ record old { blocks = new.blocks; reads = new.reads }
 
 -- how many entries the directory has with a file moved down

@@ -4,7 +4,7 @@ use Rattle.os8_dir.specs.Entries.{Listed}
 use Rattle.os8_dir.specs.Reading.{directory_of, block}
 use Rattle.os8_dir.specs.Segments.{segment_of}
 use Rattle.os8_files.specs.Mounted.{Mounted}
-use Rattle.os8_files.specs.Calls.{HasFailed, HasMissed}
+use Rattle.os8_files.specs.Calls.{HasFailed, HasMissed, counted_more}
 use Rattle.os8_files.specs.declared.faults.FileFault.{FileFault}
 use Rattle.os8_files.specs.declared.faults.FileFault.TheVariants.{Device, Memory}
 
@@ -33,7 +33,7 @@ with_run blocks place (words ∷ run) = with_run (slice_set blocks place words) 
 
 -- a run of blocks is copied so many blocks down
 abbrev pub Copies : Mounted → ℕ → ℕ → ℕ → Result (Unit {0}) FileFault → Mounted → Type 0
-Copies old place size gap (Ok done) new = (new.blocks ≡ with_run old.blocks (place - gap) (take size (drop place old.blocks))) × (new ≡ record old { blocks = new.blocks; reads = new.reads })
+Copies old place size gap (Ok done) new = (new.blocks ≡ with_run old.blocks (place - gap) (take size (drop place old.blocks))) × (new ≡ record old { blocks = new.blocks; reads = new.reads }) × (new.reads ≡ counted_more size old.reads)
 Copies old place size gap (Err Device) new = HasMissed old new ⊎ HasFailed (record old { reads = new.reads }) new
 Copies old place size gap (Err Memory) new = new ≡ old
 Copies old place size gap (Err fault) new = ⊥

@@ -1,6 +1,7 @@
 //! Runs of blocks, read and written in rising order.
 ghost use Rattle.std.specs.Prelude.{◌≡◌, ◌+◌, ◌≤◌, length, take, drop, is_ok, if◌then◌else◌, IfOk, OnOk, MatchResult, IfErr};
 ghost use Rattle.volume_image.specs.Volume.{IsVolume};
+ghost use Rattle.os8_files.specs.Calls.{counted_more};
 ghost use Rattle.os8_files.specs.Written.{with_run};
 
 use std::alloc::{AllocError, Global};
@@ -23,6 +24,7 @@ pub(crate) fn read_run<S: BlockStore>(
     requires { place + length run.old ≤ length (S.contents store.old) }
     ensures ok { OnOk result (run.new ≡ take (length run.old) (drop place (S.contents store.old))) }
     ensures same { S.contents store.new ≡ S.contents store.old }
+    ensures reads { OnOk result (S.reads store.new ≡ counted_more (length run.old) (S.reads store.old)) }
     ensures failed_reads { S.failed_reads store.new ≡ (if is_ok result then S.failed_reads store.old else S.failed_reads store.old + 1) }
     ensures failed_writes { S.failed_writes store.new ≡ S.failed_writes store.old }
 {

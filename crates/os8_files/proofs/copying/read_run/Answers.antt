@@ -1,7 +1,9 @@
-use Rattle.std.proofs.Common.{◌≡◌, ◌+◌, drop, get_or, [], ap, sym, ◌∙◌, arith}
+use Rattle.std.proofs.Common.{◌≡◌, suc, ◌+◌, drop, get_or, [], ap, sym, ◌∙◌, arith}
 use Rattle.std.proofs.Math.ListN.{length-set}
 use Rattle.std.proofs.lemmas.List.{get_or-drop, length-drop}
 use Rattle.std.proofs.lemmas.Option.{get_or_from_slice_get}
+use Rattle.volume_image.specs.Volume.{counted}
+use Rattle.os8_files.specs.Calls.{counted_more}
 use Rattle.os8_files.proofs.RunLemmas.{read-more}
 use Rattle.os8_files.proofs.copying.read_run.Goals as goal
 
@@ -9,11 +11,13 @@ pub loop-k-preserved : goal.loop-k-preserved
 loop-k-preserved g c =
     let old = g.S.BlockStore.contents c.args.store.now in
     let i = c.loop-k.invariant in
+    let next : suc c.loop-k.k ≡ c.loop-k.k + 1 = omega arith in
     let at : get_or (drop c.args.place old) c.loop-k.k [] ≡ c.read.new.words = get_or-drop c.args.place old c.loop-k.k [] ∙ ap (λ bs. get_or bs (c.args.place + c.loop-k.k) []) (sym i.contents) ∙ get_or_from_slice_get (g.S.BlockStore.contents c.loop-k.store) (c.args.place + c.loop-k.k) c.read.new.words [] c.in-Ok.ensures.ok in
     record {
       size = length-set c.loop-k.run c.loop-k.k c.read.new.words ∙ i.size;
       kept = read-more c.loop-k.run (drop c.args.place old) c.loop-k.k c.read.new.words (omega (arith, c.loop-k-test.true, i.size)) (omega (arith, c.loop-k-test.true, i.size, length-drop c.args.place old, c.requires)) i.kept at;
       contents = c.in-Ok.ensures.same ∙ i.contents;
+      reads = c.in-Ok.ensures.reads ∙ ap counted i.reads ∙ ap (λ n. counted_more n (g.S.BlockStore.reads c.args.store.now)) next;
       failed_reads = c.in-Ok.ensures.failed_reads ∙ i.failed_reads;
       failed_writes = c.in-Ok.ensures.failed_writes ∙ i.failed_writes;
     }

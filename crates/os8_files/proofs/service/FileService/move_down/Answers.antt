@@ -8,7 +8,7 @@ use Rattle.os8_dir.specs.Files.{files_of, limit_of, of_directory}
 use Rattle.os8_dir.specs.Found.{IsDirectory, files_at, extent_of, limit}
 use Rattle.os8_dir.specs.Changes.{lowest_above, moved_down}
 use Rattle.os8_files.specs.Mounted.{Mounted}
-use Rattle.os8_files.specs.Calls.{lowest_or, entries_moved}
+use Rattle.os8_files.specs.Calls.{lowest_or, entries_moved, counted_more}
 use Rattle.os8_files.specs.Written.{HasDirectory, with_run}
 use Rattle.os8_files.proofs.LookupLemmas.{find_within}
 use Rattle.os8_files.proofs.BoundLemmas.{is-over}
@@ -124,7 +124,7 @@ returns-in_ok-rewrite-in-Some g c =
     ∙ ap (λ n. with_run old.blocks (r.0.place - gap) (take n (drop r.0.place old.blocks))) (sym at.1) in
     moved-file c.files_found.ensures c.rooms.ensures.lie c.rooms.ensures.outside c.directory_numbers.ensures.limit c.directory_numbers.ensures.capacity c.directory_numbers.ensures.above
     c.lowest_file.ensures.gap c.lowest_file.ensures.fewer c.file_moved_down.ensures.there c.file_moved_down.ensures.others c.file_moved_down.ensures.covered
-    old mid c.rewrite.new.self d name gap c.requires.ready kept is low r put copied.1
+    old mid c.rewrite.new.self d name gap c.requires.ready kept is low r put copied.1 (copied.2 ∙ ap (λ n. counted_more n old.reads) (sym at.1))
     (subst (λ (x : Listed). HasDirectory mid x c.rewrite.new.self) c.in-Ok.ensures.list c.in_ok-rewrite-in-Some.ensures)
 
 pub returns-then-entries-limit : goal.returns-then-entries-limit

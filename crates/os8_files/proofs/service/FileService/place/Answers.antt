@@ -42,7 +42,7 @@ returns-then-entries-limit g c =
     let over = is-over c.directory_numbers.ensures.limit c.directory_numbers.ensures.above c.entry_counts.ensures.entries c.entry_counts.ensures.empties c.entry_counts.ensures.one
     old.blocks d (placed d.first (new_file d name info b.place b.written) d.entries) (insert (files_of old.blocks) name (new_held old b info)) each kept made is next after
     (c.file_placed.ensures.entries d.first b.room (new_file d name info b.place b.written) d.entries some lies.most lies.room) more in
-    (free, omega (arith, named, c.directory_numbers.ensures.limit old.blocks d kept, ap (of_directory (λ (x : Listed). length (placed x.first (new_file x b.name info b.place b.written) x.entries))) kept), over, refl)
+    (some, free, omega (arith, named, c.directory_numbers.ensures.limit old.blocks d kept, ap (of_directory (λ (x : Listed). length (placed x.first (new_file x b.name info b.place b.written) x.entries))) kept), over, refl)
 
 pub rewrite-requires-clause-sound : goal.rewrite-requires-clause-sound
 rewrite-requires-clause-sound g c =
@@ -86,4 +86,10 @@ returns-else-entries-limit g c =
     (λ done has. placed-file c.files_found.ensures c.rooms.ensures.lie c.directory_numbers.ensures.limit c.directory_numbers.ensures.capacity c.directory_numbers.ensures.above
     c.file_placed.ensures.there c.file_placed.ensures.others c.file_placed.ensures.covered c.file_placed.ensures.tight
     old c.rewrite.new.self d name b info kept is lies some free fits (subst (λ (x : Listed). HasDirectory old x c.rewrite.new.self) list has))
-    (λ failed. failed)
+    (λ failed. (some, free, fits, failed))
+
+pub returns-in-Err : goal.returns-in-Err
+returns-in-Err g c = (omega (arith, c.if-begun-eq0.false, ap (λ (x : Begun). x.written) c.begun.view_is), sym c.is_held.ensures ∙ c.if-is_held.false, refl)
+
+pub returns-then-is_held : goal.returns-then-is_held
+returns-then-is_held g c = (omega (arith, c.if-begun-eq0.false, ap (λ (x : Begun). x.written) c.begun.view_is), refl, sym c.is_held.ensures ∙ c.if-is_held.true, refl)
