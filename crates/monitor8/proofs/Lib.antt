@@ -1,4 +1,5 @@
 pub mod ByteLemmas
+pub mod JobLemmas
 pub mod LineLemmas
 pub mod MarkLemmas
 pub mod QuietLemmas

@@ -1,5 +1,5 @@
 -- What entries come to.
-use Rattle.std.proofs.Common.{◌≡◌, ◌≢◌, ℕ, zero, suc, ◌+◌, ◌-◌, ◌<◌, ◌⊎◌, nat_eq, false, true, true≢false, Bool, List, [], ◌∷◌, ◌++◌, slice_set, get_or, take, drop, length, Option, Some, None, Ok, Err, refl, ap, sym, subst, ◌∙◌, arith, inl, inr, add-one}
+use Rattle.std.proofs.Common.{◌≡◌, ◌≢◌, ℕ, suc, ◌+◌, ◌<◌, ◌⊎◌, nat_eq, false, true, true≢false, Bool, List, [], ◌∷◌, ◌++◌, slice_set, get_or, Option, Some, None, Ok, Err, refl, ap, sym, subst, ◌∙◌, arith, inl, inr, add-one}
 use Rattle.std.proofs.lemmas.Bool.Decides.{eqb_tells}
 use Rattle.std.specs.FinMap.{insert}
 use Rattle.char_pack.specs.Texts.{is_storable, stored}
@@ -14,7 +14,7 @@ use Rattle.script8.specs.declared.faults.SessionFault.{SessionFault}
 use Rattle.script8.specs.declared.faults.SessionFault.TheVariants as fault
 use Rattle.script8.specs.declared.replies.Reply.{Reply}
 use Rattle.script8.specs.declared.replies.Reply.TheVariants.{Stored, Deleted, Squeezed}
-use Rattle.monitor8.specs.Jobs.{held_by, held_by_work, disturbed, disturbed_job, job_at, with_job, further, lowest_place, lowest_job, job_count}
+use Rattle.monitor8.specs.Jobs.{held_by, held_by_work, disturbed}
 use Rattle.monitor8.specs.declared.jobs.Job as job
 use Rattle.monitor8.specs.declared.jobs.Work.{Work}
 use Rattle.monitor8.specs.declared.jobs.Work.TheVariants.{Squeezing}
@@ -237,7 +237,7 @@ store_done v v' jobs name text words blocks storable words_are blocks_are has = 
 }
 
 -- the one turn of a squeezing job
-pub turn_done : (v v' : Mounted) (jobs : List (Option job.Job)) (place number : ℕ) (clean : Bool) (left : ℕ) → number ≡ place + 1 → job_at place jobs ≡ Some (record { work = Squeezing clean; left = left }) → HasFiles v v' → above_of v'.blocks ≡ 0
+pub turn_done : (v v' : Mounted) (jobs : List (Option job.Job)) (place number : ℕ) (clean : Bool) (left : ℕ) → number ≡ place + 1 → get_or jobs place None ≡ Some (record { work = Squeezing clean; left = left }) → HasFiles v v' → above_of v'.blocks ≡ 0
     → Does (λ old answer new. TurnStep old number answer new) (seen v jobs) (Ok (Squeezed number)) (seen v' (slice_set jobs place None))
 turn_done v v' jobs place number clean left is there files low = subst (λ n. Does (λ old answer new. TurnStep old n answer new) (seen v jobs) (Ok (Squeezed n)) (seen v' (slice_set jobs place None))) (sym (is ∙ add-one place)) (record {
   step = λ quiet. subst (λ (o : Option job.Job). JobTurn (state_of (seen v jobs)) (suc place) o (Ok (Squeezed (suc place))) (state_of (seen v' (slice_set jobs place None)))) (sym there) (
@@ -258,7 +258,7 @@ turn_done v v' jobs place number clean left is there files low = subst (λ n. Do
     now = ap (λ n. nat_eq n 0) low
 
 -- a turn that want of memory left undone
-pub turn_undone : (v v' : Mounted) (jobs : List (Option job.Job)) (place number : ℕ) (clean : Bool) (left : ℕ) → number ≡ place + 1 → job_at place jobs ≡ Some (record { work = Squeezing clean; left = left }) → HasFiles v v' → 0 < above_of v.blocks → 0 < above_of v'.blocks
+pub turn_undone : (v v' : Mounted) (jobs : List (Option job.Job)) (place number : ℕ) (clean : Bool) (left : ℕ) → number ≡ place + 1 → get_or jobs place None ≡ Some (record { work = Squeezing clean; left = left }) → HasFiles v v' → 0 < above_of v.blocks → 0 < above_of v'.blocks
     → Does (λ old answer new. TurnStep old number answer new) (seen v jobs) (Err fault.Memory) (seen v' jobs)
 turn_undone v v' jobs place number clean left is there files high high' = subst (λ n. Does (λ old answer new. TurnStep old n answer new) (seen v jobs) (Err fault.Memory) (seen v' jobs)) (sym (is ∙ add-one place)) (record {
   step = λ quiet. subst (λ (o : Option job.Job). JobTurn (state_of (seen v jobs)) (suc place) o (Err fault.Memory) (state_of (seen v' jobs))) (sym there) same;
@@ -277,7 +277,7 @@ turn_undone v v' jobs place number clean left is there files high high' = subst 
     same = state_is _ _ _ _ _ _ _ _ _ _ _ files.files files.capacity files.limit files.info_count (more_is _ high' ∙ sym (more_is _ high))
 
 -- a turn that is refused
-pub turn_refused : (v v' : Mounted) (jobs : List (Option job.Job)) (place number : ℕ) (clean : Bool) (left : ℕ) (why : FileFault) → number ≡ place + 1 → job_at place jobs ≡ Some (record { work = Squeezing clean; left = left }) → why ≢ file.Memory → SqueezesAll v (Err why) v'
+pub turn_refused : (v v' : Mounted) (jobs : List (Option job.Job)) (place number : ℕ) (clean : Bool) (left : ℕ) (why : FileFault) → number ≡ place + 1 → get_or jobs place None ≡ Some (record { work = Squeezing clean; left = left }) → why ≢ file.Memory → SqueezesAll v (Err why) v'
     → Does (λ old answer new. TurnStep old number answer new) (seen v jobs) (Err (fault.File why)) (seen v' (slice_set jobs place None))
 turn_refused v v' jobs place number clean left file.DirectoryFull is there other failed = subst (λ n. Does (λ old answer new. TurnStep old n answer new) (seen v jobs) (Err (fault.File file.DirectoryFull)) (seen v' (slice_set jobs place None))) (sym (is ∙ add-one place)) (record {
   step = λ quiet. subst (λ (o : Option job.Job). JobTurn (state_of (seen v jobs)) (suc place) o (Err (fault.File file.DirectoryFull)) (state_of (seen v' (slice_set jobs place None)))) (sym there) (
@@ -314,58 +314,6 @@ squeezing_job j = of_work j.work j.left
     of_work : (work : Work) (left : ℕ) → (clean : Bool) × (left' : ℕ) × (job_is work left ≡ job_is (Squeezing clean) left')
     of_work (Squeezing clean) left = (clean, left, refl)
 
--- taking away a job where there is none
-pub none_taken : (place : ℕ) (jobs : List (Option job.Job)) → job_at place jobs ≡ None → slice_set jobs place None ≡ jobs
-none_taken place [] none = refl
-none_taken zero (j ∷ jobs) none = ap (λ (o : Option job.Job). o ∷ jobs) (sym none)
-none_taken (suc place) (j ∷ jobs) none = ap (λ l. j ∷ l) (none_taken place jobs none)
-
 pub storable_is : (b : Bool) → (b ≡ false → ⊥) → b ≡ true
 storable_is true other = refl
 storable_is false other = absurd (other refl)
-
--- a number that has no job
-pub ended_none : (number : ℕ) (jobs : List (Option job.Job)) → (number ≡ 0 → ⊥) → job_at (number - 1) jobs ≡ None → jobs ≡ with_job number None jobs
-ended_none zero jobs some none = absurd (some refl)
-ended_none (suc place) jobs some none = sym (none_taken place jobs (subst (λ n. job_at n jobs ≡ None) (same place) none))
-  where
-    same : (n : ℕ) → suc n - 1 ≡ n
-    same n = omega arith
-
--- one job fewer
-pub fewer_jobs : (number : ℕ) (jobs : List (Option job.Job)) → lowest_job jobs ≡ Some number → job_count (with_job number None jobs) < job_count jobs
-fewer_jobs number jobs is = of_place (lowest_place jobs) refl is
-  where
-    fewer : (place : ℕ) (jobs : List (Option job.Job)) → lowest_place jobs ≡ Some place → job_count (slice_set jobs place None) < job_count jobs
-    fewer place [] is = cc
-    fewer zero (Some j ∷ jobs) is = omega arith
-    fewer (suc place) (Some j ∷ jobs) is = cc
-    fewer zero (None ∷ jobs) is = absurd (not_first (lowest_place jobs) is)
-      where
-        not_first : (o : Option ℕ) → further o ≡ Some 0 → ⊥
-        not_first None is = cc
-        not_first (Some n) is = cc
-    fewer (suc place) (None ∷ jobs) is = fewer place jobs (nearer (lowest_place jobs) is)
-      where
-        nearer : (o : Option ℕ) → further o ≡ Some (suc place) → o ≡ Some place
-        nearer None is = cc
-        nearer (Some n) is = cc
-
-    of_place : (o : Option ℕ) → o ≡ lowest_place jobs → further o ≡ Some number → job_count (with_job number None jobs) < job_count jobs
-    of_place None o_is is = cc
-    of_place (Some place) o_is is = subst (λ n. job_count (with_job n None jobs) < job_count jobs) (number_is place is) (fewer place jobs (sym o_is))
-      where
-        number_is : (place : ℕ) → further (Some place) ≡ Some number → suc place ≡ number
-        number_is place is = cc
-
--- one more job is disturbed
-pub disturbed_more : (jobs old : List (Option job.Job)) (place : ℕ) (none : Option job.Job) → place < length old → jobs ≡ disturbed (take place old) ++ drop place old → slice_set jobs place (disturbed_job (get_or jobs place none)) ≡ disturbed (take (place + 1) old) ++ drop (place + 1) old
-disturbed_more jobs old place none short is = rw is (set_more old place short ∙ ap (λ n. disturbed (take n old) ++ drop n old) (sym (add-one place)))
-  where
-    set_more : (old : List (Option job.Job)) (place : ℕ) → place < length old → slice_set (disturbed (take place old) ++ drop place old) place (disturbed_job (get_or (disturbed (take place old) ++ drop place old) place none)) ≡ disturbed (take (suc place) old) ++ drop (suc place) old
-    set_more [] place short = absurd (nothing place short)
-      where
-        nothing : (n : ℕ) → n < 0 → ⊥
-        nothing n h = omega (arith, h)
-    set_more (j ∷ old) zero short = refl
-    set_more (j ∷ old) (suc place) short = ap (λ l. disturbed_job j ∷ l) (set_more old place (omega (arith, short)))

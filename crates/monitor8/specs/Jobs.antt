@@ -1,5 +1,7 @@
 -- The jobs of a session: at most eight, each at the place of its number, where job 1 stands first.
-use Rattle.std.specs.Prelude.{ℕ, zero, suc, false, Option, Some, None, List, [], ◌∷◌, ◌++◌, map, slice_set}
+use Rattle.std.specs.Prelude.{◌≡◌, ℕ, zero, suc, ◌<◌, ◌≤◌, false, Option, Some, None, List, [], ◌∷◌, ◌++◌, map, get_or, slice_set}
+use Rattle.std.specs.List.{position, count_by}
+use Rattle.std.specs.Option.{is_some, is_none}
 use Rattle.monitor8.specs.declared.jobs.Job.{Job}
 use Rattle.monitor8.specs.declared.jobs.Work.{Work}
 use Rattle.monitor8.specs.declared.jobs.Work.TheVariants.{Squeezing}
@@ -8,46 +10,28 @@ use Rattle.monitor8.specs.declared.jobs.Work.TheVariants.{Squeezing}
 abbrev pub no_jobs : List (Option Job)
 no_jobs = None ∷ None ∷ None ∷ None ∷ None ∷ None ∷ None ∷ None ∷ []
 
--- one place further
-abbrev pub further : Option ℕ → Option ℕ
-further None = None
-further (Some place) = Some (suc place)
+-- the number of a place
+abbrev pub number_at : Option ℕ → Option ℕ
+number_at None = None
+number_at (Some place) = Some (suc place)
 
--- the lowest place that has no job
-abbrev pub free_place : List (Option Job) → Option ℕ
-free_place [] = None
-free_place (None ∷ jobs) = Some 0
-free_place (Some job ∷ jobs) = further (free_place jobs)
+-- the least number that has no job
+abbrev pub least_free : List (Option Job) → Option ℕ
+least_free jobs = number_at (position is_none jobs)
 
--- the lowest place that has a job
-abbrev pub lowest_place : List (Option Job) → Option ℕ
-lowest_place [] = None
-lowest_place (Some job ∷ jobs) = Some 0
-lowest_place (None ∷ jobs) = further (lowest_place jobs)
-
--- the job at a place
-abbrev pub job_at : ℕ → List (Option Job) → Option Job
-job_at place [] = None
-job_at zero (job ∷ jobs) = job
-job_at (suc place) (job ∷ jobs) = job_at place jobs
+-- the least number that has a job
+abbrev pub lowest_job : List (Option Job) → Option ℕ
+lowest_job jobs = number_at (position is_some jobs)
 
 -- the job of a number
 abbrev pub job_of : ℕ → List (Option Job) → Option Job
 job_of zero jobs = None
-job_of (suc place) jobs = job_at place jobs
+job_of (suc place) jobs = get_or jobs place None
 
 -- the jobs with another one, or none, under a number
 abbrev pub with_job : ℕ → Option Job → List (Option Job) → List (Option Job)
 with_job zero job jobs = jobs
 with_job (suc place) job jobs = slice_set jobs place job
-
--- the number of the lowest job
-abbrev pub lowest_job : List (Option Job) → Option ℕ
-lowest_job jobs = further (lowest_place jobs)
-
--- the least free number
-abbrev pub least_free : List (Option Job) → Option ℕ
-least_free jobs = further (free_place jobs)
 
 -- the names that a job's work holds: a squeezing one holds none
 abbrev pub held_by_work : Work → List ℕ
@@ -73,6 +57,23 @@ disturbed jobs = map disturbed_job jobs
 
 -- how many jobs there are
 abbrev pub job_count : List (Option Job) → ℕ
-job_count [] = 0
-job_count (None ∷ jobs) = job_count jobs
-job_count (Some job ∷ jobs) = suc (job_count jobs)
+job_count jobs = count_by is_some jobs
+
+-- of the numbers from 1 to the last one, this is the lowest that has a property
+pub record IsLowest (has : ℕ → Type 0) (last number : ℕ) : Type 0 where
+  pub least : 1 ≤ number
+  pub most : number ≤ last
+  pub it : has number
+  pub below : (lower : ℕ) → 1 ≤ lower → lower < number → has lower → ⊥
+
+-- none of those numbers has it
+abbrev pub IsOfNone : (ℕ → Type 0) → ℕ → Type 0
+IsOfNone has last = (number : ℕ) → 1 ≤ number → number ≤ last → has number → ⊥
+
+-- a number has no job
+abbrev pub IsFree : List (Option Job) → ℕ → Type 0
+IsFree jobs number = job_of number jobs ≡ None
+
+-- a number has a job
+abbrev pub IsTaken : List (Option Job) → ℕ → Type 0
+IsTaken jobs number = (job : Job) × (job_of number jobs ≡ Some job)

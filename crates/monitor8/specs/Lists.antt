@@ -7,7 +7,7 @@ use Rattle.bin_tape.specs.Fault.{IsFault}
 use Rattle.monitor8.specs.Reading.{IsRead}
 use Rattle.monitor8.specs.Listing.{lines_below}
 use Rattle.script8.specs.declared.faults.SessionFault.{SessionFault}
-use Rattle.script8.specs.declared.faults.SessionFault.TheVariants.{BadLine, NoJob, TooManyJobs, File, Tape, BadText, Reader, Writer, Memory, TooManyBreaks}
+use Rattle.script8.specs.declared.faults.SessionFault.TheVariants.{Tape, Reader, Writer, Memory}
 
 -- the frames are a tape, and the text is the line of each cell that it gives a word, by rising cell
 pub record IsListed (frames text : List ℕ) : Type 0 where
@@ -19,14 +19,7 @@ pub record IsListed (frames text : List ℕ) : Type 0 where
 abbrev pub IsListingFault : List ℕ → SessionFault → Type 0
 IsListingFault frames (Tape fault) = IsFault frames fault
 IsListingFault frames Memory = Unit {0}
-IsListingFault frames Reader = ⊥
-IsListingFault frames Writer = ⊥
-IsListingFault frames BadLine = ⊥
-IsListingFault frames NoJob = ⊥
-IsListingFault frames TooManyJobs = ⊥
-IsListingFault frames (File why) = ⊥
-IsListingFault frames BadText = ⊥
-IsListingFault frames TooManyBreaks = ⊥
+IsListingFault frames fault = ⊥
 
 -- What listing a reader's tape comes to: its lines are written and nothing else; on a fault of the tape, of the reader
 -- or of memory nothing is written.
@@ -36,9 +29,4 @@ ListsTape r r' w w' (Err (Tape fault)) = (frames : List ℕ) × IsRead r r' fram
 ListsTape r r' w w' (Err Reader) = Keeps w w'
 ListsTape r r' w w' (Err Memory) = Keeps w w'
 ListsTape r r' w w' (Err Writer) = (frames : List ℕ) × (text : List ℕ) × IsRead r r' frames × IsListed frames text
-ListsTape r r' w w' (Err BadLine) = ⊥
-ListsTape r r' w w' (Err NoJob) = ⊥
-ListsTape r r' w w' (Err TooManyJobs) = ⊥
-ListsTape r r' w w' (Err (File why)) = ⊥
-ListsTape r r' w w' (Err BadText) = ⊥
-ListsTape r r' w w' (Err TooManyBreaks) = ⊥
+ListsTape r r' w w' (Err fault) = ⊥

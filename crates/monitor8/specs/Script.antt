@@ -8,7 +8,7 @@ use Rattle.script8.specs.declared.faults.SessionFault.{SessionFault}
 use Rattle.script8.specs.declared.faults.SessionFault.TheVariants as fault
 use Rattle.script8.specs.declared.kinds.Item.{Item}
 use Rattle.script8.specs.declared.kinds.Item.TheVariants.{Do, Finish, Refused}
-use Rattle.script8.specs.declared.replies.Reply.TheVariants.{Stored, Deleted, Direct, Job, Working, Squeezed, Finished}
+use Rattle.script8.specs.declared.replies.Reply.TheVariants.{Working, Finished}
 use Rattle.monitor8.specs.Jobs.{lowest_job}
 use Rattle.monitor8.specs.System.{State, Answer, Step}
 use Rattle.monitor8.specs.Reading.{IsRead, IsReadWithin, IsTaken}
@@ -20,14 +20,8 @@ Turns old ((number, answer) ∷ turns) new = (lowest_job old.jobs ≡ Some numbe
 
 -- a job took a turn, and is not at its end
 abbrev pub is_working : Answer → Bool
-is_working (Ok (Stored name blocks)) = false
-is_working (Ok (Deleted name)) = false
-is_working (Ok (Direct files free)) = false
-is_working (Ok (Job number)) = false
 is_working (Ok (Working number)) = true
-is_working (Ok (Squeezed number)) = false
-is_working (Ok Finished) = false
-is_working (Err fault) = false
+is_working answer = false
 
 -- the lines of turns that a FINISH stands for: those of the ends of jobs
 abbrev pub turn_lines : List (ℕ × Answer) → List ℕ
@@ -41,10 +35,7 @@ Told old [] [] new = new ≡ old
 Told old (Do entry ∷ items) (line ∷ lines) new = (mid : State) × (answer : Answer) × Step old entry answer mid × (answer ≢ Err fault.Memory) × (line ≡ answer_lines (Some entry) answer) × Told mid items lines new
 Told old (Finish ∷ items) (line ∷ lines) new = (mid : State) × (turns : List (ℕ × Answer)) × Turns old turns mid × (lowest_job mid.jobs ≡ None) × (line ≡ turn_lines turns ++ reply_lines Finished) × Told mid items lines new
 Told old (Refused why ∷ items) (line ∷ lines) new = (line ≡ fault_line why) × Told old items lines new
-Told old [] (line ∷ lines) new = ⊥
-Told old (Do entry ∷ items) [] new = ⊥
-Told old (Finish ∷ items) [] new = ⊥
-Told old (Refused why ∷ items) [] new = ⊥
+Told old items lines new = ⊥
 
 -- the lines of items, one behind another
 abbrev pub all_lines : List (List ℕ) → List ℕ
@@ -60,10 +51,8 @@ pub record Writes (old : State) (items : List Item) (new : State) (before after 
 -- turns are taken only where a FINISH stands for them
 abbrev pub HasBegun : List (ℕ × Answer) → List Item → Type 0
 HasBegun [] items = Unit {0}
-HasBegun (turn ∷ turns) [] = ⊥
-HasBegun (turn ∷ turns) (Do entry ∷ items) = ⊥
-HasBegun (turn ∷ turns) (Finish ∷ items) = Unit {0}
-HasBegun (turn ∷ turns) (Refused why ∷ items) = ⊥
+HasBegun turns (Finish ∷ items) = Unit {0}
+HasBegun turns items = ⊥
 
 -- the machine may answer a front of the items, and where a FINISH comes next some of its turns; these are the lines
 pub record AnswersFront (old : State) (items : List Item) (new : State) (bytes : List ℕ) : Type 0 where
@@ -88,28 +77,14 @@ abbrev pub RunsItems : List Item → State → State → Option (List ℕ) → O
 RunsItems items old new w w' (Ok done) = Writes old items new w w' []
 RunsItems items old new w w' (Err fault.Memory) = WritesFront old items new w w' []
 RunsItems items old new w w' (Err fault.Writer) = (bytes : List ℕ) × AnswersFront old items new bytes
-RunsItems items old new w w' (Err fault.Reader) = ⊥
-RunsItems items old new w w' (Err fault.BadLine) = ⊥
-RunsItems items old new w w' (Err fault.NoJob) = ⊥
-RunsItems items old new w w' (Err fault.TooManyJobs) = ⊥
-RunsItems items old new w w' (Err (fault.File why)) = ⊥
-RunsItems items old new w w' (Err (fault.Tape why)) = ⊥
-RunsItems items old new w w' (Err fault.BadText) = ⊥
-RunsItems items old new w w' (Err fault.TooManyBreaks) = ⊥
+RunsItems items old new w w' (Err why) = ⊥
 
 -- What running a turn of the lowest job comes to; the line of a turn that leaves the job is not shown.
 abbrev pub RunsTurn : ℕ → State → State → Option (List ℕ) → Option (List ℕ) → Result (Unit {0}) SessionFault → Type 0
 RunsTurn number old new w w' (Ok done) = (answer : Answer) × Step old (Turn number) answer new × (answer ≢ Err fault.Memory) × Appends w w' (turn_lines ((number, answer) ∷ []))
 RunsTurn number old new w w' (Err fault.Memory) = (new ≡ old) × Appends w w' []
 RunsTurn number old new w w' (Err fault.Writer) = (answer : Answer) × Step old (Turn number) answer new × (answer ≢ Err fault.Memory)
-RunsTurn number old new w w' (Err fault.Reader) = ⊥
-RunsTurn number old new w w' (Err fault.BadLine) = ⊥
-RunsTurn number old new w w' (Err fault.NoJob) = ⊥
-RunsTurn number old new w w' (Err fault.TooManyJobs) = ⊥
-RunsTurn number old new w w' (Err (fault.File why)) = ⊥
-RunsTurn number old new w w' (Err (fault.Tape why)) = ⊥
-RunsTurn number old new w w' (Err fault.BadText) = ⊥
-RunsTurn number old new w w' (Err fault.TooManyBreaks) = ⊥
+RunsTurn number old new w w' (Err why) = ⊥
 
 -- What running the first item of a text comes to, where it is a script's end or goes on: no item, or no whole one, is there, or
 -- so many bytes of it are run.
@@ -118,14 +93,7 @@ RunsNext text is_end old new w w' (Ok None) = IsOut text is_end × (new ≡ old)
 RunsNext text is_end old new w w' (Ok (Some bytes)) = (items : List Item) × Gives text is_end items bytes × Writes old items new w w' []
 RunsNext text is_end old new w w' (Err fault.Memory) = WritesFront old (script_of text) new w w' []
 RunsNext text is_end old new w w' (Err fault.Writer) = (bytes : List ℕ) × AnswersFront old (script_of text) new bytes
-RunsNext text is_end old new w w' (Err fault.Reader) = ⊥
-RunsNext text is_end old new w w' (Err fault.BadLine) = ⊥
-RunsNext text is_end old new w w' (Err fault.NoJob) = ⊥
-RunsNext text is_end old new w w' (Err fault.TooManyJobs) = ⊥
-RunsNext text is_end old new w w' (Err (fault.File why)) = ⊥
-RunsNext text is_end old new w w' (Err (fault.Tape why)) = ⊥
-RunsNext text is_end old new w w' (Err fault.BadText) = ⊥
-RunsNext text is_end old new w w' (Err fault.TooManyBreaks) = ⊥
+RunsNext text is_end old new w w' (Err why) = ⊥
 
 -- What running a text comes to, where it is a script's end or goes on: so many bytes of it are run, and no item, or no whole one,
 -- is left.
@@ -133,14 +101,7 @@ abbrev pub RunsFront : List ℕ → Bool → State → State → Option (List �
 RunsFront text is_end old new w w' (Ok bytes) = (front : List Item) × (script_of text ≡ front ++ script_of (drop bytes text)) × (is_end ≡ true → script_of text ≡ front) × (is_end ≡ false → whole_of text ≡ front) × Writes old front new w w' []
 RunsFront text is_end old new w w' (Err fault.Memory) = WritesFront old (script_of text) new w w' []
 RunsFront text is_end old new w w' (Err fault.Writer) = (bytes : List ℕ) × AnswersFront old (script_of text) new bytes
-RunsFront text is_end old new w w' (Err fault.Reader) = ⊥
-RunsFront text is_end old new w w' (Err fault.BadLine) = ⊥
-RunsFront text is_end old new w w' (Err fault.NoJob) = ⊥
-RunsFront text is_end old new w w' (Err fault.TooManyJobs) = ⊥
-RunsFront text is_end old new w w' (Err (fault.File why)) = ⊥
-RunsFront text is_end old new w w' (Err (fault.Tape why)) = ⊥
-RunsFront text is_end old new w w' (Err fault.BadText) = ⊥
-RunsFront text is_end old new w w' (Err fault.TooManyBreaks) = ⊥
+RunsFront text is_end old new w w' (Err why) = ⊥
 
 -- items are the first of others
 abbrev pub IsFrontOf : List Item → List Item → Type 0
@@ -152,13 +113,7 @@ RunsCut text old new w w' (Ok done) = ⊥
 RunsCut text old new w w' (Err fault.Reader) = IsFrontOf (whole_of text) (script_of text) × Writes old (whole_of text) new w w' []
 RunsCut text old new w w' (Err fault.Memory) = WritesFront old (script_of text) new w w' []
 RunsCut text old new w w' (Err fault.Writer) = (bytes : List ℕ) × AnswersFront old (script_of text) new bytes
-RunsCut text old new w w' (Err fault.BadLine) = ⊥
-RunsCut text old new w w' (Err fault.NoJob) = ⊥
-RunsCut text old new w w' (Err fault.TooManyJobs) = ⊥
-RunsCut text old new w w' (Err (fault.File why)) = ⊥
-RunsCut text old new w w' (Err (fault.Tape why)) = ⊥
-RunsCut text old new w w' (Err fault.BadText) = ⊥
-RunsCut text old new w w' (Err fault.TooManyBreaks) = ⊥
+RunsCut text old new w w' (Err why) = ⊥
 
 -- What running a text comes to that the reader may not go on from: where it does, the text was cut.
 abbrev pub RunsFull : List ℕ → State → State → Option (List ℕ) → Option (List ℕ) → Option (List ℕ) → Option (List ℕ) → Result (Unit {0}) SessionFault → Type 0
@@ -179,13 +134,7 @@ RunsText most last old new r r' w w' (Err fault.Memory) =
     (text more : List ℕ) × Consumes r r' (text ++ more) × WritesFront old (script_of text) new w w' (last fault.Memory)
 RunsText most last old new r r' w w' (Err fault.Writer) =
     (text more : List ℕ) × Consumes r r' (text ++ more) × ((bytes : List ℕ) × AnswersFront old (script_of text) new bytes)
-RunsText most last old new r r' w w' (Err fault.BadLine) = ⊥
-RunsText most last old new r r' w w' (Err fault.NoJob) = ⊥
-RunsText most last old new r r' w w' (Err fault.TooManyJobs) = ⊥
-RunsText most last old new r r' w w' (Err (fault.File why)) = ⊥
-RunsText most last old new r r' w w' (Err (fault.Tape why)) = ⊥
-RunsText most last old new r r' w w' (Err fault.BadText) = ⊥
-RunsText most last old new r r' w w' (Err fault.TooManyBreaks) = ⊥
+RunsText most last old new r r' w w' (Err why) = ⊥
 
 -- nothing is written behind the answers
 abbrev pub unwritten : SessionFault → List ℕ

@@ -1,9 +1,9 @@
 -- What is seen of a session, and the state of the system machine in it.
-use Rattle.std.specs.Prelude.{◌≡◌, ◌≤◌, false, nat_eq, Option, List, [], None, Ok, Err}
+use Rattle.std.specs.Prelude.{◌≡◌, ◌≤◌, false, nat_eq, Option, List, [], None, Err}
 use Rattle.os8_dir.specs.Files.{files_of, capacity_of, limit_of, above_of}
 use Rattle.os8_files.specs.Calls.{info_of}
 use Rattle.os8_files.specs.Mounted.{Mounted}
-use Rattle.script8.specs.declared.faults.SessionFault.TheVariants.{BadLine, NoJob, TooManyJobs, File, Tape, BadText, Reader, Writer, Memory, TooManyBreaks}
+use Rattle.script8.specs.declared.faults.SessionFault.TheVariants.{Reader, Writer, Memory}
 use Rattle.monitor8.specs.System.{State, Answer}
 use Rattle.monitor8.specs.declared.jobs.Job.{Job}
 
@@ -43,17 +43,9 @@ pub record IsSame (old new : Seen) : Type 0 where
 
 -- an answer to an entry is neither the reader's nor the writer's fault
 abbrev pub IsReply : Answer → Type 0
-IsReply (Ok reply) = Unit {0}
-IsReply (Err BadLine) = Unit {0}
-IsReply (Err NoJob) = Unit {0}
-IsReply (Err TooManyJobs) = Unit {0}
-IsReply (Err (File why)) = Unit {0}
-IsReply (Err (Tape why)) = Unit {0}
-IsReply (Err BadText) = Unit {0}
 IsReply (Err Reader) = ⊥
 IsReply (Err Writer) = ⊥
-IsReply (Err Memory) = Unit {0}
-IsReply (Err TooManyBreaks) = Unit {0}
+IsReply answer = Unit {0}
 
 -- What doing an entry comes to: these steps of the system machine where no block call fails, and nothing for want of memory.
 pub record Does (steps : State → Answer → State → Type 0) (old : Seen) (answer : Answer) (new : Seen) : Type 0 where

@@ -13,7 +13,6 @@ use Rattle.script8.specs.declared.entries.Entry.{Entry}
 use Rattle.script8.specs.declared.entries.Entry.TheVariants as entry
 use Rattle.script8.specs.declared.faults.SessionFault.{SessionFault}
 use Rattle.script8.specs.declared.faults.SessionFault.TheVariants.{Memory, File, BadText, NoJob, TooManyJobs}
-use Rattle.script8.specs.declared.faults.SessionFault.TheVariants as fault
 use Rattle.script8.specs.declared.replies.Reply.{Reply}
 use Rattle.script8.specs.declared.replies.Reply.TheVariants.{Stored, Deleted, Direct, Job, Working, Squeezed}
 use Rattle.monitor8.specs.Jobs.{job_of, with_job, least_free, held_by, disturbed}
@@ -41,17 +40,8 @@ Answer = Result Reply SessionFault
 
 -- an answer is want of memory
 abbrev pub is_memory : Answer → Bool
-is_memory (Ok reply) = false
 is_memory (Err Memory) = true
-is_memory (Err fault.BadLine) = false
-is_memory (Err NoJob) = false
-is_memory (Err TooManyJobs) = false
-is_memory (Err (File why)) = false
-is_memory (Err (fault.Tape why)) = false
-is_memory (Err BadText) = false
-is_memory (Err fault.Reader) = false
-is_memory (Err fault.Writer) = false
-is_memory (Err fault.TooManyBreaks) = false
+is_memory answer = false
 
 -- The largest run of free blocks has so many, fewer than are wanted. All free blocks are no fewer, no more than so many for
 -- each file and once more, and exactly so many where no file has a free block below it.

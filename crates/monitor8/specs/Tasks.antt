@@ -102,18 +102,15 @@ IsPlain (byte ∷ rest) = byte ≢ 45
 
 abbrev pub IsTape : Task → Type 0
 IsTape Tape = ⊤
-IsTape (Run image) = ⊥
-IsTape (Create image blocks) = ⊥
+IsTape task = ⊥
 
 abbrev pub IsRunOf : Text → Task → Type 0
-IsRunOf name Tape = ⊥
 IsRunOf name (Run image) = image.bytes.items ≡ name
-IsRunOf name (Create image blocks) = ⊥
+IsRunOf name task = ⊥
 
 abbrev pub IsCreateOf : Text → ℕ → Task → Type 0
-IsCreateOf name count Tape = ⊥
-IsCreateOf name count (Run image) = ⊥
 IsCreateOf name count (Create image blocks) = (image.bytes.items ≡ name) × (blocks ≡ count)
+IsCreateOf name count task = ⊥
 
 -- the command takes the words, and what they ask for has the property
 abbrev pub IsTakenAs : List Text → (Task → Type 0) → Type 0

@@ -1,5 +1,7 @@
 //! The jobs of a session, each at the place of its number: job 1 stands first.
-ghost use Rattle.std.specs.Prelude.{◌≡◌, ◌<◌, length, IfSome};
+ghost use Rattle.std.specs.Prelude.{◌≡◌, ◌<◌, None, length, get_or, IfSome};
+ghost use Rattle.std.specs.List.{position};
+ghost use Rattle.std.specs.Option.{is_some, is_none};
 ghost use Rattle.monitor8.specs.Jobs as spec;
 
 /// How many jobs there are at most.
@@ -21,48 +23,26 @@ pub struct Job {
 
 /// The lowest place that has no job.
 pub(crate) fn free_place(jobs: &[Option<Job>]) -> Option<usize>
-    ensures place { result ≡ spec.free_place jobs.now }
+    ensures place { result ≡ position is_none jobs.now }
     ensures range { IfSome result (λ place. place < length jobs.now) }
 {
-    match jobs {
-        [] => None,
-        [None, ..] => Some(0),
-        [Some(_), behind @ ..] => match free_place(behind) {
-            Some(place) => Some(place + 1),
-            None => None,
-        },
-    }
+    jobs.iter().position(|job| job.is_none())
 }
 
 /// The lowest place that has a job.
 pub(crate) fn lowest_place(jobs: &[Option<Job>]) -> Option<usize>
-    ensures place { result ≡ spec.lowest_place jobs.now }
+    ensures place { result ≡ position is_some jobs.now }
     ensures range { IfSome result (λ place. place < length jobs.now) }
 {
-    match jobs {
-        [] => None,
-        [Some(_), ..] => Some(0),
-        [None, behind @ ..] => match lowest_place(behind) {
-            Some(place) => Some(place + 1),
-            None => None,
-        },
-    }
+    jobs.iter().position(|job| job.is_some())
 }
 
 /// The job at a place.
 pub(crate) fn job_at(jobs: &[Option<Job>], place: usize) -> Option<Job>
-    ensures job { result ≡ spec.job_at place jobs.now }
+    ensures job { result ≡ get_or jobs.now place None }
     ensures range { IfSome result (λ job. place < length jobs.now) }
 {
-    match jobs {
-        [] => None,
-        [job, behind @ ..] => {
-            if place == 0 {
-                return *job;
-            }
-            job_at(behind, place - 1)
-        }
-    }
+    *jobs.get(place)?
 }
 
 /// A job where another entry has changed the directory.

@@ -5,6 +5,7 @@
 mod host;
 mod jobs;
 mod kinds;
+pub mod laws;
 mod listings;
 mod programs;
 mod readings;

@@ -1,10 +1,9 @@
-ghost use Rattle.std.specs.Prelude.{◌≡◌, ℕ, Bool, ◌+◌, ◌<◌, ◌≤◌, ◌↔◌, ◌⊎◌, List, [], false, true, None, Some, IfOk, IfErr, OnErr, IsErrOf, ◌++◌, ◌∷◌, vec_len, vec_capacity, Err};
+ghost use Rattle.std.specs.Prelude.{◌≡◌, ℕ, Bool, ◌+◌, ◌<◌, ◌≤◌, ◌↔◌, ◌⊎◌, List, [], false, true, None, Some, get_or, IfOk, IfErr, OnErr, IsErrOf, ◌++◌, ◌∷◌, vec_len, vec_capacity, Err};
 ghost use Rattle.os8_dir.specs.Entries.{IsNamed};
 ghost use Rattle.os8_dir.specs.Names.{parsed_name};
 ghost use Rattle.os8_dir.specs.Reading.{Sound, Meets, directory_of};
 ghost use Rattle.os8_dir.specs.declared.faults.DirFault.TheVariants.{Device};
 ghost use Rattle.monitor8.specs.Jobs.{no_jobs, with_job};
-ghost use Rattle.monitor8.specs.Jobs as spec;
 ghost use Rattle.monitor8.specs.declared.jobs.Work.TheVariants.{Squeezing};
 ghost use Rattle.monitor8.specs.System.{Step, StoreStep, StoreNamed, DeleteStep, DirectStep, SqueezeStep, TurnStep, Run, is_memory};
 ghost use Rattle.monitor8.specs.Session.{state_of, IsQuiet, IsLater, IsSame, IsReply, Does};
@@ -242,7 +241,7 @@ impl<S: BlockStore> Session<S> {
     ) -> Result<Reply, SessionFault>
         requires range { place < 8 }
         requires number { number ≡ place + 1 }
-        requires squeezes { (clean : Bool) × (left : ℕ) × (spec.job_at place self.old.jobs ≡ Some (record { work = Squeezing clean; left = left })) }
+        requires squeezes { (clean : Bool) × (left : ℕ) × (get_or self.old.jobs place None ≡ Some (record { work = Squeezing clean; left = left })) }
         ensures turn { Does (λ old answer new. TurnStep old number answer new) self.old result self.new }
         ensures ended { (IsErrOf result Memory → ⊥) → self.new.jobs ≡ with_job number None self.old.jobs }
     {

@@ -66,6 +66,8 @@ fn squeezes_make_room(rt: HostRuntime) -> Result<(), Fail> {
 
 #[test]
 fn replies_and_refusals(rt: HostRuntime) -> Result<(), Fail> {
+    laws::job_numbers();
+    laws::job_put();
     let cases: [(&[u8], &[u8]); 14] = [
         (
             b"STORE TOOLONGX 0\nSTORE S.PA\n",

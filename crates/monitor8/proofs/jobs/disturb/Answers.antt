@@ -1,6 +1,6 @@
 use Rattle.std.proofs.Common.{◌∙◌, ap, slice_set, arith}
 use Rattle.std.proofs.Math.ListN.{length-set}
-use Rattle.monitor8.proofs.SessionLemmas.{disturbed_more}
+use Rattle.monitor8.proofs.JobLemmas.{disturbed_more}
 use Rattle.monitor8.proofs.jobs.disturb.Goals as goal
 
 pub loop-place-preserved : goal.loop-place-preserved

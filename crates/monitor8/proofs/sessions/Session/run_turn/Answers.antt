@@ -3,7 +3,7 @@ use Rattle.monitor8.specs.Jobs.{job_count}
 use Rattle.monitor8.specs.Session.{Seen}
 use Rattle.monitor8.specs.declared.jobs.Job.{Job}
 use Rattle.monitor8.proofs.EntryLemmas.{not_err, on_ok}
-use Rattle.monitor8.proofs.SessionLemmas.{fewer_jobs}
+use Rattle.monitor8.proofs.JobLemmas.{fewer_jobs}
 use Rattle.monitor8.proofs.sessions.Session.run_turn.Goals as goal
 
 pub returns-in-Ok-Working-clause-fewer : goal.returns-in-Ok-Working-clause-fewer
