@@ -8,7 +8,7 @@ use Rattle.os8_dir.specs.Found.{IsDirectory, files_at, find, limit}
 use Rattle.os8_dir.specs.Files.{Held, files_of, held_of, of_directory}
 use Rattle.os8_dir.specs.Changes.{removed, relisted}
 use Rattle.os8_files.specs.Mounted.{Mounted}
-use Rattle.os8_files.specs.Calls.{IsReady, IsFree, HasDeleted}
+use Rattle.os8_files.specs.Calls.{IsReady, IsFree, HasDeleted, with_list}
 use Rattle.os8_files.specs.Written.{HasDirectory}
 use Rattle.os8_files.proofs.MapLemmas.{files-removed}
 use Rattle.os8_files.proofs.CallLemmas.{FindsFiles, file-kept}
@@ -30,6 +30,7 @@ deleted finds limits covers gone others covered old new d name h ready kept is t
       there = there;
       free = free;
       fits = omega (arith, fits, limits old.blocks d kept, ap (of_directory (λ (d : Listed). length (removed name d.entries))) kept);
+      list = done.read ∙ ap (with_list (λ (x : Listed). removed name x.entries)) (sym kept);
       files = files-removed (files_of old.blocks) (files_of new.blocks) name
           (finds new.blocks d' name done.read ∙ ap (held_of new.blocks d.info) (gone name d.first d.entries))
           (λ q other. finds new.blocks d' q done.read ∙ ap (held_of new.blocks d.info) (others name q d.first d.entries other) ∙ file-kept old.blocks new.blocks d q is done.high ∙ sym (finds old.blocks d q kept));

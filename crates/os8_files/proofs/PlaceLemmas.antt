@@ -11,7 +11,7 @@ use Rattle.os8_dir.specs.Found.{Placed, IsDirectory, IsTight, files_at, rooms_at
 use Rattle.os8_dir.specs.Files.{files_of, held_of, run, limit_of, of_directory}
 use Rattle.os8_dir.specs.Changes.{placed, relisted, new_file, LieIn, IsRoom}
 use Rattle.os8_files.specs.Mounted.{Mounted, Begun, IsBegun}
-use Rattle.os8_files.specs.Calls.{IsFree, HasPlaced, HasWritten, HasEntered, IsOf, info_of, entries_with}
+use Rattle.os8_files.specs.Calls.{with_list, IsFree, HasPlaced, HasWritten, HasEntered, IsOf, info_of, entries_with}
 use Rattle.os8_files.specs.Written.{HasDirectory}
 use Rattle.os8_files.proofs.MapLemmas.{files-inserted, files-same}
 use Rattle.os8_files.proofs.WrittenLemmas.{run-high, held-kept}
@@ -84,6 +84,7 @@ placed-file finds lie limits covers aboves there others covered tight old new d 
       some = some;
       free = free;
       fits = fits;
+      list = done.read ∙ ap (with_list (λ (x : Listed). placed x.first (new_file x name info b.place b.written) x.entries)) (sym kept);
       files = files-inserted (files_of old.blocks) (files_of new.blocks) name (padded (info_of old.blocks) info, run old.blocks b.place b.written)
           (finds new.blocks d' name done.read ∙ ap (held_of new.blocks d.info) (there d.first f d.entries some lain) ∙ ap (λ ws. Some (ws, run new.blocks b.place b.written)) words ∙ ap (λ ws. Some (padded (info_of old.blocks) info, ws)) same)
           (λ q other. finds new.blocks d' q done.read ∙ ap (held_of new.blocks d.info) (others q d.first f d.entries other) ∙ file-kept old.blocks new.blocks d q is done.high ∙ sym (finds old.blocks d q kept));

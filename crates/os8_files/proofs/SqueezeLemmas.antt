@@ -11,7 +11,7 @@ use Rattle.os8_dir.specs.Found.{Placed, IsDirectory, files_at, rooms_at, find, e
 use Rattle.os8_dir.specs.Files.{files_of, held_of, run, above_of}
 use Rattle.os8_dir.specs.Changes.{moved_down, relisted, lowest_above, gap_below, lowered, IsRoom}
 use Rattle.os8_files.specs.Mounted.{Mounted}
-use Rattle.os8_files.specs.Calls.{IsReady, HasMoved, Squeezes, lowest_or, extent_or, counted_more}
+use Rattle.os8_files.specs.Calls.{IsReady, HasMoved, Squeezes, with_list, lowest_or, extent_or, counted_more}
 use Rattle.os8_files.specs.Written.{HasDirectory, Copies, with_run}
 use Rattle.os8_files.specs.declared.faults.FileFault.{FileFault}
 use Rattle.os8_files.specs.declared.faults.FileFault.TheVariants.{NotFound, NoRoom, DirectoryFull, Busy, BadName, TooLong, TentativeOpen, Device, Stopped, Memory, NothingWritten}
@@ -96,6 +96,7 @@ moved-file finds lie outside limits covers aboves gaps fewer there others covere
       lowest = ap lowest_or kept ∙ low;
       place = f.place;
       size = f.size;
+      list = done.read ∙ ap (with_list (λ (x : Listed). moved_down name x.entries)) (sym kept);
       was = ap (extent_or name) kept ∙ ap extent_of r.1.0;
       moved = ap (extent_or name) done.read ∙ ap extent_of (lies ∙ ap (lowered gap) r.1.0);
       places = λ other differ. ap (extent_or other) done.read ∙ ap extent_of (others name other d.first d.entries differ) ∙ sym (ap (extent_or other) kept);

@@ -8,7 +8,8 @@ use Rattle.os8_dir.specs.Entries.{Listed, contains, IsNamed}
 use Rattle.os8_dir.specs.Reading.{directory_of, block}
 use Rattle.os8_dir.specs.Found.{rooms_at, files_at, find, extent_of, largest, size_or_zero}
 use Rattle.os8_dir.specs.Files.{Held, Files, files_of, run, of_directory, limit_of, above_of, capacity_of}
-use Rattle.os8_dir.specs.Changes.{removed, placed, new_file, moved_down, fitting, lowest_above}
+use Rattle.os8_dir.specs.Changes.{removed, placed, relisted, new_file, moved_down, fitting, lowest_above}
+use Rattle.os8_dir.specs.declared.entries.DirEntry.{DirEntry}
 use Rattle.os8_dir.specs.declared.faults.DirFault.{DirFault}
 use Rattle.os8_files.specs.Mounted.{Mounted, Begun, IsBegun}
 use Rattle.os8_files.specs.Service.{blocks_of, lengths_of, used_of, count_of}
@@ -107,6 +108,11 @@ pub record KeepsBlocks (old new : List (List ℕ)) (place size : ℕ) : Type 0 w
 abbrev pub info_of : List (List ℕ) → ℕ
 info_of blocks = of_directory (λ d. d.info) (directory_of blocks)
 
+-- what a directory is read as, with another list of entries
+abbrev pub with_list : (Listed → List DirEntry) → Result Listed DirFault → Result Listed DirFault
+with_list made (Ok d) = Ok (relisted d (made d))
+with_list made (Err fault) = Err fault
+
 -- how many entries the directory has without the file of a name
 abbrev pub entries_without : ℕ → List (List ℕ) → ℕ
 entries_without name blocks = of_directory (λ d. length (removed name d.entries)) (directory_of blocks)
@@ -122,6 +128,7 @@ pub record HasDeleted (old : Mounted) (name : ℕ) (new : Mounted) : Type 0 wher
   pub there : get (files_of old.blocks) name ≡ Some file
   pub free : IsFree old name
   pub fits : entries_without name old.blocks ≤ limit_of old.blocks
+  pub list : directory_of new.blocks ≡ with_list (λ d. removed name d.entries) (directory_of old.blocks)
   pub files : files_of new.blocks ≡ remove (files_of old.blocks) name
   pub capacity : capacity_of new.blocks ≡ capacity_of old.blocks
   pub limit : limit_of new.blocks ≡ limit_of old.blocks
@@ -216,6 +223,7 @@ pub record HasClosed (old : Mounted) (name : ℕ) (given : List ℕ) (new : Moun
   pub some : 0 < begun.written
   pub free : IsFree old name
   pub fits : entries_with begun given old.blocks ≤ limit_of old.blocks
+  pub list : directory_of new.blocks ≡ with_list (λ d. placed d.first (new_file d name given begun.place begun.written) d.entries) (directory_of old.blocks)
   pub files : files_of new.blocks ≡ insert (files_of old.blocks) name (new_held old begun given)
   pub capacity : capacity_of new.blocks ≡ capacity_of old.blocks
   pub limit : limit_of new.blocks ≡ limit_of old.blocks
@@ -251,6 +259,7 @@ pub record HasPlaced (old : Mounted) (name : ℕ) (begun : Begun) (given : List 
   pub some : 0 < begun.written
   pub free : IsFree old name
   pub fits : entries_with begun given old.blocks ≤ limit_of old.blocks
+  pub list : directory_of new.blocks ≡ with_list (λ d. placed d.first (new_file d name given begun.place begun.written) d.entries) (directory_of old.blocks)
   pub files : files_of new.blocks ≡ insert (files_of old.blocks) name (new_held old begun given)
   pub capacity : capacity_of new.blocks ≡ capacity_of old.blocks
   pub limit : limit_of new.blocks ≡ limit_of old.blocks
@@ -291,6 +300,7 @@ pub record HasMoved (old : Mounted) (name : ℕ) (new : Mounted) : Type 0 where
   pub lowest : lowest_or (directory_of old.blocks) ≡ Some (name, gap)
   pub place : ℕ
   pub size : ℕ
+  pub list : directory_of new.blocks ≡ with_list (λ d. moved_down name d.entries) (directory_of old.blocks)
   pub was : extent_or name (directory_of old.blocks) ≡ Some (place, size)
   pub moved : extent_or name (directory_of new.blocks) ≡ Some (place - gap, size)
   pub places : (other : ℕ) → name ≢ other → extent_or other (directory_of new.blocks) ≡ extent_or other (directory_of old.blocks)
