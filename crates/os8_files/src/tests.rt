@@ -93,10 +93,10 @@ fn name_of(text: &[u8]) -> Result<Name, Fail> {
 #[test]
 fn empty_volume(rt: HostRuntime) -> Result<(), Fail> {
     let alloc = rt.alloc();
+    let a = name_of(b"A")?;
     let files = mounted(alloc, MemoryVolume::create(alloc, 20)?)?;
-    assert_eq!(rt; files.free(), 13);
+    assert_eq!(rt; (files.free(), files.lookup(&a)), (13, None));
     assert!(rt; files.listing(alloc)?.is_empty());
-    assert_eq!(rt; files.lookup(&name_of(b"A")?), None);
     assert_eq!(rt; files.into_store().blocks(), 20);
     Ok(())
 }
@@ -108,8 +108,7 @@ fn one_file(rt: HostRuntime) -> Result<(), Fail> {
     let files = mounted(alloc, volume_of(alloc, &ONE_FILE)?)?;
     assert_eq!(rt; files.listing(alloc)?.as_slice(), [(a, 1)].as_slice());
     assert_eq!(rt; files.free(), 12);
-    assert_eq!(rt; files.lookup(&a), Some(1));
-    assert_eq!(rt; files.lookup(&b), None);
+    assert_eq!(rt; [a, b].map(|name| files.lookup(&name)), [Some(1), None]);
     Ok(())
 }
 
@@ -123,9 +122,11 @@ fn three_files(rt: HostRuntime) -> Result<(), Fail> {
         [(a, 1), (b, 3), (c, 2)].as_slice()
     );
     assert_eq!(rt; files.free(), 7);
-    assert_eq!(rt; files.lookup(&b), Some(3));
-    assert_eq!(rt; files.lookup(&c), Some(2));
-    assert_eq!(rt; files.lookup(&name_of(b"C")?), None);
+    let names = [b, c, name_of(b"C")?];
+    assert_eq!(rt;
+        names.map(|name| files.lookup(&name)),
+        [Some(3), Some(2), None]
+    );
     Ok(())
 }
 
@@ -170,12 +171,11 @@ fn failed_read(rt: HostRuntime) -> Result<(), Fail> {
 fn counted_reads(rt: HostRuntime) -> Result<(), Fail> {
     let alloc = rt.alloc();
     let files = mounted(alloc, CountVolume::new(volume_of(alloc, &ONE_FILE)?))?;
-    assert_eq!(rt; files.lookup(&name_of(b"A")?), Some(1));
+    let a = name_of(b"A")?;
+    assert_eq!(rt; (files.free(), files.lookup(&a)), (12, Some(1)));
     assert_eq!(rt; files.listing(alloc)?.len(), 1);
-    assert_eq!(rt; files.free(), 12);
     let count = files.into_store();
-    assert_eq!(rt; count.reads(), 1);
-    assert_eq!(rt; count.writes(), 0);
+    assert_eq!(rt; (count.reads(), count.writes()), (1, 0));
     Ok(())
 }
 

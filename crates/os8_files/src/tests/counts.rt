@@ -1,88 +1,56 @@
 //! How many blocks each call reads and writes where the directory takes six segments.
 use super::mounted;
-use crate::FileService;
-use crate::tests::steps::{numbered, store};
+use crate::tests::steps::Change::{Delete, Squeeze, Store};
+use crate::tests::steps::{Change, numbered, refusal};
 use std::alloc::Global;
 use std::process::Abort;
 use std::test::Fail;
 use volume_image::{CountVolume, MemoryVolume};
-use word12::Word;
 
 /// A volume with 246 files and no free block: the second file has 5 blocks, each other has one.
-fn filled(alloc: Global) -> Result<CountVolume<MemoryVolume>, Fail> {
-    let mut files = mounted(alloc, CountVolume::new(MemoryVolume::create(alloc, 257)?))?;
+fn filled(alloc: Global) -> Result<MemoryVolume, Fail> {
+    let mut files = mounted(alloc, MemoryVolume::create(alloc, 257)?)?;
     for number in 1u16..247 {
         let size = if number == 2 { 5 } else { 1 };
-        store(alloc, &mut files, numbered(number), size, size, Word::ZERO)?;
+        if let Some(fault) = refusal(alloc, &mut files, Store(numbered(number), size, size, 0)) {
+            return Err(fault.into());
+        }
     }
     Ok(files.into_store())
 }
 
-/// The store with its counts at 0, mounted.
-fn mounted_anew(
+/// How many blocks a mount, and then a change, read and write, and the store.
+fn counted(
     alloc: Global,
-    count: CountVolume<MemoryVolume>,
-) -> Result<FileService<CountVolume<MemoryVolume>>, Fail> {
-    let files = mounted(alloc, CountVolume::new(count.into_inner()))?;
-    Ok(files)
-}
-
-/// The store with the counts of a mount alone.
-fn only_mounted(
-    alloc: Global,
-    count: CountVolume<MemoryVolume>,
-) -> Result<CountVolume<MemoryVolume>, Fail> {
-    let files = mounted_anew(alloc, count)?;
-    Ok(files.into_store())
-}
-
-/// The store with the counts of a mount and of a delete of the first file.
-fn deleted(
-    alloc: Global,
-    count: CountVolume<MemoryVolume>,
-) -> Result<CountVolume<MemoryVolume>, Fail> {
-    let mut files = mounted_anew(alloc, count)?;
-    files.delete(alloc, &numbered(1))?;
-    Ok(files.into_store())
-}
-
-/// The store with the counts of a mount and of a turn of squeezing.
-fn squeezed(
-    alloc: Global,
-    count: CountVolume<MemoryVolume>,
-) -> Result<CountVolume<MemoryVolume>, Fail> {
-    let mut files = mounted_anew(alloc, count)?;
-    let _squeezed = files.squeeze_turn(alloc)?;
-    Ok(files.into_store())
-}
-
-/// The store with the counts of a mount and of the storing of a file of one block.
-fn stored(
-    alloc: Global,
-    count: CountVolume<MemoryVolume>,
-) -> Result<CountVolume<MemoryVolume>, Fail> {
-    let mut files = mounted_anew(alloc, count)?;
-    store(alloc, &mut files, numbered(1), 1, 1, Word::ZERO)?;
-    Ok(files.into_store())
-}
-
-/// How many blocks were read and written.
-fn counts(count: &CountVolume<MemoryVolume>) -> (u64, u64) {
-    (count.reads(), count.writes())
+    store: MemoryVolume,
+    change: Option<Change>,
+) -> Result<((u64, u64), MemoryVolume), Fail> {
+    let mut files = mounted(alloc, CountVolume::new(store))?;
+    let refused = match change {
+        Some(change) => refusal(alloc, &mut files, change),
+        None => None,
+    };
+    if let Some(fault) = refused {
+        return Err(fault.into());
+    }
+    let count = files.into_store();
+    Ok(((count.reads(), count.writes()), count.into_inner()))
 }
 
 #[test]
 fn counts_with_six_segments(rt: HostRuntime) -> Result<(), Fail> {
     let alloc = rt.alloc();
-    let count = only_mounted(alloc, filled(alloc)?)?;
-    assert_eq!(rt; counts(&count), (6, 0));
-    let count = deleted(alloc, count)?;
-    assert_eq!(rt; counts(&count), (6, 6));
-    let count = squeezed(alloc, count)?;
-    assert_eq!(rt; counts(&count), (6 + 5, 5 + 6));
-    let count = stored(alloc, count)?;
-    assert_eq!(rt; counts(&count), (6, 1 + 6));
-    let count = squeezed(alloc, count)?;
-    assert_eq!(rt; counts(&count), (6, 0));
+    let mut store = filled(alloc)?;
+    for (change, want) in [
+        (None, (6, 0)),
+        (Some(Delete(numbered(1))), (6, 6)),
+        (Some(Squeeze), (6 + 5, 5 + 6)),
+        (Some(Store(numbered(1), 1, 1, 0)), (6, 1 + 6)),
+        (Some(Squeeze), (6, 0)),
+    ] {
+        let (counts, back) = counted(alloc, store, change)?;
+        assert_eq!(rt; counts, want);
+        store = back;
+    }
     Ok(())
 }

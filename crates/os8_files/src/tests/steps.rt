@@ -90,6 +90,63 @@ pub fn first_word<S: BlockStore>(
     }
 }
 
+/// A change that a test asks for.
+#[derive(Clone, Copy)]
+pub enum Change {
+    /// A file of a name is begun in the empty for a wish, so many blocks of it are written, the first beginning with a
+    /// word and each further one with one more, and it is closed.
+    Store(Name, usize, usize, u16),
+
+    /// A file is taken out.
+    Delete(Name),
+
+    /// A file is moved down.
+    Squeeze,
+}
+
+/// What a change is refused as, where it is.
+pub fn refusal<S: BlockStore>(
+    alloc: Global,
+    files: &mut FileService<S>,
+    change: Change,
+) -> Option<FileFault> {
+    match change {
+        Change::Store(name, wish, count, first) => {
+            store(alloc, files, name, wish, count, Word::low(first)).err()
+        }
+        Change::Delete(name) => files.delete(alloc, &name).err(),
+        Change::Squeeze => files.squeeze_turn(alloc).err(),
+    }
+}
+
+/// Asks for changes in order. Gives the place of the first that is not refused as it should be, and what it is refused as.
+pub fn first_wrong<S: BlockStore>(
+    alloc: Global,
+    files: &mut FileService<S>,
+    changes: &[(Change, Option<FileFault>)],
+) -> Option<(usize, Option<FileFault>)> {
+    for (place, (change, want)) in changes.iter().enumerate() {
+        let got = refusal(alloc, files, *change);
+        if got != *want {
+            return Some((place, got));
+        }
+    }
+    None
+}
+
+/// Of blocks of files that should begin with these words, the place of the first that does not.
+pub fn first_other<S: BlockStore>(
+    files: &mut FileService<S>,
+    blocks: &[(Name, usize, u16)],
+) -> Option<usize> {
+    for (place, (name, k, word)) in blocks.iter().enumerate() {
+        if first_word(files, *name, *k) != Ok(Word::low(*word)) {
+            return Some(place);
+        }
+    }
+    None
+}
+
 /// Squeezes until nothing is to be moved, and says how many files were moved.
 pub fn squeeze<S: BlockStore>(
     alloc: Global,
@@ -105,43 +162,28 @@ pub fn squeeze<S: BlockStore>(
     Ok(100)
 }
 
-/// What is answered while a file is held.
-#[derive(Drop)]
-pub struct Held {
-    pub deleted: Option<FileFault>,
-    pub replaced: Option<FileFault>,
-    pub other_deleted: Option<FileFault>,
-    pub squeezed: Option<Squeezed>,
-}
-
-/// Holds a file twice, releases one hold, and asks for changes of it and of another file before it releases the other.
+/// Holds a file twice, releases one hold, and asks for its delete and its replacement, for the delete of another file and
+/// for a turn of squeezing before it releases the other. Gives what the three are refused as, and what was moved.
 pub fn while_held<S: BlockStore>(
     alloc: Global,
     files: &mut FileService<S>,
     name: Name,
     other: Name,
-) -> Result<Held, FileFault> {
+) -> Result<([Option<FileFault>; 3], Option<Squeezed>), FileFault> {
+    let one = files.hold(&name)?;
     match files.hold(&name) {
-        Err(fault) => Err(fault),
-        Ok(one) => match files.hold(&name) {
-            Err(fault) => {
-                files.release(one);
-                Err(fault)
-            }
-            Ok(two) => {
-                files.release(one);
-                let deleted = files.delete(alloc, &name).err();
-                let replaced = store(alloc, files, name, 1, 1, Word::ZERO).err();
-                let other_deleted = files.delete(alloc, &other).err();
-                let squeezed = files.squeeze_turn(alloc).ok();
-                files.release(two);
-                Ok(Held {
-                    deleted,
-                    replaced,
-                    other_deleted,
-                    squeezed,
-                })
-            }
-        },
+        Err(fault) => {
+            files.release(one);
+            Err(fault)
+        }
+        Ok(two) => {
+            files.release(one);
+            let deleted = files.delete(alloc, &name).err();
+            let replaced = store(alloc, files, name, 1, 1, Word::ZERO).err();
+            let other_deleted = files.delete(alloc, &other).err();
+            let squeezed = files.squeeze_turn(alloc).ok();
+            files.release(two);
+            Ok(([deleted, replaced, other_deleted], squeezed))
+        }
     }
 }
