@@ -12,39 +12,41 @@ use std::test::Fail;
 use word12::Word;
 
 #[test]
-fn faults_of_other_layers(rt: HostRuntime) -> Result<(), Fail> {
-    assert_eq!(rt; SessionFault::from(FileFault::Memory), SessionFault::Memory);
-    assert_eq!(rt; SessionFault::from(TapeFault::Memory), SessionFault::Memory);
-    assert_eq!(rt;
-        SessionFault::from(FileFault::Stopped),
-        SessionFault::File(FileFault::Stopped)
-    );
-    assert_eq!(rt;
-        SessionFault::from(TapeFault::NoOrigin),
-        SessionFault::Tape(TapeFault::NoOrigin)
-    );
-    Ok(())
+fn faults_of_other_layers(rt: HostRuntime) {
+    for (fault, want) in [
+        (SessionFault::from(FileFault::Memory), SessionFault::Memory),
+        (SessionFault::from(TapeFault::Memory), SessionFault::Memory),
+        (
+            SessionFault::from(FileFault::Stopped),
+            SessionFault::File(FileFault::Stopped),
+        ),
+        (
+            SessionFault::from(TapeFault::NoOrigin),
+            SessionFault::Tape(TapeFault::NoOrigin),
+        ),
+    ] {
+        assert_eq!(rt; fault, want);
+    }
 }
 
 #[test]
 fn printed_faults(rt: HostRuntime) -> Result<(), Fail> {
-    let alloc = rt.alloc();
-    let text = format!(in alloc; "{}", SessionFault::File(FileFault::NoRoom(3)))?;
-    assert_eq!(rt;
-        text.as_str(),
-        "no empty has so many blocks, the largest has 3"
-    );
-    let text = format!(in alloc; "{}", SessionFault::BadLine)?;
-    assert_eq!(rt; text.as_str(), "the line has none of the forms");
+    for (fault, want) in [
+        (
+            SessionFault::File(FileFault::NoRoom(3)),
+            "no empty has so many blocks, the largest has 3",
+        ),
+        (SessionFault::BadLine, "the line has none of the forms"),
+    ] {
+        let text = format!(in rt.alloc(); "{fault}")?;
+        assert_eq!(rt; text.as_str(), want);
+    }
     Ok(())
 }
 
 #[test]
 fn bytes_are_given_back(rt: HostRuntime) -> Result<(), Fail> {
-    let mut items = Vec::new(rt.alloc());
-    items.push(0)?;
-    items.push(b'A')?;
-    let bytes = Bytes::new(items);
+    let bytes = Bytes::new(vec![in rt.alloc(); 0, b'A']?);
     assert_eq!(rt; bytes.as_slice(), b"\x00A".as_slice());
     assert_eq!(rt; bytes.into_vec().as_slice(), b"\x00A".as_slice());
     Ok(())

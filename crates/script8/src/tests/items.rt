@@ -2,149 +2,98 @@
 
 use super::*;
 
-fn is_out(alloc: Global, text: &[u8], is_end: bool) -> bool {
-    match next_item(alloc, text, is_end) {
-        Ok(Next::End) => true,
+/// What a text is to begin with. The file of a STORE is `A`.
+#[derive(Clone, Copy)]
+enum Want<'a> {
+    End,
+    Blank,
+    Finish,
+    Refused,
+    Delete(&'a [u8]),
+    Store(&'a [u8]),
+}
+
+/// Whether a text begins with what is wanted, of so many bytes.
+fn begins(alloc: Global, text: &[u8], is_end: bool, want: Want, bytes: usize) -> bool {
+    match (next_item(alloc, text, is_end), want) {
+        (Ok(Next::End), Want::End) => true,
+        (Ok(Next::Blank(taken)), Want::Blank) => taken == bytes,
+        (Ok(Next::Item { item, bytes: taken }), _) => taken == bytes && is_item(&item, want),
         _ => false,
     }
 }
 
-fn is_blank(alloc: Global, text: &[u8], is_end: bool, bytes: usize) -> bool {
-    match next_item(alloc, text, is_end) {
-        Ok(Next::Blank(taken)) => taken == bytes,
+/// Whether an item is the one that is wanted.
+fn is_item(item: &Item, want: Want) -> bool {
+    match (item, want) {
+        (Item::Finish, Want::Finish) => true,
+        (Item::Refused(fault), Want::Refused) => *fault == SessionFault::BadLine,
+        (Item::Do(Entry::Delete { name }), Want::Delete(file)) => name.as_slice() == file,
+        (Item::Do(Entry::Store { name, text }), Want::Store(content)) => {
+            name.as_slice() == b"A".as_slice() && text.as_slice() == content
+        }
         _ => false,
     }
 }
 
-fn is_refused(alloc: Global, text: &[u8], is_end: bool, bytes: usize) -> bool {
-    match next_item(alloc, text, is_end) {
-        Ok(
-            Next::Item {
-                item: Item::Refused(SessionFault::BadLine),
-                bytes: taken,
-            },
-        ) => taken == bytes,
-        _ => false,
-    }
-}
-
-fn is_finish(alloc: Global, text: &[u8], is_end: bool, bytes: usize) -> bool {
-    match next_item(alloc, text, is_end) {
-        Ok(
-            Next::Item {
-                item: Item::Finish,
-                bytes: taken,
-            },
-        ) => taken == bytes,
-        _ => false,
-    }
-}
-
-fn is_delete(alloc: Global, text: &[u8], is_end: bool, name: &[u8], bytes: usize) -> bool {
-    match next_item(alloc, text, is_end) {
-        Ok(Next::Item { item, bytes: taken }) => deletes(item, name) && taken == bytes,
-        _ => false,
-    }
-}
-
-/// Whether an item is a DELETE of a file.
-fn deletes(item: Item, file: &[u8]) -> bool {
-    match item {
-        Item::Do(Entry::Delete { name }) => name.as_slice() == file,
-        _ => false,
-    }
-}
-
-/// Whether a text begins with a STORE of this text in a file `A`.
-fn is_store(alloc: Global, text: &[u8], is_end: bool, content: &[u8], bytes: usize) -> bool {
-    match next_item(alloc, text, is_end) {
-        Ok(Next::Item { item, bytes: taken }) => stores(item, content) && taken == bytes,
-        _ => false,
-    }
-}
-
-/// Whether an item is a STORE of a text in a file `A`.
-fn stores(item: Item, content: &[u8]) -> bool {
-    match item {
-        Item::Do(entry) => match entry {
-            Entry::Store { name, text } => {
-                name.as_slice() == b"A".as_slice() && text.as_slice() == content
-            }
-            _ => false,
-        },
-        _ => false,
-    }
-}
+/// Texts, whether each is the end of a script, and what it begins with, of so many bytes.
+const TEXTS: [(&[u8], bool, Want, usize); 37] = [
+    (b"", true, Want::End, 0),
+    (b"", false, Want::End, 0),
+    (b"DIRECT", false, Want::End, 0),
+    (b"\r", false, Want::End, 0),
+    (b"\n", true, Want::Blank, 1),
+    (b"\nDIRECT\n", false, Want::Blank, 1),
+    (b"\r\nDIRECT\n", false, Want::Blank, 2),
+    (b"\r", true, Want::Blank, 1),
+    (b"FINISH\nDIRECT\n", false, Want::Finish, 7),
+    (b"FINISH\r\n", true, Want::Finish, 8),
+    (b"FINISH", true, Want::Finish, 6),
+    (b"DELETE A\nDELETE B", true, Want::Delete(b"A"), 9),
+    (b"DELETE B", true, Want::Delete(b"B"), 8),
+    (b"DELETE B\r\r\n", false, Want::Delete(b"B\r"), 11),
+    (b"finish\nDIRECT\n", false, Want::Refused, 7),
+    (b"\r\r\n", false, Want::Refused, 3),
+    (b"DIRECT A", true, Want::Refused, 8),
+    (b"STORE A 1\nAB\nDIRECT\n", false, Want::Store(b"AB\n"), 13),
+    (
+        b"STORE A 2\r\nA\r\n\r\nDIRECT",
+        true,
+        Want::Store(b"A\r\n\r\n"),
+        16,
+    ),
+    (b"STORE A 2\n\n\n\n", false, Want::Store(b"\n\n"), 12),
+    (b"STORE A 2\nA\nB", true, Want::Store(b"A\nB\n"), 13),
+    (b"STORE A 1\n\r", true, Want::Store(b"\r\n"), 11),
+    (
+        b"STORE A 1\nSTORE B 1\nC\n",
+        false,
+        Want::Store(b"STORE B 1\n"),
+        20,
+    ),
+    (b"STORE A 0", true, Want::Store(b""), 9),
+    (b"STORE A 0\n", true, Want::Store(b""), 10),
+    (b"STORE A 0\n\n", false, Want::Store(b""), 10),
+    (b"STORE A 1\n", true, Want::Refused, 10),
+    (b"STORE A 1", true, Want::Refused, 9),
+    (b"STORE A 3\nA\nB", true, Want::Refused, 13),
+    (b"STORE A 3\nA\nB\n", true, Want::Refused, 14),
+    (b"STORE \x00 2\nA\n", true, Want::Refused, 12),
+    (b"STORE A 1\n", false, Want::End, 0),
+    (b"STORE A 0", false, Want::End, 0),
+    (b"STORE A 3\nA\nB\n", false, Want::End, 0),
+    (b"STORE A 2\nA\nB", false, Want::End, 0),
+    (b"STORE A x\nDIRECT\n", false, Want::Refused, 10),
+    (b"STORE A 1000000\nDIRECT\n", true, Want::Refused, 16),
+];
 
 #[test]
-fn texts_without_an_item(rt: HostRuntime) {
+fn items_of_texts(rt: HostRuntime) {
     let alloc = rt.alloc();
-    assert!(rt; is_out(alloc, b"", true));
-    assert!(rt; is_out(alloc, b"", false));
-    assert!(rt; is_out(alloc, b"DIRECT", false));
-    assert!(rt; is_out(alloc, b"\r", false));
-    assert!(rt; is_blank(alloc, b"\n", true, 1));
-    assert!(rt; is_blank(alloc, b"\nDIRECT\n", false, 1));
-    assert!(rt; is_blank(alloc, b"\r\nDIRECT\n", false, 2));
-    assert!(rt; is_blank(alloc, b"\r", true, 1));
-}
-
-#[test]
-fn items_of_one_line(rt: HostRuntime) {
-    let alloc = rt.alloc();
-    assert!(rt; is_finish(alloc, b"FINISH\nDIRECT\n", false, 7));
-    assert!(rt; is_finish(alloc, b"FINISH\r\n", true, 8));
-    assert!(rt; is_finish(alloc, b"FINISH", true, 6));
-    assert!(rt; is_delete(alloc, b"DELETE A\nDELETE B", true, b"A", 9));
-    assert!(rt; is_delete(alloc, b"DELETE B", true, b"B", 8));
-    assert!(rt; is_delete(alloc, b"DELETE B\r\r\n", false, b"B\r", 11));
-    assert!(rt; is_refused(alloc, b"finish\nDIRECT\n", false, 7));
-    assert!(rt; is_refused(alloc, b"\r\r\n", false, 3));
-    assert!(rt; is_refused(alloc, b"DIRECT A", true, 8));
-}
-
-#[test]
-fn items_with_lines(rt: HostRuntime) {
-    let alloc = rt.alloc();
-    assert!(rt; is_store(alloc, b"STORE A 1\nAB\nDIRECT\n", false, b"AB\n", 13));
-    assert!(rt;
-        is_store(
-            alloc,
-            b"STORE A 2\r\nA\r\n\r\nDIRECT",
-            true,
-            b"A\r\n\r\n",
-            16
-        )
-    );
-    assert!(rt; is_store(alloc, b"STORE A 2\n\n\n\n", false, b"\n\n", 12));
-    assert!(rt; is_store(alloc, b"STORE A 2\nA\nB", true, b"A\nB\n", 13));
-    assert!(rt; is_store(alloc, b"STORE A 1\n\r", true, b"\r\n", 11));
-    assert!(rt;
-        is_store(
-            alloc,
-            b"STORE A 1\nSTORE B 1\nC\n",
-            false,
-            b"STORE B 1\n",
-            20
-        )
-    );
-    assert!(rt; is_store(alloc, b"STORE A 0", true, b"", 9));
-    assert!(rt; is_store(alloc, b"STORE A 0\n", true, b"", 10));
-    assert!(rt; is_store(alloc, b"STORE A 0\n\n", false, b"", 10));
-}
-
-#[test]
-fn items_without_all_lines(rt: HostRuntime) {
-    let alloc = rt.alloc();
-    assert!(rt; is_refused(alloc, b"STORE A 1\n", true, 10));
-    assert!(rt; is_refused(alloc, b"STORE A 1", true, 9));
-    assert!(rt; is_refused(alloc, b"STORE A 3\nA\nB", true, 13));
-    assert!(rt; is_refused(alloc, b"STORE A 3\nA\nB\n", true, 14));
-    assert!(rt; is_refused(alloc, b"STORE \x00 2\nA\n", true, 12));
-    assert!(rt; is_out(alloc, b"STORE A 1\n", false));
-    assert!(rt; is_out(alloc, b"STORE A 0", false));
-    assert!(rt; is_out(alloc, b"STORE A 3\nA\nB\n", false));
-    assert!(rt; is_out(alloc, b"STORE A 2\nA\nB", false));
-    assert!(rt; is_refused(alloc, b"STORE A x\nDIRECT\n", false, 10));
-    assert!(rt; is_refused(alloc, b"STORE A 1000000\nDIRECT\n", true, 16));
+    for (text, is_end, want, bytes) in TEXTS {
+        assert!(rt;
+            begins(alloc, text, is_end, want, bytes),
+            "at {text:?}, {is_end}"
+        );
+    }
 }

@@ -2,62 +2,73 @@
 
 use super::*;
 
-fn is_bad(alloc: Global, line: &[u8]) -> bool {
-    match parse_line(alloc, line) {
-        Err(SessionFault::BadLine) => true,
+/// What a line is to say.
+#[derive(Clone, Copy)]
+enum Want<'a> {
+    Bad,
+    Empty,
+    Finish,
+    Direct,
+    Squeeze,
+    Delete(&'a [u8]),
+    Turn(u32),
+    Store(&'a [u8], u32),
+}
+
+/// Whether a line says what is wanted.
+fn says(alloc: Global, line: &[u8], want: Want) -> bool {
+    match (parse_line(alloc, line), want) {
+        (Err(fault), Want::Bad) => fault == SessionFault::BadLine,
+        (Ok(Line::Empty), Want::Empty) => true,
+        (Ok(Line::Finish), Want::Finish) => true,
+        (Ok(Line::Store { name, lines }), Want::Store(file, count)) => {
+            name.as_slice() == file && lines == count
+        }
+        (Ok(Line::Whole(entry)), _) => is_entry(&entry, want),
         _ => false,
     }
 }
 
-/// Whether a line says nothing, or is one of the forms of one word: by 0 to 3 for an empty line, `FINISH`, `DIRECT` and
-/// `SQUEEZE`.
-fn is_bare(alloc: Global, line: &[u8], form: u32) -> bool {
-    match parse_line(alloc, line) {
-        Ok(Line::Empty) => form == 0,
-        Ok(Line::Finish) => form == 1,
-        Ok(Line::Whole(Entry::Direct)) => form == 2,
-        Ok(Line::Whole(Entry::Squeeze)) => form == 3,
-        _ => false,
-    }
-}
-
-fn is_delete(alloc: Global, line: &[u8], name: &[u8]) -> bool {
-    match parse_line(alloc, line) {
-        Ok(Line::Whole(Entry::Delete { name: own })) => own.as_slice() == name,
-        _ => false,
-    }
-}
-
-fn is_turn(alloc: Global, line: &[u8], job: u32) -> bool {
-    match parse_line(alloc, line) {
-        Ok(Line::Whole(Entry::Turn(number))) => number == job,
-        _ => false,
-    }
-}
-
-fn is_store(alloc: Global, line: &[u8], name: &[u8], lines: u32) -> bool {
-    match parse_line(alloc, line) {
-        Ok(
-            Line::Store {
-                name: own,
-                lines: count,
-            },
-        ) => own.as_slice() == name && count == lines,
+/// Whether an entry is the one that is wanted.
+fn is_entry(entry: &Entry, want: Want) -> bool {
+    match (entry, want) {
+        (Entry::Direct, Want::Direct) => true,
+        (Entry::Squeeze, Want::Squeeze) => true,
+        (Entry::Delete { name }, Want::Delete(file)) => name.as_slice() == file,
+        (Entry::Turn(job), Want::Turn(number)) => *job == number,
         _ => false,
     }
 }
 
 #[test]
-fn lines_of_one_word(rt: HostRuntime) {
+fn lines_of_a_form(rt: HostRuntime) {
     let alloc = rt.alloc();
-    assert!(rt; is_bare(alloc, b"", 0));
-    assert!(rt; is_bare(alloc, b"\r", 0));
-    assert!(rt; is_bare(alloc, b"FINISH", 1));
-    assert!(rt; is_bare(alloc, b"FINISH\r", 1));
-    assert!(rt; is_bare(alloc, b"DIRECT", 2));
-    assert!(rt; is_bare(alloc, b"DIRECT\r", 2));
-    assert!(rt; is_bare(alloc, b"SQUEEZE", 3));
-    assert!(rt; is_bare(alloc, b"SQUEEZE\r", 3));
+    for (line, want) in [
+        (b"".as_slice(), Want::Empty),
+        (b"\r", Want::Empty),
+        (b"FINISH", Want::Finish),
+        (b"FINISH\r", Want::Finish),
+        (b"DIRECT", Want::Direct),
+        (b"DIRECT\r", Want::Direct),
+        (b"SQUEEZE", Want::Squeeze),
+        (b"SQUEEZE\r", Want::Squeeze),
+        (b"DELETE A", Want::Delete(b"A")),
+        (b"DELETE S.PA\r", Want::Delete(b"S.PA")),
+        (b"DELETE A\r\r", Want::Delete(b"A\r")),
+        (b"DELETE \x00\xff\t<", Want::Delete(b"\x00\xff\t<")),
+        (b"DELETE a.b.c", Want::Delete(b"a.b.c")),
+        (b"STORE S.PA 12", Want::Store(b"S.PA", 12)),
+        (b"STORE A 0\r", Want::Store(b"A", 0)),
+        (b"STORE A 999999", Want::Store(b"A", 999_999)),
+        (b"STORE A 0000001", Want::Store(b"A", 1)),
+        (b"STORE \x80\x1a 7", Want::Store(b"\x80\x1a", 7)),
+        (b"TURN 0", Want::Turn(0)),
+        (b"TURN 1", Want::Turn(1)),
+        (b"TURN 0000008\r", Want::Turn(8)),
+        (b"TURN 9999999", Want::Turn(9_999_999)),
+    ] {
+        assert!(rt; says(alloc, line, want), "at {line:?}");
+    }
 }
 
 #[test]
@@ -112,30 +123,6 @@ fn lines_of_no_form(rt: HostRuntime) {
         b"TURN 00000001",
         b"NOTHING",
     ] {
-        assert!(rt; is_bad(alloc, line));
+        assert!(rt; says(alloc, line, Want::Bad), "at {line:?}");
     }
-}
-
-#[test]
-fn lines_with_a_name(rt: HostRuntime) {
-    let alloc = rt.alloc();
-    assert!(rt; is_delete(alloc, b"DELETE A", b"A"));
-    assert!(rt; is_delete(alloc, b"DELETE S.PA\r", b"S.PA"));
-    assert!(rt; is_delete(alloc, b"DELETE A\r\r", b"A\r"));
-    assert!(rt; is_delete(alloc, b"DELETE \x00\xff\t<", b"\x00\xff\t<"));
-    assert!(rt; is_delete(alloc, b"DELETE a.b.c", b"a.b.c"));
-    assert!(rt; is_store(alloc, b"STORE S.PA 12", b"S.PA", 12));
-    assert!(rt; is_store(alloc, b"STORE A 0\r", b"A", 0));
-    assert!(rt; is_store(alloc, b"STORE A 999999", b"A", 999_999));
-    assert!(rt; is_store(alloc, b"STORE A 0000001", b"A", 1));
-    assert!(rt; is_store(alloc, b"STORE \x80\x1a 7", b"\x80\x1a", 7));
-}
-
-#[test]
-fn lines_with_a_job(rt: HostRuntime) {
-    let alloc = rt.alloc();
-    assert!(rt; is_turn(alloc, b"TURN 0", 0));
-    assert!(rt; is_turn(alloc, b"TURN 1", 1));
-    assert!(rt; is_turn(alloc, b"TURN 0000008\r", 8));
-    assert!(rt; is_turn(alloc, b"TURN 9999999", 9_999_999));
 }
