@@ -1,12 +1,24 @@
 use super::*;
 use std::process::Abort;
-use std::test::Fail;
 
-/// The task that the words ask for.
-fn asked_by(rt: &impl Abort, alloc: Global, words: &[&str]) -> Task {
+/// Whether the words ask to list a tape.
+fn lists_tape(alloc: Global, words: &[&str]) -> bool {
+    matches!(task(alloc, words), Ok(Task::Tape))
+}
+
+/// Words that ask to run a script on the image of this name.
+fn runs(rt: &impl Abort, alloc: Global, words: &[&str], image: &str) {
     match task(alloc, words) {
-        Ok(task) => task,
-        Err(fault) => panic!(rt; "{fault}"),
+        Ok(Task::Run(name)) => assert_eq!(rt; name.as_str(), image),
+        answer => panic!(rt; "{answer:?}"),
+    }
+}
+
+/// Words that ask to create the image of this name with so many blocks.
+fn creates(rt: &impl Abort, alloc: Global, words: &[&str], image: &str, blocks: usize) {
+    match task(alloc, words) {
+        Ok(Task::Create(name, count)) => assert_eq!(rt; (name.as_str(), count), (image, blocks)),
+        answer => panic!(rt; "{answer:?}"),
     }
 }
 
@@ -22,76 +34,49 @@ fn refuses(rt: &impl Abort, alloc: Global, words: &[&str], kind: ErrorKind, text
     }
 }
 
-#[test]
-fn reads_tasks(rt: HostRuntime) -> Result<(), Fail> {
-    let alloc = rt.alloc();
-    assert_eq!(rt; asked_by(&rt, alloc, &["pdp8", "tape"]), Task::Tape);
-    assert_eq!(rt;
-        asked_by(&rt, alloc, &["/usr/bin/other", "tape"]),
-        Task::Tape
-    );
-    let image = String::from_str(alloc, "V")?;
-    assert_eq!(rt;
-        asked_by(&rt, alloc, &["pdp8", "run", "V"]),
-        Task::Run(image)
-    );
-    let image = String::from_str(alloc, "V")?;
-    assert_eq!(rt;
-        asked_by(&rt, alloc, &["pdp8", "create", "V", "20"]),
-        Task::Create(image, 20)
-    );
-    Ok(())
+/// A fault whose text is this.
+fn says(rt: &impl Abort, alloc: Global, fault: &TaskFault, text: &str) {
+    let message = fault.to_string(alloc).expect(rt, "a text");
+    assert_eq!(rt; message.as_str(), text);
 }
 
 #[test]
-fn says_what_is_wrong(rt: HostRuntime) -> Result<(), Fail> {
+fn reads_tasks(rt: HostRuntime) {
+    let alloc = rt.alloc();
+    assert!(rt; lists_tape(alloc, &["pdp8", "tape"]));
+    assert!(rt; lists_tape(alloc, &["/usr/bin/other", "tape"]));
+    runs(&rt, alloc, &["pdp8", "run", "V"], "V");
+    creates(&rt, alloc, &["pdp8", "create", "V", "20"], "V", 20);
+}
+
+#[test]
+fn says_what_is_wrong(rt: HostRuntime) {
     let alloc = rt.alloc();
     plain_words();
-    assert_eq!(rt;
-        TaskFault::Memory.to_string(alloc)?.as_str(),
-        "out of memory"
-    );
+    says(&rt, alloc, &TaskFault::Memory, "out of memory");
     match task(alloc, &["pdp8", "--version"]) {
-        Err(fault) => assert_eq!(rt; fault.to_string(alloc)?.as_str(), "pdp8 0.1.0\n"),
+        Err(fault) => says(&rt, alloc, &fault, "pdp8 0.1.0\n"),
         Ok(_) => panic!(rt; "no refusal"),
     }
-    Ok(())
 }
 
 #[test]
-fn takes_any_name_of_an_image(rt: HostRuntime) -> Result<(), Fail> {
+fn takes_any_name_of_an_image(rt: HostRuntime) {
     let alloc = rt.alloc();
     for name in ["a b", "", "-", "tape", "help", "V=1", "ä\n*?", "../V.dk"] {
-        let image = String::from_str(alloc, name)?;
-        assert_eq!(rt;
-            asked_by(&rt, alloc, &["pdp8", "run", name]),
-            Task::Run(image)
-        );
+        runs(&rt, alloc, &["pdp8", "run", name], name);
     }
     for name in ["-V", "--help", "--", "-"] {
-        let image = String::from_str(alloc, name)?;
-        assert_eq!(rt;
-            asked_by(&rt, alloc, &["pdp8", "run", "--", name]),
-            Task::Run(image)
-        );
-        let image = String::from_str(alloc, name)?;
-        assert_eq!(rt;
-            asked_by(&rt, alloc, &["pdp8", "create", "--", name, "8"]),
-            Task::Create(image, 8)
-        );
+        runs(&rt, alloc, &["pdp8", "run", "--", name], name);
+        creates(&rt, alloc, &["pdp8", "create", "--", name, "8"], name, 8);
     }
-    Ok(())
 }
 
 #[test]
-fn takes_8_to_4095_blocks(rt: HostRuntime) -> Result<(), Fail> {
+fn takes_8_to_4095_blocks(rt: HostRuntime) {
     let alloc = rt.alloc();
     for (text, blocks) in [("8", 8), ("4095", 4095), ("+9", 9), ("0010", 10)] {
-        let image = String::from_str(alloc, "V")?;
-        assert_eq!(rt;
-            asked_by(&rt, alloc, &["pdp8", "create", "V", text]),
-            Task::Create(image, blocks)
-        );
+        creates(&rt, alloc, &["pdp8", "create", "V", text], "V", blocks);
     }
     refuses(
         &rt,
@@ -136,7 +121,6 @@ Usage: pdp8 create <IMAGE> <BLOCKS>
 For more information, try '--help'.
 ",
     );
-    Ok(())
 }
 
 #[test]

@@ -30,35 +30,52 @@ const ONE_FILE: [u16; 13] = [
     0o7776, 0o0007, 0, 0, 0o7777, 0o0100, 0, 0, 0, 0, 0o7777, 0, 0o7764,
 ];
 
-/// A session over a store, where it is sound.
-fn session_of<S: BlockStore + Drop>(alloc: Global, store: S) -> Option<Session<S>> {
+/// A session over a store that is sound.
+fn session_of<S: BlockStore + Drop>(rt: &impl Abort, alloc: Global, store: S) -> Session<S> {
     match Session::mount(alloc, store) {
-        Ok(session) => Some(session),
-        Err(_) => None,
+        Ok(session) => session,
+        Err((_store, fault)) => panic!(rt; "{fault}"),
     }
 }
 
-/// A store that is refused, and why.
-fn refused<S: BlockStore + Drop>(alloc: Global, store: S) -> Option<(S, DirFault)> {
+/// A session over a fresh volume of 20 blocks with a file.
+fn fresh_session(rt: &impl Abort, alloc: Global) -> Session<MemoryVolume> {
+    let volume = volume_of(alloc, &ONE_FILE).expect(rt, "a volume");
+    session_of(rt, alloc, volume)
+}
+
+/// What a session answers to the script of a reader, and what it writes.
+fn told<S: BlockStore, R: Read>(
+    alloc: Global,
+    session: &mut Session<S>,
+    reader: &mut R,
+) -> (Result<(), SessionFault>, Vec<u8>) {
+    let mut out = Vec::new(alloc);
+    let answer = session.run_text(alloc, reader, &mut out);
+    (answer, out)
+}
+
+/// Why a store is refused, and how many blocks the store that is handed back has.
+fn refused<S: BlockStore + Drop>(alloc: Global, store: S) -> Option<(DirFault, usize)> {
     match Session::mount(alloc, store) {
         Ok(_) => None,
-        Err(refused) => Some(refused),
+        Err((store, fault)) => Some((fault, store.blocks())),
     }
 }
 
-/// What a script answers and writes on a fresh volume of 20 blocks with a file.
-fn told(alloc: Global, script: &[u8]) -> Result<(Result<(), SessionFault>, Vec<u8>), ImageFault> {
-    let mut out = Vec::new(alloc);
+/// Asserts what a script writes on a fresh volume, where nothing ends it.
+fn check_script(rt: &impl Abort, alloc: Global, script: &[u8], want: &[u8]) {
     let mut reader = script;
-    let answer = match session_of(alloc, volume_of(alloc, &ONE_FILE)?) {
-        Some(mut session) => session.run_text(alloc, &mut reader, &mut out),
-        None => Err(SessionFault::NoJob),
-    };
-    Ok((answer, out))
+    let (answer, out) = told(alloc, &mut fresh_session(rt, alloc), &mut reader);
+    assert_eq!(rt;
+        (answer, out.as_slice()),
+        (Ok(()), want),
+        "after {script:?}"
+    );
 }
 
 #[test]
-fn scripts_and_their_replies(rt: HostRuntime) -> Result<(), Fail> {
+fn scripts_and_their_replies(rt: HostRuntime) {
     let cases: [(&[u8], &[u8]); 9] = [
         (b"", b""),
         (b"\n\n\r\n\n", b""),
@@ -71,11 +88,8 @@ fn scripts_and_their_replies(rt: HostRuntime) -> Result<(), Fail> {
         (b"direct\n\nDIRECT\n\n", b"? 1 BAD LINE\nA 1\nFREE 12\n"),
     ];
     for (script, want) in cases {
-        let (answer, out) = told(rt.alloc(), script)?;
-        assert_eq!(rt; answer, Ok(()));
-        assert_eq!(rt; out.as_slice(), want);
+        check_script(&rt, rt.alloc(), script, want);
     }
-    Ok(())
 }
 
 /// A reader that gives some bytes, and then fails.
@@ -97,92 +111,94 @@ impl Read for Broken {
 }
 
 #[test]
-fn failing_readers_and_writers(rt: HostRuntime) -> Result<(), Fail> {
+fn failing_readers_and_writers(rt: HostRuntime) {
     let alloc = rt.alloc();
-    let mut session = session_of(alloc, volume_of(alloc, &ONE_FILE)?).ok_or("a session")?;
-    let mut out = Vec::new(alloc);
-    let answer = session.run_text(alloc, &mut Broken { left: 1 }, &mut out);
-    assert_eq!(rt; answer, Err(SessionFault::Reader));
-    assert_eq!(rt; out.as_slice(), b"A 1\nFREE 12\n? 8 READER\n".as_slice());
+    let mut session = fresh_session(&rt, alloc);
+    let (answer, out) = told(alloc, &mut session, &mut Broken { left: 1 });
+    let want: &[u8] = b"A 1\nFREE 12\n? 8 READER\n";
+    assert_eq!(rt; (answer, out.as_slice()), (Err(SessionFault::Reader), want));
 
     let mut room = [0u8; 5];
     let mut narrow: &mut [u8] = &mut room;
     let mut script: &[u8] = b"DIRECT\n";
     let answer = session.run_text(alloc, &mut script, &mut narrow);
-    assert_eq!(rt; answer, Err(SessionFault::Writer));
-    assert_eq!(rt; session.into_store().blocks(), 20);
-    Ok(())
+    let blocks = session.into_store().blocks();
+    assert_eq!(rt; (answer, blocks), (Err(SessionFault::Writer), 20));
 }
 
 #[test]
-fn reader_that_never_ends(rt: HostRuntime) -> Result<(), Fail> {
+fn reader_that_never_ends(rt: HostRuntime) {
     let alloc = rt.alloc();
-    let mut session = session_of(alloc, volume_of(alloc, &ONE_FILE)?).ok_or("a session")?;
-    let mut out = Vec::new(alloc);
-    let answer = session.run_text(alloc, &mut io::repeat(b'\n'), &mut out);
-    assert_eq!(rt; answer, Err(SessionFault::Reader));
-    assert_eq!(rt; out.as_slice(), b"? 8 READER\n".as_slice());
-    Ok(())
+    let mut session = fresh_session(&rt, alloc);
+    let (answer, out) = told(alloc, &mut session, &mut io::repeat(b'\n'));
+    let want: &[u8] = b"? 8 READER\n";
+    assert_eq!(rt; (answer, out.as_slice()), (Err(SessionFault::Reader), want));
 }
 
 #[test]
-fn script_of_the_most_bytes(rt: HostRuntime) -> Result<(), Fail> {
+fn script_of_the_most_bytes(rt: HostRuntime) {
     let alloc = rt.alloc();
-    let mut session = session_of(alloc, volume_of(alloc, &ONE_FILE)?).ok_or("a session")?;
-    let mut out = Vec::new(alloc);
-    let mut front = io::repeat(b'\n').take(16_777_210);
+    let mut session = fresh_session(&rt, alloc);
+    let front = io::repeat(b'\n').take(16_777_210);
     let mut script = front.chain(b"DIRECT".as_slice());
-    let answer = session.run_text(alloc, &mut script, &mut out);
-    assert_eq!(rt; answer, Ok(()));
-    assert_eq!(rt; out.as_slice(), b"A 1\nFREE 12\n".as_slice());
-    Ok(())
+    let (answer, out) = told(alloc, &mut session, &mut script);
+    let want: &[u8] = b"A 1\nFREE 12\n";
+    assert_eq!(rt; (answer, out.as_slice()), (Ok(()), want));
+}
+
+/// Asserts which files a session lists, and how many blocks are free.
+fn check_direct(
+    rt: &impl Abort,
+    alloc: Global,
+    session: &mut Session<MemoryVolume>,
+    wanted: (&[(Name, usize)], usize),
+) {
+    match session.enter(alloc, Entry::Direct) {
+        Ok(Reply::Direct { files, free }) => assert_eq!(rt; (files.files(), free), wanted),
+        answer => panic!(rt; "{answer:?}"),
+    }
+}
+
+/// How many replies a session has to a run of entries, and whether it was stopped.
+fn ran(
+    alloc: Global,
+    session: &mut Session<MemoryVolume>,
+    entries: &[Entry],
+) -> Option<(usize, bool)> {
+    match session.run(alloc, entries) {
+        Ok(ran) => Some((ran.replies.len(), ran.stopped)),
+        Err(_) => None,
+    }
 }
 
 #[test]
-fn entries(rt: HostRuntime) -> Result<(), Fail> {
+fn entries(rt: HostRuntime) {
     let alloc = rt.alloc();
-    let mut session = session_of(alloc, volume_of(alloc, &ONE_FILE)?).ok_or("a session")?;
-    let Ok(Reply::Direct { files, free }) = session.enter(alloc, Entry::Direct) else {
-        return Err(Fail::from("a reply"));
-    };
-    let name = Name::parse(b"A").ok_or("a name")?;
-    assert_eq!(rt; files.files(), [(name, 1)].as_slice());
-    assert_eq!(rt; free, 12);
-    let ran = session.run(alloc, &[Entry::Direct, Entry::Direct]);
-    match ran {
-        Ok(ran) => {
-            assert_eq!(rt; ran.replies.len(), 2);
-            assert!(rt; !ran.stopped);
-        }
-        Err(_) => return Err(Fail::from("a run")),
-    }
-    Ok(())
+    let name = Name::parse(b"A").expect(&rt, "a name");
+    let mut session = fresh_session(&rt, alloc);
+    check_direct(&rt, alloc, &mut session, (&[(name, 1)], 12));
+    let twice = [Entry::Direct, Entry::Direct];
+    assert_eq!(rt; ran(alloc, &mut session, &twice), Some((2, false)));
 }
 
 #[test]
 fn unsound_volumes(rt: HostRuntime) -> Result<(), Fail> {
     let alloc = rt.alloc();
     let past = [0o7777, 0o0007, 1, 0, 0o7777, 0, 0o7763];
-    let (volume, fault) = refused(alloc, volume_of(alloc, &past)?).ok_or("a fault")?;
-    assert_eq!(rt; fault, DirFault::BadLink(1));
-    assert_eq!(rt; volume.blocks(), 20);
+    let volume = volume_of(alloc, &past)?;
+    assert_eq!(rt; refused(alloc, volume), Some((DirFault::BadLink(1), 20)));
     let fuse = FuseVolume::new(MemoryVolume::create(alloc, 20)?, Some(0), None);
-    let (_fuse, fault) = refused(alloc, fuse).ok_or("a fault")?;
-    assert_eq!(rt; fault, DirFault::Device);
+    assert_eq!(rt; refused(alloc, fuse), Some((DirFault::Device, 20)));
     Ok(())
 }
 
 #[test]
-fn listing_reads_no_block(rt: HostRuntime) -> Result<(), Fail> {
+fn listing_reads_no_block(rt: HostRuntime) {
     let alloc = rt.alloc();
-    let store = CountVolume::new(volume_of(alloc, &ONE_FILE)?);
-    let mut session = session_of(alloc, store).ok_or("a session")?;
-    let mut out = Vec::new(alloc);
+    let volume = volume_of(alloc, &ONE_FILE).expect(&rt, "a volume");
+    let mut session = session_of(&rt, alloc, CountVolume::new(volume));
     let mut script: &[u8] = b"DIRECT\nDIRECT\n";
-    let answer = session.run_text(alloc, &mut script, &mut out);
-    assert_eq!(rt; answer, Ok(()));
+    let (answer, _out) = told(alloc, &mut session, &mut script);
     let count = session.into_store();
-    assert_eq!(rt; count.reads(), 1);
-    assert_eq!(rt; count.writes(), 0);
-    Ok(())
+    assert_eq!(rt; (answer, count.reads(), count.writes()), (Ok(()), 1, 0));
 }

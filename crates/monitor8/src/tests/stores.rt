@@ -3,6 +3,7 @@
 use crate::*;
 use script8::{Bytes, Entry, Reply};
 use std::alloc::{AllocError, Global};
+use std::process::Abort;
 use std::test::Fail;
 use volume_image::{BlockStore, CountVolume, ImageFault, MemoryVolume};
 
@@ -19,16 +20,9 @@ fn put_store(script: &mut Vec<u8>, name: &str, lines: usize) -> Result<(), Alloc
     Ok(())
 }
 
-/// Appends a number below 1000.
+/// Appends a number in decimal.
 fn put_decimal(script: &mut Vec<u8>, number: usize) -> Result<(), AllocError> {
-    if number >= 100 {
-        script.push(b'0'.wrapping_add((number / 100 % 10) as u8))?;
-    }
-    if number >= 10 {
-        script.push(b'0'.wrapping_add((number / 10 % 10) as u8))?;
-    }
-    script.push(b'0'.wrapping_add((number % 10) as u8))?;
-    Ok(())
+    script.extend_from_slice(itoa::Buffer::new().format(number as u64).as_bytes())
 }
 
 /// What a script writes on a fresh volume of so many blocks, where nothing ends it.
@@ -43,18 +37,23 @@ fn written(alloc: Global, blocks: usize, script: &[u8]) -> Result<Vec<u8>, Image
     Ok(out)
 }
 
+/// Appends the storing of six files, of which two are deleted, and of one that has room after a squeeze alone.
+fn put_squeeze(script: &mut Vec<u8>) -> Result<(), AllocError> {
+    for name in ["F1.PA", "F2.PA", "F3.PA", "F4.PA", "F5.PA", "F6.PA"] {
+        put_store(script, name, 130)?;
+    }
+    script.extend_from_slice(b"DELETE F2.PA\nDELETE F4.PA\n")?;
+    put_store(script, "G.PA", 600)?;
+    script.extend_from_slice(b"SQUEEZE\nFINISH\n")?;
+    put_store(script, "G.PA", 600)?;
+    script.extend_from_slice(b"STORE H.PA 0\nDIRECT\n")
+}
+
 #[test]
 fn squeezes_make_room(rt: HostRuntime) -> Result<(), Fail> {
     let alloc = rt.alloc();
     let mut script = Vec::new(alloc);
-    for name in ["F1.PA", "F2.PA", "F3.PA", "F4.PA", "F5.PA", "F6.PA"] {
-        put_store(&mut script, name, 130)?;
-    }
-    script.extend_from_slice(b"DELETE F2.PA\nDELETE F4.PA\n")?;
-    put_store(&mut script, "G.PA", 600)?;
-    script.extend_from_slice(b"SQUEEZE\nFINISH\n")?;
-    put_store(&mut script, "G.PA", 600)?;
-    script.extend_from_slice(b"STORE H.PA 0\nDIRECT\n")?;
+    put_squeeze(&mut script)?;
     let out = written(alloc, 20, &script)?;
     let want: &[u8] =
         b"STORED F1.PA 2\nSTORED F2.PA 2\nSTORED F3.PA 2\nSTORED F4.PA 2\nSTORED F5.PA 2\nSTORED F6.PA 2\n\
@@ -107,50 +106,56 @@ fn replies_and_refusals(rt: HostRuntime) -> Result<(), Fail> {
     ];
     for (script, want) in cases {
         let out = written(rt.alloc(), 20, script)?;
-        assert_eq!(rt; out.as_slice(), want);
+        assert_eq!(rt; out.as_slice(), want, "after {script:?}");
     }
     Ok(())
 }
 
-#[test]
-fn full_directories(rt: HostRuntime) -> Result<(), Fail> {
-    let alloc = rt.alloc();
-    let mut script = Vec::new(alloc);
-    for number in 1usize..246 {
+/// Appends the storing of 245 files, as many as a directory has where other blocks are free, and then other lines.
+fn put_files(script: &mut Vec<u8>, rest: &[u8]) -> Result<(), AllocError> {
+    for number in 1..246 {
         script.extend_from_slice(b"STORE F")?;
-        put_decimal(&mut script, number)?;
+        put_decimal(script, number)?;
         script.extend_from_slice(b" 0\n")?;
     }
-    let front = script.len();
-    script.extend_from_slice(b"STORE F246 0\nSTORE F1 1\nA\nDELETE F2\nSTORE F246 0\n")?;
-    let out = written(alloc, 300, &script)?;
+    script.extend_from_slice(rest)
+}
+
+/// What a script that stores 245 files, and then has these lines, writes on a fresh volume of so many blocks.
+fn filled(alloc: Global, blocks: usize, rest: &[u8]) -> Result<Vec<u8>, ImageFault> {
+    let mut script = Vec::new(alloc);
+    put_files(&mut script, rest)?;
+    written(alloc, blocks, &script)
+}
+
+#[test]
+fn full_directories(rt: HostRuntime) -> Result<(), Fail> {
+    let rest = b"STORE F246 0\nSTORE F1 1\nA\nDELETE F2\nSTORE F246 0\n";
+    let out = filled(rt.alloc(), 300, rest)?;
     assert!(rt;
         out.ends_with(
             b"STORED F245 1\n? 4.3 DIRECTORY FULL\n? 4.3 DIRECTORY FULL\nDELETED F2\nSTORED F246 1\n"
         )
     );
-    script.truncate(front);
-    script.extend_from_slice(b"STORE F246 0\n")?;
-    let out = written(alloc, 253, &script)?;
+    let out = filled(rt.alloc(), 253, b"STORE F246 0\n")?;
     assert!(rt; out.ends_with(b"STORED F245 1\nSTORED F246 1\n"));
     Ok(())
 }
 
-#[test]
-fn entries_of_a_session(rt: HostRuntime) -> Result<(), Fail> {
-    let alloc = rt.alloc();
-    let store = CountVolume::new(MemoryVolume::create(alloc, 20)?);
-    let Ok(mut session) = Session::mount(alloc, store) else {
-        return Err(Fail::from("a session"));
-    };
-    let mut name = Vec::new(alloc);
-    name.extend_from_slice(b"A.TX")?;
-    let mut text = Vec::new(alloc);
-    text.extend_from_slice(b"AB\n")?;
-    let entry = Entry::Store {
-        name: Bytes::new(name),
-        text: Bytes::new(text),
-    };
+/// The entry that stores a text in a file of a name.
+fn storing(alloc: Global, name: &[u8], text: &[u8]) -> Result<Entry, AllocError> {
+    let name = Bytes::new(name.to_vec(alloc)?);
+    let text = Bytes::new(text.to_vec(alloc)?);
+    Ok(Entry::Store { name, text })
+}
+
+/// Asserts what a session answers to an entry that stores a block, to a squeeze and to its turn.
+fn check_entries(
+    rt: &impl Abort,
+    alloc: Global,
+    session: &mut Session<CountVolume<MemoryVolume>>,
+    entry: Entry,
+) {
     assert!(rt;
         matches!(
             session.enter(alloc, entry),
@@ -159,8 +164,18 @@ fn entries_of_a_session(rt: HostRuntime) -> Result<(), Fail> {
     );
     assert!(rt; matches!(session.enter(alloc, Entry::Squeeze), Ok(Reply::Job(1))));
     assert!(rt; matches!(session.enter(alloc, Entry::Turn(1)), Ok(Reply::Squeezed(1))));
+}
+
+#[test]
+fn entries_of_a_session(rt: HostRuntime) -> Result<(), Fail> {
+    let alloc = rt.alloc();
+    let entry = storing(alloc, b"A.TX", b"AB\n")?;
+    let store = CountVolume::new(MemoryVolume::create(alloc, 20)?);
+    let Ok(mut session) = Session::mount(alloc, store) else {
+        return Err(Fail::from("a session"));
+    };
+    check_entries(&rt, alloc, &mut session, entry);
     let count = session.into_store();
-    assert_eq!(rt; count.reads(), 1);
-    assert_eq!(rt; count.writes(), 2);
+    assert_eq!(rt; (count.reads(), count.writes()), (1, 2));
     Ok(())
 }

@@ -2,7 +2,6 @@ use crate::*;
 use script8::put_reply;
 use std::alloc::Global;
 use std::io::{self, ErrorKind, Read};
-use std::test::Fail;
 
 /// What listing the frames answers and writes.
 fn listed(alloc: Global, frames: &[u8]) -> (Result<(), SessionFault>, Vec<u8>) {
@@ -92,21 +91,23 @@ impl Read for Broken {
     }
 }
 
-#[test]
-fn tells_a_failing_reader_and_writer(rt: HostRuntime) -> Result<(), Fail> {
-    let mut text = Vec::new(rt.alloc());
-    let answer = tape_text(rt.alloc(), &mut Broken, &mut text);
-    assert_eq!(rt; answer, Err(SessionFault::Reader));
-    assert_eq!(rt; text.len(), 0);
+/// What listing the frames of a reader that fails answers, and how many bytes it writes.
+fn failed<R: Read>(alloc: Global, reader: &mut R) -> (Result<(), SessionFault>, usize) {
+    let mut text = Vec::new(alloc);
+    let answer = tape_text(alloc, reader, &mut text);
+    (answer, text.len())
+}
 
-    let answer = tape_text(rt.alloc(), &mut io::repeat(0o200), &mut text);
-    assert_eq!(rt; answer, Err(SessionFault::Reader));
-    assert_eq!(rt; text.len(), 0);
+#[test]
+fn tells_a_failing_reader_and_writer(rt: HostRuntime) {
+    let alloc = rt.alloc();
+    let want = (Err(SessionFault::Reader), 0);
+    assert_eq!(rt; failed(alloc, &mut Broken), want);
+    assert_eq!(rt; failed(alloc, &mut io::repeat(0o200)), want);
 
     let mut room = [0u8; 5];
     let mut narrow: &mut [u8] = &mut room;
     let mut frames: &[u8] = b"\x80\xc8\x42\x00\x00\x05\x01\x07\x80";
-    let answer = tape_text(rt.alloc(), &mut frames, &mut narrow);
+    let answer = tape_text(alloc, &mut frames, &mut narrow);
     assert_eq!(rt; answer, Err(SessionFault::Writer));
-    Ok(())
 }
