@@ -10,6 +10,234 @@ mod segments;
 mod steps;
 mod store;
 
+/// Block 1 of an empty volume of 20 blocks.
+const EMPTY: [u16; 7] = [0o7777, 7, 0, 0, 0o7777, 0, 0o7763];
+
+/// How many blocks a volume has, and the first words of its segments from block 1 on.
+type Volume = (usize, &'static [&'static [u16]]);
+
+/// Volumes with the counts of their directories and the places of their files `A`, `C` and `F`, as the functions
+/// `counts` and `places` give them.
+const SOUND: [(Volume, [usize; 7], [Option<(usize, usize)>; 3]); 8] = [
+    // an empty
+    ((20, &[&EMPTY]), [7, 1, 13, 13, 13, 246, 1], [None; 3]),
+    // no entry
+    (
+        (20, &[&[0, 7, 0, 0, 0o7777, 0, 0o7763]]),
+        [7, 1, 0, 0, 0, 246, 0],
+        [None; 3],
+    ),
+    // one file
+    (
+        (
+            20,
+            &[&[
+                0o7776, 7, 0, 0, 0o7777, 0o0100, 0, 0, 0, 0o1234, 0o7777, 0, 0o7764,
+            ]],
+        ),
+        [7, 1, 13, 12, 12, 246, 2],
+        [Some((7, 1)), None, None],
+    ),
+    // six segments of one file each, linked in the order 1, 6, 2, 5, 3 and 4
+    (
+        (
+            19,
+            &[
+                &[0o7777, 7, 6, 0, 0, 0o0100, 0, 0, 0, 0o7776],
+                &[0o7777, 11, 5, 0, 0, 0o0200, 0, 0, 0, 0o7776],
+                &[0o7777, 15, 4, 0, 0, 0o0300, 0, 0, 0, 0o7776],
+                &[0o7777, 17, 0, 0, 0, 0o0400, 0, 0, 0, 0o7776],
+                &[0o7777, 13, 3, 0, 0, 0o0500, 0, 0, 0, 0o7776],
+                &[0o7777, 9, 2, 0, 0, 0o0600, 0, 0, 0, 0o7776],
+            ],
+        ),
+        [7, 0, 12, 0, 0, 300, 6],
+        [Some((7, 2)), Some((15, 2)), Some((9, 2))],
+    ),
+    // three segments, linked in the order 1, 5 and 3
+    (
+        (
+            20,
+            &[
+                &[0o7777, 0o0007, 5, 0o1111, 0o7777, 0, 0o7776],
+                &[],
+                &[0o7777, 0o0014, 0, 0, 0o7777, 0, 0o7775],
+                &[],
+                &[
+                    0o7777, 0o0011, 3, 0o4000, 0o7777, 0o0100, 0, 0, 0, 0, 0o7775, 0o1234,
+                ],
+            ],
+        ),
+        [7, 1, 8, 3, 5, 246, 3],
+        [Some((9, 3)), None, None],
+    ),
+    // a later first block, and one behind the volume
+    (
+        (20, &[&[0o7777, 0o0020, 0, 0, 0o7777, 0, 0o7776]]),
+        [16, 1, 2, 2, 2, 246, 1],
+        [None; 3],
+    ),
+    (
+        (20, &[&[0, 0o0024, 0, 0, 0o7777]]),
+        [20, 1, 0, 0, 0, 246, 0],
+        [None; 3],
+    ),
+    // entries of no blocks, which two files of the same name have among them
+    (
+        (
+            20,
+            &[&[
+                0o7771, 7, 0, 0, 0, 0, 0o7776, 0, 0o7775, 0o0100, 0, 0, 0, 0, 0, 0o7775, 0o0100, 0,
+                0, 0, 0o7776, 0o0100, 0, 0, 0, 0, 0, 0,
+            ]],
+        ),
+        [7, 0, 10, 8, 8, 300, 2],
+        [Some((15, 2)), None, None],
+    ),
+];
+
+/// Volumes with the fault of their directories, if there is one.
+const FAULTS: [(Volume, Option<DirFault>); 26] = [
+    // the first segment
+    (
+        (20, &[&[0o7777, 7, 1, 0, 0o7777, 0, 0o7763]]),
+        Some(DirFault::BadLink(1)),
+    ),
+    (
+        (20, &[&[0o7777, 7, 0, 0, 0o7765, 0, 0o7763]]),
+        Some(DirFault::BadCount(1)),
+    ),
+    (
+        (20, &[&[0o7777, 6, 0, 0, 0o7777, 0, 0o7763]]),
+        Some(DirFault::WrongFirstBlock),
+    ),
+    (
+        (20, &[&[0o7777, 0o25, 0, 0, 0o7777, 0, 0o7763]]),
+        Some(DirFault::WrongFirstBlock),
+    ),
+    (
+        (20, &[&[0o7777, 7, 0, 0, 0o7777, 0, 0o7762]]),
+        Some(DirFault::PastVolume),
+    ),
+    (
+        (20, &[&[1, 7, 0, 0, 0o7777, 0, 0o7763]]),
+        Some(DirFault::EntryPastSegment),
+    ),
+    (
+        (20, &[&[0o7777, 7, 7, 0, 0o7777, 0, 0o7763]]),
+        Some(DirFault::BadLink(1)),
+    ),
+    (
+        (20, &[&[0o7777, 7, 0o4001, 0, 0o7777, 0, 0o7763]]),
+        Some(DirFault::BadLink(1)),
+    ),
+    (
+        (
+            20,
+            &[&[
+                0o7775, 0o0007, 0, 0, 0o7777, 0o0100, 0, 0, 0, 0, 0o7777, 0o0100, 0, 0, 0, 0,
+                0o7777, 0, 0o7765,
+            ]],
+        ),
+        Some(DirFault::SameName),
+    ),
+    ((8, &[]), Some(DirFault::WrongFirstBlock)),
+    // the volume's last block
+    ((4095, &[&[0o7777, 0o0007, 0, 0, 0o7777, 0, 0o0010]]), None),
+    (
+        (4094, &[&[0o7777, 0o0007, 0, 0, 0o7777, 0, 0o0010]]),
+        Some(DirFault::PastVolume),
+    ),
+    // as many entries as a segment takes, and one more
+    ((20, &[&[4096 - 125, 7]]), None),
+    ((20, &[&[4096 - 126, 7]]), Some(DirFault::EntryPastSegment)),
+    // a second segment
+    ((20, &[&TO_TWO]), Some(DirFault::MixedInfo)),
+    ((20, &[&TO_TWO, &[0, 0o24, 0, 0, 0o7777]]), None),
+    (
+        (20, &[&TO_TWO, &[0, 0o24, 1, 0, 0o7777]]),
+        Some(DirFault::BadLink(2)),
+    ),
+    (
+        (20, &[&TO_TWO, &[0, 0o24, 2, 0, 0o7777]]),
+        Some(DirFault::BadLink(2)),
+    ),
+    (
+        (20, &[&TO_TWO, &[0, 0o23, 0, 0, 0o7777]]),
+        Some(DirFault::WrongFirstBlock),
+    ),
+    (
+        (20, &[&TO_TWO, &[0, 0o24, 0, 0, 0o7776]]),
+        Some(DirFault::MixedInfo),
+    ),
+    (
+        (20, &[&TO_TWO, &[0, 0o23, 9, 0, 0o7700]]),
+        Some(DirFault::BadCount(2)),
+    ),
+    (
+        (20, &[&TO_TWO, &[0o7777, 0o24, 0, 0, 0o7777, 0, 0o7777]]),
+        Some(DirFault::PastVolume),
+    ),
+    // a third segment, linked before the second
+    (
+        (
+            20,
+            &[
+                &TO_THREE,
+                &[0, 0o24, 0, 0, 0o7777],
+                &[0, 0o24, 2, 0, 0o7777],
+            ],
+        ),
+        None,
+    ),
+    (
+        (
+            20,
+            &[
+                &TO_THREE,
+                &[0, 0o24, 3, 0, 0o7777],
+                &[0, 0o24, 2, 0, 0o7777],
+            ],
+        ),
+        Some(DirFault::BadLink(2)),
+    ),
+    // six segments, the last of which links to the first
+    (
+        (
+            19,
+            &[
+                &[0o7777, 7, 6, 0, 0, 0o0100, 0, 0, 0, 0o7776],
+                &[0o7777, 11, 5, 0, 0, 0o0200, 0, 0, 0, 0o7776],
+                &[0o7777, 15, 4, 0, 0, 0o0300, 0, 0, 0, 0o7776],
+                &[0o7777, 17, 1, 0, 0, 0o0400, 0, 0, 0, 0o7776],
+                &[0o7777, 13, 3, 0, 0, 0o0500, 0, 0, 0, 0o7776],
+                &[0o7777, 9, 2, 0, 0, 0o0600, 0, 0, 0, 0o7776],
+            ],
+        ),
+        Some(DirFault::BadLink(4)),
+    ),
+    (
+        (
+            19,
+            &[
+                &[0o7777, 7, 6, 0, 0, 0o0100, 0, 0, 0, 0o7776],
+                &[0o7777, 11, 5, 0, 0, 0o0200, 0, 0, 0, 0o7776],
+                &[0o7777, 15, 4, 0, 0, 0o0300, 0, 0, 0, 0o7776],
+                &[0o7777, 17, 1, 0, 0, 0o0200, 0, 0, 0, 0o7776],
+                &[0o7777, 13, 3, 0, 0, 0o0500, 0, 0, 0, 0o7776],
+                &[0o7777, 9, 2, 0, 0, 0o0600, 0, 0, 0, 0o7776],
+            ],
+        ),
+        Some(DirFault::SameName),
+    ),
+];
+
+/// The first segment of a volume of 20 blocks, with one empty of them all and a link to the second.
+const TO_TWO: [u16; 7] = [0o7777, 7, 2, 0, 0o7777, 0, 0o7763];
+
+/// The same, with a link to the third.
+const TO_THREE: [u16; 7] = [0o7777, 7, 3, 0, 0o7777, 0, 0o7763];
+
 fn words(numbers: [u16; 4]) -> [Word; 4] {
     let [a, b, c, d] = numbers;
     [Word::low(a), Word::low(b), Word::low(c), Word::low(d)]
@@ -27,61 +255,102 @@ fn fault(alloc: Global, blocks: usize, segments: &[&[u16]]) -> Option<DirFault> 
     read(alloc, blocks, segments).err()
 }
 
-/// The words of block 1 of an empty volume of 20 blocks, with one change.
-fn changed(at: usize, word: u16) -> [u16; 7] {
-    let mut words = [0o7777, 0o0007, 0, 0, 0o7777, 0, 0o7763];
-    if at < 7 {
-        words[at] = word;
+/// The first block, the information words, the blocks covered, the largest empty, the free blocks, the most entries and
+/// the entries.
+fn counts(directory: &Directory) -> [usize; 7] {
+    [
+        directory.first_block(),
+        directory.information_words(),
+        directory.capacity(),
+        directory.largest(),
+        directory.free(),
+        directory.limit(),
+        directory.entries().len(),
+    ]
+}
+
+/// Where the files `A`, `C` and `F` lie.
+fn places(directory: &Directory) -> [Option<(usize, usize)>; 3] {
+    [0o0100, 0o0300, 0o0600].map(|number| directory.find(&Name::of(words([number, 0, 0, 0]))))
+}
+
+/// The information words of the file that is the entry of a number.
+fn information(directory: &Directory, number: usize) -> Option<[u16; 10]> {
+    match directory.entries().get(number) {
+        Some(DirEntry::File { info, .. }) => Some(info.map(Word::get)),
+        _ => None,
     }
-    words
+}
+
+/// The entries have these names and lengths.
+fn check_entries(rt: &impl Abort, directory: &Directory, wanted: &[(Option<Name>, usize)]) {
+    assert_eq!(rt; directory.entries().len(), wanted.len());
+    for (entry, want) in directory.entries().iter().zip(wanted) {
+        assert_eq!(rt; (entry.name(), entry.length()), *want);
+    }
 }
 
 #[test]
-fn names(rt: HostRuntime) -> Result<(), Fail> {
-    let program = Name::parse(b"PROG.PA").ok_or("a name")?;
-    assert_eq!(rt; program.words(), words([0o2022, 0o1707, 0o0000, 0o2001]));
-    assert_eq!(rt; Name::of(words([0o2022, 0o1707, 0o0000, 0o2001])), program);
-    let longest = Name::parse(b"ABC789.Z0").ok_or("a name")?;
-    assert_eq!(rt; longest.words(), words([0o0102, 0o0367, 0o7071, 0o3260]));
-    let single = Name::parse(b"A").ok_or("a name")?;
-    assert_eq!(rt; single.words(), words([0o0100, 0, 0, 0]));
-    let digit = Name::parse(b"7.P").ok_or("a name")?;
-    assert_eq!(rt; digit.words(), words([0o6700, 0, 0, 0o2000]));
-    assert!(rt; single < program);
-    assert!(rt; program < digit);
-    Ok(())
+fn names(rt: HostRuntime) {
+    for (text, want) in [
+        ("PROG.PA", [0o2022, 0o1707, 0o0000, 0o2001]),
+        ("ABC789.Z0", [0o0102, 0o0367, 0o7071, 0o3260]),
+        ("A", [0o0100, 0, 0, 0]),
+        ("7.P", [0o6700, 0, 0, 0o2000]),
+    ] {
+        let name = Name::parse(text.as_bytes());
+        assert_eq!(rt; name.map(Name::words), Some(words(want)), "{text}");
+        assert_eq!(rt; name, Some(Name::of(words(want))), "{text}");
+    }
+    let [single, program, digit] = [&b"A"[..], b"PROG.PA", b"7.P"].map(Name::parse);
+    assert!(rt; single < program && program < digit);
 }
 
 #[test]
 fn no_names(rt: HostRuntime) {
-    assert_eq!(rt; Name::parse(b""), None);
-    assert_eq!(rt; Name::parse(b"TOOLONGX"), None);
-    assert_eq!(rt; Name::parse(b"SEVENCH.PA"), None);
-    assert_eq!(rt; Name::parse(b"A."), None);
-    assert_eq!(rt; Name::parse(b".PA"), None);
-    assert_eq!(rt; Name::parse(b"A.PAL"), None);
-    assert_eq!(rt; Name::parse(b"A.B.C"), None);
-    assert_eq!(rt; Name::parse(b"a"), None);
-    assert_eq!(rt; Name::parse(b"A B"), None);
-    assert_eq!(rt; Name::parse(b"A-B.PA"), None);
+    let texts: [&[u8]; 10] = [
+        b"",
+        b"TOOLONGX",
+        b"SEVENCH.PA",
+        b"A.",
+        b".PA",
+        b"A.PAL",
+        b"A.B.C",
+        b"a",
+        b"A B",
+        b"A-B.PA",
+    ];
+    assert_eq!(rt; texts.map(Name::parse), [None; 10]);
 }
 
 #[test]
-fn empty_volume(rt: HostRuntime) -> Result<(), Fail> {
-    let directory = read(rt.alloc(), 20, &[&changed(0, 0o7777)])?;
-    assert_eq!(rt; directory.first_block(), 7);
-    assert_eq!(rt; directory.information_words(), 1);
-    assert_eq!(rt; directory.capacity(), 13);
-    assert_eq!(rt; directory.largest(), 13);
-    assert_eq!(rt; directory.free(), 13);
-    assert_eq!(rt; directory.limit(), 246);
-    assert_eq!(rt; directory.find(&Name::of(words([0o0100, 0, 0, 0]))), None);
-    assert_eq!(rt; directory.entries().len(), 1);
-    let none = read(rt.alloc(), 20, &[&changed(0, 0)])?;
-    assert_eq!(rt; none.capacity(), 0);
-    assert_eq!(rt; none.largest(), 0);
-    assert_eq!(rt; none.free(), 0);
-    Ok(())
+fn sound_volumes(rt: HostRuntime) {
+    for ((blocks, segments), wanted_counts, wanted_places) in SOUND {
+        let said = read(rt.alloc(), blocks, segments).map(|directory| (
+            counts(&directory),
+            places(&directory),
+        ));
+        assert_eq!(rt; said, Ok((wanted_counts, wanted_places)), "{segments:?}");
+    }
+}
+
+#[test]
+fn faults(rt: HostRuntime) {
+    for ((blocks, segments), want) in FAULTS {
+        assert_eq!(rt; fault(rt.alloc(), blocks, segments), want, "{segments:?}");
+    }
+}
+
+#[test]
+fn word_behind_the_last_entry(rt: HostRuntime) {
+    let mut full = [0u16; 256];
+    full[0] = 4096 - 126;
+    full[1] = 7;
+    full[255] = 1;
+    assert_eq!(rt;
+        fault(rt.alloc(), 20, &[&full]),
+        Some(DirFault::EntryPastSegment)
+    );
 }
 
 #[test]
@@ -90,182 +359,16 @@ fn one_file(rt: HostRuntime) -> Result<(), Fail> {
         0o7776, 0o0007, 0, 0, 0o7777, 0o0100, 0, 0, 0, 0o1234, 0o7777, 0, 0o7764,
     ];
     let directory = read(rt.alloc(), 20, &[&block])?;
-    let name = Name::parse(b"A").ok_or("a name")?;
-    assert_eq!(rt; directory.find(&name), Some((7, 1)));
-    assert_eq!(rt; directory.largest(), 12);
-    assert_eq!(rt; directory.free(), 12);
-    assert_eq!(rt; directory.capacity(), 13);
-    assert_eq!(rt; directory.entries().len(), 2);
-    for (entry, (found, length)) in directory
-        .entries()
-        .iter()
-        .zip([(Some(name), 1), (None, 12)])
-    {
-        assert_eq!(rt; entry.name(), found);
-        assert_eq!(rt; entry.length(), length);
-    }
-    match directory.entries().first() {
-        Some(
-            DirEntry::File {
-                name: found,
-                info,
-                length,
-            },
-        ) => {
-            assert_eq!(rt; *found, name);
-            assert_eq!(rt; info[0], Word::low(0o1234));
-            assert_eq!(rt; info[1], Word::ZERO);
-            assert_eq!(rt; *length, 1);
-        }
-        _ => assert!(rt; false, "a file comes first"),
-    }
-    Ok(())
-}
-
-#[test]
-fn faults_of_the_first_segment(rt: HostRuntime) {
-    let alloc = rt.alloc();
-    assert_eq!(rt;
-        fault(alloc, 20, &[&changed(2, 1)]),
-        Some(DirFault::BadLink(1))
-    );
-    assert_eq!(rt;
-        fault(alloc, 20, &[&changed(4, 0o7765)]),
-        Some(DirFault::BadCount(1))
-    );
-    assert_eq!(rt;
-        fault(alloc, 20, &[&changed(1, 6)]),
-        Some(DirFault::WrongFirstBlock)
-    );
-    assert_eq!(rt;
-        fault(alloc, 20, &[&changed(1, 0o25)]),
-        Some(DirFault::WrongFirstBlock)
-    );
-    assert_eq!(rt;
-        fault(alloc, 20, &[&changed(6, 0o7762)]),
-        Some(DirFault::PastVolume)
-    );
-    assert_eq!(rt;
-        fault(alloc, 20, &[&changed(0, 1)]),
-        Some(DirFault::EntryPastSegment)
-    );
-    assert_eq!(rt;
-        fault(alloc, 20, &[&changed(2, 7)]),
-        Some(DirFault::BadLink(1))
-    );
-    assert_eq!(rt;
-        fault(alloc, 20, &[&changed(2, 0o4001)]),
-        Some(DirFault::BadLink(1))
-    );
-    let twice = [
-        0o7775, 0o0007, 0, 0, 0o7777, 0o0100, 0, 0, 0, 0, 0o7777, 0o0100, 0, 0, 0, 0, 0o7777, 0,
-        0o7765,
-    ];
-    assert_eq!(rt; fault(alloc, 20, &[&twice]), Some(DirFault::SameName));
-    assert_eq!(rt; fault(alloc, 8, &[]), Some(DirFault::WrongFirstBlock));
-}
-
-#[test]
-fn faults_of_later_segments(rt: HostRuntime) {
-    let alloc = rt.alloc();
-    let first = changed(2, 2);
-    let empty = [0, 0o24, 0, 0, 0o7777];
-    assert_eq!(rt; fault(alloc, 20, &[&first]), Some(DirFault::MixedInfo));
-    assert_eq!(rt; fault(alloc, 20, &[&first, &empty]), None);
-    assert_eq!(rt;
-        fault(alloc, 20, &[&first, &[0, 0o24, 1, 0, 0o7777]]),
-        Some(DirFault::BadLink(2))
-    );
-    assert_eq!(rt;
-        fault(alloc, 20, &[&first, &[0, 0o24, 2, 0, 0o7777]]),
-        Some(DirFault::BadLink(2))
-    );
-    assert_eq!(rt;
-        fault(alloc, 20, &[&first, &[0, 0o23, 0, 0, 0o7777]]),
-        Some(DirFault::WrongFirstBlock)
-    );
-    assert_eq!(rt;
-        fault(alloc, 20, &[&first, &[0, 0o24, 0, 0, 0o7776]]),
-        Some(DirFault::MixedInfo)
-    );
-    assert_eq!(rt;
-        fault(alloc, 20, &[&first, &[0, 0o23, 9, 0, 0o7700]]),
-        Some(DirFault::BadCount(2))
-    );
-    assert_eq!(rt;
-        fault(
-            alloc,
-            20,
-            &[&first, &[0o7777, 0o24, 0, 0, 0o7777, 0, 0o7777]]
-        ),
-        Some(DirFault::PastVolume)
-    );
-    let third = [0, 0o24, 2, 0, 0o7777];
-    assert_eq!(rt; fault(alloc, 20, &[&changed(2, 3), &empty, &third]), None);
-    assert_eq!(rt;
-        fault(
-            alloc,
-            20,
-            &[&changed(2, 3), &[0, 0o24, 3, 0, 0o7777], &third]
-        ),
-        Some(DirFault::BadLink(2))
-    );
-}
-
-#[test]
-fn six_segments(rt: HostRuntime) -> Result<(), Fail> {
-    let file = |number: u16, from: u16, link: u16| [
-        0o7777, from, link, 0, 0, number, 0, 0, 0, 0o7776,
-    ];
-    let alloc = rt.alloc();
-    let one = file(0o0100, 7, 6);
-    let six = file(0o0600, 9, 2);
-    let two = file(0o0200, 11, 5);
-    let five = file(0o0500, 13, 3);
-    let three = file(0o0300, 15, 4);
-    let four = file(0o0400, 17, 0);
-    let directory = read(alloc, 19, &[&one, &two, &three, &four, &five, &six])?;
-    assert_eq!(rt; directory.capacity(), 12);
-    assert_eq!(rt; directory.limit(), 300);
-    assert_eq!(rt; directory.information_words(), 0);
-    assert_eq!(rt; directory.largest(), 0);
-    assert_eq!(rt;
-        directory.find(&Name::of(words([0o0300, 0, 0, 0]))),
-        Some((15, 2))
-    );
-    assert_eq!(rt;
-        directory.find(&Name::of(words([0o0600, 0, 0, 0]))),
-        Some((9, 2))
-    );
-    let four = file(0o0400, 17, 1);
-    assert_eq!(rt;
-        fault(alloc, 19, &[&one, &two, &three, &four, &five, &six]),
-        Some(DirFault::BadLink(4))
-    );
-    let four = file(0o0200, 17, 1);
-    assert_eq!(rt;
-        fault(alloc, 19, &[&one, &two, &three, &four, &five, &six]),
-        Some(DirFault::SameName)
-    );
-    Ok(())
-}
-
-#[test]
-fn odd_link_order(rt: HostRuntime) -> Result<(), Fail> {
-    let one = [0o7777, 0o0007, 5, 0o1111, 0o7777, 0, 0o7776];
-    let three = [0o7777, 0o0014, 0, 0, 0o7777, 0, 0o7775];
-    let five = [
-        0o7777, 0o0011, 3, 0o4000, 0o7777, 0o0100, 0, 0, 0, 0, 0o7775, 0o1234,
-    ];
-    let directory = read(rt.alloc(), 20, &[&one, &[], &three, &[], &five])?;
-    assert_eq!(rt;
-        directory.find(&Name::of(words([0o0100, 0, 0, 0]))),
-        Some((9, 3))
-    );
-    assert_eq!(rt; directory.capacity(), 8);
-    assert_eq!(rt; directory.largest(), 3);
-    assert_eq!(rt; directory.free(), 5);
-    assert_eq!(rt; directory.entries().len(), 3);
+    let name = Name::of(words([0o0100, 0, 0, 0]));
+    check_entries(&rt, &directory, &[(Some(name), 1), (None, 12)]);
+    let mut info = [Word::ZERO; 10];
+    info[0] = Word::low(0o1234);
+    let file = DirEntry::File {
+        name,
+        info,
+        length: 1,
+    };
+    assert_eq!(rt; directory.entries().first(), Some(&file));
     Ok(())
 }
 
@@ -284,91 +387,45 @@ fn information_words(rt: HostRuntime) -> Result<(), Fail> {
         block[1] = 7;
         block[4] = ((4096 - count) % 4096) as u16;
         block[5] = 0o0100;
+        let mut info = [0u16; 10];
         for k in 0..count {
-            block[9 + k] = 0o7000 + k as u16;
+            info[k] = 0o7000 + k as u16;
+            block[9 + k] = info[k];
         }
         block[9 + count] = 0o7777;
         let directory = read(rt.alloc(), 20, &[&block])?;
-        assert_eq!(rt; directory.information_words(), count);
-        assert_eq!(rt; directory.limit(), limit);
-        match directory.entries().first() {
-            Some(DirEntry::File { info, .. }) => {
-                for k in 0..10 {
-                    let want = if k < count { 0o7000 + k as u16 } else { 0 };
-                    assert_eq!(rt; info[k].get(), want, "word {k} of {count}");
-                }
-            }
-            _ => assert!(rt; false, "a file comes first"),
-        }
+        assert_eq!(rt;
+            (directory.information_words(), directory.limit()),
+            (count, limit)
+        );
+        assert_eq!(rt; information(&directory, 0), Some(info), "of {count}");
     }
     Ok(())
 }
 
-#[test]
-fn first_blocks(rt: HostRuntime) -> Result<(), Fail> {
-    let alloc = rt.alloc();
-    let later = read(alloc, 20, &[&[0o7777, 0o0020, 0, 0, 0o7777, 0, 0o7776]])?;
-    assert_eq!(rt; later.first_block(), 16);
-    assert_eq!(rt; later.capacity(), 2);
-    let behind = read(alloc, 20, &[&[0, 0o0024, 0, 0, 0o7777]])?;
-    assert_eq!(rt; behind.first_block(), 20);
-    assert_eq!(rt; behind.capacity(), 0);
-    let last = [0o7777, 0o0007, 0, 0, 0o7777, 0, 0o0010];
-    assert_eq!(rt; fault(alloc, 4095, &[&last]), None);
-    assert_eq!(rt; fault(alloc, 4094, &[&last]), Some(DirFault::PastVolume));
-    Ok(())
-}
-
-#[test]
-fn entries_of_no_blocks(rt: HostRuntime) -> Result<(), Fail> {
-    let alloc = rt.alloc();
-    let block = [
-        0o7771, 7, 0, 0, 0, 0, 0o7776, 0, 0o7775, 0o0100, 0, 0, 0, 0, 0, 0o7775, 0o0100, 0, 0, 0,
-        0o7776, 0o0100, 0, 0, 0, 0, 0, 0,
-    ];
-    let directory = read(alloc, 20, &[&block])?;
-    assert_eq!(rt; directory.entries().len(), 2);
-    assert_eq!(rt;
-        directory.find(&Name::of(words([0o0100, 0, 0, 0]))),
-        Some((15, 2))
-    );
-    assert_eq!(rt; directory.largest(), 8);
-    assert_eq!(rt; directory.capacity(), 10);
-    let mut full = [0u16; 256];
-    full[0] = (4096 - 125) as u16;
-    full[1] = 7;
-    assert_eq!(rt; fault(alloc, 20, &[&full]), None);
-    full[0] -= 1;
-    assert_eq!(rt;
-        fault(alloc, 20, &[&full]),
-        Some(DirFault::EntryPastSegment)
-    );
-    full[255] = 1;
-    assert_eq!(rt;
-        fault(alloc, 20, &[&full]),
-        Some(DirFault::EntryPastSegment)
-    );
-    Ok(())
-}
-
-#[test]
-fn failing_reads(rt: HostRuntime) -> Result<(), Fail> {
+/// The fault of a directory of three segments where one read fails, and how many reads were made.
+fn failing_read(alloc: Global, fails: u64) -> Option<(Option<DirFault>, u64)> {
     let one = [0o7777, 0o0007, 5, 0, 0o7777, 0, 0o7776];
     let three = [0o7777, 0o0014, 0, 0, 0o7777, 0, 0o7775];
     let five = [0o7777, 0o0011, 3, 0, 0o7777, 0o0100, 0, 0, 0, 0, 0o7775];
-    for fails in 0..4 {
-        let mut store = store_of(rt.alloc(), 20, &[&one, &[], &three, &[], &five])?;
-        store.fail_at(fails);
-        let directory = Directory::read(rt.alloc(), &mut store);
-        let want = if fails < 3 {
-            Some(DirFault::Device)
-        } else {
-            None
-        };
-        assert_eq!(rt; directory.err(), want);
-        assert_eq!(rt; store.count(), if fails < 3 { fails + 1 } else { 3 });
-    }
-    Ok(())
+    let mut store = store_of(alloc, 20, &[&one, &[], &three, &[], &five]).ok()?;
+    store.fail_at(fails);
+    let fault = Directory::read(alloc, &mut store).err();
+    Some((fault, store.count()))
+}
+
+#[test]
+fn failing_reads(rt: HostRuntime) {
+    let device = Some(DirFault::Device);
+    assert_eq!(rt;
+        [0, 1, 2, 3].map(|fails| failing_read(rt.alloc(), fails)),
+        [
+            Some((device, 1)),
+            Some((device, 2)),
+            Some((device, 3)),
+            Some((None, 3))
+        ]
+    );
 }
 
 #[test]

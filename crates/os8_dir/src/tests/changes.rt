@@ -1,6 +1,6 @@
 use super::steps::{move_lowest, place, remove};
-use super::{changed, read, words};
-use crate::{DirEntry, DirFault, Directory, Name};
+use super::{EMPTY, check_entries, information, read, words};
+use crate::{DirFault, Directory, Name};
 use std::alloc::Global;
 use std::process::Abort;
 use std::test::Fail;
@@ -13,60 +13,70 @@ fn named(digit: u8) -> Name {
 
 /// A fresh volume of 20 blocks on which six files of two blocks were placed.
 fn six_files(alloc: Global) -> Result<Directory, DirFault> {
-    let mut directory = read(alloc, 20, &[&changed(0, 0o7777)])?;
+    let mut directory = read(alloc, 20, &[&EMPTY])?;
     for digit in 1..7u8 {
         directory = place(alloc, &directory, named(digit), &[], 2, 0, 2)?;
     }
     Ok(directory)
 }
 
-/// The entries have these names and lengths.
-fn check_entries(rt: &impl Abort, directory: &Directory, wanted: &[(Option<Name>, usize)]) {
-    assert_eq!(rt; directory.entries().len(), wanted.len());
-    for (entry, (name, length)) in directory.entries().iter().zip(wanted) {
-        assert_eq!(rt; entry.name(), *name);
-        assert_eq!(rt; entry.length(), *length);
-    }
+/// The same, from which the second and the fourth file were removed.
+fn four_files(alloc: Global) -> Result<Directory, DirFault> {
+    let directory = remove(alloc, &six_files(alloc)?, named(2))?;
+    remove(alloc, &directory, named(4))
+}
+
+/// The information words of a file that is placed with three of them where the directory has so many.
+fn kept(alloc: Global, count: u16) -> Result<Option<[u16; 10]>, DirFault> {
+    let given = [Word::low(0o1111), Word::low(0o2222), Word::low(0o3333)];
+    let fresh = read(
+        alloc,
+        20,
+        &[&[0o7777, 7, 0, 0, (4096 - count % 4096) % 4096, 0, 0o7763]],
+    )?;
+    let directory = place(alloc, &fresh, named(1), &given, 0, 1, 3)?;
+    Ok(information(&directory, 1))
 }
 
 #[test]
 fn rooms_of_two_removed_files(rt: HostRuntime) -> Result<(), Fail> {
-    let alloc = rt.alloc();
-    let mut directory = six_files(alloc)?;
-    assert_eq!(rt; directory.free(), 1);
-    assert_eq!(rt; directory.find(&named(6)), Some((17, 2)));
-    directory = remove(alloc, &directory, named(2))?;
-    directory = remove(alloc, &directory, named(4))?;
-    assert_eq!(rt; directory.find(&named(2)), None);
-    assert_eq!(rt; directory.find(&named(3)), Some((11, 2)));
-    assert_eq!(rt; directory.free(), 5);
-    assert_eq!(rt; directory.largest(), 2);
-    assert_eq!(rt; directory.fitting(5), None);
-    assert_eq!(rt; directory.fitting(3), None);
-    assert_eq!(rt; directory.fitting(2), Some((9, 2)));
-    assert_eq!(rt; directory.fitting(1), Some((19, 1)));
-    assert_eq!(rt; directory.fitting(0), Some((9, 2)));
+    let six = six_files(rt.alloc())?;
+    assert_eq!(rt; (six.free(), six.find(&named(6))), (1, Some((17, 2))));
+    let four = four_files(rt.alloc())?;
+    assert_eq!(rt;
+        [2, 3].map(|digit| four.find(&named(digit))),
+        [None, Some((11, 2))]
+    );
+    assert_eq!(rt; (four.free(), four.largest()), (5, 2));
+    assert_eq!(rt;
+        [5, 3, 2, 1, 0].map(|wish| four.fitting(wish)),
+        [None, None, Some((9, 2)), Some((19, 1)), Some((9, 2))]
+    );
     Ok(())
 }
 
 #[test]
 fn squeezed_files(rt: HostRuntime) -> Result<(), Fail> {
     let alloc = rt.alloc();
-    let mut directory = six_files(alloc)?;
-    directory = remove(alloc, &directory, named(2))?;
-    directory = remove(alloc, &directory, named(4))?;
-    for (digit, gap, place) in [(3, 2, 9), (5, 4, 11), (6, 4, 13)] {
-        assert_eq!(rt; directory.lowest_above(), Some((named(digit), gap)));
+    let mut directory = four_files(alloc)?;
+    for (digit, gap, first) in [(3, 2, 9), (5, 4, 11), (6, 4, 13)] {
+        let lowest = directory.lowest_above();
         directory = move_lowest(alloc, &directory)?;
-        assert_eq!(rt; directory.find(&named(digit)), Some((place, 2)));
+        assert_eq!(rt;
+            (lowest, directory.find(&named(digit))),
+            (Some((named(digit), gap)), Some((first, 2)))
+        );
     }
-    assert_eq!(rt; directory.lowest_above(), None);
-    assert_eq!(rt; directory.fitting(5), Some((15, 5)));
+    assert_eq!(rt;
+        (directory.lowest_above(), directory.fitting(5)),
+        (None, Some((15, 5)))
+    );
     assert_eq!(rt; directory.entries().len(), 5);
     let full = place(alloc, &directory, named(7), &[], 5, 0, 5)?;
-    assert_eq!(rt; full.free(), 0);
-    assert_eq!(rt; full.largest(), 0);
-    assert_eq!(rt; full.fitting(0), None);
+    assert_eq!(rt;
+        (full.free(), full.largest(), full.fitting(0)),
+        (0, 0, None)
+    );
     check_entries(
         &rt,
         &full,
@@ -84,7 +94,7 @@ fn squeezed_files(rt: HostRuntime) -> Result<(), Fail> {
 #[test]
 fn older_file_goes(rt: HostRuntime) -> Result<(), Fail> {
     let alloc = rt.alloc();
-    let fresh = read(alloc, 20, &[&changed(0, 0o7777)])?;
+    let fresh = read(alloc, 20, &[&EMPTY])?;
     let one = place(alloc, &fresh, named(1), &[Word::low(0o1234)], 0, 0, 1)?;
     assert_eq!(rt; fresh.find(&named(1)), None);
     assert_eq!(rt; one.find(&named(1)), Some((7, 1)));
@@ -102,25 +112,14 @@ fn older_file_goes(rt: HostRuntime) -> Result<(), Fail> {
 }
 
 #[test]
-fn information_words_are_kept(rt: HostRuntime) -> Result<(), Fail> {
-    let alloc = rt.alloc();
-    let given = [Word::low(0o1111), Word::low(0o2222), Word::low(0o3333)];
-    for (count, kept) in [(0u16, 0usize), (1, 1), (3, 3), (10, 3)] {
-        let fresh = read(alloc, 20, &[&changed(4, (4096 - count) % 4096)])?;
-        let directory = place(alloc, &fresh, named(1), &given, 0, 1, 3)?;
-        match directory.entries().get(1) {
-            Some(DirEntry::File { info, .. }) => {
-                for k in 0..10 {
-                    let want = if k < kept && k < 3 {
-                        given[k]
-                    } else {
-                        Word::ZERO
-                    };
-                    assert_eq!(rt; info[k], want, "word {k} of {count}");
-                }
-            }
-            _ => assert!(rt; false, "a file comes second"),
-        }
+fn information_words_are_kept(rt: HostRuntime) {
+    let three = [0o1111, 0o2222, 0o3333, 0, 0, 0, 0, 0, 0, 0];
+    for (count, want) in [
+        (0, [0; 10]),
+        (1, [0o1111, 0, 0, 0, 0, 0, 0, 0, 0, 0]),
+        (3, three),
+        (10, three),
+    ] {
+        assert_eq!(rt; kept(rt.alloc(), count), Ok(Some(want)), "{count} words");
     }
-    Ok(())
 }

@@ -68,7 +68,7 @@ impl BlockStore for TestStore {
 }
 
 /// A block that begins with these words.
-fn block_of(words: &[u16]) -> [Word; 256] {
+pub fn block_of(words: &[u16]) -> [Word; 256] {
     let mut block = [Word::ZERO; 256];
     for (at, word) in words.iter().enumerate() {
         if at < 256 {
