@@ -16,11 +16,12 @@ struct Observed {
     outcome: Result<(), TapeFault>,
 }
 
-fn observe(alloc: Global, frames: &[u8]) -> Result<Observed, AllocError> {
+/// What a reader says of the frames and of those behind them.
+fn observe(alloc: Global, frames: &[u8], behind: &[u8]) -> Result<Observed, AllocError> {
     let mut words = Vec::new(alloc);
     let mut ends = 0usize;
     let mut reader = TapeReader::new();
-    for frame in frames {
+    for frame in frames.iter().chain(behind) {
         if let Ok(tape) = reader.push(*frame) {
             if let Some(word) = tape.word() {
                 words.push((word.0.index(), word.1.get()))?;
@@ -38,6 +39,15 @@ fn observe(alloc: Global, frames: &[u8]) -> Result<Observed, AllocError> {
     })
 }
 
+/// What a reader says at the end of the frames and of those behind them.
+fn outcome(frames: &[u8], behind: &[u8]) -> Result<(), TapeFault> {
+    let mut reader = TapeReader::new();
+    for frame in frames.iter().chain(behind) {
+        let _ = reader.push(*frame);
+    }
+    reader.end()
+}
+
 const ADD_ONE: [u8; 14] = [
     0o200, 0o102, 0o000, 0o073, 0o000, 0o012, 0o003, 0o074, 0o002, 0o000, 0o007, 0o003, 0o017,
     0o200,
@@ -45,7 +55,7 @@ const ADD_ONE: [u8; 14] = [
 
 #[test]
 fn reads_a_tape(rt: HostRuntime) -> Result<(), Fail> {
-    let got = observe(rt.alloc(), &ADD_ONE)?;
+    let got = observe(rt.alloc(), &ADD_ONE, &[])?;
     let want = [
         (0o200, 0o7300),
         (0o201, 0o1203),
@@ -74,7 +84,7 @@ fn reads_fields_and_wraps(rt: HostRuntime) -> Result<(), Fail> {
         (b"\x80\x42\x00\x01\x02\x80\xff\x01", &[]),
     ];
     for (frames, want) in cases {
-        let got = observe(rt.alloc(), frames)?;
+        let got = observe(rt.alloc(), frames, &[])?;
         assert_eq!(rt; got.words.as_slice(), want);
         assert_eq!(rt; got.outcome, Ok(()));
     }
@@ -84,7 +94,7 @@ fn reads_fields_and_wraps(rt: HostRuntime) -> Result<(), Fail> {
 #[test]
 fn ignores_stretches(rt: HostRuntime) -> Result<(), Fail> {
     let frames = b"\x80\x42\x00\x3b\x00\x0a\x03\xff\x41\xff\x3c\x02\x00\x07\x03\x0f\x80";
-    let got = observe(rt.alloc(), frames)?;
+    let got = observe(rt.alloc(), frames, &[])?;
     assert_eq!(rt; got.words.len(), 4);
     assert_eq!(rt; got.outcome, Ok(()));
     Ok(())
@@ -110,7 +120,7 @@ fn tells_the_first_fault(rt: HostRuntime) -> Result<(), Fail> {
         ),
     ];
     for (frames, want) in cases {
-        let got = observe(rt.alloc(), frames)?;
+        let got = observe(rt.alloc(), frames, &[])?;
         assert_eq!(rt; got.outcome, Err(want), "{frames:?}");
         assert_eq!(rt; got.ends, 0);
     }
@@ -179,40 +189,56 @@ fn reads_what_is_spelled(rt: HostRuntime) -> Result<(), Fail> {
     Ok(())
 }
 
-/// Reads the items as they stand, with their check sum and a trailer, and with another word in its place.
-fn compare(rt: &impl Abort, alloc: Global, items: &[Item]) -> Result<(), Fail> {
-    let words = plain::words(alloc, items)?;
-    let sum = plain::check_sum(items);
-    let mut frames = plain::spelled(alloc, items)?;
-    let length = frames.len() as u64;
-    assert_eq!(rt; observe(alloc, &frames)?.outcome, Err(TapeFault::NoTrailer));
-    if !plain::has_origin(items) {
-        return Ok(());
-    }
+/// The frames of a check sum, and a frame of trailer.
+fn ending(sum: u16) -> [u8; 3] {
+    [(sum / 64 % 64) as u8, (sum % 64) as u8, 0o200]
+}
 
+/// Reads the items' frames with a trailer, and with another word than their check sum before it.
+fn compare_faults(rt: &impl Abort, items: &[Item], frames: &[u8]) {
+    let early = outcome(frames, &[0o200]) == Err(TapeFault::BadFrame(frames.len() as u64));
     let ends_in_word = matches!(items.last(), Some(Item::Word(_)));
-    let mut cut = Vec::from_slice(alloc, &frames)?;
-    cut.push(0o200)?;
-    let early = observe(alloc, &cut)?.outcome;
-    assert_eq!(rt;
-        early == Err(TapeFault::BadFrame(length)),
-        !ends_in_word,
-        "{items:?}"
-    );
-
-    let mut wrong = Vec::from_slice(alloc, &frames)?;
-    let other = (sum % 4096 + 1) % 4096;
-    wrong.extend_from_slice(&[(other / 64) as u8, (other % 64) as u8, 0o200])?;
+    let sum = plain::check_sum(items) % 4096;
+    let other = (sum + 1) % 4096;
     let fault = TapeFault::CheckSum {
         found: Word::low(other),
         computed: Word::low(sum),
     };
-    assert_eq!(rt; observe(alloc, &wrong)?.outcome, Err(fault), "{items:?}");
+    assert_eq!(rt;
+        (early, outcome(frames, &ending(other))),
+        (!ends_in_word, Err(fault)),
+        "{items:?}"
+    );
+}
 
-    let sum = sum % 4096;
-    frames.extend_from_slice(&[(sum / 64) as u8, (sum % 64) as u8, 0o200])?;
-    let got = observe(alloc, &frames)?;
-    assert_eq!(rt; got.outcome, Ok(()), "{items:?}");
-    assert_eq!(rt; got.words.as_slice(), words.as_slice(), "{items:?}");
+/// Reads the items' frames with their check sum.
+fn compare_words(
+    rt: &impl Abort,
+    alloc: Global,
+    items: &[Item],
+    frames: &[u8],
+) -> Result<(), AllocError> {
+    let words = plain::words(alloc, items)?;
+    let got = observe(alloc, frames, &ending(plain::check_sum(items)))?;
+    assert_eq!(rt;
+        (got.words.as_slice(), got.outcome),
+        (words.as_slice(), Ok(())),
+        "{items:?}"
+    );
+    Ok(())
+}
+
+/// Reads the items as they stand, and then with what may follow them.
+fn compare(rt: &impl Abort, alloc: Global, items: &[Item]) -> Result<(), AllocError> {
+    let frames = plain::spelled(alloc, items)?;
+    assert_eq!(rt;
+        outcome(&frames, &[]),
+        Err(TapeFault::NoTrailer),
+        "{items:?}"
+    );
+    if plain::has_origin(items) {
+        compare_faults(rt, items, &frames);
+        compare_words(rt, alloc, items, &frames)?;
+    }
     Ok(())
 }

@@ -119,7 +119,7 @@ fn reads_what_is_written(rt: HostRuntime) -> Result<(), Fail> {
 /// Writes the pairs, and reads them back.
 fn compare(rt: &impl Abort, alloc: Global, pairs: &[(u16, u16)]) -> Result<(), Fail> {
     let frames = written(alloc, pairs)?;
-    let got = observe(alloc, &frames)?;
+    let got = observe(alloc, &frames, &[])?;
     assert_eq!(rt; got.outcome, Ok(()), "{pairs:?}");
     assert_eq!(rt; got.ends, 1);
     let mut want = Vec::new(alloc);
