@@ -111,9 +111,10 @@ fn refusals_in_order(rt: HostRuntime) -> Result<(), Fail> {
         refused_while_writing(alloc, &mut files, a, b),
         [Some(FileFault::BadName), open, open, open]
     );
+    let empty = [(Store(a, 13, 0, 0), Some(FileFault::NothingWritten))];
+    assert_eq!(rt; first_wrong(alloc, &mut files, &empty), None);
+    assert_eq!(rt; files.lookup(&a), None);
     let changes = [
-        (Store(a, 13, 0, 0), Some(FileFault::NothingWritten)),
-        (Delete(a), Some(FileFault::NotFound)),
         (Store(a, 0, 14, 0), Some(FileFault::TooLong)),
         (Store(a, 0, 13, 0), None),
         (Store(a, 1, 1, 0), Some(FileFault::NoRoom(0))),
@@ -158,10 +159,10 @@ fn full_list(rt: HostRuntime) -> Result<(), Fail> {
     let changes = [
         (Store(numbered(246), 1, 1, 0), full),
         (Store(numbered(1), 1, 1, 0), full),
-        (Delete(numbered(246)), Some(FileFault::NotFound)),
     ];
     assert_eq!(rt; first_wrong(alloc, &mut files, &changes), None);
     assert_eq!(rt; first_word(&mut files, numbered(1), 0), Ok(Word::low(1)));
+    assert_eq!(rt; files.lookup(&numbered(246)), None);
     assert_eq!(rt; files.free(), 48);
     Ok(())
 }

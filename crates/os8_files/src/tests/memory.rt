@@ -71,16 +71,20 @@ fn asked_again(
     (again, is_same && has_words)
 }
 
-/// What a listing and a delete of a file that is held come to, where no memory is refused.
+/// Whether the listing is one file of two blocks, and what its delete is refused as while it is held; each is the refusal
+/// where memory is refused.
 fn told_while_held(
     alloc: Global,
     files: &mut FileService<MemoryVolume>,
     name: Name,
 ) -> (
-    Result<usize, FileFault>,
+    Result<bool, FileFault>,
     Result<Option<FileFault>, FileFault>,
 ) {
-    let listed = files.listing(alloc).map(|list| list.len());
+    let listed = match files.listing(alloc) {
+        Ok(list) => Ok(list.as_slice() == [(name, 2)].as_slice()),
+        Err(fault) => Err(fault),
+    };
     match files.hold(&name) {
         Ok(hold) => {
             let deleted = files.delete(alloc, &name).err();
@@ -107,7 +111,7 @@ fn refused_memory(rt: HostRuntime) -> Result<(), Fail> {
     }
     let (listed, deleted) = told_while_held(alloc, &mut files, b);
     let refused = FileFault::Memory;
-    assert!(rt; listed == Ok(1) || listed == Err(refused));
+    assert!(rt; listed == Ok(true) || listed == Err(refused));
     assert!(rt; deleted == Ok(Some(FileFault::Busy(b))) || deleted == Err(refused));
     assert_eq!(rt; told(&files, a, b), (None, Some(2), 11));
     assert_eq!(rt; first_word(&mut files, b, 1), Ok(Word::low(3)));
