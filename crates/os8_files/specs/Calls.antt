@@ -292,7 +292,7 @@ abbrev pub counted_more : ℕ → ℕ → ℕ
 counted_more zero count = count
 counted_more (suc k) count = counted (counted_more k count)
 
--- the lowest file with an empty directly below it lies lower by that empty; each of its blocks is read once, and the files
+-- the lowest file with an empty directly below it lies lower by that empty, with one read for each of its blocks; the files
 -- are the same
 pub record HasMoved (old : Mounted) (name : ℕ) (new : Mounted) : Type 0 where
   pub ready : IsReady old

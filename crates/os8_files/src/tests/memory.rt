@@ -1,9 +1,9 @@
 //! Calls that are made again where memory was refused. With ample memory none is; `rt try --test --fail-alloc N` refuses the
 //! Nth growth, and each call that is refused for it must have changed nothing.
 use super::name_of;
-use crate::tests::steps::Change::{Delete, Squeeze, Store};
+use crate::tests::steps::Change::{Delete, Store};
 use crate::tests::steps::{Change, first_word, refusal};
-use crate::{FileFault, FileService};
+use crate::{FileFault, FileService, Squeezed};
 use os8_dir::{DirFault, Name};
 use std::alloc::Global;
 use std::process::Abort;
@@ -71,18 +71,19 @@ fn asked_again(
     (again, is_same && has_words)
 }
 
-/// Whether the listing is one file of two blocks, and what its delete is refused as while it is held; each is the refusal
-/// where memory is refused.
+/// Whether the listing is as wanted, and what the delete of a file is refused as while it is held; each is the refusal where
+/// memory is refused.
 fn told_while_held(
     alloc: Global,
     files: &mut FileService<MemoryVolume>,
     name: Name,
+    wanted: &[(Name, usize)],
 ) -> (
     Result<bool, FileFault>,
     Result<Option<FileFault>, FileFault>,
 ) {
     let listed = match files.listing(alloc) {
-        Ok(list) => Ok(list.as_slice() == [(name, 2)].as_slice()),
+        Ok(list) => Ok(list.as_slice() == wanted),
         Err(fault) => Err(fault),
     };
     match files.hold(&name) {
@@ -103,16 +104,26 @@ fn refused_memory(rt: HostRuntime) -> Result<(), Fail> {
     for (change, want) in [
         (Store(a, 1, 1, 1), (Some(1), None, 12)),
         (Store(b, 2, 2, 2), (Some(1), Some(2), 10)),
-        (Delete(a), (None, Some(2), 11)),
-        (Squeeze, (None, Some(2), 11)),
     ] {
         assert_eq!(rt; asked_again(alloc, &mut files, a, b, change), (None, true));
         assert_eq!(rt; told(&files, a, b), want);
     }
-    let (listed, deleted) = told_while_held(alloc, &mut files, b);
+    let (listed, deleted) = told_while_held(alloc, &mut files, a, &[(a, 1), (b, 2)]);
     let refused = FileFault::Memory;
     assert!(rt; listed == Ok(true) || listed == Err(refused));
-    assert!(rt; deleted == Ok(Some(FileFault::Busy(b))) || deleted == Err(refused));
+    assert!(rt; deleted == Ok(Some(FileFault::Busy(a))) || deleted == Err(refused));
+
+    assert_eq!(rt;
+        asked_again(alloc, &mut files, a, b, Delete(a)),
+        (None, true)
+    );
+    let mut squeezed = files.squeeze_turn(alloc);
+    if squeezed.err() == Some(refused) {
+        assert_eq!(rt; told(&files, a, b), (None, Some(2), 11));
+        assert_eq!(rt; first_word(&mut files, b, 1), Ok(Word::low(3)));
+        squeezed = files.squeeze_turn(alloc);
+    }
+    assert_eq!(rt; squeezed, Ok(Squeezed::Moved(b)));
     assert_eq!(rt; told(&files, a, b), (None, Some(2), 11));
     assert_eq!(rt; first_word(&mut files, b, 1), Ok(Word::low(3)));
     Ok(())
