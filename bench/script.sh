@@ -10,7 +10,9 @@ program=$top/crates/pdp8/out/pdp8
 folder=$(mktemp -d)
 trap 'rm -rf "$folder"' EXIT
 cd "$folder"
-cp "$top/crates/pdp8_run/data/V" V
+"$top/pdp8" create V 20 >/dev/null
+text() { echo "STORE $1 $2"; yes / | head -n "$2"; }
+{ text C.PA 200; text X 0; text A 0; text Y 200; text B 260; printf 'DELETE X\nDELETE Y\n'; } | "$top/pdp8" run V >/dev/null
 "$top/pdp8" create W 8 >/dev/null
 
 # So many bytes of a line over and over.

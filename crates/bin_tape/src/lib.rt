@@ -13,6 +13,3 @@ mod writing;
 pub use faults::TapeFault;
 pub use readers::{Tape, TapeReader};
 pub use writing::write_tape;
-
-#[cfg(test)]
-mod tests;

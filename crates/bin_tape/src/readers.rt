@@ -46,8 +46,8 @@ enum State {
 /// A frame that begins or ends a stretch that is ignored.
 const IGNORE: u8 = 0o377;
 
-/// Reads a tape frame by frame, and takes no memory.
-#[derive(Drop)]
+/// Reads a tape frame by frame, and takes no memory. A copy goes on from where it was made.
+#[derive(Clone, Copy)]
 pub struct TapeReader {
     place: u64,
     ignoring: bool,
@@ -63,6 +63,12 @@ impl Model for TapeReader {
       place = r.place;
       ignoring = r.ignoring;
       state = r.state;
+    } };
+
+    ghost inverse = { λ p. record {
+      place = p.place;
+      ignoring = p.ignoring;
+      state = p.state;
     } };
 }
 

@@ -15,6 +15,3 @@ pub use packing::{pack, pack_blocks};
 pub use reading::{Frames, frame_at, frame_count};
 pub use storing::{character_count, is_storable, store, stored_block_count};
 pub use texts::{CONTROL_Z, Text, text_of};
-
-#[cfg(test)]
-mod tests;

@@ -1,8 +1,9 @@
 -- What a loader was given.
-use Rattle.std.proofs.Common.{◌≡◌, ℕ, inl, inr, Ok, Err, append_assoc, refl, List, [], ◌∷◌, ◌++◌}
+use Rattle.std.proofs.Common.{◌≡◌, ℕ, inl, inr, Some, Ok, Err, append_assoc, refl, subst, List, [], ◌∷◌, ◌++◌}
 use Rattle.bin_tape.specs.Items.{Item}
 use Rattle.bin_tape.specs.Tape.{IsTape}
-use Rattle.bin_tape.specs.Reading.{Answers}
+use Rattle.bin_tape.specs.Handed.{word_in}
+use Rattle.bin_tape.specs.Reading.{Answers, IsGoing}
 use Rattle.bin_tape.specs.declared.readers.Tape.{Tape}
 use Rattle.bin_tape.specs.declared.readers.Tape.TheVariants.{Nothing, Word, End}
 use Rattle.bin_tape.specs.Fault.{Refuses}
@@ -20,6 +21,15 @@ fine longer frames out frame Nothing answer = elim answer [
 ]
 fine longer frames out frame (Word cell word) answer = inr (answer.items, answer.part, answer.is_open)
 fine longer frames out frame End answer = inl (answer.1.items, answer.1.is_tape)
+
+-- a frame that brings a word leaves frames that may go on as a tape, with that word handed out
+pub handed : (frames : List ℕ) (out : List (ℕ × ℕ)) (frame : ℕ) (tape : Tape) (word : ℕ × ℕ) → Answers frames out frame (Ok tape)
+    → word_in tape ≡ Some word → IsGoing (frames ++ frame ∷ []) (out ++ word ∷ [])
+handed frames out frame Nothing word answer brings = cc
+handed frames out frame (Word cell number) word answer brings =
+    let same : (cell, number) ≡ word = cc
+    in subst (λ (w : ℕ × ℕ). IsGoing (frames ++ frame ∷ []) (out ++ w ∷ [])) same answer
+handed frames out frame End word answer brings = cc
 
 -- a refused frame is told, whatever follows
 pub told : (old new : Loading) (frames : List ℕ) (frame : ℕ) (fault : TapeFault) → IsFed new (frames ++ frame ∷ [])

@@ -4,7 +4,7 @@ use Rattle.bin_tape.specs.Frames.{kept}
 use Rattle.bin_tape.specs.Items.{Item, tape_map}
 use Rattle.bin_tape.specs.Tape.{IsTape, IsOpen}
 use Rattle.bin_tape.specs.Fault.{IsFault}
-use Rattle.bin_tape.specs.Reading.{HasRead}
+use Rattle.bin_tape.specs.Reading.{HasRead, IsGoing}
 use Rattle.bin_tape.specs.declared.faults.TapeFault.{TapeFault}
 use Rattle.bin_tape.specs.declared.faults.TapeFault.TheVariants.{BadFrame, NoOrigin, CheckSum, NoTrailer, Memory}
 use Rattle.core_load.specs.Loading.{Loading}
@@ -39,11 +39,15 @@ IsFed loader frames = HasRead loader.reader frames loader.words
 abbrev pub IsFine : List ℕ → Type 0
 IsFine frames = ((items : List Item) × IsTape frames items) ⊎ ((items : List Item) × (part : List ℕ) × IsOpen (kept frames) items part)
 
--- What further frames do to a loader that was given some: a fault is told by the first frame that is refused, and
--- nothing is taken where memory ran out.
+-- the frames may go on as a tape, and the last of them shows one more word to be no check sum
+abbrev pub HandsOut : List ℕ → List (ℕ × ℕ) → Type 0
+HandsOut frames words = (word : ℕ × ℕ) × IsGoing frames (words ++ word ∷ [])
+
+-- What further frames do to a loader that was given some: a fault is told by the first frame that is refused; memory
+-- runs out only where a word is handed out, and then nothing is taken.
 abbrev pub Feeds : List ℕ → List ℕ → Loading → Loading → Result (Unit {0}) TapeFault → Type 0
 Feeds frames more old new (Ok done) = IsFed new (frames ++ more) × IsFine (frames ++ more)
-Feeds frames more old new (Err Memory) = new ≡ old
+Feeds frames more old new (Err Memory) = HandsOut (frames ++ more) old.words × (new ≡ old)
 Feeds frames more old new (Err (BadFrame at)) = IsFed new (frames ++ more) × ((rest : List ℕ) → IsFault (frames ++ more ++ rest) (BadFrame at))
 Feeds frames more old new (Err NoOrigin) = IsFed new (frames ++ more) × ((rest : List ℕ) → IsFault (frames ++ more ++ rest) NoOrigin)
 Feeds frames more old new (Err (CheckSum found computed)) = IsFed new (frames ++ more) × ((rest : List ℕ) → IsFault (frames ++ more ++ rest) (CheckSum found computed))

@@ -6,6 +6,3 @@ mod loaders;
 
 pub use cores::Core;
 pub use loaders::{Loader, load};
-
-#[cfg(test)]
-mod tests;

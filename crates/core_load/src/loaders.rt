@@ -43,19 +43,27 @@ impl Loader {
         }
     }
 
-    /// Takes the next frame. Where memory runs out nothing is taken; another fault is answered for good.
+    /// Takes the next frame. Memory is taken, and can run out, only where the frame shows a word to be no check sum; then
+    /// nothing is taken of the frame. Another fault is answered for good.
     pub fn push(&mut self, frame: u8) -> Result<(), TapeFault>
         ensures { (frames : List ℕ) → IsFed self.old frames → Feeds frames (frame ∷ []) self.old self.new result }
     {
         longer_tape();
-        self.words.reserve(1)?;
+        let before = self.reader;
         match self.reader.push(frame) {
-            Ok(tape) => {
-                if let Some(word) = tape.word() {
-                    self.words.push_reserved(word);
-                }
-                Ok(())
-            }
+            Ok(tape) => match tape.word() {
+                Some(word) => match self.words.reserve(1) {
+                    Ok(()) => {
+                        self.words.push_reserved(word);
+                        Ok(())
+                    }
+                    Err(_) => {
+                        self.reader = before;
+                        Err(TapeFault::Memory)
+                    }
+                },
+                None => Ok(()),
+            },
             Err(fault) => Err(fault),
         }
     }

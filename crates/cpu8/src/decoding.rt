@@ -26,7 +26,7 @@ pub(crate) enum Device {
     Other,
 }
 
-#[inline]
+#[inline(always)]
 pub(crate) fn operation_of(word: u16) -> Operation
     requires { word < 4096 }
     ensures { result ≡ operation_of word }
@@ -43,7 +43,7 @@ pub(crate) fn operation_of(word: u16) -> Operation
     }
 }
 
-#[inline]
+#[inline(always)]
 pub(crate) fn device_of(word: u16) -> Device
     ensures { result ≡ device_of word }
 {

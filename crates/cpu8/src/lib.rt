@@ -12,6 +12,3 @@ mod rotations;
 
 pub use machines::Machine;
 pub use outcomes::Stepped;
-
-#[cfg(test)]
-mod tests;

@@ -1,4 +1,5 @@
-ghost use Rattle.std.specs.Prelude.{◌≡◌, ◌<◌};
+ghost use Rattle.std.specs.Prelude.{◌≡◌, ◌<◌, ◌/◌, None};
+ghost use Rattle.cpu8.specs.declared.outcomes.Stepped.TheVariants.{Ran};
 ghost use Rattle.std.specs.Borrow.{sem};
 ghost use Rattle.cpu8.specs.State.{stopped, started, key_struck, printer_done, is_asking};
 ghost use Rattle.cpu8.specs.Step.{executed, interrupted, step};
@@ -166,7 +167,7 @@ impl Machine {
     }
 
     /// Whether an interrupt comes in place of the next instruction.
-    #[inline]
+    #[inline(always)]
     fn asks(&self) -> bool
         ensures { result ≡ is_asking self.now }
     {
@@ -174,6 +175,7 @@ impl Machine {
     }
 
     /// An interrupt: PC goes to cell 0 of field 0, and the program goes on behind it with interrupts off.
+    #[inline(always)]
     fn interrupt(&mut self)
         ensures { self.new ≡ interrupted self.old }
     {
@@ -186,10 +188,46 @@ impl Machine {
         self.data_field = 0;
     }
 
+    /// An instruction of this word. Each reference to memory is compiled for its five leading bits.
+    #[inline(always)]
+    fn execute(&mut self, word: Word) -> Stepped
+        ensures state { self.new ≡ (executed self.old word).0 }
+        ensures answer { result ≡ (executed self.old word).1 }
+    {
+        match word.get() / 128 {
+            0 => self.refer(leading(0, word)),
+            1 => self.refer(leading(1, word)),
+            2 => self.refer(leading(2, word)),
+            3 => self.refer(leading(3, word)),
+            4 => self.refer(leading(4, word)),
+            5 => self.refer(leading(5, word)),
+            6 => self.refer(leading(6, word)),
+            7 => self.refer(leading(7, word)),
+            8 => self.refer(leading(8, word)),
+            9 => self.refer(leading(9, word)),
+            10 => self.refer(leading(10, word)),
+            11 => self.refer(leading(11, word)),
+            12 => self.refer(leading(12, word)),
+            13 => self.refer(leading(13, word)),
+            14 => self.refer(leading(14, word)),
+            15 => self.refer(leading(15, word)),
+            16 => self.refer(leading(16, word)),
+            17 => self.refer(leading(17, word)),
+            18 => self.refer(leading(18, word)),
+            19 => self.refer(leading(19, word)),
+            20 => self.refer(leading(20, word)),
+            21 => self.refer(leading(21, word)),
+            22 => self.refer(leading(22, word)),
+            23 => self.refer(leading(23, word)),
+            _ => return self.obey(word),
+        }
+        RAN
+    }
+
     /// An instruction of this word.
     #[tactic(auto, unfolding(crate::specs::Step::executed))]
-    #[inline]
-    fn execute(&mut self, word: Word) -> Stepped
+    #[inline(always)]
+    fn obey(&mut self, word: Word) -> Stepped
         ensures state { self.new ≡ (executed self.old word).0 }
         ensures answer { result ≡ (executed self.old word).1 }
     {
@@ -205,4 +243,33 @@ impl Machine {
         }
         RAN
     }
+
+    /// A reference to memory.
+    #[tactic(auto, unfolding(crate::specs::Step::executed))]
+    #[inline(always)]
+    fn refer(&mut self, word: Word)
+        requires { word < 3072 }
+        ensures state { self.new ≡ (executed self.old word).0 }
+        ensures answer { Ran None ≡ (executed self.old word).1 }
+    {
+        match operation_of(word.get()) {
+            Operation::And => self.and(word),
+            Operation::Tad => self.tad(word),
+            Operation::Isz => self.isz(word),
+            Operation::Dca => self.dca(word),
+            Operation::Jms => self.jms(word),
+            Operation::Jmp => self.jmp(word),
+            Operation::Iot => unreachable!(),
+            Operation::Opr => unreachable!(),
+        }
+    }
+}
+
+/// The word, of which the five leading bits are these.
+#[inline(always)]
+fn leading(bits: u16, word: Word) -> Word
+    requires { word / 128 ≡ bits }
+    ensures { result ≡ word }
+{
+    Word::low(128 * bits + word.get() % 128)
 }

@@ -5,7 +5,7 @@ ghost use Rattle.cpu8.specs.Rotation.{thirteen_bits, rotated_left, rotated_right
 ghost use Rattle.cpu8.specs.Operate.{rotated};
 
 /// One place to the left.
-#[inline]
+#[inline(always)]
 fn left(number: u16) -> u16
     requires { number < 8192 }
     ensures bits { thirteen_bits result ≡ rotated_left (thirteen_bits number) }
@@ -15,7 +15,7 @@ fn left(number: u16) -> u16
 }
 
 /// One place to the right.
-#[inline]
+#[inline(always)]
 fn right(number: u16) -> u16
     requires { number < 8192 }
     ensures bits { thirteen_bits result ≡ rotated_right (thirteen_bits number) }
@@ -25,7 +25,7 @@ fn right(number: u16) -> u16
 }
 
 /// The rotation that a word of group 1 names: 0010 to the right, 0004 to the left, with 0002 twice.
-#[inline]
+#[inline(always)]
 pub(crate) fn rotate(word: u16, number: u16) -> u16
     requires { number < 8192 }
     ensures bits { thirteen_bits result ≡ rotated word (thirteen_bits number) }

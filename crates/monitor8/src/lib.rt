@@ -20,6 +20,3 @@ pub use programs::{ProgramLine, put_program};
 pub use script8::SessionFault;
 pub use sessions::{Ran, Session};
 pub use tasks::{plain_words, task};
-
-#[cfg(test)]
-mod tests;

@@ -11,9 +11,6 @@ use clap::error::ErrorKind;
 use clap::{Arg, ArgMatches, Command};
 use std::alloc::{AllocError, Global};
 
-#[cfg(test)]
-mod tests;
-
 /// What the words of a command line ask for, the program's own name first: `tape`, `run IMAGE`, or
 /// `create IMAGE BLOCKS` with 8 to 4095 blocks of 512 bytes (this project's profile). A request for help or the version
 /// comes back as an error of `clap`, as it gives it.

@@ -27,6 +27,3 @@ pub use directory::Directory;
 pub use entries::DirEntry;
 pub use faults::DirFault;
 pub use names::Name;
-
-#[cfg(test)]
-mod tests;

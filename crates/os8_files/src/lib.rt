@@ -18,6 +18,3 @@ mod writing;
 pub use faults::FileFault;
 pub use service::FileService;
 pub use tokens::{Hold, Squeezed, Tentative};
-
-#[cfg(test)]
-mod tests;

@@ -18,6 +18,3 @@ mod words;
 pub use assemblers::Assembler;
 pub use faults::{AsmFault, Code};
 pub use texts::assemble;
-
-#[cfg(test)]
-mod tests;

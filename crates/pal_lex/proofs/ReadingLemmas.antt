@@ -79,7 +79,7 @@ failed_byte l text b (SY line) e h =
 failed_byte l text b (NU line) e h =
     let is = fault_stays text (b ∷ []) (NU line) (has_failed l text (NU line) e h) in (is, has_read l (b ∷ text) (Failed (NU line)) e is)
 failed_byte l text b (NE line) e h = absurd (known_fault text (NE line) (has_failed l text (NE line) e h))
-failed_byte l text b Memory e h = refl
+failed_byte l text b Memory e h = absurd (known_fault text Memory (has_failed l text Memory e h))
 
 pub failed_end : (l : Progress) (text : List ℕ) (fault : LexFault) → l.state ≡ Failed fault → HasRead l text → Ends text (Err fault)
 failed_end l text (IC line) e h = has_failed l text (IC line) e h

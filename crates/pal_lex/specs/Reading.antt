@@ -1,6 +1,6 @@
 -- What a lexer was given, and what it answers.
 use Rattle.std.specs.Prelude.{◌≡◌, ℕ, true, false, length, Option, Some, None, Result, Ok, Err, List, ◌∷◌}
-use Rattle.pal_lex.specs.Text.{in_comment, is_over, stretch, limit, line_after}
+use Rattle.pal_lex.specs.Text.{in_comment, is_dead, is_over, stretch, limit, line_after}
 use Rattle.pal_lex.specs.Drafting.{cut}
 use Rattle.pal_lex.specs.Statements.{statements, radix_after, first_fault}
 use Rattle.pal_lex.specs.Progress.{Progress}
@@ -44,7 +44,7 @@ Answers text b (Err (IC line)) old new = IsFault (b ∷ text) (IC line) × HasRe
 Answers text b (Err (SY line)) old new = IsFault (b ∷ text) (SY line) × HasRead new (b ∷ text)
 Answers text b (Err (NU line)) old new = IsFault (b ∷ text) (NU line) × HasRead new (b ∷ text)
 Answers text b (Err (NE line)) old new = ⊥
-Answers text b (Err Memory) old new = new ≡ old
+Answers text b (Err Memory) old new = (first_fault (statements text) ≡ None) × (is_over text ≡ false) × (is_dead text b ≡ false) × (new ≡ old)
 
 -- What the end of a text is answered.
 abbrev pub Ends : List ℕ → Result (Unit {0}) LexFault → Type 0

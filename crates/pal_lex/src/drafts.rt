@@ -43,6 +43,7 @@ impl Model for Draft {
 }
 
 /// The sign of a byte, beside which a blank means nothing.
+#[inline(always)]
 fn sign_of(byte: u8) -> Option<Kind>
     ensures { result ≡ sign_of byte }
 {
@@ -57,6 +58,7 @@ fn sign_of(byte: u8) -> Option<Kind>
 }
 
 /// Puts a letter or a digit behind the last token, a name or a number.
+#[inline(always)]
 fn lengthen(tokens: &mut [Token], radix: Radix, weight: u32, character: u8, end: u64)
     ensures { (before : List Token) (last : Token) → tokens.old ≡ before ++ last ∷ []
         → tokens.new ≡ before ++ record { kind = grown (base radix) weight character last.kind; start = last.start; end = end } ∷ [] }
@@ -100,6 +102,7 @@ impl Draft {
     }
 
     /// Puts a live byte, at this place, behind the stretch.
+    #[inline(always)]
     pub fn put(&mut self, radix: Radix, byte: u8, place: u64) -> Result<(), AllocError>
         ensures refused { OnErr result (self.new ≡ self.old) }
         ensures put { (live : List (ℕ × ℕ)) (at : ℕ) → place ≡ limit at → self.old ≡ cut radix live
@@ -123,6 +126,7 @@ impl Draft {
     }
 
     /// Puts a token behind the others, and a blank before it where one is pending.
+    #[inline(never)]
     fn add(&mut self, token: Token, tail: Tail) -> Result<(), AllocError>
         ensures refused { OnErr result (self.new ≡ self.old) }
         ensures added { OnOk result (self.new ≡ record {
@@ -144,6 +148,7 @@ impl Draft {
         Ok(())
     }
 
+    #[inline(always)]
     fn put_character(&mut self, radix: Radix, byte: u8, place: u64) -> Result<(), AllocError>
         requires { is_coded byte ≡ true }
         ensures refused { OnErr result (self.new ≡ self.old) }
@@ -164,6 +169,7 @@ impl Draft {
         self.add(token, Tail::Run(16777216))
     }
 
+    #[inline(always)]
     fn put_blank(&mut self, place: u64)
         ensures { (base : ℕ) (illegal : Bool) (before : List Piece) (at : ℕ) → place ≡ limit at → self.old ≡ cut_of base illegal before
             → self.new ≡ cut_of base illegal (with_blank at before) }
@@ -176,6 +182,7 @@ impl Draft {
         }
     }
 
+    #[inline(always)]
     fn put_dot(&mut self, place: u64) -> Result<(), AllocError>
         ensures refused { OnErr result (self.new ≡ self.old) }
         ensures put { (base : ℕ) (illegal : Bool) (before : List Piece) (at : ℕ) → place ≡ limit at → self.old ≡ cut_of base illegal before
@@ -190,6 +197,7 @@ impl Draft {
     }
 
     /// Puts a sign behind the tokens. A blank before it means nothing.
+    #[inline(always)]
     fn put_sign(&mut self, sign: Kind, place: u64) -> Result<(), AllocError>
         requires operand { is_operand sign ≡ false }
         requires blank { is_blank sign ≡ false }

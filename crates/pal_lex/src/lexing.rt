@@ -28,6 +28,7 @@ const FORM_FEED: u8 = 0o014;
 const RUBOUT: u8 = 0o177;
 
 /// Whether a byte is as if it weren't there.
+#[inline(always)]
 fn is_ignored(byte: u8) -> bool
     ensures { result ≡ is_ignored byte }
 {
@@ -35,6 +36,7 @@ fn is_ignored(byte: u8) -> bool
 }
 
 /// Whether a comment goes on behind a byte.
+#[inline(always)]
 fn comment_after(comment: bool, byte: u8) -> bool
     ensures { result ≡ comment_after comment byte }
 {
@@ -46,6 +48,7 @@ fn comment_after(comment: bool, byte: u8) -> bool
 }
 
 /// Whether a byte means nothing, where a comment goes on or not.
+#[inline(always)]
 fn dies(comment: bool, byte: u8) -> bool
     ensures { result ≡ dies comment byte }
 {
@@ -53,6 +56,7 @@ fn dies(comment: bool, byte: u8) -> bool
 }
 
 /// Whether a byte ends a statement, where it means something.
+#[inline(always)]
 fn is_end(byte: u8) -> bool
     ensures { result ≡ is_end byte }
 {
@@ -137,6 +141,7 @@ impl Lexer {
     /// that ends the source each byte is answered nothing. Where memory ran out the byte was not taken, and may be
     /// pushed again.
     #[tactic(auto, unfolding(crate::specs::Statements::statements, crate::specs::Reading::HasRead))]
+    #[inline(always)]
     pub fn push(&mut self, byte: u8) -> Result<Option<Statement>, LexFault>
         ensures { (text : List ℕ) → HasRead self.old text → Answers text byte result self.old self.new }
     {
@@ -161,6 +166,7 @@ impl Lexer {
 
     /// Takes a byte of a source that goes on.
     #[tactic(auto, unfolding(crate::specs::Statements::statements, crate::specs::Reading::HasRead))]
+    #[inline(always)]
     fn read(&mut self, byte: u8) -> Result<Option<Statement>, LexFault>
         requires { self.old.state ≡ State.Reading }
         ensures { (text : List ℕ) → HasRead self.old text → Answers text byte result self.old self.new }
@@ -179,6 +185,7 @@ impl Lexer {
 
     /// Takes a byte that ends a statement.
     #[tactic(auto, unfolding(crate::specs::Statements::statements, crate::specs::Reading::HasRead))]
+    #[inline(never)]
     fn finish(&mut self, byte: u8) -> Result<Option<Statement>, LexFault>
         requires reading { self.old.state ≡ State.Reading }
         requires live { dies self.old.comment byte ≡ false }
@@ -228,6 +235,7 @@ impl Lexer {
     }
 
     /// Counts a byte.
+    #[inline(always)]
     fn pass(&mut self, byte: u8)
         ensures { self.new ≡ passed byte self.old }
     {

@@ -23,6 +23,3 @@ pub use lexing::Lexer;
 pub use naming::Name;
 pub use phrases::{Body, Expression, Joint, Operation, Part, Statement, Tags};
 pub use pieces::{Kind, Term, Token, Tokens};
-
-#[cfg(test)]
-mod tests;

@@ -13,6 +13,7 @@ pub enum Radix {
 }
 
 impl Radix {
+    #[inline(always)]
     fn base(self) -> u16
         ensures value { result ≡ base self }
         ensures range { result ≤ 10 }
@@ -25,6 +26,7 @@ impl Radix {
 }
 
 /// A name with one character more, which counts by its weight.
+#[inline(always)]
 fn longer_name(name: Name, weight: u32, character: u8) -> Name
     ensures { result ≡ longer_name name weight character }
 {
@@ -33,6 +35,7 @@ fn longer_name(name: Name, weight: u32, character: u8) -> Name
 }
 
 /// A number with one character more.
+#[inline(always)]
 fn longer_number(number: Word, radix: Radix, character: u8) -> Kind
     ensures { result ≡ longer_number (base radix) number character }
 {
@@ -46,6 +49,7 @@ fn longer_number(number: Word, radix: Radix, character: u8) -> Kind
     }
 }
 
+#[inline(always)]
 fn grown_term(term: Term, radix: Radix, weight: u32, character: u8) -> Kind
     ensures { result ≡ grown_term (base radix) weight character term }
 {
@@ -57,6 +61,7 @@ fn grown_term(term: Term, radix: Radix, weight: u32, character: u8) -> Kind
 }
 
 /// A name or a number with one character more.
+#[inline(always)]
 pub fn grown(kind: Kind, radix: Radix, weight: u32, character: u8) -> Kind
     ensures { result ≡ grown (base radix) weight character kind }
 {
@@ -67,6 +72,7 @@ pub fn grown(kind: Kind, radix: Radix, weight: u32, character: u8) -> Kind
 }
 
 /// What a letter or a digit begins.
+#[inline(always)]
 pub fn begun(radix: Radix, character: u8) -> Kind
     ensures { result ≡ begun (base radix) character }
 {

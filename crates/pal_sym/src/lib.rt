@@ -13,6 +13,3 @@ mod tables;
 pub use faults::SymFault;
 pub use names::SymbolName;
 pub use tables::Symbols;
-
-#[cfg(test)]
-mod tests;

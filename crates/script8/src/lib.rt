@@ -22,6 +22,3 @@ pub use listings::Listing;
 pub use parsing::parse_line;
 pub use replies::{Reply, Why};
 pub use shown::put_reply;
-
-#[cfg(test)]
-mod tests;

@@ -9,6 +9,3 @@ pub mod laws;
 mod teletypes;
 
 pub use teletypes::{KeyboardAnswer, Teletype};
-
-#[cfg(test)]
-mod tests;

@@ -18,6 +18,3 @@ pub use fuses::FuseVolume;
 pub use laws::{image_round_trip, one_call_fails};
 pub use memory::MemoryVolume;
 pub use store::{BlockStore, DeviceFault};
-
-#[cfg(test)]
-mod tests;

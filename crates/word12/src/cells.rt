@@ -8,7 +8,7 @@ use std::marker::Model;
 /// A contract sees the number of the cell, which is 4096 times its field plus its address.
 #[derive(Clone, Copy, PartialEq, Eq, PartialOrd, Ord, Hash, Debug)]
 pub struct Cell {
-    number: u16,
+    number: u32,
 }
 
 impl Model for Cell {
@@ -30,7 +30,7 @@ impl Cell {
     {
         if field < 8 && address < 4096 {
             Some(Cell {
-                number: 4096 * u16::from(field) + address,
+                number: 4096 * u32::from(field) + u32::from(address),
             })
         } else {
             None
@@ -45,8 +45,18 @@ impl Cell {
         ensures range { result < 32768 }
     {
         Cell {
-            number: 4096 * u16::from(field) + address.get(),
+            number: 4096 * u32::from(field) + u32::from(address.get()),
         }
+    }
+
+    /// The cell of this number among all cells of core.
+    #[inline]
+    pub fn of(number: u32) -> Cell
+        requires { number < 32768 }
+        ensures number { result ≡ number }
+        ensures range { result < 32768 }
+    {
+        Cell { number }
     }
 
     /// The field, 0 to 7.
@@ -64,7 +74,7 @@ impl Cell {
         ensures value { result ≡ self % 4096 }
         ensures range { result < 4096 }
     {
-        Word::low(self.number)
+        Word::low((self.number % 4096) as u16)
     }
 
     /// The number of the cell among all cells of core: 4096 times the field, plus the address.

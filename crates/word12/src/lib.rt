@@ -11,6 +11,3 @@ mod words;
 pub use cells::Cell;
 pub use codes::sixbit;
 pub use words::Word;
-
-#[cfg(test)]
-mod tests;

@@ -1,4 +1,4 @@
-ghost use Rattle.std.specs.Prelude.{◌≡◌, ℕ, ◌+◌, ◌-◌, ◌%◌, ◌<◌, ◌≤◌, ◌↔◌, IsSome, IfSome, bit_and, bit_or, bit_xor};
+ghost use Rattle.std.specs.Prelude.{◌≡◌, ℕ, ◌+◌, ◌-◌, ◌%◌, ◌<◌, ◌≤◌, ◌↔◌, IsSome, IfSome, Some, bit_and, bit_or, bit_xor};
 ghost use Rattle.word12.specs.Octal.{octal4, octal_number};
 
 use std::fmt;
@@ -125,7 +125,9 @@ impl Word {
 
 /// Four octal digits, as the handbook writes words.
 impl fmt::Display for Word {
+    ghost output = { λ word. Some (octal4 word) };
+
     fn fmt<W: fmt::Write>(&self, f: &mut fmt::Formatter<W>) -> fmt::Result {
-        write!(f, "{:04o}", self.bits)
+        f.write_str(str::from_utf8(&self.octal4()).map_err(|_| fmt::Error)?)
     }
 }

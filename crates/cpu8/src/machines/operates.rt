@@ -12,9 +12,50 @@ use crate::rotations::rotate;
 use word12::Word;
 
 impl Machine {
-    /// An operate instruction of this word.
-    #[inline]
+    /// An operate instruction of this word. The words of everyday use are each compiled for themselves.
+    #[inline(always)]
     pub(super) fn operate(&mut self, word: Word) -> Stepped
+        ensures state { self.new ≡ (operate_row self.old word).0 }
+        ensures answer { result ≡ (operate_row self.old word).1 }
+    {
+        match word.get() {
+            0o7000 => self.operate_by(Word::low(0o7000)),
+            0o7001 => self.operate_by(Word::low(0o7001)),
+            0o7004 => self.operate_by(Word::low(0o7004)),
+            0o7006 => self.operate_by(Word::low(0o7006)),
+            0o7010 => self.operate_by(Word::low(0o7010)),
+            0o7012 => self.operate_by(Word::low(0o7012)),
+            0o7020 => self.operate_by(Word::low(0o7020)),
+            0o7024 => self.operate_by(Word::low(0o7024)),
+            0o7040 => self.operate_by(Word::low(0o7040)),
+            0o7041 => self.operate_by(Word::low(0o7041)),
+            0o7100 => self.operate_by(Word::low(0o7100)),
+            0o7104 => self.operate_by(Word::low(0o7104)),
+            0o7106 => self.operate_by(Word::low(0o7106)),
+            0o7110 => self.operate_by(Word::low(0o7110)),
+            0o7112 => self.operate_by(Word::low(0o7112)),
+            0o7120 => self.operate_by(Word::low(0o7120)),
+            0o7200 => self.operate_by(Word::low(0o7200)),
+            0o7201 => self.operate_by(Word::low(0o7201)),
+            0o7240 => self.operate_by(Word::low(0o7240)),
+            0o7300 => self.operate_by(Word::low(0o7300)),
+            0o7301 => self.operate_by(Word::low(0o7301)),
+            0o7410 => self.operate_by(Word::low(0o7410)),
+            0o7420 => self.operate_by(Word::low(0o7420)),
+            0o7430 => self.operate_by(Word::low(0o7430)),
+            0o7440 => self.operate_by(Word::low(0o7440)),
+            0o7450 => self.operate_by(Word::low(0o7450)),
+            0o7500 => self.operate_by(Word::low(0o7500)),
+            0o7510 => self.operate_by(Word::low(0o7510)),
+            0o7600 => self.operate_by(Word::low(0o7600)),
+            0o7640 => self.operate_by(Word::low(0o7640)),
+            0o7650 => self.operate_by(Word::low(0o7650)),
+            _ => self.operate_by(word),
+        }
+    }
+
+    #[inline(always)]
+    fn operate_by(&mut self, word: Word) -> Stepped
         ensures state { self.new ≡ (operate_row self.old word).0 }
         ensures answer { result ≡ (operate_row self.old word).1 }
     {
@@ -29,6 +70,7 @@ impl Machine {
     }
 
     /// The machine stops at an unassigned word.
+    #[inline(always)]
     fn unassigned(&mut self, word: Word) -> Stepped
         ensures state { self.new ≡ (unassigned_row self.old word).0 }
         ensures answer { result ≡ (unassigned_row self.old word).1 }
@@ -37,7 +79,7 @@ impl Machine {
         Stepped::Unassigned(word)
     }
 
-    #[inline]
+    #[inline(always)]
     fn group1(&mut self, word: Word) -> Stepped
         ensures state { self.new ≡ (group1_row self.old word).0 }
         ensures answer { result ≡ (group1_row self.old word).1 }
@@ -52,7 +94,7 @@ impl Machine {
         RAN
     }
 
-    #[inline]
+    #[inline(always)]
     fn group2(&mut self, word: Word) -> Stepped
         ensures state { self.new ≡ (group2_row self.old word).0 }
         ensures answer { result ≡ (group2_row self.old word).1 }
@@ -69,7 +111,7 @@ impl Machine {
     }
 
     /// PC goes on by one, or by two where the instruction skips, and the waiting of ION is over.
-    #[inline]
+    #[inline(always)]
     pub(super) fn skip(&mut self, skips: bool)
         ensures { self.new ≡ skipped self.old skips }
     {
@@ -81,7 +123,7 @@ impl Machine {
 }
 
 /// Whether a word of group 1 is unassigned.
-#[inline]
+#[inline(always)]
 fn is_unassigned(word: u16) -> bool
     ensures { result ≡ is_group1_unassigned word }
 {
@@ -93,7 +135,7 @@ fn is_unassigned(word: u16) -> bool
 
 /// L and AC, as one number of thirteen bits, after a word of group 1.
 #[tactic(auto, using(crate::proofs::RotationLemmas::number_of_thirteen), unfolding(crate::specs::Operate::group1_number))]
-#[inline]
+#[inline(always)]
 fn group1_number(word: u16, l: u8, ac: u16) -> u16
     requires l { l < 2 }
     requires ac { ac < 4096 }
@@ -104,7 +146,7 @@ fn group1_number(word: u16, l: u8, ac: u16) -> u16
 }
 
 /// L and AC, as one number of thirteen bits, before the rotation.
-#[inline]
+#[inline(always)]
 fn group1_sum(word: u16, l: u8, ac: u16) -> u16
     requires l { l < 2 }
     requires ac { ac < 4096 }
@@ -117,7 +159,7 @@ fn group1_sum(word: u16, l: u8, ac: u16) -> u16
 }
 
 /// L and AC after 0100 and 0200 clear them.
-#[inline]
+#[inline(always)]
 fn cleared(word: u16, l: u16, ac: u16) -> (u16, u16)
     requires l { l < 2 }
     requires ac { ac < 4096 }
@@ -133,7 +175,7 @@ fn cleared(word: u16, l: u16, ac: u16) -> (u16, u16)
 }
 
 /// L and AC after 0020 and 0040 complement them.
-#[inline]
+#[inline(always)]
 fn complemented(word: u16, l: u16, ac: u16) -> (u16, u16)
     requires l { l < 2 }
     requires ac { ac < 4096 }
@@ -149,7 +191,7 @@ fn complemented(word: u16, l: u16, ac: u16) -> (u16, u16)
 }
 
 /// Whether a word of group 2 skips.
-#[inline]
+#[inline(always)]
 fn group2_skips(word: u16, l: u8, ac: u16) -> bool
     ensures { result ≡ group2_skips word l ac }
 {
@@ -161,7 +203,7 @@ fn group2_skips(word: u16, l: u8, ac: u16) -> bool
 }
 
 /// AC after a word of group 2.
-#[inline]
+#[inline(always)]
 fn group2_ac(word: u16, ac: Word, switches: Word) -> Word
     ensures { result ≡ group2_ac word ac switches }
 {

@@ -8,7 +8,7 @@ use word12::{Cell, Word};
 
 impl Machine {
     /// The address that an instruction names: its offset on its own page where the page bit is set, else on page 0.
-    #[inline]
+    #[inline(always)]
     fn named(&self, word: Word) -> Word
         ensures value { result ≡ named self.now word }
         ensures range { result < 4096 }
@@ -24,7 +24,7 @@ impl Machine {
 
     /// The address of a reference: what the instruction names, or the pointer's word there, an auto-index being made
     /// one more first.
-    #[inline]
+    #[inline(always)]
     fn address(&mut self, word: Word) -> Word
         ensures value { result ≡ address self.old word }
         ensures state { self.new ≡ record self.old { core = indexed self.old word } }
@@ -46,7 +46,7 @@ impl Machine {
     }
 
     /// The cell of the operand of AND, TAD, ISZ and DCA.
-    #[inline]
+    #[inline(always)]
     fn operand_cell(&mut self, word: Word) -> Cell
         ensures value { result ≡ operand_place self.old word }
         ensures state { self.new ≡ record self.old { core = indexed self.old word } }
@@ -62,7 +62,7 @@ impl Machine {
     }
 
     /// PC goes on by one, and the waiting of ION is over.
-    #[inline]
+    #[inline(always)]
     pub(super) fn pass(&mut self)
         ensures { self.new ≡ passed self.old }
     {
@@ -70,7 +70,7 @@ impl Machine {
         self.waiting = false;
     }
 
-    #[inline]
+    #[inline(always)]
     pub(super) fn and(&mut self, word: Word)
         ensures { self.new ≡ and_row self.old word }
     {
@@ -79,7 +79,7 @@ impl Machine {
         self.ac = self.ac.and(self.core.get(cell));
     }
 
-    #[inline]
+    #[inline(always)]
     pub(super) fn tad(&mut self, word: Word)
         ensures { self.new ≡ tad_row self.old word }
     {
@@ -90,7 +90,7 @@ impl Machine {
         self.ac = Word::low(sum);
     }
 
-    #[inline]
+    #[inline(always)]
     pub(super) fn isz(&mut self, word: Word)
         ensures { self.new ≡ isz_row self.old word }
     {
@@ -103,7 +103,7 @@ impl Machine {
         }
     }
 
-    #[inline]
+    #[inline(always)]
     pub(super) fn dca(&mut self, word: Word)
         ensures { self.new ≡ dca_row self.old word }
     {
@@ -114,7 +114,7 @@ impl Machine {
     }
 
     /// A jump goes to the field of the instruction buffer, and ends the holding off of interrupts.
-    #[inline]
+    #[inline(always)]
     fn enter_field(&mut self)
         ensures { self.new ≡ record self.old { instruction_field = self.old.instruction_buffer; held_off = false } }
     {
@@ -122,7 +122,7 @@ impl Machine {
         self.held_off = false;
     }
 
-    #[inline]
+    #[inline(always)]
     pub(super) fn jms(&mut self, word: Word)
         ensures { self.new ≡ jms_row self.old word }
     {
@@ -134,7 +134,7 @@ impl Machine {
         self.pc = entry.plus(Word::ONE);
     }
 
-    #[inline]
+    #[inline(always)]
     pub(super) fn jmp(&mut self, word: Word)
         ensures { self.new ≡ jmp_row self.old word }
     {

@@ -11,6 +11,7 @@ use word12::Word;
 
 impl Machine {
     /// An IOT of this word.
+    #[inline(always)]
     pub(super) fn transfer(&mut self, word: Word) -> Stepped
         ensures state { self.new ≡ (transfer_row self.old word).0 }
         ensures answer { result ≡ (transfer_row self.old word).1 }
@@ -25,6 +26,7 @@ impl Machine {
         RAN
     }
 
+    #[inline(always)]
     fn control_interrupts(&mut self, word: Word)
         ensures { self.new ≡ interrupts_row self.old word }
     {
@@ -38,6 +40,7 @@ impl Machine {
         }
     }
 
+    #[inline(always)]
     fn ion(&mut self)
         ensures { self.new ≡ ion_row self.old }
     {
@@ -48,6 +51,7 @@ impl Machine {
         }
     }
 
+    #[inline(always)]
     fn read_keyboard(&mut self, word: Word)
         ensures { self.new ≡ keyboard_row self.old word }
     {
@@ -56,6 +60,7 @@ impl Machine {
         self.ac = answer.ac;
     }
 
+    #[inline(always)]
     fn print(&mut self, word: Word) -> Stepped
         ensures state { self.new ≡ (printer_row self.old word).0 }
         ensures answer { result ≡ (printer_row self.old word).1 }
@@ -67,6 +72,7 @@ impl Machine {
         Stepped::Ran { printed }
     }
 
+    #[inline(always)]
     fn control_fields(&mut self, word: Word)
         ensures { self.new ≡ fields_row self.old word }
     {
@@ -83,6 +89,7 @@ impl Machine {
         }
     }
 
+    #[inline(always)]
     fn cdf(&mut self, field: u8)
         requires { field < 8 }
         ensures { self.new ≡ cdf_row self.old field }
@@ -91,6 +98,7 @@ impl Machine {
         self.data_field = field;
     }
 
+    #[inline(always)]
     fn cif(&mut self, field: u8)
         requires { field < 8 }
         ensures { self.new ≡ cif_row self.old field }
@@ -100,6 +108,7 @@ impl Machine {
         self.held_off = true;
     }
 
+    #[inline(always)]
     fn read_fields(&mut self, number: u8)
         ensures { self.new ≡ read_row self.old number }
     {
@@ -113,12 +122,14 @@ impl Machine {
         }
     }
 
+    #[inline(always)]
     fn or_into_ac(&mut self, bits: u8)
         ensures { self.new ≡ record self.old { ac = bit_or self.old.ac bits } }
     {
         self.ac = self.ac.or(Word::low(u16::from(bits)));
     }
 
+    #[inline(always)]
     fn restore_fields(&mut self)
         ensures { self.new ≡ record self.old {
           instruction_buffer = self.old.save_field / 8;

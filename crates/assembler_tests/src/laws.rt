@@ -1,0 +1,23 @@
+//! The laws, each called once: a call runs as nothing.
+
+use pal_asm::laws as words;
+use pal_lex::laws as statements;
+
+#[test]
+fn laws() {
+    statements::spans();
+    statements::whole_statement();
+    statements::text_grows();
+    statements::statements_stay();
+    statements::dollar_ends_source();
+    statements::fault_stays();
+    statements::faults_are_of_statements();
+    words::names_keep_their_values();
+    words::first_fault_stays();
+    words::word_fault_stays();
+    words::no_word_is_told();
+    words::lexical_fault_is_told();
+    words::no_lexical_fault();
+    words::statements_stay();
+    words::no_fault_before();
+}

@@ -1,0 +1,17 @@
+//! Tests of the file service: its calls and refusals, stores that count or fail, refused growths, and the most files.
+#![tactic(auto)]
+
+#[cfg(test)]
+mod blocks;
+#[cfg(test)]
+mod counted;
+#[cfg(test)]
+mod failures;
+#[cfg(test)]
+mod files;
+#[cfg(test)]
+mod growths;
+#[cfg(test)]
+mod largest;
+#[cfg(test)]
+mod refusals;

@@ -1,0 +1,11 @@
+//! Tests of the Teletype and the processor.
+#![tactic(auto)]
+
+#[cfg(test)]
+mod console;
+#[cfg(test)]
+mod plain;
+#[cfg(test)]
+mod processor;
+#[cfg(test)]
+mod teletype;

@@ -1,4 +1,0 @@
-mod programs;
-mod sessions;
-mod stores;
-mod tapes;

@@ -1,0 +1,282 @@
+//! A plain, slow assembler, to compare the assembler with: it keeps what each statement sets, and looks through the statements before
+//! for all else.
+#![tactic(auto)]
+
+use pal_asm::{AsmFault, Code};
+use pal_lex::{Body, Expression, Joint, Lexer, Part, Statement, Term};
+use pal_sym::{SymbolName, Symbols};
+use std::alloc::Global;
+use word12::{Cell, Word};
+
+/// What a statement sets the location and the field to, and how many words it is.
+#[derive(Clone, Copy, Drop)]
+struct Learnt {
+    location: Option<u64>,
+    field: Option<u64>,
+    words: u64,
+}
+
+const NOTHING: Learnt = Learnt {
+    location: None,
+    field: None,
+    words: 0,
+};
+
+/// A name and what it was defined as.
+#[derive(Clone, Copy, Drop)]
+struct Known {
+    name: SymbolName,
+    value: u64,
+}
+
+/// The place behind some statements: the last setting, or 0200, and one more for each word since.
+fn place(learnt: &[Learnt]) -> u64 {
+    let mut place = 0o200u64;
+    for item in learnt {
+        place = item.location.unwrap_or(place).wrapping_add(item.words);
+    }
+    place
+}
+
+/// The last field that some statements set, or 0.
+fn field(learnt: &[Learnt]) -> u64 {
+    let mut field = 0u64;
+    for item in learnt {
+        field = item.field.unwrap_or(field);
+    }
+    field
+}
+
+/// What a name stands for.
+fn value_of(known: &[Known], name: SymbolName) -> Option<u64> {
+    if let Some(word) = Symbols::permanent(name) {
+        return Some(u64::from(word.get()));
+    }
+    for item in known {
+        if item.name == name {
+            return Some(item.value);
+        }
+    }
+    None
+}
+
+/// The place, where it is not past 7777.
+fn here(place: u64) -> Result<u64, Code> {
+    if place > 4095 {
+        return Err(Code::PF);
+    }
+    Ok(place)
+}
+
+fn term_value(term: Term, known: &[Known], place: u64) -> Result<u64, Code> {
+    match term {
+        Term::Number(word) => Ok(u64::from(word.get())),
+        Term::Here => here(place),
+        Term::Name(name) => value_of(known, SymbolName::numbered(name.number())).ok_or(Code::UA),
+    }
+}
+
+fn value(parts: &[Part], known: &[Known], place: u64) -> Result<u64, Code> {
+    let mut value = 0u64;
+    for part in parts {
+        let term = term_value(part.term, known, place)?;
+        value = match part.joint {
+            Joint::Add => value.wrapping_add(term) % 4096,
+            Joint::Subtract => value.wrapping_sub(term) % 4096,
+            Joint::Or => value | term,
+        };
+    }
+    Ok(value)
+}
+
+/// One definition more, or the code where the name stands for another value.
+fn define(known: &mut Vec<Known>, name: SymbolName, value: u64, code: Code) -> Result<(), Code> {
+    if let Some(old) = value_of(known, name) {
+        if old == value {
+            return Ok(());
+        }
+        return Err(code);
+    }
+    let _ = known.push(Known { name, value });
+    Ok(())
+}
+
+/// What the tags of a statement define.
+fn define_tags(statement: &Statement, known: &mut Vec<Known>, place: u64) -> Result<(), Code> {
+    for tag in statement.tags.names() {
+        if place > 4095 {
+            return Err(Code::PF);
+        }
+        define(known, SymbolName::numbered(tag.number()), place, Code::DT)?;
+    }
+    Ok(())
+}
+
+fn word_at(place: u64) -> Result<Learnt, Code> {
+    if place > 4095 {
+        return Err(Code::PF);
+    }
+    Ok(Learnt {
+        location: None,
+        field: None,
+        words: 1,
+    })
+}
+
+fn origin(parts: &[Part], known: &[Known], place: u64) -> Result<Learnt, Code> {
+    let location = value(parts, known, place)?;
+    Ok(Learnt {
+        location: Some(location),
+        field: None,
+        words: 0,
+    })
+}
+
+fn field_set(parts: &[Part], known: &[Known], place: u64) -> Result<Learnt, Code> {
+    let field = value(parts, known, place)?;
+    if field > 7 {
+        return Err(Code::FD);
+    }
+    Ok(Learnt {
+        location: Some(0o200),
+        field: Some(field),
+        words: 0,
+    })
+}
+
+/// What the body of a statement sets and defines.
+fn learn(body: &Body, known: &mut Vec<Known>, place: u64) -> Result<Learnt, Code> {
+    match body {
+        Body::Origin(expression) => origin(expression.parts(), known, place),
+        Body::Field(expression) => field_set(expression.parts(), known, place),
+        Body::Define(name, expression) => {
+            let value = value(expression.parts(), known, place)?;
+            define(known, SymbolName::numbered(name.number()), value, Code::RD)?;
+            Ok(NOTHING)
+        }
+        Body::Reference { .. } => word_at(place),
+        Body::Word(_) => word_at(place),
+        _ => Ok(NOTHING),
+    }
+}
+
+/// What stands in a memory reference at a place for an address.
+fn offset(address: u64, place: u64) -> Result<u64, Code> {
+    if address < 128 {
+        return Ok(address);
+    }
+    if address / 128 != place / 128 {
+        return Err(Code::IR);
+    }
+    Ok(address % 128 + 128)
+}
+
+fn address_of(address: &Option<Expression>, known: &[Known], place: u64) -> Result<u64, Code> {
+    match address {
+        Some(expression) => value(expression.parts(), known, place),
+        None => Ok(0),
+    }
+}
+
+/// The word of a statement, where it is one.
+fn word_of(body: &Body, known: &[Known], place: u64) -> Result<Option<u64>, Code> {
+    match body {
+        Body::Word(expression) => {
+            let word = value(expression.parts(), known, place)?;
+            Ok(Some(word))
+        }
+        Body::Reference {
+            operation,
+            indirect,
+            address,
+        } => {
+            let address = address_of(address, known, place)?;
+            let offset = offset(address, place)?;
+            let indirect = if *indirect { 0o400u64 } else { 0 };
+            let operation = u64::from(operation.word().get());
+            Ok(Some(operation.wrapping_add(indirect).wrapping_add(offset)))
+        }
+        _ => Ok(None),
+    }
+}
+
+/// The statements of a source with what each sets, the names that they define, and the first fault.
+#[derive(Drop)]
+struct Source {
+    statements: Vec<Statement>,
+    learnt: Vec<Learnt>,
+    known: Vec<Known>,
+    fault: Option<AsmFault>,
+}
+
+/// What a statement sets, by those before it.
+fn learn_all(source: &mut Source, statement: &Statement) -> Result<Learnt, Code> {
+    let place = place(&source.learnt);
+    define_tags(statement, &mut source.known, place)?;
+    learn(&statement.body, &mut source.known, place)
+}
+
+/// One statement more.
+fn add(source: &mut Source, statement: Statement) {
+    match learn_all(source, &statement) {
+        Ok(learnt) => {
+            let _ = source.learnt.push(learnt);
+            let _ = source.statements.push(statement);
+        }
+        Err(code) => fail(source, AsmFault::At(code, statement.line)),
+    }
+}
+
+/// One fault more, of which the first counts.
+fn fail(source: &mut Source, fault: AsmFault) {
+    if source.fault.is_none() {
+        source.fault = Some(fault);
+    }
+}
+
+/// Reads the statements of the bytes of a source.
+fn read(source: &mut Source, lexer: &mut Lexer, bytes: &[u8]) {
+    for byte in bytes {
+        match lexer.push(*byte) {
+            Ok(Some(statement)) => add(source, statement),
+            Ok(None) => {}
+            Err(fault) => fail(source, AsmFault::from(fault)),
+        }
+    }
+    if let Err(fault) = lexer.end() {
+        fail(source, AsmFault::from(fault));
+    }
+}
+
+/// The words of a source with their cells, or its first fault.
+pub fn plain(alloc: Global, bytes: &[u8]) -> Result<Vec<(Cell, Word)>, AsmFault> {
+    let mut source = Source {
+        statements: Vec::new(alloc),
+        learnt: Vec::new(alloc),
+        known: Vec::new(alloc),
+        fault: None,
+    };
+    read(&mut source, &mut Lexer::new(alloc), bytes);
+    if let Some(fault) = source.fault {
+        return Err(fault);
+    }
+    let mut pairs = Vec::new(alloc);
+    let mut last = 1;
+    for (number, statement) in source.statements.iter().enumerate() {
+        last = statement.line;
+        let (front, _) = source.learnt.split_at(number.min(source.learnt.len()));
+        let place = place(front);
+        match word_of(&statement.body, &source.known, place) {
+            Ok(Some(word)) => {
+                let cell = Cell::at((field(front) % 8) as u8, Word::low((place % 4096) as u16));
+                let _ = pairs.push((cell, Word::low((word % 4096) as u16)));
+            }
+            Ok(None) => {}
+            Err(code) => return Err(AsmFault::At(code, statement.line)),
+        }
+    }
+    if pairs.is_empty() {
+        return Err(AsmFault::At(Code::NW, last));
+    }
+    Ok(pairs)
+}

@@ -1,0 +1,120 @@
+//! The lines of answers that no run of the program gives.
+
+use bin_tape::TapeFault;
+use monitor8::{ProgramLine, put_program};
+use os8_dir::{DirFault, Name};
+use os8_files::FileFault;
+use script8::{Entry, Listing, Reply, SessionFault, put_reply};
+use std::alloc::{AllocError, Global};
+use std::test::Fail;
+use volume_image::ImageFault;
+use word12::Word;
+
+/// A name that no text gives: its words have a code that is no letter, a blank, and zeros between codes.
+fn odd_name() -> Name {
+    Name::of([0o0001, 0o3740, 0o0077, 0o4100].map(Word::low))
+}
+
+/// Whether the lines of faults of an entry, or of none, were appended.
+fn put_faults(entry: Option<&Entry>, faults: &[SessionFault], out: &mut Vec<u8>) -> bool {
+    for fault in faults {
+        if put_reply(entry, &Err(*fault), out).is_err() {
+            return false;
+        }
+    }
+    true
+}
+
+#[test]
+fn lines_of_faults(rt: HostRuntime) {
+    let sums = TapeFault::CheckSum {
+        found: Word::low(0o7776),
+        computed: Word::low(0o0010),
+    };
+    let faults = [
+        SessionFault::from(FileFault::Memory),
+        SessionFault::from(TapeFault::Memory),
+        SessionFault::Writer,
+        SessionFault::TooManyBreaks,
+        SessionFault::File(FileFault::NoRoom(4088)),
+        SessionFault::File(FileFault::Busy(odd_name())),
+        SessionFault::File(FileFault::TooLong),
+        SessionFault::File(FileFault::TentativeOpen),
+        SessionFault::File(FileFault::Device),
+        SessionFault::File(FileFault::Stopped),
+        SessionFault::File(FileFault::NothingWritten),
+        SessionFault::from(TapeFault::BadFrame(u64::MAX)),
+        SessionFault::Tape(sums),
+    ];
+    let others = [
+        SessionFault::File(FileFault::Memory),
+        SessionFault::Tape(TapeFault::Memory),
+    ];
+    let mut out = Vec::new(rt.alloc());
+    let is_put = put_faults(None, &faults, &mut out)
+        && put_faults(Some(&Entry::Turn(u32::MAX)), &faults, &mut out)
+        && put_faults(None, &others, &mut out);
+    let want: &[u8] = b"? 10 MEMORY\n? 10 MEMORY\n? 9 WRITER\n? 11 TOO MANY BREAKS\n\
+        ? 4.2 NO ROOM 4088\n? 4.4 BUSY A_ ?.!\n? 4.6 TOO LONG\n? 4.7 TENTATIVE OPEN\n? 4.8 DEVICE\n? 4.9 STOPPED\n\
+        ? 4.11 NOTHING WRITTEN\n? 6.1 BAD FRAME 18446744073709551615\n? 6.3 CHECK SUM 7776 0010\n\
+        ? 10 MEMORY\n? 10 MEMORY\n? 9 WRITER\n? 11 TOO MANY BREAKS\n\
+        JOB 4294967295 ? 4.2 NO ROOM 4088\nJOB 4294967295 ? 4.4 BUSY A_ ?.!\nJOB 4294967295 ? 4.6 TOO LONG\n\
+        JOB 4294967295 ? 4.7 TENTATIVE OPEN\nJOB 4294967295 ? 4.8 DEVICE\nJOB 4294967295 ? 4.9 STOPPED\n\
+        JOB 4294967295 ? 4.11 NOTHING WRITTEN\nJOB 4294967295 ? 6.1 BAD FRAME 18446744073709551615\n\
+        JOB 4294967295 ? 6.3 CHECK SUM 7776 0010\n? 10 MEMORY\n? 10 MEMORY\n";
+    assert!(rt; is_put && out.as_slice() == want, "{out:?}");
+}
+
+/// Whether the lines of a reply were appended.
+fn put(reply: Reply, out: &mut Vec<u8>) -> bool {
+    put_reply(None, &Ok(reply), out).is_ok()
+}
+
+/// So many files of one name, each of as many blocks as a volume has at most.
+fn like_files(alloc: Global, count: usize) -> Result<Listing, AllocError> {
+    Ok(Listing::new(vec![in alloc; (odd_name(), 4095); count]?))
+}
+
+#[test]
+fn lines_of_replies(rt: HostRuntime) -> Result<(), Fail> {
+    let name = odd_name();
+    let files = like_files(rt.alloc(), 300)?;
+    let mut out = Vec::new(rt.alloc());
+    let is_put = put(Reply::Stored { name, blocks: 4088 }, &mut out)
+        && put(Reply::Deleted { name }, &mut out)
+        && put(Reply::Working(u32::MAX), &mut out)
+        && put(Reply::Squeezed(u32::MAX), &mut out)
+        && put(Reply::Direct { files, free: 4088 }, &mut out);
+    let front: &[u8] =
+        b"STORED A_ ?.! 4088\nDELETED A_ ?.!\nWORKING 4294967295\nJOB 4294967295 SQUEEZED\nA_ ?.! 4095\n";
+    let is_framed = out.starts_with(front) && out.ends_with(b"A_ ?.! 4095\nFREE 4088\n");
+    assert_eq!(rt;
+        (is_put, is_framed, out.len()),
+        (true, true, front.len() + 3598)
+    );
+    Ok(())
+}
+
+/// Whether the line of a part of the program was appended.
+fn put_part(line: ProgramLine, out: &mut Vec<u8>) -> bool {
+    put_program(&line, out).is_ok()
+}
+
+#[test]
+fn lines_of_the_program(rt: HostRuntime) {
+    let mut out = Vec::new(rt.alloc());
+    for line in [
+        ProgramLine::Created(4095),
+        ProgramLine::Image(ImageFault::BadWord(1048319)),
+        ProgramLine::Image(ImageFault::Memory),
+        ProgramLine::Directory(DirFault::Device),
+        ProgramLine::Directory(DirFault::Memory),
+    ] {
+        if !put_part(line, &mut out) {
+            out.clear();
+        }
+    }
+    let want: &[u8] =
+        b"CREATED 4095\n? IMAGE 4 BAD WORD 1048319\n? 10 MEMORY\n? DIRECTORY 8 DEVICE\n? 10 MEMORY\n";
+    assert_eq!(rt; out.as_slice(), want);
+}

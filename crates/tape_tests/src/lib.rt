@@ -1,0 +1,17 @@
+//! Tests of words, tapes, core and packed characters.
+#![tactic(auto)]
+
+#[cfg(test)]
+mod loading;
+#[cfg(test)]
+mod packing;
+#[cfg(test)]
+mod plain;
+#[cfg(test)]
+mod reading;
+#[cfg(test)]
+mod rows;
+#[cfg(test)]
+mod values;
+#[cfg(test)]
+mod writing;

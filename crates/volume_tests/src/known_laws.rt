@@ -1,0 +1,28 @@
+//! Each law is called once. A law runs as nothing.
+use os8_dir::laws;
+use os8_files::laws::{held_files, released_hold};
+use volume_image::{image_round_trip, one_call_fails};
+
+#[test]
+fn laws_are_called() {
+    image_round_trip();
+    one_call_fails();
+    laws::sound_or_fault();
+    laws::faults_of_words();
+    laws::sound_directory();
+    laws::read_back();
+    laws::directory_blocks();
+    laws::files_found();
+    laws::files_made();
+    laws::name_order();
+    laws::directory_numbers();
+    laws::files_inside();
+    laws::file_removed();
+    laws::file_placed();
+    laws::file_moved_down();
+    laws::lowest_file();
+    laws::rooms();
+    laws::entry_counts();
+    held_files();
+    released_hold();
+}
