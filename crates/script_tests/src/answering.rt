@@ -12,17 +12,26 @@ use word12::Word;
 
 /// A name that no text gives: its words have a code that is no letter, a blank, and zeros between codes.
 fn odd_name() -> Name {
-    Name::of([0o0001, 0o3740, 0o0077, 0o4100].map(Word::low))
+    Name::of([
+        Word::low(0o0001),
+        Word::low(0o3740),
+        Word::low(0o0077),
+        Word::low(0o4100),
+    ])
+}
+
+/// Whether the lines of an answer to an entry, or to none, were appended.
+fn put(entry: Option<&Entry>, answer: Result<Reply, SessionFault>, out: &mut Vec<u8>) -> bool {
+    put_reply(entry, &answer, out).is_ok()
 }
 
 /// Whether the lines of faults of an entry, or of none, were appended.
 fn put_faults(entry: Option<&Entry>, faults: &[SessionFault], out: &mut Vec<u8>) -> bool {
+    let mut all = true;
     for fault in faults {
-        if put_reply(entry, &Err(*fault), out).is_err() {
-            return false;
-        }
+        all = put(entry, Err(*fault), out) && all;
     }
-    true
+    all
 }
 
 #[test]
@@ -65,11 +74,6 @@ fn lines_of_faults(rt: HostRuntime) {
     assert!(rt; is_put && out.as_slice() == want, "{out:?}");
 }
 
-/// Whether the lines of a reply were appended.
-fn put(reply: Reply, out: &mut Vec<u8>) -> bool {
-    put_reply(None, &Ok(reply), out).is_ok()
-}
-
 /// So many files of one name, each of as many blocks as a volume has at most.
 fn like_files(alloc: Global, count: usize) -> Result<Listing, AllocError> {
     Ok(Listing::new(vec![in alloc; (odd_name(), 4095); count]?))
@@ -80,11 +84,11 @@ fn lines_of_replies(rt: HostRuntime) -> Result<(), Fail> {
     let name = odd_name();
     let files = like_files(rt.alloc(), 300)?;
     let mut out = Vec::new(rt.alloc());
-    let is_put = put(Reply::Stored { name, blocks: 4088 }, &mut out)
-        && put(Reply::Deleted { name }, &mut out)
-        && put(Reply::Working(u32::MAX), &mut out)
-        && put(Reply::Squeezed(u32::MAX), &mut out)
-        && put(Reply::Direct { files, free: 4088 }, &mut out);
+    let is_put = put(None, Ok(Reply::Stored { name, blocks: 4088 }), &mut out)
+        && put(None, Ok(Reply::Deleted { name }), &mut out)
+        && put(None, Ok(Reply::Working(u32::MAX)), &mut out)
+        && put(None, Ok(Reply::Squeezed(u32::MAX)), &mut out)
+        && put(None, Ok(Reply::Direct { files, free: 4088 }), &mut out);
     let front: &[u8] =
         b"STORED A_ ?.! 4088\nDELETED A_ ?.!\nWORKING 4294967295\nJOB 4294967295 SQUEEZED\nA_ ?.! 4095\n";
     let is_framed = out.starts_with(front) && out.ends_with(b"A_ ?.! 4095\nFREE 4088\n");

@@ -1,7 +1,7 @@
-//! Tests of a script's lines and of the lines of answers, for what no run of the program can show.
+//! Tests of the lines of answers that no run of the program gives, and of the texts of faults.
 #![tactic(auto)]
 
 #[cfg(test)]
 mod answering;
 #[cfg(test)]
-mod reading;
+mod telling;

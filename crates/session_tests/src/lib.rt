@@ -1,8 +1,6 @@
-//! Tests of scripts, sessions and the program's own lines, for what no run of the program can show.
+//! Tests of the items of scripts, of sessions and of the command line, for what no run of the program can show.
 #![tactic(auto)]
 
-#[cfg(test)]
-mod answering;
 #[cfg(test)]
 mod asking;
 #[cfg(test)]
@@ -13,5 +11,3 @@ mod reading;
 mod storing;
 #[cfg(test)]
 mod streaming;
-#[cfg(test)]
-mod telling;

@@ -9,12 +9,13 @@ use std::alloc::{AllocError, Global};
 use std::test::Fail;
 use word12::Word;
 
-fn words_of(alloc: Global, numbers: &[u16]) -> Result<Vec<Word>, AllocError> {
-    let words = numbers
-        .iter()
-        .map(|number| Word::low(*number))
-        .collect(alloc)?;
-    Ok(words)
+/// The words of at most eight numbers, and zeros behind them.
+fn words_of(numbers: &[u16]) -> [Word; 8] {
+    let mut words = [Word::ZERO; 8];
+    for (word, number) in words.iter_mut().zip(numbers) {
+        *word = Word::low(*number);
+    }
+    words
 }
 
 fn are(words: &[Word], numbers: &[u16]) -> bool {
@@ -49,10 +50,11 @@ fn worked_words(rt: HostRuntime) -> Result<(), Fail> {
         assert!(rt; same, "at {row}");
     }
     for row in TEXTS {
-        let words = words_of(rt.alloc(), &rows::numbers(rt.alloc(), row, 0)?)?;
+        let numbers = rows::numbers(rt.alloc(), row, 0)?;
+        let words = words_of(&numbers);
+        let words = words.split_at(numbers.len().min(8)).0;
         let text = rows::bytes(rt.alloc(), row, 1)?;
-        let same = text_of(rt.alloc(), &words)? == text
-            && Text::new(&words).eq(text.iter().copied());
+        let same = text_of(rt.alloc(), words)? == text && Text::new(words).eq(text.iter().copied());
         assert!(rt; same, "at {row}");
     }
     Ok(())
@@ -72,47 +74,32 @@ fn frames_bit_by_bit(rt: HostRuntime) -> Result<(), Fail> {
 }
 
 fn has_plain_frames(alloc: Global, numbers: &[u16]) -> Result<bool, AllocError> {
-    let words = words_of(alloc, numbers)?;
+    let words = words_of(numbers);
+    let words = words.split_at(numbers.len().min(8)).0;
     let wanted = plain::frames(alloc, numbers)?;
-    let found: Vec<u8> = Frames::new(&words).collect(alloc)?;
-    let count = frame_count(&words);
+    let found: Vec<u8> = Frames::new(words).collect(alloc)?;
+    let count = frame_count(words);
     let mut same = found == wanted && count == wanted.len();
     for index in 0..count {
-        same = wanted.get(index) == Some(&frame_at(&words, index)) && same;
+        same = wanted.get(index) == Some(&frame_at(words, index)) && same;
     }
-    Ok(same && Frames::new(&words).size_hint() == (count, Some(count)))
+    Ok(same && Frames::new(words).size_hint() == (count, Some(count)))
 }
 
-/// Lines of two bytes, and the blocks of as many lines of three characters: the last block keeps room for control Z.
-#[test]
-fn counts_blocks(rt: HostRuntime) -> Result<(), Fail> {
-    for (lines, blocks) in [(0, 1), (127, 1), (128, 2), (255, 2), (256, 3), (600, 5)] {
-        let mut host = Vec::new(rt.alloc());
-        for _ in 0..lines {
-            host.extend_from_slice(b"/\n")?;
-        }
-        let counts = (character_count(&host), stored_block_count(&host));
-        assert_eq!(rt; counts, (3 * lines, blocks));
-    }
-    Ok(())
-}
-
-/// The blocks of the greatest file, on a volume of 4095.
-const BLOCKS: usize = 4088;
-
-/// A text whose characters fill the greatest file but for its control Z.
-fn long_text(alloc: Global) -> Result<Vec<u8>, AllocError> {
+/// A line of so many letters.
+fn long_text(alloc: Global, letters: u32) -> Result<Vec<u8>, AllocError> {
     let mut host = Vec::new(alloc);
-    for place in 0..384 * BLOCKS - 3 {
+    for place in 0..letters {
         host.push(b'A' + (place % 25) as u8)?;
     }
     host.push(b'\n')?;
     Ok(host)
 }
 
+/// The greatest file has 4088 blocks, on a volume of 4095; CR, LF and control Z are its last characters.
 #[test]
 fn fills_the_greatest_file(rt: HostRuntime) -> Result<(), Fail> {
-    let host = long_text(rt.alloc())?;
+    let host = long_text(rt.alloc(), 1_569_789)?;
     let words = store(rt.alloc(), &host)?;
     let text = text_of(rt.alloc(), &words)?;
     let frames: Vec<u8> = Frames::new(&words).collect(rt.alloc())?;
@@ -135,5 +122,15 @@ fn fills_the_greatest_file(rt: HostRuntime) -> Result<(), Fail> {
     let reads_back = text.starts_with(line) && text.ends_with(b"\r\n");
     let same = is_storable(&host) && packed == words && blocks == words;
     assert!(rt; last && reads_back && same);
+    Ok(())
+}
+
+/// A line is two characters longer than its letters, and the last block keeps room for control Z.
+#[test]
+fn counts_blocks(rt: HostRuntime) -> Result<(), Fail> {
+    for (letters, blocks) in [(0, 1), (381, 1), (382, 2), (765, 2), (766, 3)] {
+        let host = long_text(rt.alloc(), letters)?;
+        assert_eq!(rt; stored_block_count(&host), blocks, "at {letters}");
+    }
     Ok(())
 }

@@ -2,7 +2,7 @@
 
 use std::alloc::{AllocError, Global};
 
-#[derive(Clone, Copy, PartialEq, Eq, Debug)]
+#[derive(Clone, Copy, PartialEq, Eq)]
 pub enum Kind {
     Leader,
     Field,
@@ -10,7 +10,7 @@ pub enum Kind {
     Word,
 }
 
-#[derive(Clone, Copy, Debug)]
+#[derive(Clone, Copy)]
 pub struct Item {
     pub kind: Kind,
     pub value: u16,

@@ -71,14 +71,19 @@ const ROWS: [&str; 16] = [
 #[test]
 fn worked_tapes(rt: HostRuntime) -> Result<(), Fail> {
     for row in ROWS {
-        let frames = rows::bytes(rt.alloc(), row, 0)?;
-        let wanted = rows::numbers(rt.alloc(), row, 1)?;
-        let mut found = Vec::new(rt.alloc());
-        let said = read(&frames, &[], &mut found)?;
-        found.push(said)?;
-        assert_eq!(rt; found, wanted, "at {row}");
+        let same = is_so(rt.alloc(), row)?;
+        assert!(rt; same, "at {row}");
     }
     Ok(())
+}
+
+fn is_so(alloc: Global, row: &str) -> Result<bool, AllocError> {
+    let frames = rows::bytes(alloc, row, 0)?;
+    let wanted = rows::numbers(alloc, row, 1)?;
+    let mut found = Vec::new(alloc);
+    let said = read(&frames, &[], &mut found)?;
+    found.push(said)?;
+    Ok(found == wanted)
 }
 
 /// What is spelled item by item is read as those items, for every list of four of these.
@@ -101,7 +106,7 @@ fn reads_what_is_spelled(rt: HostRuntime) -> Result<(), Fail> {
             Item { kind, value }
         });
         let same = !plain::is_front(&items) || is_read(rt.alloc(), &items)?;
-        assert!(rt; same, "{items:?}");
+        assert!(rt; same, "list {number:04o}");
     }
     Ok(())
 }

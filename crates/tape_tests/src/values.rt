@@ -22,20 +22,14 @@ fn words_and_cells(rt: HostRuntime) -> Result<(), Fail> {
         cell.address().get(),
         cell.index() as u16,
         same.index() as u16,
+        Cell::of(0o71203).address().get(),
     ];
     assert_eq!(rt;
         numbers,
         [
-            0o0237, 0o2231, 0o7237, 0o1000, 0o6543, 7, 0o1203, 0o71203, 0o71203
+            0o0237, 0o2231, 0o7237, 0o1000, 0o6543, 7, 0o1203, 0o71203, 0o71203, 0o1203
         ]
     );
-    let shown = format!(in rt.alloc();
-        "{} {} {}",
-        Word::low(0o0203),
-        Word::ZERO,
-        Word::low(0o7777)
-    )?;
-    assert_eq!(rt; shown.as_str(), "0203 0000 7777");
     Ok(())
 }
 
@@ -50,47 +44,42 @@ fn codes(rt: HostRuntime) {
             digits = digits.wrapping_add(u32::from(code == character));
         }
     }
-    let others = [
-        sixbit(b'a'),
-        sixbit(b'@'),
-        sixbit(b'['),
-        sixbit(b'/'),
-        sixbit(b':'),
-    ];
-    let none = others.iter().all(|code| code.is_none());
-    assert_eq!(rt;
-        (letters, digits, none, Word::low(0o0203).octal4()),
-        (26, 10, true, *b"0203")
-    );
+    let digits_of = Word::low(0o0203).octal4();
+    assert_eq!(rt; (letters, digits, digits_of), (26, 10, *b"0203"));
 }
 
+/// Each text whole, with numbers whose octal and decimal digits differ.
 #[test]
-fn texts_of_faults(rt: HostRuntime) -> Result<(), Fail> {
+fn texts(rt: HostRuntime) -> Result<(), Fail> {
     let sum = TapeFault::CheckSum {
         found: Word::low(0o320),
         computed: Word::low(0o1317),
     };
-    let tape = format!(in rt.alloc();
-        "{}|{}|{sum}|{}|{}",
+    let (place, origin, trailer) = (
         TapeFault::BadFrame(64),
         TapeFault::NoOrigin,
         TapeFault::NoTrailer,
-        TapeFault::Memory
-    )?;
-    assert_eq!(rt;
-        tape.as_str(),
-        "bad frame 64|no origin|check sum 0320, computed 1317|no trailer|out of memory"
     );
+    let tape = format!(in rt.alloc(); "{place}|{origin}|{sum}|{trailer}|{}", TapeFault::Memory)?;
     let text = format!(in rt.alloc();
-        "{}|{}|{}|{}",
+        "{}|{}|{}",
         PackFault::Memory,
         TextFault::BadText,
-        TextFault::Memory,
         TextFault::from(PackFault::Memory)
     )?;
+    let word = format!(in rt.alloc();
+        "{} {} {}",
+        Word::low(0o0203),
+        Word::ZERO,
+        Word::low(0o7777)
+    )?;
     assert_eq!(rt;
-        text.as_str(),
-        "out of memory|bad text|out of memory|out of memory"
+        [tape.as_str(), text.as_str(), word.as_str()],
+        [
+            "bad frame 64|no origin|check sum 0320, computed 1317|no trailer|out of memory",
+            "out of memory|bad text|out of memory",
+            "0203 0000 7777",
+        ]
     );
     Ok(())
 }

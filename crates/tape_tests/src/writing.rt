@@ -1,6 +1,5 @@
 //! Tapes that are written.
 
-use crate::reading::read;
 use crate::rows;
 use bin_tape::write_tape;
 use std::alloc::{AllocError, Global};
@@ -43,8 +42,7 @@ fn worked_tapes(rt: HostRuntime) -> Result<(), Fail> {
     Ok(())
 }
 
-/// Whether the pairs are written as these frames, 16 leader frames before them and 16 trailer frames behind, and are
-/// read back.
+/// Whether the pairs are written as these frames, 16 leader frames before them and 16 trailer frames behind.
 fn is_written(alloc: Global, numbers: &[u16], body: &[u8]) -> Result<bool, AllocError> {
     let mut pairs = Vec::new(alloc);
     for pair in numbers.chunks(2) {
@@ -60,13 +58,7 @@ fn is_written(alloc: Global, numbers: &[u16], body: &[u8]) -> Result<bool, Alloc
         return Ok(false);
     }
     match write_tape(alloc, &pairs) {
-        Ok(frames) => Ok(frames == wanted && is_read(alloc, &frames, numbers)?),
+        Ok(frames) => Ok(frames == wanted),
         Err(_) => Ok(false),
     }
-}
-
-fn is_read(alloc: Global, frames: &[u8], numbers: &[u16]) -> Result<bool, AllocError> {
-    let mut words = Vec::new(alloc);
-    let said = read(frames, &[], &mut words)?;
-    Ok(said == 0 && words.as_slice() == numbers)
 }

@@ -21,9 +21,12 @@ fn filled(alloc: Global, files: u16, minus_info: u16, size: usize) -> Option<Dir
     Some(directory)
 }
 
-/// How many entries there may be, how many there are, how many segments they take, and the free blocks.
-fn counts(directory: &Directory) -> [usize; 4] {
+/// The first block, the blocks covered, how many entries there may be, how many there are, how many segments they take, and
+/// the free blocks.
+fn counts(directory: &Directory) -> [usize; 6] {
     [
+        directory.first_block(),
+        directory.capacity(),
         directory.limit(),
         directory.entries().len(),
         directory.segment_count(),
@@ -67,48 +70,51 @@ fn figures(
     files: u16,
     minus_info: u16,
     size: usize,
-) -> Option<([usize; 4], [u16; 11], [usize; 4])> {
+) -> Option<([usize; 6], [u16; 11], [usize; 4])> {
     let directory = filled(alloc, files, minus_info, size)?;
     let again = changed_again(alloc, &directory).unwrap_or([0; 4]);
     Some((counts(&directory), last_segment(&directory), again))
 }
 
+/// How many files a directory has, minus its information words, the blocks of its second file, and its figures.
+const DIRECTORIES: [(u16, u16, usize, [usize; 6], [u16; 11], [usize; 4]); 4] = [
+    (
+        246,
+        0o7777,
+        3843,
+        [7, 4088, 246, 246, 6, 0],
+        [4096 - 41, 4054, 0, 0, 0o7777, 206, 0, 0, 0, 205, 0o7777],
+        [246, 3850, 7, 1],
+    ),
+    (
+        300,
+        0,
+        3789,
+        [7, 4088, 300, 300, 6, 0],
+        [4096 - 50, 4045, 0, 0, 0, 251, 0, 0, 0, 0o7777, 252],
+        [300, 3796, 7, 1],
+    ),
+    (
+        17,
+        0o7766,
+        5,
+        [7, 4088, 96, 18, 2, 4067],
+        [0o7776, 27, 0, 0, 0o7766, 17, 0, 0, 0, 16, 0o1111],
+        [18, 12, 7, 1],
+    ),
+    (
+        97,
+        0o7766,
+        3992,
+        [7, 4088, 96, 97, 7, 0],
+        [0o7777, 4094, 0, 0, 0o7766, 97, 0, 0, 0, 96, 0o1111],
+        [0; 4],
+    ),
+];
+
 #[test]
 fn many_segments(rt: HostRuntime) {
-    for (files, info, size, counts, segment, again) in [
-        (
-            246,
-            0o7777,
-            3843,
-            [246, 246, 6, 0],
-            [4096 - 41, 4054, 0, 0, 0o7777, 206, 0, 0, 0, 205, 0o7777],
-            [246, 3850, 7, 1],
-        ),
-        (
-            300,
-            0,
-            3789,
-            [300, 300, 6, 0],
-            [4096 - 50, 4045, 0, 0, 0, 251, 0, 0, 0, 0o7777, 252],
-            [300, 3796, 7, 1],
-        ),
-        (
-            17,
-            0o7766,
-            5,
-            [96, 18, 2, 4067],
-            [0o7776, 27, 0, 0, 0o7766, 17, 0, 0, 0, 16, 0o1111],
-            [18, 12, 7, 1],
-        ),
-        (
-            97,
-            0o7766,
-            3992,
-            [96, 97, 7, 0],
-            [0o7777, 4094, 0, 0, 0o7766, 97, 0, 0, 0, 96, 0o1111],
-            [0; 4],
-        ),
-    ] {
+    for (files, info, size, counts, segment, again) in DIRECTORIES {
         assert_eq!(rt;
             figures(rt.alloc(), files, info, size),
             Some((counts, segment, again)),
