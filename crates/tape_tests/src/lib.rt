@@ -6,11 +6,7 @@ mod loading;
 #[cfg(test)]
 mod packing;
 #[cfg(test)]
-mod plain;
-#[cfg(test)]
 mod reading;
-#[cfg(test)]
-mod rows;
 #[cfg(test)]
 mod values;
 #[cfg(test)]

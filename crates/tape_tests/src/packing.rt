@@ -1,10 +1,10 @@
 //! Three characters in two words: bytes, blocks and texts.
 
-use crate::{plain, rows};
 use char_pack::{
     Frames, Text, character_count, frame_at, frame_count, is_storable, pack, pack_blocks, store,
     stored_block_count, text_of,
 };
+use plain_tapes::{plain, rows};
 use std::alloc::{AllocError, Global};
 use std::test::Fail;
 use word12::Word;

@@ -1,8 +1,8 @@
 //! Tapes that are read, frame by frame.
 
-use crate::plain::{self, Item, Kind};
-use crate::rows;
 use bin_tape::{TapeFault, TapeReader};
+use plain_tapes::plain::{self, Item, Kind};
+use plain_tapes::rows;
 use std::alloc::{AllocError, Global};
 use std::test::Fail;
 

@@ -1,7 +1,7 @@
 //! Tapes that are written.
 
-use crate::rows;
 use bin_tape::write_tape;
+use plain_tapes::rows;
 use std::alloc::{AllocError, Global};
 use std::test::Fail;
 use word12::{Cell, Word};
