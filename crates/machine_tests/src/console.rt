@@ -1,8 +1,8 @@
 //! A console over two machines, the processor and the plain one, that reads a line: a word, and octal numbers behind it.
 //! A cell has five digits, the field first.
 
-use crate::plain::Plain;
 use cpu8::{Machine, Stepped};
+use plain_machine::Plain;
 use word12::{Cell, Word};
 
 /// A line: its word, and at most eight numbers.

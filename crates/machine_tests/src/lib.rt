@@ -4,8 +4,6 @@
 #[cfg(test)]
 mod console;
 #[cfg(test)]
-mod plain;
-#[cfg(test)]
 mod processor;
 #[cfg(test)]
 mod teletype;

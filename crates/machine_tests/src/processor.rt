@@ -1,9 +1,9 @@
 //! The processor, by worked examples and against the plain program.
 
 use crate::console::{Command, change, put, same_core, sees, step};
-use crate::plain::Plain;
 use core_load::Core;
 use cpu8::Machine;
+use plain_machine::Plain;
 use std::test::Fail;
 
 /// Worked examples: what the console does, and what it sees then.

@@ -1,4 +1,6 @@
-//! The instruction table as a plain, slow program, written from the handbook's table and not from the machine's code.
+//! The instruction table as a plain, slow program, to compare the processor with: written from the handbook's table and not from the
+//! machine's code.
+#![tactic(auto)]
 
 use cpu8::Machine;
 use std::alloc::{AllocError, Global};
