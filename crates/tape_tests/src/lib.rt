@@ -1,10 +1,8 @@
-//! Tests of words, tapes, core and packed characters.
+//! Tests of words, tapes and core.
 #![tactic(auto)]
 
 #[cfg(test)]
 mod loading;
-#[cfg(test)]
-mod packing;
 #[cfg(test)]
 mod reading;
 #[cfg(test)]
