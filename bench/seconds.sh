@@ -8,3 +8,20 @@ seconds() {
     done
     printf '%s' "$best"
 }
+
+# The processor seconds of each of these commands, the least of so many runs of each, one after the other.
+alternate() {
+    local rounds=$1 best=() command round run k
+    shift
+    for round in $(seq "$rounds"); do
+        k=0
+        for command in "$@"; do
+            TIMEFORMAT='%U %S'
+            run=$({ time eval "$command"; } 2>&1 | awk 'END { printf "%.3f", $1 + $2 }')
+            best[k]=$(printf '%s\n%s\n' "${best[k]:-$run}" "$run" | sort -g | head -n 1)
+            k=$((k + 1))
+        done
+    done
+    printf '%s ' "${best[@]}"
+    printf '\n'
+}

@@ -12,10 +12,11 @@ fn laws() {
     statements::dollar_ends_source();
     statements::fault_stays();
     statements::faults_are_of_statements();
-    words::names_keep_their_values();
+    words::fixed_names_keep_their_values();
     words::first_fault_stays();
     words::word_fault_stays();
     words::no_word_is_told();
+    words::has_words();
     words::lexical_fault_is_told();
     words::no_lexical_fault();
     words::statements_stay();

@@ -7,7 +7,7 @@ use word12::Word;
 /// What is asked of symbols, one after the other, and what is answered.
 ///
 /// `manual`: the value that the PAL III manual gives a name for good, before any was defined. `codes`: the sixbit codes of
-/// the name that a text spells (a directory has `PROG.PA` as 2022 1707 0000 2001). `,` and `=` define a name.
+/// the name that a text spells (a directory has `PROG.PA` as 2022 1707 0000 2001). `,` and `=` define a name, `again` sets one.
 const ROWS: &str = "\
 manual AND -> 0000
 manual TAD -> 1000
@@ -97,6 +97,12 @@ codes A B -> none
 room 1 -> ok
 , ONE 0203 -> ok
 = TWO 0002 -> ok
+, ZERO 0007 -> ok
+, A 0010 -> ok
+, M 0011 -> ok
+ZERO -> 0007
+A -> 0010
+M -> 0011
 ONE -> 0203
 TWO -> 0002
 TWOS -> none
@@ -105,9 +111,26 @@ TWOS -> none
 , ONE 0204 -> DT
 , TWO 0003 -> DT
 = ONE 0204 -> RD
-= TWO 0003 -> RD
+= TWO 0003 -> ok
 ONE -> 0203
+TWO -> 0003
+, TWO 0002 -> DT
+= TWO 0002 -> ok
 TWO -> 0002
+= FOUR 0004 -> ok
+, FOUR 0004 -> ok
+= FOUR 0005 -> RD
+again ONE 7777 -> ok
+again TWO 1234 -> ok
+again CLA 0001 -> ok
+again NONE 0001 -> ok
+ONE -> 7777
+TWO -> 1234
+CLA -> 7200
+NONE -> none
+= ONE 0203 -> RD
+again ONE 0203 -> ok
+= TWO 0002 -> ok
 = CLA 7200 -> ok
 , CLA 7200 -> ok
 , CLA 0200 -> DT
@@ -177,6 +200,10 @@ fn define(symbols: &mut Symbols, mark: &[u8], definition: &str) -> &'static str 
     match mark {
         b"," => answered(symbols.define_tag(name, value)),
         b"=" => answered(symbols.define_value(name, value)),
+        b"again" => {
+            symbols.again(name, value);
+            "ok"
+        }
         _ => "no mark",
     }
 }

@@ -16,6 +16,7 @@ FIELD 3;*377;A=5|TAD A;B, A+B|$ -> . . . . . . turned - - - 30377:1005 30400:040
 A=1|B,|$ -> . . . NW 3 NW 3 NW 3 NW 3 NW 3 NW 3 NW 3 NW 3
 1;TAD 400;2;Q|$ -> . . . . . turned 00200:0001 IR 1 IR 1 IR 1 IR 1
 |Q;1;TAD 400|$ -> . . . . . turned - UA 2 UA 2 UA 2 UA 2
+A;A=1;A=2;A|B, A=7;B|$ -> . . . . . . . turned 00200:0007 - - 00201:0002 - 00202:0202 -
 ";
 
 /// The statements of a source that has no fault of the lexer.

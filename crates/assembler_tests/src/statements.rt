@@ -265,6 +265,31 @@ fn put_statements(text: &mut String, lexer: &mut Lexer, bytes: &[u8]) {
     }
 }
 
+/// The same by a lexer that reads on as far as it goes, and hands out no tokens.
+fn put_further(text: &mut String, lexer: &mut Lexer, bytes: &[u8]) {
+    let mut next = lexer.read_on(bytes);
+    for (place, byte) in bytes.iter().enumerate() {
+        if place < next {
+            continue;
+        }
+        match lexer.push(*byte) {
+            Ok(Some(statement)) => {
+                put_statement(text, &statement);
+                put_tokens(text, statement.tokens.as_slice());
+            }
+            Ok(None) => {}
+            Err(_) => break,
+        }
+        let behind = place.wrapping_add(1);
+        let (_, others) = bytes.split_at(behind.min(bytes.len()));
+        next = behind.wrapping_add(lexer.read_on(others));
+    }
+    if let Err(fault) = lexer.end() {
+        put_between(text, "; ");
+        put_fault(text, AsmFault::from(fault));
+    }
+}
+
 /// Puts down the tokens of each statement of a source.
 fn put_all_tokens(text: &mut String, lexer: &mut Lexer, bytes: &[u8]) {
     put(text, "tokens");
@@ -301,7 +326,12 @@ fn is_so(alloc: Global, line: &str) -> bool {
     match wanted.as_bytes() {
         [b't', ..] => put_all_tokens(&mut text, &mut lexer, &bytes),
         [b'a', ..] => put_answers(&mut text, &mut lexer, &bytes),
-        _ => put_statements(&mut text, &mut lexer, &bytes),
+        _ => {
+            put_statements(&mut text, &mut lexer, &bytes);
+            let mut further = String::new(alloc);
+            put_further(&mut further, &mut Lexer::without_tokens(alloc), &bytes);
+            return text.as_str() == wanted && further == text;
+        }
     }
     text.as_str() == wanted
 }

@@ -1,3 +1,5 @@
+pub mod AgainLemmas
+pub mod LengthLemmas
 pub mod NameLemmas
 pub mod PassLemmas
 pub mod SecondLemmas

@@ -1,13 +1,13 @@
 -- Tags, one at a time.
-use Rattle.std.proofs.Common.{◌≡◌, ℕ, ◌+◌, ◌-◌, ◌≤◌, suc, nat_eq, Bool, true, false, if◌then◌else◌, Option, Some, None, length, get_or, take, drop, List, [], ◌∷◌, refl, ap, sym, subst, ◌∙◌, ◌⊎◌, inl, inr, arith}
+use Rattle.std.proofs.Common.{◌≡◌, ℕ, ◌+◌, ◌-◌, ◌≤◌, suc, nat_eq, Bool, true, false, ◌||◌, if◌then◌else◌, Option, Some, None, Ok, length, get_or, take, drop, List, [], ◌∷◌, refl, ap, sym, subst, ◌∙◌, ◌⊎◌, inl, inr, arith}
 use Rattle.std.proofs.lemmas.List.{take_all}
 use Rattle.std.proofs.lemmas.Bool.{eqb-true}
 use Rattle.std.proofs.lemmas.Bool.Decides.{nat_tests}
 use Rattle.pal_sym.specs.SymbolTable.{SymbolTable}
-use Rattle.pal_sym.specs.Values.{symbol_value, IsDefined}
+use Rattle.pal_sym.specs.Values.{symbol_value, is_fixed as fixed_in, DefinesTag}
 use Rattle.pal_asm.specs.declared.faults.Code.TheVariants.{DT}
 use Rattle.pal_asm.specs.Expressions.{Known}
-use Rattle.pal_asm.specs.Places.{with_tags}
+use Rattle.pal_asm.specs.Places.{with_tags, is_among}
 use Rattle.pal_asm.specs.Faults.{first_of, past, defined_otherwise, tags_fault}
 
 -- what stands behind the first of a list
@@ -69,31 +69,38 @@ pub first_tag : (tags : List ℕ) (tag place : ℕ) (old : Known) → past place
     → tags_fault old place (tag ∷ tags) ≡ tags_fault old place tags
 first_tag tags tag place old none before = rw (none, by_before place (old tag) before) refl
 
+-- a tag that was defined is fixed
+now_fixed : (among test fixed : Bool) → (among || (if test then true else fixed)) ≡ ((test || among) || fixed)
+now_fixed true true fixed = refl
+now_fixed true false fixed = refl
+now_fixed false true fixed = refl
+now_fixed false false fixed = refl
+
+-- What is left to do, where a tag was defined: its own part, and that of the others.
+pub record IsLeft (rest others : List ℕ) (place : ℕ) (old new : SymbolTable) : Type 0 where
+  pub values : (n : ℕ) → with_tags others place (symbol_value new) n ≡ with_tags rest place (symbol_value old) n
+  pub fixed : (n : ℕ) → (is_among others n || fixed_in new n) ≡ (is_among rest n || fixed_in old n)
+  pub fault : tags_fault (symbol_value new) place others ≡ tags_fault (symbol_value old) place rest
+  pub less : length rest ≡ length others + 1
+  pub room : old.room ≤ new.room + 1
+
 -- a tag was defined, and the others are left
-pub tag_passed : (rest : List ℕ) (tag place : ℕ) (old new : SymbolTable) → 1 ≤ length rest → tag ≡ get_or rest 0 tag → past place ≡ None
-    → IsDefined tag place old new
-    → ((n : ℕ) → with_tags (behind_one rest) place (symbol_value new) n ≡ with_tags rest place (symbol_value old) n)
-    × (tags_fault (symbol_value new) place (behind_one rest) ≡ tags_fault (symbol_value old) place rest)
-    × (length rest ≡ length (behind_one rest) + 1)
-tag_passed rest tag place old new long first none defined = (
-  λ n. with_tag_more (behind_one rest) tag place (symbol_value old) (symbol_value new) defined.values n
-      ∙ ap (λ tags. with_tags tags place (symbol_value old) n) (sym (first_one rest tag long first)),
-  tags_fault_more (behind_one rest) tag place (symbol_value old) (symbol_value new) defined.values defined.before
-      ∙ sym (first_tag (behind_one rest) tag place (symbol_value old) none defined.before)
-      ∙ ap (tags_fault (symbol_value old) place) (sym (first_one rest tag long first)),
-  ap (λ l. length l) (first_one rest tag long first) ∙ omega arith,
-)
+tag_passed : (others : List ℕ) (tag place : ℕ) (old new : SymbolTable) → past place ≡ None → DefinesTag tag place old new (Ok tt) → IsLeft (tag ∷ others) others place old new
+tag_passed others tag place old new none defined = record {
+  values = with_tag_more others tag place (symbol_value old) (symbol_value new) defined.1.values;
+  fixed = λ n. ap (λ b. is_among others n || b) (defined.2 n) ∙ now_fixed (is_among others n) (nat_eq tag n) (fixed_in old n);
+  fault = tags_fault_more others tag place (symbol_value old) (symbol_value new) defined.1.values defined.0 ∙ sym (first_tag others tag place (symbol_value old) none defined.0);
+  less = omega arith;
+  room = defined.1.room;
+}
 
 -- the same, where the place was found to be a word
 pub tags_left : (rest : List ℕ) (tag name location place : ℕ) (old new : SymbolTable) → 1 ≤ length rest → tag ≡ get_or rest 0 tag → name ≡ tag
-    → (Some location ≡ Some place) × (past location ≡ None) → IsDefined name place old new
-    → ((n : ℕ) → with_tags (behind_one rest) location (symbol_value new) n ≡ with_tags rest location (symbol_value old) n)
-    × (tags_fault (symbol_value new) location (behind_one rest) ≡ tags_fault (symbol_value old) location rest)
-    × (length rest ≡ length (behind_one rest) + 1) × (old.room ≤ new.room + 1)
+    → (Some location ≡ Some place) × (past location ≡ None) → DefinesTag name place old new (Ok tt) → IsLeft rest (behind_one rest) location old new
 tags_left rest tag name location place old new long first named there defined =
-    let same : place ≡ location = injective location place there.0 in
-    let passed = tag_passed rest tag location old new long first there.1 (subst (λ p. IsDefined tag p old new) same (subst (λ t. IsDefined t place old new) named defined)) in
-    (passed.0, passed.1, passed.2, defined.room)
+    subst (λ r. IsLeft r (behind_one rest) location old new) (sym (first_one rest tag long first))
+    (tag_passed (behind_one rest) tag location old new there.1
+    (subst (λ p. DefinesTag tag p old new (Ok tt)) (injective location place there.0) (subst (λ t. DefinesTag t place old new (Ok tt)) named defined)))
   where
     injective : (a b : ℕ) → Some a ≡ Some b → b ≡ a
     injective a b e = cc

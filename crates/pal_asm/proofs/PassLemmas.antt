@@ -1,8 +1,8 @@
 -- A statement more in the first pass.
-use Rattle.std.proofs.Common.{◌≡◌, ℕ, ◌+◌, true, if◌then◌else◌, Option, Some, Result, Ok, Err, List, ◌∷◌, refl, ap, sym, subst, ◌∙◌, arith}
+use Rattle.std.proofs.Common.{◌≡◌, ℕ, ◌+◌, Bool, true, ◌||◌, if◌then◌else◌, Option, Some, Result, Ok, Err, List, ◌∷◌, refl, ap, sym, subst, ◌∙◌, arith}
 use Rattle.std.proofs.Math.Path.{fun_ext}
 use Rattle.pal_sym.specs.SymbolTable.{SymbolTable}
-use Rattle.pal_sym.specs.Values.{symbol_value, HasRoom}
+use Rattle.pal_sym.specs.Values.{symbol_value, is_fixed as fixed_in, HasRoom}
 use Rattle.pal_lex.specs.declared.phrases.Body.{Body}
 use Rattle.pal_lex.specs.declared.phrases.Body.TheVariants.{Nothing, Origin, Define, Decimal, Octal, Field, Reference, Word}
 use Rattle.pal_lex.specs.declared.phrases.Statement.{Statement}
@@ -11,10 +11,10 @@ use Rattle.pal_asm.specs.declared.faults.AsmFault.{AsmFault}
 use Rattle.pal_asm.specs.declared.faults.AsmFault.TheVariants.{At}
 use Rattle.pal_asm.specs.declared.spots.Spot.{Spot}
 use Rattle.pal_asm.specs.Expressions.{Known}
-use Rattle.pal_asm.specs.Places.{Source, is_word, sets_location, words_since, set_by, with_tags, with_body, last_setting, values, place_at, values_at, field_by}
+use Rattle.pal_asm.specs.Places.{Source, is_word, sets_location, words_since, set_by, with_tags, with_body, is_among, is_fixed, fixed_at, last_setting, values, place_at, values_at, field_by}
 use Rattle.pal_asm.specs.Faults.{first_of, tags_fault, body_fault, statement_fault, at_line}
 use Rattle.pal_asm.specs.Progress.{Progress}
-use Rattle.pal_asm.specs.Passes.{place_by, spot_by, AreDefined, PassesBody, IsRead, Reads, fault_by_table, tagged, IsFirst, AnswersFirst}
+use Rattle.pal_asm.specs.Passes.{place_by, spot_by, AreDefined, PassesBody, IsRead, Reads, fault_by_table, tagged, tagged_fixed, IsFirst, AnswersFirst}
 
 place_step : (known : Known) (body : Body) (setting words : ℕ)
     → set_by known (setting + words) body setting + (if sets_location body then 0 else ((if is_word body then 1 else 0) + words))
@@ -32,27 +32,34 @@ place_step known (Word e) setting words = omega arith
 pub place_passed : (s : Statement) (older : Source) → place_at (Ok s ∷ older) ≡ place_by (values_at s.tags older) (place_at older) s.body
 place_passed s older = place_step (values_at s.tags older) s.body (last_setting older) (words_since older)
 
+-- the fault of tags and a body that has none before the body
+body_left : (tags : List ℕ) (body : Body) (spot : Spot) (old middle : SymbolTable) → AreDefined tags spot.location old middle
+    → fault_by_table tags body spot.location old ≡ body_fault (fixed_in middle) (symbol_value middle) spot.location body
+body_left tags body spot old middle defined =
+    ap (λ f. first_of f (body_fault (tagged_fixed tags old) (tagged tags spot.location old) spot.location body)) defined.no_fault
+    ∙ ap (λ f. body_fault f (tagged tags spot.location old) spot.location body) (sym (fun_ext defined.fixed))
+    ∙ ap (λ k. body_fault (fixed_in middle) k spot.location body) (sym (fun_ext defined.values))
+
 -- the tags and then the body
 pub tags_then_body : (tags : List ℕ) (body : Body) (spot : Spot) (old middle new : SymbolTable) (result : Result Spot Code)
     → AreDefined tags spot.location old middle → PassesBody body spot middle new result → Reads tags body spot old new result
 tags_then_body tags body spot old middle new (Ok next) defined passed =
     let same : symbol_value middle ≡ tagged tags spot.location old = fun_ext defined.values in
     record {
-      no_fault = ap (λ f. first_of f (body_fault (tagged tags spot.location old) spot.location body)) defined.no_fault
-          ∙ ap (λ k. body_fault k spot.location body) (sym same) ∙ passed.no_fault;
+      no_fault = body_left tags body spot old middle defined ∙ passed.no_fault;
       values = λ n. passed.values n ∙ ap (λ k. with_body k spot.location body n) same;
+      fixed = λ n. passed.fixed n ∙ defined.fixed n;
       moved = passed.moved ∙ ap (λ k. spot_by k body spot) same;
     }
-tags_then_body tags body spot old middle new (Err code) defined passed =
-    let same : symbol_value middle ≡ tagged tags spot.location old = fun_ext defined.values in
-    ap (λ f. first_of f (body_fault (tagged tags spot.location old) spot.location body)) defined.no_fault
-    ∙ ap (λ k. body_fault k spot.location body) (sym same) ∙ passed
+tags_then_body tags body spot old middle new (Err code) defined passed = body_left tags body spot old middle defined ∙ passed
 
 -- the fault of a statement, by a table that stands for the names before it
-pub same_fault : (s : Statement) (older : Source) (place : ℕ) (old : SymbolTable) → symbol_value old ≡ values older → place ≡ place_at older
+pub same_fault : (s : Statement) (older : Source) (place : ℕ) (old : SymbolTable) → symbol_value old ≡ values older → fixed_in old ≡ is_fixed older → place ≡ place_at older
     → statement_fault s older ≡ fault_by_table s.tags s.body place old
-same_fault s older place old names there =
-    ap (λ k. first_of (tags_fault k (place_at older) s.tags) (body_fault (with_tags s.tags (place_at older) k) (place_at older) s.body)) (sym names)
+same_fault s older place old names fixed there =
+    ap (λ k. first_of (tags_fault k (place_at older) s.tags) (body_fault (fixed_at s.tags older) (with_tags s.tags (place_at older) k) (place_at older) s.body)) (sym names)
+    ∙ ap (λ (f : ℕ → Bool). first_of (tags_fault (symbol_value old) (place_at older) s.tags)
+    (body_fault (λ n. is_among s.tags n || f n) (with_tags s.tags (place_at older) (symbol_value old)) (place_at older) s.body)) (sym fixed)
     ∙ ap (λ p. fault_by_table s.tags s.body p old) (sym there)
 
 -- an assembler of these parts
@@ -65,11 +72,13 @@ pub first_more : (s : Statement) (older : Source) (old : Progress) (n line : ℕ
     → IsFirst (progress new next s.line failed) (Ok s ∷ older)
 first_more s older old n line symbols roomed new spot next failed tags is same room read first =
     let names : symbol_value roomed ≡ values older = fun_ext room.values ∙ ap (λ p. symbol_value p.symbols) is ∙ first.symbols in
+    let fixed : fixed_in roomed ≡ is_fixed older = fun_ext room.fixed ∙ ap (λ p. fixed_in p.symbols) is ∙ first.fixed in
     let there : spot.location ≡ place_at older = ap (λ (p : Progress). p.spot.location) is ∙ first.location in
     let known : tagged tags spot.location roomed ≡ values_at s.tags older =
     ap (λ t. tagged t spot.location roomed) same ∙ ap (λ k. with_tags s.tags spot.location k) names ∙ ap (λ p. with_tags s.tags p (values older)) there in
     record {
       symbols = fun_ext (λ n. read.values n ∙ ap (λ k. with_body k spot.location s.body n) known ∙ ap (λ p. with_body (values_at s.tags older) p s.body n) there);
+      fixed = fun_ext (λ n. read.fixed n ∙ ap (λ t. tagged_fixed t roomed n) same ∙ ap (λ (f : ℕ → Bool). is_among s.tags n || f n) fixed);
       location = ap (λ (p : Spot). p.location) read.moved ∙ ap (λ k. place_by k spot.location s.body) known
           ∙ ap (λ p. place_by (values_at s.tags older) p s.body) there ∙ sym (place_passed s older);
       field = ap (λ (p : Spot). p.field) read.moved ∙ ap (λ k. field_by k spot.location s.body spot.field) known
@@ -78,7 +87,7 @@ first_more s older old n line symbols roomed new spot next failed tags is same r
       word = ap (λ (p : Spot). p.word) read.moved ∙ ap (λ w. if is_word s.body then true else w) (ap (λ (p : Progress). p.spot.word) is ∙ first.word);
       line = refl;
       no_fault = ap (λ f. first_of f (at_line s.line (statement_fault s older))) first.no_fault
-          ∙ ap (at_line s.line) (same_fault s older spot.location roomed names there ∙ ap (λ t. fault_by_table t s.body spot.location roomed) (sym same) ∙ read.no_fault);
+          ∙ ap (at_line s.line) (same_fault s older spot.location roomed names fixed there ∙ ap (λ t. fault_by_table t s.body spot.location roomed) (sym same) ∙ read.no_fault);
       goes_on = ap (λ (p : Progress). p.failed) is ∙ first.goes_on;
     }
 
@@ -88,9 +97,10 @@ pub first_fault_more : (s : Statement) (older : Source) (old after : Progress) (
     → fault ≡ At code s.line → after.failed ≡ Some (At code s.line) → IsFirst old older → AnswersFirst older s (Err fault) old after
 first_fault_more s older old after n line symbols roomed spot failed tags code fault is same room told named kept first =
     let names : symbol_value roomed ≡ values older = fun_ext room.values ∙ ap (λ p. symbol_value p.symbols) is ∙ first.symbols in
+    let fixed : fixed_in roomed ≡ is_fixed older = fun_ext room.fixed ∙ ap (λ p. fixed_in p.symbols) is ∙ first.fixed in
     let there : spot.location ≡ place_at older = ap (λ (p : Progress). p.spot.location) is ∙ first.location in
     subst (λ f. AnswersFirst older s (Err f) old after) (sym named) (
       ap (λ f. first_of f (at_line s.line (statement_fault s older))) first.no_fault
-          ∙ ap (at_line s.line) (same_fault s older spot.location roomed names there ∙ ap (λ t. fault_by_table t s.body spot.location roomed) (sym same) ∙ told),
+          ∙ ap (at_line s.line) (same_fault s older spot.location roomed names fixed there ∙ ap (λ t. fault_by_table t s.body spot.location roomed) (sym same) ∙ told),
       kept,
     )

@@ -1,8 +1,8 @@
 -- A byte more of a text, and a whole text.
-use Rattle.std.proofs.Common.{◌≡◌, ℕ, nat_eq, ◌≤◌, Bool, true, false, if◌then◌else◌, Option, Some, None, Result, Ok, Err, length, get_or, List, [], ◌∷◌, ◌++◌, refl, ap, sym, subst, ◌∙◌, ◌⊎◌, inl, inr, append_assoc, arith}
+use Rattle.std.proofs.Common.{◌≡◌, ℕ, nat_eq, ◌≤◌, Bool, true, false, if◌then◌else◌, Option, Some, None, Result, Ok, Err, zero, suc, take, drop, length, get_or, List, [], ◌∷◌, ◌++◌, refl, ap, sym, subst, ◌∙◌, ◌⊎◌, inl, inr, append_assoc, arith}
 use Rattle.pal_lex.specs.Text.{ends_statement, stretch, line_after, text_from, text_of}
 use Rattle.pal_lex.specs.Statements.{statements, first_fault, first_of as lex_first_of, with_stretch, judged, radix_after}
-use Rattle.pal_lex.specs.Reading.{Answers, Ends}
+use Rattle.pal_lex.specs.Reading.{Answers, Ends, ReadsOn, tokens_behind, with_tokens}
 use Rattle.pal_lex.specs.Progress as lex
 use Rattle.pal_lex.specs.declared.faults.LexFault.{LexFault}
 use Rattle.pal_lex.specs.declared.faults.LexFault.TheVariants as fault
@@ -14,13 +14,13 @@ use Rattle.pal_asm.specs.declared.faults.AsmFault.TheVariants.{At, Memory}
 use Rattle.pal_asm.specs.declared.faults.Code.TheVariants.{NE, NW}
 use Rattle.pal_asm.specs.Expressions.{Known}
 use Rattle.pal_asm.specs.Places.{Source, is_word, values, place_at}
-use Rattle.pal_asm.specs.Words.{pairs_by}
+use Rattle.pal_asm.specs.Words.{word_values, pairs_by}
 use Rattle.pal_asm.specs.Faults.{first_of, at_line, lexical, statement_fault, first_order, no_end, word_fault, words_fault, has_word, last_line, no_word}
-use Rattle.pal_asm.specs.Laws.{NamesKeepTheirValues, FirstFaultStays, WordFaultStays, NoWordIsTold, LexicalFaultIsTold, NoLexicalFault, StatementsStay, NoFaultBefore}
+use Rattle.pal_asm.specs.Laws.{FixedNamesKeepTheirValues, FirstFaultStays, WordFaultStays, NoWordIsTold, LexicalFaultIsTold, NoLexicalFault, StatementsStay, NoFaultBefore}
 use Rattle.pal_asm.specs.Progress.{Progress}
-use Rattle.pal_asm.specs.Passes.{PassesByte, EndsText, MakesByte, IsFirstOf, IsFirstFault, IsSecond, AnswersSecond, TurnsOver, IsWordsFault, IsFaultOf}
+use Rattle.pal_asm.specs.Passes.{ReadsTo, PassesByte, EndsText, MakesByte, IsFirst, IsFirstOf, IsFirstFault, IsSecond, AnswersFirst, AnswersSecond, TurnsOver, IsWordsFault, IsFaultOf}
 use Rattle.pal_asm.proofs.NameLemmas.{behind_one, first_one}
-use Rattle.pal_asm.proofs.WholeLemmas.{first_none, second_none, some_none, no_fault_before, whole_keeps}
+use Rattle.pal_asm.proofs.WholeLemmas.{first_none, second_none, some_none, no_fault_before, fixed_keep}
 
 -- ## Statements
 
@@ -66,6 +66,26 @@ more_behind source rest text long whole =
     let here : text_from (get_or rest 0 0 ∷ text) (behind_one rest) ≡ text_of source = ap (text_from text) (sym (first_of_bytes rest long)) ∙ whole in
     let behind = more (behind_one rest) (get_or rest 0 0 ∷ text) in
     (here, (behind.0, ap statements (sym here) ∙ behind.1))
+
+-- ## Bytes that end no statement
+
+cut_in_two : (n : ℕ) (bytes : List ℕ) → take n bytes ++ drop n bytes ≡ bytes
+cut_in_two zero bytes = refl
+cut_in_two (suc n) [] = refl
+cut_in_two (suc n) (b ∷ bytes) = ap (λ rest. b ∷ rest) (cut_in_two n bytes)
+
+joined : (a b text : List ℕ) → text_from text (a ++ b) ≡ text_from (text_from text a) b
+joined [] b text = refl
+joined (x ∷ a) b text = joined a b (x ∷ text)
+
+pub reads_to : (text bytes rest : List ℕ) (count : ℕ) (lexer : lex.Progress) → ReadsOn text bytes count lexer → rest ≡ drop count bytes → ReadsTo text bytes rest lexer
+reads_to text bytes rest count lexer reads behind = record {
+  text_then = text_from text (take count bytes);
+  whole = ap (text_from (text_from text (take count bytes))) behind ∙ sym (joined (take count bytes) (drop count bytes) text)
+      ∙ ap (text_from text) (cut_in_two count bytes);
+  same = reads.1;
+  read = reads.2;
+}
 
 -- ## Faults of the lexer
 
@@ -134,11 +154,18 @@ second_lexical whole later text b (fault.NE line) answer old new assembler e ans
 second_lexical whole later text b fault.Memory answer old new assembler e answers split none =
     subst (λ a. MakesByte whole (b ∷ text) text (Err a) new assembler) (sym e) tt
 
+-- what the first pass answers for a byte that ends a statement
+pub first_statement : (text : List ℕ) (b : ℕ) (s : Statement) (result : Result (Unit {0}) AsmFault) (before after : lex.Progress) (old new : Progress)
+    → Answers text b (Ok (Some s)) before after → AnswersFirst (statements text) (with_tokens (tokens_behind text) s) result old new → PassesByte (b ∷ text) result after new
+first_statement text b s (Ok done) before after old new read first = (read.3, subst (λ t. IsFirst new t) (sym read.1) first)
+first_statement text b s (Err (At code line)) before after old new read first = ap first_order read.1 ∙ first.0
+first_statement text b s (Err Memory) before after old new read first = tt
+
 -- what the second pass answers for a byte that ends a statement
 pub second_statement : (whole : Source) (text : List ℕ) (b : ℕ) (s : Statement) (result : Result (Option (ℕ × ℕ)) AsmFault) (before after : lex.Progress) (old new : Progress)
-    → Answers text b (Ok (Some s)) before after → AnswersSecond whole (statements text) s result old new → MakesByte whole (b ∷ text) text result after new
+    → Answers text b (Ok (Some s)) before after → AnswersSecond whole (statements text) (with_tokens (tokens_behind text) s) result old new → MakesByte whole (b ∷ text) text result after new
 second_statement whole text b s (Ok handed) before after old new read second =
-    (read.2, subst (λ t. IsSecond new whole t) (sym read.1) second.1, ap (pairs_by (values whole)) read.1 ∙ second.0)
+    (read.3, subst (λ t. IsSecond new whole t) (sym read.1) second.1, ap (pairs_by (values whole)) read.1 ∙ second.0)
 second_statement whole text b s (Err (At code line)) before after old new read second = ap (words_fault (values whole)) read.1 ∙ second.0
 second_statement whole text b s (Err Memory) before after old new read second = absurd second
 
@@ -152,7 +179,7 @@ first_stays (Err g ∷ later) older f told = ap (λ o. first_of o (Some (lexical
 words_stay : (known : Known) (later older : Source) (f : AsmFault) → words_fault known older ≡ Some f → words_fault known (later ++ older) ≡ Some f
 words_stay known [] older f told = told
 words_stay known (Ok s ∷ later) older f told =
-    ap (λ o. first_of o (at_line s.line (word_fault known (place_at (later ++ older)) s.body))) (words_stay known later older f told)
+    ap (λ o. first_of o (at_line s.line (word_fault (word_values known s.tags (later ++ older)) (place_at (later ++ older)) s.body))) (words_stay known later older f told)
 words_stay known (Err g ∷ later) older f told = words_stay known later older f told
 
 pub first_told : (source rest text : List ℕ) (f : AsmFault) (lexer : lex.Progress) (assembler : Progress) → 1 ≤ length rest → text_from text rest ≡ text_of source
@@ -191,7 +218,7 @@ no_words known [] e = refl
 no_words known (Err f ∷ older) e = no_words known older e
 no_words known (Ok s ∷ older) e =
     let both = neither (is_word s.body) (has_word older) e in
-    rw (no_words known older both.1) (ap (at_line s.line) (quiet known (place_at older) s.body both.0))
+    rw (no_words known older both.1) (ap (at_line s.line) (quiet (word_values known s.tags older) (place_at older) s.body both.0))
 
 wordless : (source : Source) (f : AsmFault) → no_word source ≡ Some f → has_word source ≡ false
 wordless source f told = by_test (has_word source) told
@@ -245,8 +272,8 @@ lexical_fault_is_told = lex_told
 pub no_lexical_fault : NoLexicalFault
 no_lexical_fault = no_lex_fault
 
-pub names_keep_their_values : NamesKeepTheirValues
-names_keep_their_values later older name value none is = whole_keeps later older none name value is
+pub fixed_names_keep_their_values : FixedNamesKeepTheirValues
+fixed_names_keep_their_values later older name value none kept is = fixed_keep later older name value none kept is
 
 pub no_fault_before_all : NoFaultBefore
 no_fault_before_all = no_fault_before

@@ -6,7 +6,7 @@ use Rattle.pal_lex.specs.Statements.{statements}
 use Rattle.pal_asm.specs.declared.faults.AsmFault.{AsmFault}
 use Rattle.pal_asm.specs.declared.faults.AsmFault.TheVariants.{At}
 use Rattle.pal_asm.specs.declared.faults.Code.TheVariants.{IC, SY, NU, UA, DT, RD, IR, FD, PF, NE, NW}
-use Rattle.pal_asm.specs.Words.{pairs_of, meaning_of}
+use Rattle.pal_asm.specs.Words.{pairs_of}
 use Rattle.pal_asm.specs.Faults.{fault_of}
 use Rattle.pal_sym.specs.Permanent.{permanent}
 
@@ -84,9 +84,37 @@ bad_number : fault (codes "8" ++ 13 ∷ codes "$") ≡ Some (At NU 1)
 unfolding permanent statements
 bad_number = refl
 
-redefinition : fault (codes "A=1;A=2" ++ 13 ∷ codes "$") ≡ Some (At RD 1)
+redefinition : fault (codes "A=1;A=2" ++ 13 ∷ codes "$") ≡ Some (At NW 2)
 unfolding permanent statements
 redefinition = refl
+
+redefined : (fault (codes "A=1;A;A=2;A" ++ 13 ∷ codes "$") ≡ None) × (pairs (codes "A=1;A;A=2;A" ++ 13 ∷ codes "$") ≡ (128, 1) ∷ (129, 2) ∷ [])
+unfolding permanent statements
+redefined = (refl, refl)
+
+used_before : (fault (codes "A;A=1;A=2;A" ++ 13 ∷ codes "$") ≡ None) × (pairs (codes "A;A=1;A=2;A" ++ 13 ∷ codes "$") ≡ (128, 2) ∷ (129, 2) ∷ [])
+unfolding permanent statements
+used_before = (refl, refl)
+
+by_itself : (fault (codes "A=1;A=A+A;A" ++ 13 ∷ codes "$") ≡ None) × (pairs (codes "A=1;A=A+A;A" ++ 13 ∷ codes "$") ≡ (128, 2) ∷ [])
+unfolding permanent statements
+by_itself = (refl, refl)
+
+tag_at_present_value : (fault (codes "A=1;A=200;A, A" ++ 13 ∷ codes "$") ≡ None) × (pairs (codes "A=1;A=200;A, A" ++ 13 ∷ codes "$") ≡ (128, 128) ∷ [])
+unfolding permanent statements
+tag_at_present_value = (refl, refl)
+
+redefined_tag : fault (codes "A, 1;A=5" ++ 13 ∷ codes "$") ≡ Some (At RD 1)
+unfolding permanent statements
+redefined_tag = refl
+
+redefined_permanent : fault (codes "CLA=5" ++ 13 ∷ codes "$") ≡ Some (At RD 1)
+unfolding permanent statements
+redefined_permanent = refl
+
+tag_of_another_value : fault (codes "A=1;A, 1" ++ 13 ∷ codes "$") ≡ Some (At DT 1)
+unfolding permanent statements
+tag_of_another_value = refl
 
 undefined_origin : fault (codes "*B" ++ 13 ∷ codes "B, 1" ++ 13 ∷ codes "$") ≡ Some (At UA 1)
 unfolding permanent statements
@@ -123,7 +151,3 @@ page_zero_first = (refl, refl)
 tag_at_same_place : (fault (codes "*7200;CLA, CLA" ++ 13 ∷ codes "$") ≡ None) × (pairs (codes "*7200;CLA, CLA" ++ 13 ∷ codes "$") ≡ (3712, 3712) ∷ [])
 unfolding permanent statements
 tag_at_same_place = (refl, refl)
-
-pub last_word : meaning_of (text_of (codes "*200;1;*200;2$")) 128 ≡ Some 2
-unfolding permanent statements
-last_word = refl

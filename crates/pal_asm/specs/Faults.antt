@@ -15,7 +15,8 @@ use Rattle.pal_asm.specs.declared.faults.Code.TheVariants.{IC, SY, NU, UA, DT, R
 use Rattle.pal_asm.specs.declared.faults.AsmFault.{AsmFault}
 use Rattle.pal_asm.specs.declared.faults.AsmFault.TheVariants.{At, Memory}
 use Rattle.pal_asm.specs.Expressions.{Known, value_of, address_value}
-use Rattle.pal_asm.specs.Places.{Source, is_word, place_at, values, values_at}
+use Rattle.pal_asm.specs.Places.{Source, is_word, place_at, values, values_at, fixed_at}
+use Rattle.pal_asm.specs.Words.{offset_of, word_values}
 
 -- the first of two
 abbrev pub first_of : {A : Type 0} → Option A → Option A → Option A
@@ -58,23 +59,27 @@ abbrev pub field_fault : Option ℕ → Option Code
 field_fault None = None
 field_fault (Some number) = if nat_lt 7 number then Some FD else None
 
-abbrev pub definition_fault : Option ℕ → Option ℕ → Option Code
-definition_fault None known = None
-definition_fault (Some value) known = defined_otherwise RD value known
+-- `=` gives a permanent name or a tag no other value
+abbrev pub definition_fault : Bool → Option ℕ → Option ℕ → Option Code
+definition_fault fixed None known = None
+definition_fault false (Some value) known = None
+definition_fault true (Some value) known = defined_otherwise RD value known
 
-abbrev pub body_fault : Known → ℕ → Body → Option Code
-body_fault known place Nothing = None
-body_fault known place (Origin e) = terms_fault known place e
-body_fault known place (Define name e) = first_of (terms_fault known place e) (definition_fault (value_of known place e) (known name))
-body_fault known place Decimal = None
-body_fault known place Octal = None
-body_fault known place (Field e) = first_of (terms_fault known place e) (field_fault (value_of known place e))
-body_fault known place (Reference operation indirect address) = past place
-body_fault known place (Word e) = past place
+-- the fault of a body, where these names are fixed and stand for these values
+abbrev pub body_fault : (ℕ → Bool) → Known → ℕ → Body → Option Code
+body_fault fixed known place Nothing = None
+body_fault fixed known place (Origin e) = terms_fault known place e
+body_fault fixed known place (Define name e) = first_of (terms_fault known place e) (definition_fault (fixed name) (value_of known place e) (known name))
+body_fault fixed known place Decimal = None
+body_fault fixed known place Octal = None
+body_fault fixed known place (Field e) = first_of (terms_fault known place e) (field_fault (value_of known place e))
+body_fault fixed known place (Reference operation indirect address) = past place
+body_fault fixed known place (Word e) = past place
 
 -- the fault of a statement behind others: its tags, then its body
 abbrev pub statement_fault : Statement → Source → Option Code
-statement_fault s older = first_of (tags_fault (values older) (place_at older) s.tags) (body_fault (values_at s.tags older) (place_at older) s.body)
+statement_fault s older =
+    first_of (tags_fault (values older) (place_at older) s.tags) (body_fault (fixed_at s.tags older) (values_at s.tags older) (place_at older) s.body)
 
 abbrev pub at_line : ℕ → Option Code → Option AsmFault
 at_line line None = None
@@ -100,13 +105,16 @@ first_order (Ok s ∷ older) = first_of (first_order older) (at_line s.line (sta
 abbrev pub no_end : List ℕ → Option AsmFault
 no_end text = if is_over text then None else Some (At NE (line_after text))
 
--- ## Words, by the values of the whole source
+-- ## Words: a name may be defined behind them
 
--- an address that a memory reference at a place can't reach
+abbrev pub no_offset : Option ℕ → Option Code
+no_offset None = Some IR
+no_offset (Some offset) = None
+
+-- an address that a memory reference at a place has no offset for
 abbrev pub out_of_reach : ℕ → Option ℕ → Option Code
 out_of_reach place None = None
-out_of_reach place (Some address) =
-    if nat_lt address 128 then None else (if nat_eq (address / 128) (place / 128) then None else Some IR)
+out_of_reach place (Some address) = no_offset (offset_of place address)
 
 abbrev pub address_fault : Known → ℕ → Option (List Part) → Option Code
 address_fault known place None = None
@@ -123,11 +131,11 @@ word_fault known place (Reference operation indirect address) =
     first_of (address_fault known place address) (out_of_reach place (address_value known place address))
 word_fault known place (Word e) = terms_fault known place e
 
--- the first fault of a word, where names stand for these values
+-- the first fault of a word, where names stand for these values at last
 abbrev pub words_fault : Known → Source → Option AsmFault
-words_fault known [] = None
-words_fault known (Err fault ∷ older) = words_fault known older
-words_fault known (Ok s ∷ older) = first_of (words_fault known older) (at_line s.line (word_fault known (place_at older) s.body))
+words_fault last [] = None
+words_fault last (Err fault ∷ older) = words_fault last older
+words_fault last (Ok s ∷ older) = first_of (words_fault last older) (at_line s.line (word_fault (word_values last s.tags older) (place_at older) s.body))
 
 -- ## No word
 

@@ -1,16 +1,18 @@
 -- What holds of the faults and names of each source.
-use Rattle.std.specs.Prelude.{◌≡◌, ℕ, Option, Some, None, List, ◌∷◌, ◌++◌}
+use Rattle.std.specs.Prelude.{◌≡◌, ℕ, ◌<◌, true, Option, Some, None, length, List, ◌∷◌, ◌++◌}
 use Rattle.pal_lex.specs.Statements.{statements, first_fault}
 use Rattle.pal_lex.specs.declared.faults.LexFault.{LexFault}
 use Rattle.pal_asm.specs.declared.faults.AsmFault.{AsmFault}
-use Rattle.pal_asm.specs.Places.{Source, values}
+use Rattle.pal_asm.specs.Places.{Source, values, is_fixed}
+use Rattle.pal_asm.specs.Words.{pairs_of}
 use Rattle.pal_asm.specs.Faults.{lexical, first_order, no_end, words_fault, no_word, fault_of}
 
--- In a source with no fault of the first order a name that stands for a value behind some statements stands for it behind
--- all of them: its definitions agree.
-abbrev pub NamesKeepTheirValues : Type 0
-NamesKeepTheirValues =
-    (later older : Source) (name value : ℕ) → first_order (later ++ older) ≡ None → values older name ≡ Some value → values (later ++ older) name ≡ Some value
+-- In a source with no fault of the first order a permanent name or a tag that stands for a value behind some statements
+-- stands for it behind all of them.
+abbrev pub FixedNamesKeepTheirValues : Type 0
+FixedNamesKeepTheirValues =
+    (later older : Source) (name value : ℕ) → first_order (later ++ older) ≡ None → is_fixed older name ≡ true → values older name ≡ Some value
+    → values (later ++ older) name ≡ Some value
 
 -- a fault of the first order is the fault of the text, whatever follows
 abbrev pub FirstFaultStays : Type 0
@@ -27,6 +29,10 @@ abbrev pub NoWordIsTold : Type 0
 NoWordIsTold =
     (text : List ℕ) (fault : AsmFault) → first_order (statements text) ≡ None → no_end text ≡ None → no_word (statements text) ≡ Some fault
     → fault_of text ≡ Some fault
+
+-- a text with no fault has a word
+abbrev pub HasWords : Type 0
+HasWords = (text : List ℕ) → fault_of text ≡ None → 0 < length (pairs_of text)
 
 -- a fault of the lexer, where there was none before, is a fault of the first order
 abbrev pub LexicalFaultIsTold : Type 0

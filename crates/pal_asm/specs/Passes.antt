@@ -1,19 +1,22 @@
 -- What an assembler was handed, and what it answers.
-use Rattle.std.specs.Prelude.{◌≡◌, ℕ, ◌+◌, ◌*◌, ◌%◌, ◌<◌, ◌≤◌, true, if◌then◌else◌, Option, Some, None, unwrap_or, Result, Ok, Err, List, [], ◌∷◌, ◌++◌, length}
+use Rattle.std.specs.Prelude.{◌≡◌, ℕ, ◌+◌, ◌*◌, ◌%◌, ◌<◌, ◌≤◌, nat_eq, Bool, true, ◌||◌, if◌then◌else◌, Option, Some, None, unwrap_or, Result, Ok, Err, List, [], ◌∷◌, ◌++◌, length}
 use Rattle.pal_sym.specs.SymbolTable.{SymbolTable}
-use Rattle.pal_sym.specs.Values.{symbol_value}
+use Rattle.pal_sym.specs.Permanent.{permanent}
+use Rattle.pal_sym.specs.Values.{symbol_value, is_fixed as fixed_in, set_again, if_none}
 use Rattle.pal_lex.specs.Statements.{statements}
 use Rattle.pal_lex.specs.declared.phrases.Body.{Body}
 use Rattle.pal_lex.specs.declared.phrases.Body.TheVariants.{Nothing, Origin, Define, Decimal, Octal, Field, Reference, Word}
+use Rattle.pal_lex.specs.declared.phrases.Part.{Part}
 use Rattle.pal_lex.specs.declared.phrases.Statement.{Statement}
 use Rattle.pal_asm.specs.declared.faults.Code.{Code}
 use Rattle.pal_asm.specs.declared.faults.AsmFault.{AsmFault}
 use Rattle.pal_asm.specs.declared.faults.AsmFault.TheVariants.{At, Memory}
 use Rattle.pal_asm.specs.declared.spots.Spot.{Spot}
 use Rattle.pal_asm.specs.Expressions.{Known, value_of}
-use Rattle.pal_asm.specs.Places.{Source, is_word, with_tags, with_body, field_by, place_at, field_at, values}
+use Rattle.pal_asm.specs.Places.{Source, is_word, with_tags, with_body, is_among, is_fixed, field_by, place_at, field_at, values}
 use Rattle.pal_asm.specs.Words.{body_word, pairs_by, pairs_of}
-use Rattle.pal_asm.specs.Faults.{first_of, past, tags_fault, body_fault, first_order, word_fault, words_fault, has_word, last_line, no_word, no_end, fault_of}
+use Rattle.pal_asm.specs.Faults.{first_of, past, terms_fault, tags_fault, field_fault, body_fault, first_order, word_fault, words_fault, has_word, last_line, no_word, no_end, fault_of}
+use Rattle.pal_lex.specs.Text.{text_from}
 use Rattle.pal_lex.specs.Reading.{HasRead}
 use Rattle.pal_lex.specs.Progress as lex
 use Rattle.pal_asm.specs.Progress.{Progress}
@@ -63,6 +66,7 @@ definitions (Word e) = 0
 pub record AreDefined (tags : List ℕ) (place : ℕ) (old new : SymbolTable) : Type 0 where
   pub no_fault : tags_fault (symbol_value old) place tags ≡ None
   pub values : (n : ℕ) → symbol_value new n ≡ with_tags tags place (symbol_value old) n
+  pub fixed : (n : ℕ) → fixed_in new n ≡ (is_among tags n || fixed_in old n)
   pub room : old.room ≤ new.room + length tags
 
 abbrev pub DefinesTags : List ℕ → ℕ → SymbolTable → SymbolTable → Result (Unit {0}) Code → Type 0
@@ -71,42 +75,76 @@ DefinesTags tags place old new (Err code) = tags_fault (symbol_value old) place 
 
 -- A body was passed at a spot.
 pub record IsPassed (body : Body) (spot : Spot) (old new : SymbolTable) (next : Spot) : Type 0 where
-  pub no_fault : body_fault (symbol_value old) spot.location body ≡ None
+  pub no_fault : body_fault (fixed_in old) (symbol_value old) spot.location body ≡ None
   pub values : (n : ℕ) → symbol_value new n ≡ with_body (symbol_value old) spot.location body n
+  pub fixed : (n : ℕ) → fixed_in new n ≡ fixed_in old n
   pub moved : next ≡ spot_by (symbol_value old) body spot
 
 abbrev pub PassesBody : Body → Spot → SymbolTable → SymbolTable → Result Spot Code → Type 0
 PassesBody body spot old new (Ok next) = IsPassed body spot old new next
-PassesBody body spot old new (Err code) = body_fault (symbol_value old) spot.location body ≡ Some code
+PassesBody body spot old new (Err code) = body_fault (fixed_in old) (symbol_value old) spot.location body ≡ Some code
 
 -- what names stand for at a body, by a table before its tags
 abbrev pub tagged : List ℕ → ℕ → SymbolTable → Known
 tagged tags place table = with_tags tags place (symbol_value table)
 
+-- the names that are fixed at a body, by a table before its tags
+abbrev pub tagged_fixed : List ℕ → SymbolTable → ℕ → Bool
+tagged_fixed tags table n = is_among tags n || fixed_in table n
+
 -- the fault of tags and a body, by a table before them
 abbrev pub fault_by_table : List ℕ → Body → ℕ → SymbolTable → Option Code
-fault_by_table tags body place table = first_of (tags_fault (symbol_value table) place tags) (body_fault (tagged tags place table) place body)
+fault_by_table tags body place table =
+    first_of (tags_fault (symbol_value table) place tags) (body_fault (tagged_fixed tags table) (tagged tags place table) place body)
 
 -- A statement was passed at a spot.
 pub record IsRead (tags : List ℕ) (body : Body) (spot : Spot) (old new : SymbolTable) (next : Spot) : Type 0 where
   pub no_fault : fault_by_table tags body spot.location old ≡ None
   pub values : (n : ℕ) → symbol_value new n ≡ with_body (tagged tags spot.location old) spot.location body n
+  pub fixed : (n : ℕ) → fixed_in new n ≡ tagged_fixed tags old n
   pub moved : next ≡ spot_by (tagged tags spot.location old) body spot
 
 abbrev pub Reads : List ℕ → Body → Spot → SymbolTable → SymbolTable → Result Spot Code → Type 0
 Reads tags body spot old new (Ok next) = IsRead tags body spot old new next
 Reads tags body spot old new (Err code) = fault_by_table tags body spot.location old ≡ Some code
 
--- what keeps an assembler from going on behind a body, where its definition counts already
+-- what keeps an assembler from going on behind a body, where each name may be defined again
 abbrev pub spot_fault : Known → ℕ → Body → Option Code
 spot_fault known place Nothing = None
-spot_fault known place (Origin e) = body_fault known place (Origin e)
-spot_fault known place (Define name e) = None
+spot_fault known place (Origin e) = terms_fault known place e
+spot_fault known place (Define name e) = terms_fault known place e
 spot_fault known place Decimal = None
 spot_fault known place Octal = None
-spot_fault known place (Field e) = body_fault known place (Field e)
+spot_fault known place (Field e) = first_of (terms_fault known place e) (field_fault (value_of known place e))
 spot_fault known place (Reference operation indirect address) = past place
 spot_fault known place (Word e) = past place
+
+-- what names stand for where one of them was set again to a value, if there is one
+abbrev pub with_again : ℕ → Option ℕ → Known → Known
+with_again name None known n = known n
+with_again name (Some value) known n = if nat_eq name n then set_again (permanent name) (known name) value else known n
+
+-- what names stand for where tags were set again to a place, from the left
+abbrev pub with_tags_again : List ℕ → ℕ → Known → Known
+with_tags_again [] place known = known
+with_tags_again (tag ∷ tags) place known = with_tags_again tags place (with_again tag (Some place) known)
+
+-- what names stand for where a body was passed again
+abbrev pub with_body_again : Known → ℕ → Body → Known
+with_body_again known place Nothing = known
+with_body_again known place (Origin e) = known
+with_body_again known place (Define name e) = with_again name (value_of known place e) known
+with_body_again known place Decimal = known
+with_body_again known place Octal = known
+with_body_again known place (Field e) = known
+with_body_again known place (Reference operation indirect address) = known
+with_body_again known place (Word e) = known
+
+-- a name was set again to the value of an expression, or the fault of its terms refuses it
+abbrev pub SetsValue : ℕ → List Part → ℕ → SymbolTable → SymbolTable → Result (Unit {0}) Code → Type 0
+SetsValue name e place old new (Ok done) =
+    (terms_fault (symbol_value old) place e ≡ None) × ((n : ℕ) → symbol_value new n ≡ with_again name (value_of (symbol_value old) place e) (symbol_value old) n)
+SetsValue name e place old new (Err code) = terms_fault (symbol_value old) place e ≡ Some code
 
 -- the word of a body, if it is one, or the fault that refuses it
 abbrev pub MakesWord : Option ℕ → Option Code → Result (Option ℕ) Code → Type 0
@@ -117,22 +155,24 @@ abbrev pub pair_at : Spot → Option ℕ → Option (ℕ × ℕ)
 pair_at spot None = None
 pair_at spot (Some word) = Some (4096 * spot.field + spot.location % 4096, word)
 
--- A body was passed in the second pass.
-pub record IsMade (known : Known) (spot next : Spot) (body : Body) (pair : Option (ℕ × ℕ)) : Type 0 where
+-- A body was passed in the second pass, where names stood for these values.
+pub record IsMade (known : Known) (new : SymbolTable) (spot next : Spot) (body : Body) (pair : Option (ℕ × ℕ)) : Type 0 where
   pub no_word_fault : word_fault known spot.location body ≡ None
   pub no_spot_fault : spot_fault known spot.location body ≡ None
   pub moved : next ≡ spot_by known body spot
   pub handed : pair ≡ pair_at spot (body_word known spot.location body)
+  pub values : (n : ℕ) → symbol_value new n ≡ with_body_again known spot.location body n
 
-abbrev pub Makes : Known → Spot → Body → Result (Spot × Option (ℕ × ℕ)) Code → Type 0
-Makes known spot body (Ok made) = IsMade known spot made.0 body made.1
-Makes known spot body (Err code) = first_of (word_fault known spot.location body) (spot_fault known spot.location body) ≡ Some code
+abbrev pub Makes : Known → SymbolTable → Spot → Body → Result (Spot × Option (ℕ × ℕ)) Code → Type 0
+Makes known new spot body (Ok made) = IsMade known new spot made.0 body made.1
+Makes known new spot body (Err code) = first_of (word_fault known spot.location body) (spot_fault known spot.location body) ≡ Some code
 
 -- ## The first pass
 
 -- The first pass stands behind these statements, none of which has a fault.
 pub record IsFirst (assembler : Progress) (source : Source) : Type 0 where
   pub symbols : symbol_value assembler.symbols ≡ values source
+  pub fixed : fixed_in assembler.symbols ≡ is_fixed source
   pub location : assembler.spot.location ≡ place_at source
   pub field : assembler.spot.field ≡ field_at source
   pub word : assembler.spot.word ≡ has_word source
@@ -153,10 +193,15 @@ AnswersFirst older statement (Err Memory) old new = (new ≡ old) × (old.symbol
 
 -- ## The second pass
 
+-- what names stand for behind some statements of a whole source in the second pass: their last definition, and where there
+-- is none, their last in the whole
+abbrev pub second_values : Source → Source → Known
+second_values whole older name = if_none (values older name) (values whole name)
+
 -- The second pass stands behind these statements of a whole source, which has no fault of the first order and a word;
 -- none of these words has a fault.
 pub record IsSecond (assembler : Progress) (whole older : Source) : Type 0 where
-  pub symbols : symbol_value assembler.symbols ≡ values whole
+  pub symbols : symbol_value assembler.symbols ≡ second_values whole older
   pub location : assembler.spot.location ≡ place_at older
   pub field : assembler.spot.field ≡ field_at older
   pub no_fault : first_order whole ≡ None
@@ -188,6 +233,13 @@ abbrev pub StaysFailed : {A : Type 0} → Result A AsmFault → Progress → Pro
 StaysFailed {A} result old new = (fault : AsmFault) → HasFailed old fault → (result ≡ Err fault) × (new ≡ old)
 
 -- ## A whole text
+
+-- Bytes behind a text were taken but for these, and none of them ends a statement.
+pub record ReadsTo (text bytes rest : List ℕ) (lexer : lex.Progress) : Type 0 where
+  pub text_then : List ℕ
+  pub whole : text_from text_then rest ≡ text_from text bytes
+  pub same : statements text_then ≡ statements text
+  pub read : HasRead lexer text_then
 
 -- what the first pass answers for a byte behind a text, where this is the text with that byte
 abbrev pub PassesByte : List ℕ → Result (Unit {0}) AsmFault → lex.Progress → Progress → Type 0

@@ -1,6 +1,6 @@
 -- Where a statement stands, and what names stand for, by the statements before it (PAL III Symbolic Assembler manual, and
 -- this project's profile of it). Statements have the newest first.
-use Rattle.std.specs.Prelude.{ℕ, ◌+◌, nat_eq, if◌then◌else◌, Bool, true, false, Option, Some, unwrap_or, Result, Ok, Err, List, [], ◌∷◌}
+use Rattle.std.specs.Prelude.{ℕ, ◌+◌, nat_eq, if◌then◌else◌, Bool, true, false, ◌||◌, Option, Some, is_some, unwrap_or, Result, Ok, Err, List, [], ◌∷◌}
 use Rattle.pal_sym.specs.Permanent.{permanent}
 use Rattle.pal_lex.specs.declared.faults.LexFault.{LexFault}
 use Rattle.pal_lex.specs.declared.phrases.Body.{Body}
@@ -89,6 +89,21 @@ place_at older = last_setting older + words_since older
 -- what names stand for at the body of a statement with these tags: its own tags count
 abbrev pub values_at : List ℕ → Source → Known
 values_at tags older = with_tags tags (place_at older) (values older)
+
+-- a name is one of these tags
+abbrev pub is_among : List ℕ → ℕ → Bool
+is_among [] name = false
+is_among (tag ∷ tags) name = nat_eq tag name || is_among tags name
+
+-- the names that `=` can't redefine behind these statements: the permanent ones, and the tags
+abbrev pub is_fixed : Source → ℕ → Bool
+is_fixed [] name = is_some (permanent name)
+is_fixed (Err fault ∷ older) name = is_fixed older name
+is_fixed (Ok s ∷ older) name = is_among s.tags name || is_fixed older name
+
+-- the same at the body of a statement with these tags: its own tags count
+abbrev pub fixed_at : List ℕ → Source → ℕ → Bool
+fixed_at tags older name = is_among tags name || is_fixed older name
 
 -- the number that `FIELD` gives, or that before it
 abbrev pub field_by : Known → ℕ → Body → ℕ → ℕ

@@ -6,7 +6,8 @@ use Rattle.pal_lex.specs.declared.phrases.Operation.{Operation}
 use Rattle.pal_lex.specs.declared.phrases.Body.{Body}
 use Rattle.pal_lex.specs.declared.phrases.Body.TheVariants.{Nothing, Origin, Define, Decimal, Octal, Field, Reference, Word}
 use Rattle.pal_asm.specs.Expressions.{Known, value_of, address_value}
-use Rattle.pal_asm.specs.Places.{Source, place_at, field_at, values}
+use Rattle.pal_sym.specs.Values.{if_none}
+use Rattle.pal_asm.specs.Places.{Source, place_at, field_at, values, values_at}
 
 -- what stands in a memory reference for an address: below 0200 its offset on page zero; on the page of the reference its
 -- offset with 0200; no other address can be reached
@@ -43,25 +44,18 @@ abbrev pub with_pair : List (ℕ × ℕ) → ℕ → Option ℕ → List (ℕ ×
 with_pair pairs cell None = pairs
 with_pair pairs cell (Some word) = pairs ++ (cell, word) ∷ []
 
--- the words of statements with their cells, in the order of the source, where names stand for these values
-abbrev pub pairs_by : Known → Source → List (ℕ × ℕ)
-pairs_by known [] = []
-pairs_by known (Err fault ∷ older) = pairs_by known older
-pairs_by known (Ok s ∷ older) = with_pair (pairs_by known older) (cell_at older) (body_word known (place_at older) s.body)
+-- what names stand for in a word with these tags behind these statements: their last definition before it, and where
+-- there is none, what they stand for at last
+abbrev pub word_values : Known → List ℕ → Source → Known
+word_values last tags older name = if_none (values_at tags older name) (last name)
 
--- the words of a text with their cells, in the order of the source: a word may use names that are defined behind it
+-- the words of statements with their cells, in the order of the source, where names stand for these values at last
+abbrev pub pairs_by : Known → Source → List (ℕ × ℕ)
+pairs_by last [] = []
+pairs_by last (Err fault ∷ older) = pairs_by last older
+pairs_by last (Ok s ∷ older) = with_pair (pairs_by last older) (cell_at older) (body_word (word_values last s.tags older) (place_at older) s.body)
+
+-- the words of a text with their cells, in the order of the source: a word may use names that are only defined behind it,
+-- and these stand for their last definition
 abbrev pub pairs_of : List ℕ → List (ℕ × ℕ)
 pairs_of text = pairs_by (values (statements text)) (statements text)
-
-abbrev pub if_none : Option ℕ → Option ℕ → Option ℕ
-if_none None other = other
-if_none (Some word) other = Some word
-
--- the word of the last of these pairs at a cell
-abbrev pub last_at : List (ℕ × ℕ) → ℕ → Option ℕ
-last_at [] cell = None
-last_at (pair ∷ pairs) cell = if_none (last_at pairs cell) (if nat_eq pair.0 cell then Some pair.1 else None)
-
--- what a text puts into a cell
-abbrev pub meaning_of : List ℕ → ℕ → Option ℕ
-meaning_of text cell = last_at (pairs_of text) cell

@@ -1,53 +1,24 @@
-ghost use Rattle.std.specs.Prelude.{◌≡◌, ◌+◌, ◌<◌, ◌≤◌, Option, Some, None, IfOk, Ok, [], ◌∷◌, ◌++◌};
+ghost use Rattle.std.specs.Prelude.{◌≡◌, ◌+◌, ◌<◌, ◌≤◌, ℕ, Option, Some, None, IfOk, OnOk, Ok, List, [], ◌∷◌, ◌++◌};
 ghost use Rattle.pal_sym.specs.Values.{symbol_value};
-ghost use Rattle.pal_lex.specs.declared.phrases.Body.{Body};
+ghost use Rattle.pal_lex.specs.declared.pieces.Token.{Token};
+ghost use Rattle.pal_lex.specs.Reading.{with_tokens};
 ghost use Rattle.pal_asm.specs.declared.faults.AsmFault.TheVariants.{At};
 ghost use Rattle.pal_asm.specs.Places.{Source};
 ghost use Rattle.pal_asm.specs.Faults.{past};
-ghost use Rattle.pal_asm.specs.Passes.{Moves, Makes, spot_by, spot_fault, IsFirst, IsSecond, AnswersFirst, AnswersSecond, TurnsOver, StaysFailed};
+ghost use Rattle.pal_asm.specs.Passes.{Moves, Makes, spot_by, spot_fault, with_tags_again, with_body_again, SetsValue, IsFirst, IsSecond, AnswersFirst, AnswersSecond, TurnsOver, StaysFailed};
 
+use crate::again::{made, set_tags};
 use crate::names::{definitions, pass};
-use crate::spots::{Spot, behind_word, field, first_spot, origin};
-use crate::words::word_of;
+use crate::spots::{Spot, first_spot};
 use crate::{AsmFault, Code};
-use pal_lex::{Body, Statement};
+use pal_lex::Statement;
 use pal_sym::Symbols;
 use std::alloc::Global;
 use std::marker::Model;
 use word12::{Cell, Word};
 
-/// The spot behind a body, in the second pass.
-fn moved(symbols: &Symbols, spot: Spot, body: &Body) -> Result<Spot, Code>
-    ensures spot { Moves (spot_by (symbol_value symbols.now) body.now spot) (spot_fault (symbol_value symbols.now) spot.location body.now) result }
-    ensures field { spot.field < 8 → IfOk result (λ s. s.field < 8) }
-{
-    match body {
-        Body::Nothing | Body::Define(..) | Body::Decimal | Body::Octal => Ok(spot),
-        Body::Origin(place) => origin(symbols, spot, place.parts()),
-        Body::Field(number) => field(symbols, spot, number.parts()),
-        Body::Reference { .. } | Body::Word(_) => behind_word(spot),
-    }
-}
-
-/// The spot behind a body in the second pass, and its word with the cell of that.
-fn made(symbols: &Symbols, spot: Spot, body: &Body) -> Result<(Spot, Option<(Cell, Word)>), Code>
-    requires { spot.field < 8 }
-    ensures made { Makes (symbol_value symbols.now) spot body.now result }
-    ensures field { IfOk result (λ made. made.0.field < 8) }
-{
-    let word = word_of(symbols, spot.location, body)?;
-    let next = moved(symbols, spot, body)?;
-    match word {
-        Some(word) => Ok((
-            next,
-            Some((Cell::at(spot.field, Word::low(spot.location)), word)),
-        )),
-        None => Ok((next, None)),
-    }
-}
-
 /// Takes the statements of a source twice: in the first pass it learns what names stand for, in the second it hands out
-/// the words, each with its cell.
+/// the words, each with its cell. The tokens of a statement say nothing to it, so they need not be there.
 #[derive(Drop)]
 pub struct Assembler {
     symbols: Symbols,
@@ -96,7 +67,7 @@ impl Assembler {
     /// nothing, and comes only for a statement that defines names; after another fault each call answers the same
     /// (PAL III Symbolic Assembler manual, and this project's profile of it).
     pub fn first(&mut self, statement: &Statement) -> Result<(), AsmFault>
-        ensures answers { (older : Source) → IsFirst self.old older → AnswersFirst older statement.now result self.old self.new }
+        ensures answers { (older : Source) (tokens : List Token) → IsFirst self.old older → AnswersFirst older (with_tokens tokens statement.now) result self.old self.new }
         ensures failed { StaysFailed result self.old self.new }
     {
         if let Some(fault) = self.failed {
@@ -136,13 +107,18 @@ impl Assembler {
     /// is one. Its fault is a name in a word that no statement defines, or an address out of reach, the first of these in
     /// the source (PAL III Symbolic Assembler manual, and this project's profile of it). It takes no memory.
     pub fn second(&mut self, statement: &Statement) -> Result<Option<(Cell, Word)>, AsmFault>
-        ensures answers { (whole later older : Source) → whole ≡ later ++ Ok statement.now ∷ older → IsSecond self.old whole older → AnswersSecond whole older statement.now result self.old self.new }
+        ensures answers { (whole later older : Source) (tokens : List Token) → whole ≡ later ++ Ok (with_tokens tokens statement.now) ∷ older → IsSecond self.old whole older → AnswersSecond whole older (with_tokens tokens statement.now) result self.old self.new }
         ensures failed { StaysFailed result self.old self.new }
     {
         if let Some(fault) = self.failed {
             return Err(fault);
         }
-        match made(&self.symbols, self.spot, &statement.body) {
+        set_tags(
+            &mut self.symbols,
+            statement.tags.names(),
+            Word::low(self.spot.location),
+        );
+        match made(&mut self.symbols, self.spot, &statement.body) {
             Ok((spot, pair)) => {
                 self.spot = spot;
                 Ok(pair)

@@ -19,7 +19,7 @@ pub enum Code {
     /// A tag whose name is permanent or defined with another value.
     #[error("duplicate tag")]
     DT,
-    /// A name that `=` defines, and that is permanent or defined with another value.
+    /// A name that `=` defines, and that is permanent or a tag with another value.
     #[error("redefinition")]
     RD,
     /// A memory reference to an address that is neither on page zero nor on its own page.

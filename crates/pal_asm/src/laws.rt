@@ -1,11 +1,11 @@
 //! Laws about the faults and names of a source, which hold whatever assembles it. A call of one does nothing, and lets its
 //! caller use it.
 
-ghost use Rattle.pal_asm.specs.Laws.{NamesKeepTheirValues, FirstFaultStays, WordFaultStays, NoWordIsTold, LexicalFaultIsTold, NoLexicalFault, StatementsStay, NoFaultBefore};
+ghost use Rattle.pal_asm.specs.Laws.{FixedNamesKeepTheirValues, FirstFaultStays, WordFaultStays, NoWordIsTold, HasWords, LexicalFaultIsTold, NoLexicalFault, StatementsStay, NoFaultBefore};
 
-/// All definitions of a name agree, in a source with no fault before its words are made.
-pub fn names_keep_their_values()
-    ensures { NamesKeepTheirValues }
+/// A permanent name and a tag keep their values, in a source with no fault before its words are made.
+pub fn fixed_names_keep_their_values()
+    ensures { FixedNamesKeepTheirValues }
 {}
 
 /// The fault that the first pass meets is the fault of the text, whatever follows.
@@ -21,6 +21,11 @@ pub fn word_fault_stays()
 /// A text that is without fault but for its want of a word has that fault.
 pub fn no_word_is_told()
     ensures { NoWordIsTold }
+{}
+
+/// A text with no fault has a word.
+pub fn has_words()
+    ensures { HasWords }
 {}
 
 /// The first fault of the lexer is the fault that the first pass meets.

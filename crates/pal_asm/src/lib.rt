@@ -6,6 +6,7 @@
 //! or with its fault.
 #![tactic(auto)]
 
+mod again;
 mod assemblers;
 mod expressions;
 mod faults;

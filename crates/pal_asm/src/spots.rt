@@ -2,8 +2,8 @@ ghost use Rattle.std.specs.Prelude.{◌≡◌, ◌+◌, true, false, ◌<◌, If
 ghost use Rattle.pal_sym.specs.Values.{symbol_value};
 ghost use Rattle.pal_lex.specs.declared.phrases.Body.{Body};
 ghost use Rattle.pal_asm.specs.Expressions.{value_of};
-ghost use Rattle.pal_asm.specs.Faults.{past, body_fault};
-ghost use Rattle.pal_asm.specs.Passes.{Moves, spot_by};
+ghost use Rattle.pal_asm.specs.Faults.{past};
+ghost use Rattle.pal_asm.specs.Passes.{Moves, spot_by, spot_fault};
 ghost use Rattle.pal_asm.specs.declared.spots.Spot.{Spot};
 
 use crate::Code;
@@ -37,7 +37,7 @@ pub fn first_spot() -> Spot
 
 /// The spot behind an origin.
 pub fn origin(symbols: &Symbols, spot: Spot, parts: &[Part]) -> Result<Spot, Code>
-    ensures spot { Moves (spot_by (symbol_value symbols.now) (Body.Origin parts.now) spot) (body_fault (symbol_value symbols.now) spot.location (Body.Origin parts.now)) result }
+    ensures spot { Moves (spot_by (symbol_value symbols.now) (Body.Origin parts.now) spot) (spot_fault (symbol_value symbols.now) spot.location (Body.Origin parts.now)) result }
     ensures field { IfOk result (λ s. s.field ≡ spot.field) }
 {
     let place = value_of(symbols, spot.location, parts)?;
@@ -50,7 +50,7 @@ pub fn origin(symbols: &Symbols, spot: Spot, parts: &[Part]) -> Result<Spot, Cod
 
 /// The spot behind a `FIELD`.
 pub fn field(symbols: &Symbols, spot: Spot, parts: &[Part]) -> Result<Spot, Code>
-    ensures spot { Moves (spot_by (symbol_value symbols.now) (Body.Field parts.now) spot) (body_fault (symbol_value symbols.now) spot.location (Body.Field parts.now)) result }
+    ensures spot { Moves (spot_by (symbol_value symbols.now) (Body.Field parts.now) spot) (spot_fault (symbol_value symbols.now) spot.location (Body.Field parts.now)) result }
     ensures field { IfOk result (λ s. s.field < 8) }
 {
     let number = value_of(symbols, spot.location, parts)?.get();

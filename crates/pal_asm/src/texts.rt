@@ -1,15 +1,23 @@
-ghost use Rattle.std.specs.Prelude.{◌≡◌, ℕ, None, IfOk, IfErr, List, ◌++◌, ◌∷◌, []};
+ghost use Rattle.std.specs.Prelude.{◌≡◌, ℕ, ◌≤◌, None, IfOk, IfErr, length, List, ◌++◌, ◌∷◌, []};
 ghost use Rattle.pal_lex.specs.Reading.{HasRead};
 ghost use Rattle.pal_asm.specs.Places.{Source};
 ghost use Rattle.pal_asm.specs.Faults.{first_order};
 ghost use Rattle.pal_lex.specs.Text.{text_of};
 ghost use Rattle.pal_lex.specs.Statements.{statements};
-ghost use Rattle.pal_asm.specs.Passes.{with_handed, PassesByte, EndsText, MakesByte, IsFirst, IsFirstOf, IsFirstFault, IsSecond, AreWordsOf, IsWordsFault, ArePairsOf, IsFaultOf};
+ghost use Rattle.pal_asm.specs.Passes.{with_handed, ReadsTo, PassesByte, EndsText, MakesByte, IsFirst, IsFirstOf, IsFirstFault, IsSecond, AreWordsOf, IsWordsFault, ArePairsOf, IsFaultOf};
 
 use crate::{AsmFault, Assembler};
 use pal_lex::Lexer;
 use std::alloc::{AllocError, Global};
 use word12::{Cell, Word};
+
+/// Takes bytes that end no statement, and answers those behind them.
+fn read_on<'a>(lexer: &mut Lexer, bytes: &'a [u8]) -> &'a [u8]
+    ensures read { (text : List ℕ) → HasRead lexer.old text → ReadsTo text bytes.now result.now lexer.new }
+    ensures range { length result.now ≤ length bytes.now }
+{
+    bytes.split_at(lexer.read_on(bytes)).1
+}
 
 /// Takes a byte more in the first pass.
 fn first_byte(lexer: &mut Lexer, assembler: &mut Assembler, byte: u8) -> Result<(), AsmFault>
@@ -40,11 +48,11 @@ fn first_pass(alloc: Global, source: &[u8], assembler: &mut Assembler) -> Result
     ensures passed { IfOk result (λ _. IsFirstOf (text_of source.now) assembler.new) }
     ensures fault { IfErr result (λ fault. IsFirstFault (text_of source.now) fault) }
 {
-    let mut lexer = Lexer::new(alloc);
-    let mut rest = source;
+    let mut lexer = Lexer::without_tokens(alloc);
+    let mut rest = read_on(&mut lexer, source);
     while let [byte, others @ ..] = rest {
         match first_byte(&mut lexer, assembler, *byte) {
-            Ok(()) => rest = others,
+            Ok(()) => rest = read_on(&mut lexer, others),
             Err(fault) => return Err(fault),
         }
     }
@@ -94,13 +102,13 @@ fn second_pass(
     ensures pairs { IfOk result (λ pairs. AreWordsOf (text_of source.now) pairs.items) }
     ensures fault { IfErr result (λ fault. IsWordsFault (text_of source.now) fault) }
 {
-    let mut lexer = Lexer::new(alloc);
+    let mut lexer = Lexer::without_tokens(alloc);
     let mut pairs = Vec::new(alloc);
-    let mut rest = source;
+    let mut rest = read_on(&mut lexer, source);
     while let [byte, others @ ..] = rest {
         match second_byte(&mut lexer, assembler, *byte) {
             Ok(pair) => match keep(&mut pairs, pair) {
-                Ok(()) => rest = others,
+                Ok(()) => rest = read_on(&mut lexer, others),
                 Err(_) => return Err(AsmFault::Memory),
             },
             Err(fault) => return Err(fault),

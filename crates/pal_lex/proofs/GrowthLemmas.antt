@@ -94,3 +94,7 @@ begun_by false base c = grind (arith, nat_tests)
 
 pub run_begun : (base c : ℕ) → begun base c ≡ run_kind base c []
 run_begun base c = begun_by (is_letter c) base c
+
+pub letter_begun : (base c : ℕ) → is_letter c ≡ true → Term (Name (longer_name 0 1073741824 c)) ≡ run_kind base c []
+letter_begun base c letter =
+    ap (λ (t : Bool). if t then Term (Name (longer_name 0 1073741824 c)) else longer_number base 0 c) (sym letter) ∙ run_begun base c

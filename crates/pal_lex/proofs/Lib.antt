@@ -4,5 +4,6 @@ pub mod GrammarLemmas
 pub mod GrowthLemmas
 pub mod LawLemmas
 pub mod ReadingLemmas
+pub mod RunLemmas
 pub mod SpanLemmas
 pub mod WorkedSources

@@ -92,7 +92,7 @@ failed_end l text Memory e h = known_fault text Memory (has_failed l text Memory
 
 pub begun_anew : (b : ℕ) (body : Body) (l : Progress) (state : State) (radix : Radix) (draft : Cut)
     → state ≡ (if nat_eq b 36 then Over else l.state) → radix ≡ radix_by body l.radix → draft ≡ cut Octal []
-    → passed b (record { state = state; comment = l.comment; place = l.place; line = l.line; radix = radix; draft = draft }) ≡ ended b body l
+    → passed b (record { state = state; comment = l.comment; place = l.place; line = l.line; radix = radix; keeps_tokens = l.keeps_tokens; draft = draft }) ≡ ended b body l
 begun_anew b body l state radix draft e r d = rw (e, r, d) refl
 
 pub is_dollar : (b : ℕ) (state : State) → b ≡ 36 → Over ≡ (if nat_eq b 36 then Over else state)

@@ -6,7 +6,8 @@ use Rattle.pal_lex.specs.Cutting.{Piece, Run, Mark, is_coded, is_space, sign_of,
 use Rattle.pal_lex.specs.Runs.{base, run_kind, token, in_order, tokens}
 use Rattle.pal_lex.specs.Grammar.{said, has_bad_number}
 use Rattle.pal_lex.specs.Statements.{stated, radix_after, with_stretch, statements}
-use Rattle.pal_lex.specs.Spans.{between, are_coded, mark_of, spelled, Spells, AllSpell, HasSpans}
+use Rattle.pal_lex.specs.Cutting.{are_coded}
+use Rattle.pal_lex.specs.Spans.{between, mark_of, spelled, Spells, AllSpell, HasSpans}
 use Rattle.pal_lex.specs.declared.faults.LexFault.{LexFault}
 use Rattle.pal_lex.specs.declared.faults.LexFault.TheVariants.{IC, NU}
 use Rattle.pal_lex.specs.declared.pieces.Token.{Token}

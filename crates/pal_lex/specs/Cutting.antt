@@ -1,7 +1,7 @@
 -- How a stretch of live bytes is cut (PAL III Symbolic Assembler manual, and this project's profile of it): letters and
 -- digits that stand together are one piece, every other character is one by itself. A blank is a piece only between two
 -- pieces that are no `+ - = , *`.
-use Rattle.std.specs.Prelude.{ℕ, ◌+◌, nat_eq, Bool, true, false, ◌||◌, not, if◌then◌else◌, Option, Some, None, is_some, List, [], ◌∷◌, ◌++◌}
+use Rattle.std.specs.Prelude.{ℕ, ◌+◌, nat_eq, Bool, true, false, ◌&&◌, ◌||◌, not, if◌then◌else◌, Option, Some, None, is_some, List, [], ◌∷◌, ◌++◌}
 use Rattle.word12.specs.Sixbit.{is_letter, is_digit}
 use Rattle.pal_lex.specs.declared.pieces.Term.TheVariants.{Here}
 use Rattle.pal_lex.specs.declared.pieces.Kind.{Kind}
@@ -68,6 +68,16 @@ abbrev pub with_character : ℕ → ℕ → List Piece → List Piece
 with_character b place [] = Run b [] place (place + 1) ∷ []
 with_character b place (Run first others start end ∷ before) = Run first (others ++ b ∷ []) start (place + 1) ∷ before
 with_character b place (Mark kind at ∷ before) = Run b [] place (place + 1) ∷ Mark kind at ∷ before
+
+-- letters and digits more, from this place on
+abbrev pub with_characters : List ℕ → ℕ → List Piece → List Piece
+with_characters [] place before = before
+with_characters (b ∷ bytes) place before = with_characters bytes (place + 1) (with_character b place before)
+
+-- letters and digits alone
+abbrev pub are_coded : List ℕ → Bool
+are_coded [] = true
+are_coded (b ∷ bytes) = is_coded b && are_coded bytes
 
 -- a blank more
 abbrev pub with_blank : ℕ → List Piece → List Piece

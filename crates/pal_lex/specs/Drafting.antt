@@ -1,7 +1,7 @@
 -- What is kept of a stretch that isn't ended yet.
-use Rattle.std.specs.Prelude.{ℕ, ◌+◌, ◌/◌, Bool, if◌then◌else◌, zero, suc, length, List, [], ◌∷◌}
+use Rattle.std.specs.Prelude.{◌≡◌, ℕ, ◌+◌, ◌/◌, ◌≤◌, Bool, true, if◌then◌else◌, zero, suc, Option, Some, None, take, length, List, [], ◌∷◌}
 use Rattle.pal_lex.specs.Text.{limit}
-use Rattle.pal_lex.specs.Cutting.{Piece, Run, Mark, is_operand, is_blank, trimmed, pieces, has_illegal}
+use Rattle.pal_lex.specs.Cutting.{Piece, Run, Mark, is_operand, is_blank, trimmed, pieces, has_illegal, with_characters, are_coded}
 use Rattle.pal_lex.specs.Runs.{base, in_order}
 use Rattle.pal_lex.specs.declared.pieces.Token.{Token}
 use Rattle.pal_lex.specs.declared.pieces.Kind.TheVariants.{Blank}
@@ -38,3 +38,9 @@ cut_of base illegal before = record { illegal = illegal; tail = tail_of before; 
 -- what is kept of these live bytes
 abbrev pub cut : Radix → List (ℕ × ℕ) → Cut
 cut radix live = cut_of (base radix) (has_illegal live) (pieces live)
+
+-- A letter or a digit and so many of the bytes behind it, letters and digits too, were put behind pieces, or nothing was.
+abbrev pub PutsRun : ℕ → Bool → List Piece → ℕ → List ℕ → ℕ → Option ℕ → Cut → Cut → Type 0
+PutsRun base illegal before first others at None old new = new ≡ old
+PutsRun base illegal before first others at (Some more) old new =
+    (more ≤ length others) × (are_coded (take more others) ≡ true) × (new ≡ cut_of base illegal (with_characters (first ∷ take more others) at before))

@@ -1,7 +1,11 @@
 -- What one more character makes of a token.
-use Rattle.std.specs.Prelude.{ℕ, ◌+◌, ◌-◌, ◌*◌, nat_lt, nat_le, ◌||◌, if◌then◌else◌, unwrap_or}
+use Rattle.std.specs.Prelude.{◌≡◌, ℕ, ◌+◌, ◌-◌, ◌*◌, ◌≤◌, nat_lt, nat_le, true, ◌||◌, if◌then◌else◌, unwrap_or, suc, take, length, List}
 use Rattle.word12.specs.Sixbit.{is_letter, sixbit_code}
 use Rattle.pal_lex.specs.Text.{limit}
+use Rattle.pal_lex.specs.Cutting.{are_coded}
+use Rattle.pal_lex.specs.Runs.{run_kind}
+use Rattle.pal_lex.specs.Drafting.{weight_after}
+use Rattle.pal_lex.specs.declared.growing.Grown.{Grown}
 use Rattle.pal_lex.specs.declared.pieces.Term as term
 use Rattle.pal_lex.specs.declared.pieces.Term.TheVariants.{Name, Number, Here}
 use Rattle.pal_lex.specs.declared.pieces.Kind.{Kind}
@@ -30,6 +34,13 @@ grown base weight c Minus = Minus
 grown base weight c Equals = Equals
 grown base weight c Comma = Comma
 grown base weight c Star = Star
+
+-- A run was begun by a character at a place and went on with so many of the bytes behind it.
+pub record IsRun (base first : ℕ) (others : List ℕ) (at : ℕ) (run : Grown) : Type 0 where
+  pub range : run.more ≤ length others
+  pub coded : are_coded (take run.more others) ≡ true
+  pub token : run.token ≡ record { kind = run_kind base first (take run.more others); start = limit at; end = limit (at + 1 + run.more) }
+  pub weight : run.weight ≡ weight_after (suc run.more)
 
 -- what a first character makes
 abbrev pub begun : ℕ → ℕ → Kind

@@ -38,6 +38,7 @@ passed b l = record {
   place = limit (l.place + 1);
   line = if nat_eq b 13 then limit (l.line + 1) else l.line;
   radix = l.radix;
+  keeps_tokens = l.keeps_tokens;
   draft = l.draft;
 }
 
@@ -49,12 +50,13 @@ ended b body l = passed b (record {
   place = l.place;
   line = l.line;
   radix = radix_by body l.radix;
+  keeps_tokens = l.keeps_tokens;
   draft = cut Octal [];
 })
 
 -- the statement that a byte ended
 abbrev pub ended_statement : ℕ → Said → Progress → Statement
-ended_statement b s l = record { line = l.line; tags = s.tags; body = s.body; last = nat_eq b 36; tokens = l.draft.tokens }
+ended_statement b s l = record { line = l.line; tags = s.tags; body = s.body; last = nat_eq b 36; tokens = if l.keeps_tokens then l.draft.tokens else [] }
 
 -- a fault was met: want of memory leaves all as it was
 abbrev pub failed : LexFault → Progress → Progress

@@ -12,4 +12,6 @@ pub record Progress : Type 0 where
   pub place : ℕ
   pub line : ℕ
   pub radix : Radix
+  -- whether statements are handed out with their tokens
+  pub keeps_tokens : Bool
   pub draft : Cut

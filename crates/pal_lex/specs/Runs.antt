@@ -1,7 +1,8 @@
 -- The tokens of a stretch (PAL III Symbolic Assembler manual, and this project's profile of it). A name is a letter
 -- followed by letters and digits; its first six characters count. What begins with a digit is a number or a bad one.
 use Rattle.std.specs.Prelude.{ℕ, ◌+◌, ◌-◌, ◌*◌, nat_lt, nat_le, Bool, true, ◌&&◌, if◌then◌else◌, unwrap_or, List, [], ◌∷◌, ◌++◌, slice_index}
-use Rattle.word12.specs.Sixbit.{is_letter, sixbit_code}
+use Rattle.word12.specs.Sixbit.{is_letter}
+pub use Rattle.word12.specs.Sixbit.{code_at, name_number}
 use Rattle.pal_lex.specs.Text.{limit}
 use Rattle.pal_lex.specs.Cutting.{Piece, Run, Mark, trimmed, pieces}
 use Rattle.pal_lex.specs.declared.pieces.Token.{Token}
@@ -10,16 +11,6 @@ use Rattle.pal_lex.specs.declared.pieces.Kind.{Kind}
 use Rattle.pal_lex.specs.declared.pieces.Kind.TheVariants.{Term, BadNumber}
 use Rattle.pal_lex.specs.declared.runs.Radix.{Radix}
 use Rattle.pal_lex.specs.declared.runs.Radix.TheVariants.{Octal, Decimal}
-
--- the sixbit code of a character of a text, or 0 past its end
-abbrev pub code_at : List ℕ → ℕ → ℕ
-code_at text place = unwrap_or (sixbit_code (slice_index text place)) 0
-
--- a name's first six characters, as the digits of a number to the base 64
-abbrev pub name_number : List ℕ → ℕ
-name_number text =
-    1073741824 * code_at text 0 + 16777216 * code_at text 1 + 262144 * code_at text 2 + 4096 * code_at text 3
-    + 64 * code_at text 4 + code_at text 5
 
 abbrev pub base : Radix → ℕ
 base Octal = 8

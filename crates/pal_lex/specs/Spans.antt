@@ -2,6 +2,7 @@
 use Rattle.std.specs.Prelude.{◌≡◌, ℕ, ◌<◌, ◌≤◌, nat_eq, nat_le, nat_lt, Bool, true, ◌&&◌, not, if◌then◌else◌, Option, Some, None, Ok, length, List, [], ◌∷◌, ◌++◌}
 use Rattle.pal_lex.specs.Text.{is_ignored, stretch}
 use Rattle.pal_lex.specs.Cutting.{is_coded, is_space, sign_of, is_blank}
+use Rattle.pal_lex.specs.Cutting.{are_coded}
 use Rattle.pal_lex.specs.Runs.{base, run_kind}
 use Rattle.pal_lex.specs.Statements.{radix_after, statements}
 use Rattle.pal_lex.specs.declared.pieces.Token.{Token}
@@ -15,11 +16,6 @@ abbrev pub between : List ℕ → ℕ → ℕ → List ℕ
 between [] start end = []
 between (b ∷ older) start end =
     between older start end ++ (if nat_le start (length older) && nat_lt (length older) end && not (is_ignored b) then b ∷ [] else [])
-
--- letters and digits alone
-abbrev pub are_coded : List ℕ → Bool
-are_coded [] = true
-are_coded (c ∷ others) = is_coded c && are_coded others
 
 -- the token of a character that is no letter and no digit
 abbrev pub mark_of : ℕ → Option Kind

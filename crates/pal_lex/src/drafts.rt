@@ -1,14 +1,16 @@
-ghost use Rattle.std.specs.Prelude.{◌≡◌, ℕ, Bool, true, false, Some, List, [], ◌∷◌, ◌++◌, OnOk, OnErr};
+ghost use Rattle.std.specs.Prelude.{◌≡◌, ℕ, Bool, true, false, if◌then◌else◌, ◌≤◌, length, Some, None, IfSome, List, [], ◌∷◌, ◌++◌, OnOk, OnErr};
 ghost use Rattle.pal_lex.specs.Text.{limit};
 ghost use Rattle.pal_lex.specs.Cutting.{Piece, Run, Mark, is_coded, is_operand, is_blank, sign_of, with_character, with_blank, with_sign};
 ghost use Rattle.pal_lex.specs.Runs.{base};
 ghost use Rattle.pal_lex.specs.Growth.{grown};
-ghost use Rattle.pal_lex.specs.Drafting.{cut, cut_of, pending};
+ghost use Rattle.pal_lex.specs.Drafting.{cut, cut_of, pending, PutsRun};
 
+use crate::growing::run_of;
 use crate::runs::{Radix, begun, grown};
 use crate::{Kind, Term, Token, Tokens};
 use std::alloc::{AllocError, Global};
 use std::marker::Model;
+use std::mem;
 
 /// What the next byte of a stretch may go on with.
 #[derive(Clone, Copy)]
@@ -95,10 +97,18 @@ impl Draft {
         &self.tokens
     }
 
-    pub fn into_tokens(self) -> Tokens
-        ensures { result ≡ self.tokens }
+    /// Begins the next stretch, and gives the tokens of this one where they are kept. Else it keeps their room.
+    pub fn take(&mut self, alloc: Global, keeps_tokens: bool) -> Tokens
+        ensures tokens { result ≡ (if keeps_tokens then self.old.tokens else []) }
+        ensures anew { (radix : Radix) → self.new ≡ cut radix [] }
     {
-        Tokens::new(self.tokens)
+        self.illegal = false;
+        self.tail = Tail::Sign;
+        if keeps_tokens {
+            return Tokens::new(mem::replace(&mut self.tokens, Vec::new(alloc)));
+        }
+        self.tokens.clear();
+        Tokens::new(Vec::new(alloc))
     }
 
     /// Puts a live byte, at this place, behind the stretch.
@@ -167,6 +177,29 @@ impl Draft {
             end,
         };
         self.add(token, Tail::Run(16777216))
+    }
+
+    /// Puts a letter or a digit behind the stretch, and the letters and digits that stand at the front of other bytes as
+    /// far as it likes. It answers how many of these, or nothing where memory ran out.
+    #[inline(always)]
+    pub fn put_run(&mut self, radix: Radix, first: u8, others: &[u8], place: u64) -> Option<usize>
+        requires { is_coded first ≡ true }
+        ensures range { IfSome result (λ more. more ≤ length others.now) }
+        ensures refused { result ≡ None → self.new ≡ self.old }
+        ensures put { (illegal : Bool) (before : List Piece) (at : ℕ) → place ≡ limit at → self.old ≡ cut_of (base radix) illegal before
+            → PutsRun (base radix) illegal before first others.now at result self.old self.new }
+    {
+        if let Tail::Run(_) = self.tail {
+            return match self.put_character(radix, first, place) {
+                Ok(()) => Some(0),
+                Err(_) => None,
+            };
+        }
+        let run = run_of(radix, first, others, place);
+        match self.add(run.token, Tail::Run(run.weight)) {
+            Ok(()) => Some(run.more),
+            Err(_) => None,
+        }
     }
 
     #[inline(always)]

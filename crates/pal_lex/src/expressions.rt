@@ -5,6 +5,7 @@ ghost use Rattle.pal_lex.specs.Behind.{behind};
 use crate::kinds::is_sign;
 use crate::language::is_reserved;
 use crate::{Expression, Joint, Kind, Part, Term, Token};
+use smallvec::SmallVec;
 use std::alloc::{AllocError, Global};
 
 /// What joins two terms; a blank does so where blanks may stand.
@@ -43,7 +44,7 @@ fn term_of(kind: Kind) -> Option<Term>
 
 /// The terms before some tokens, and the terms that these are, each with what joins it to those before it.
 fn continued(
-    before: Vec<Part>,
+    before: SmallVec<Part, 2>,
     blanks: bool,
     tokens: &[Token],
 ) -> Result<Option<Expression>, AllocError>
@@ -78,7 +79,7 @@ pub fn terms(
     match tokens {
         [first, others @ ..] => match term_of(first.kind) {
             Some(term) => {
-                let mut parts = Vec::new(alloc);
+                let mut parts = SmallVec::new(alloc);
                 parts.push(Part {
                     joint: Joint::Add,
                     term,
@@ -96,7 +97,7 @@ pub fn expression(alloc: Global, tokens: &[Token]) -> Result<Option<Expression>,
     ensures { IfOk result (λ e. e ≡ expression tokens.now) }
 {
     match tokens {
-        [first, ..] if is_sign(first.kind) => continued(Vec::new(alloc), true, tokens),
+        [first, ..] if is_sign(first.kind) => continued(SmallVec::new(alloc), true, tokens),
         _ => terms(alloc, true, tokens),
     }
 }

@@ -1,7 +1,8 @@
-ghost use Rattle.std.specs.Prelude.{◌≡◌, ℕ, true, false, List, []};
-ghost use Rattle.pal_lex.specs.Text.{is_ignored, is_end};
+ghost use Rattle.std.specs.Prelude.{◌≡◌, ℕ, ◌≤◌, true, false, length, take, List, [], ◌∷◌};
+ghost use Rattle.pal_lex.specs.Text.{is_ignored, is_end, has_cr};
 ghost use Rattle.pal_lex.specs.Statements.{radix_by};
-ghost use Rattle.pal_lex.specs.Reading.{HasRead, Answers, Ends};
+ghost use Rattle.pal_lex.specs.Cutting.{is_coded};
+ghost use Rattle.pal_lex.specs.Reading.{HasRead, Answers, TakesByte, ReadsOn, Ends};
 ghost use Rattle.pal_lex.specs.Judging.{Judges, comment_after, dies, passed, ended, ended_statement, failed};
 
 use crate::drafts::Draft;
@@ -11,7 +12,6 @@ use crate::runs::Radix;
 use crate::{Body, LexFault, Statement};
 use std::alloc::Global;
 use std::marker::Model;
-use std::mem;
 
 #[derive(Clone, Copy)]
 enum State {
@@ -53,6 +53,19 @@ fn dies(comment: bool, byte: u8) -> bool
     ensures { result ≡ dies comment byte }
 {
     is_ignored(byte) || comment_after(comment, byte)
+}
+
+/// How many bytes at the front of these are no CR.
+#[inline(always)]
+fn before_cr(bytes: &[u8]) -> usize
+    ensures range { result ≤ length bytes.now }
+    ensures none { has_cr (take result bytes.now) ≡ false }
+{
+    let mut count = 0;
+    while count < bytes.len() && bytes[count] != b'\r' {
+        count += 1;
+    }
+    count
 }
 
 /// Whether a byte ends a statement, where it means something.
@@ -100,6 +113,7 @@ pub struct Lexer {
     place: u64,
     line: u64,
     radix: Radix,
+    keeps_tokens: bool,
     draft: Draft,
 }
 
@@ -114,25 +128,26 @@ impl Model for Lexer {
       place = l.place;
       line = l.line;
       radix = l.radix;
+      keeps_tokens = l.keeps_tokens;
       draft = l.draft;
     } };
 }
 
 impl Lexer {
-    /// A lexer of no byte.
-    #[tactic(auto, unfolding(crate::specs::Statements::statements, crate::specs::Reading::HasRead))]
+    /// A lexer of no byte. It hands out each statement with its tokens.
     pub fn new(alloc: Global) -> Lexer
-        ensures { HasRead result [] }
+        ensures read { HasRead result [] }
+        ensures tokens { result.keeps_tokens ≡ true }
     {
-        Lexer {
-            alloc,
-            state: State::Reading,
-            comment: false,
-            place: 0,
-            line: 1,
-            radix: Radix::Octal,
-            draft: Draft::new(alloc),
-        }
+        Lexer::begun(alloc, true)
+    }
+
+    /// A lexer of no byte that hands out each statement without its tokens. It takes less time and memory.
+    pub fn without_tokens(alloc: Global) -> Lexer
+        ensures read { HasRead result [] }
+        ensures tokens { result.keeps_tokens ≡ false }
+    {
+        Lexer::begun(alloc, false)
     }
 
     /// Takes the next byte, and hands out the statement that it ends, if it ends one.
@@ -143,12 +158,27 @@ impl Lexer {
     #[tactic(auto, unfolding(crate::specs::Statements::statements, crate::specs::Reading::HasRead))]
     #[inline(always)]
     pub fn push(&mut self, byte: u8) -> Result<Option<Statement>, LexFault>
-        ensures { (text : List ℕ) → HasRead self.old text → Answers text byte result self.old self.new }
+        ensures answers { (text : List ℕ) → HasRead self.old text → Answers text byte result self.old self.new }
+        ensures tokens { self.new.keeps_tokens ≡ self.old.keeps_tokens }
     {
         match self.state {
             State::Failed(fault) => Err(fault),
             State::Over => Ok(None),
             State::Reading => self.read(byte),
+        }
+    }
+
+    /// Takes bytes from the front of these that end no statement, as many as it likes, and answers how many. It stops before
+    /// a byte that ends a statement, and where memory runs out, which [`Lexer::push`] tells.
+    pub fn read_on(&mut self, bytes: &[u8]) -> usize
+        ensures range { result ≤ length bytes.now }
+        ensures read { (text : List ℕ) → HasRead self.old text → ReadsOn text bytes.now result self.new }
+        ensures tokens { self.new.keeps_tokens ≡ self.old.keeps_tokens }
+    {
+        match self.state {
+            State::Failed(_) => 0,
+            State::Over => 0,
+            State::Reading => self.take(bytes),
         }
     }
 
@@ -164,12 +194,30 @@ impl Lexer {
         }
     }
 
+    #[tactic(auto, unfolding(crate::specs::Statements::statements, crate::specs::Reading::HasRead))]
+    fn begun(alloc: Global, keeps_tokens: bool) -> Lexer
+        ensures read { HasRead result [] }
+        ensures tokens { result.keeps_tokens ≡ keeps_tokens }
+    {
+        Lexer {
+            alloc,
+            state: State::Reading,
+            comment: false,
+            place: 0,
+            line: 1,
+            radix: Radix::Octal,
+            keeps_tokens,
+            draft: Draft::new(alloc),
+        }
+    }
+
     /// Takes a byte of a source that goes on.
     #[tactic(auto, unfolding(crate::specs::Statements::statements, crate::specs::Reading::HasRead))]
     #[inline(always)]
     fn read(&mut self, byte: u8) -> Result<Option<Statement>, LexFault>
         requires { self.old.state ≡ State.Reading }
-        ensures { (text : List ℕ) → HasRead self.old text → Answers text byte result self.old self.new }
+        ensures answers { (text : List ℕ) → HasRead self.old text → Answers text byte result self.old self.new }
+        ensures tokens { self.new.keeps_tokens ≡ self.old.keeps_tokens }
     {
         if dies(self.comment, byte) {
             self.pass(byte);
@@ -183,6 +231,107 @@ impl Lexer {
         Ok(None)
     }
 
+    /// Takes bytes of a source that goes on, as long as they end no statement.
+    fn take(&mut self, bytes: &[u8]) -> usize
+        requires { self.old.state ≡ State.Reading }
+        ensures range { result ≤ length bytes.now }
+        ensures read { (text : List ℕ) → HasRead self.old text → ReadsOn text bytes.now result self.new }
+        ensures tokens { self.new.keeps_tokens ≡ self.old.keeps_tokens }
+    {
+        let mut taken = 0;
+        loop {
+            let (_, rest) = bytes.split_at(taken);
+            let count = self.take_some(rest);
+            if count == 0 {
+                return taken;
+            }
+            taken += count;
+        }
+    }
+
+    /// Takes a byte, a whole comment, or a whole name or number of a source that goes on, or nothing.
+    #[inline(always)]
+    fn take_some(&mut self, bytes: &[u8]) -> usize
+        requires { self.old.state ≡ State.Reading }
+        ensures range { result ≤ length bytes.now }
+        ensures read { (text : List ℕ) → HasRead self.old text → ReadsOn text bytes.now result self.new }
+        ensures state { self.new.state ≡ State.Reading }
+        ensures tokens { self.new.keeps_tokens ≡ self.old.keeps_tokens }
+    {
+        if self.comment {
+            return self.take_comment(bytes);
+        }
+        match bytes {
+            [byte, others @ ..] => match *byte {
+                b'A'..=b'Z' | b'0'..=b'9' => self.take_run(bytes, *byte, others),
+                _ => usize::from(self.take_byte(*byte)),
+            },
+            [] => 0,
+        }
+    }
+
+    /// Takes a byte of a source that goes on, unless it ends a statement.
+    #[tactic(auto, unfolding(crate::specs::Statements::statements, crate::specs::Reading::HasRead))]
+    #[inline(always)]
+    fn take_byte(&mut self, byte: u8) -> bool
+        requires { self.old.state ≡ State.Reading }
+        ensures read { (text : List ℕ) → HasRead self.old text → TakesByte text byte result self.old self.new }
+        ensures state { self.new.state ≡ State.Reading }
+        ensures tokens { self.new.keeps_tokens ≡ self.old.keeps_tokens }
+    {
+        if dies(self.comment, byte) {
+            self.pass(byte);
+            return true;
+        }
+        if is_end(byte) {
+            return false;
+        }
+        match self.draft.put(self.radix, byte, self.place) {
+            Ok(()) => {
+                self.pass(byte);
+                true
+            }
+            Err(_) => false,
+        }
+    }
+
+    /// Takes what is left of a comment.
+    #[inline(always)]
+    fn take_comment(&mut self, bytes: &[u8]) -> usize
+        requires reading { self.old.state ≡ State.Reading }
+        requires comment { self.old.comment ≡ true }
+        ensures range { result ≤ length bytes.now }
+        ensures read { (text : List ℕ) → HasRead self.old text → ReadsOn text bytes.now result self.new }
+        ensures state { self.new.state ≡ State.Reading }
+        ensures tokens { self.new.keeps_tokens ≡ self.old.keeps_tokens }
+    {
+        let count = before_cr(bytes);
+        self.place = self.place.saturating_add(count as u64);
+        count
+    }
+
+    /// Takes a name or a number, or a part of it, or nothing.
+    #[inline(always)]
+    fn take_run(&mut self, bytes: &[u8], first: u8, others: &[u8]) -> usize
+        requires reading { self.old.state ≡ State.Reading }
+        requires bytes { bytes.now ≡ first ∷ others.now }
+        requires live { self.old.comment ≡ false }
+        requires coded { is_coded first ≡ true }
+        ensures range { result ≤ length bytes.now }
+        ensures read { (text : List ℕ) → HasRead self.old text → ReadsOn text bytes.now result self.new }
+        ensures state { self.new.state ≡ State.Reading }
+        ensures tokens { self.new.keeps_tokens ≡ self.old.keeps_tokens }
+    {
+        match self.draft.put_run(self.radix, first, others, self.place) {
+            Some(more) => {
+                let count = bytes.len() - (others.len() - more);
+                self.place = self.place.saturating_add(count as u64);
+                count
+            }
+            None => 0,
+        }
+    }
+
     /// Takes a byte that ends a statement.
     #[tactic(auto, unfolding(crate::specs::Statements::statements, crate::specs::Reading::HasRead))]
     #[inline(never)]
@@ -190,7 +339,8 @@ impl Lexer {
         requires reading { self.old.state ≡ State.Reading }
         requires live { dies self.old.comment byte ≡ false }
         requires end { is_end byte ≡ true }
-        ensures { (text : List ℕ) → HasRead self.old text → Answers text byte result self.old self.new }
+        ensures answers { (text : List ℕ) → HasRead self.old text → Answers text byte result self.old self.new }
+        ensures tokens { self.new.keeps_tokens ≡ self.old.keeps_tokens }
     {
         match judge(self.alloc, &self.draft, self.line) {
             Ok(said) => Ok(Some(self.hand_out(said, byte))),
@@ -209,7 +359,7 @@ impl Lexer {
     {
         let line = self.line;
         let last = byte == b'$';
-        let draft = mem::replace(&mut self.draft, Draft::new(self.alloc));
+        let tokens = self.draft.take(self.alloc, self.keeps_tokens);
         self.radix = radix_by(&said.body, self.radix);
         if last {
             self.state = State::Over;
@@ -220,7 +370,7 @@ impl Lexer {
             tags: said.tags,
             body: said.body,
             last,
-            tokens: draft.into_tokens(),
+            tokens,
         }
     }
 

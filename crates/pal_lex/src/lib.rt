@@ -9,6 +9,7 @@ mod drafts;
 mod expressions;
 mod faults;
 mod grammar;
+mod growing;
 mod kinds;
 mod language;
 pub mod laws;

@@ -2,12 +2,14 @@ ghost use Rattle.std.specs.Prelude.{◌≡◌, ◌<◌};
 ghost use Rattle.pal_lex.specs.Language.{word_of};
 
 use crate::{Name, Term, Tokens};
+use smallvec::SmallVec;
 use std::marker::Model;
 use word12::Word;
 
 /// How a term is joined to the terms before it.
-#[derive(Clone, Copy, PartialEq, Eq, Debug)]
+#[derive(Clone, Copy, PartialEq, Eq, Debug, Default)]
 pub enum Joint {
+    #[default]
     Add,
     Subtract,
     /// Inclusive or, which a blank stands for.
@@ -15,16 +17,16 @@ pub enum Joint {
 }
 
 /// A term of an expression, with what joins it to those before it; the first one is joined to 0.
-#[derive(Clone, Copy, PartialEq, Eq, Debug)]
+#[derive(Clone, Copy, PartialEq, Eq, Debug, Default)]
 pub struct Part {
     pub joint: Joint,
     pub term: Term,
 }
 
-/// Terms, from left to right.
+/// Terms, from left to right. Most expressions have one or two, which take no memory of their own.
 #[derive(Drop)]
 pub struct Expression {
-    parts: Vec<Part>,
+    parts: SmallVec<Part, 2>,
 }
 
 impl Model for Expression {
@@ -37,7 +39,7 @@ impl Model for Expression {
 }
 
 impl Expression {
-    pub(crate) fn new(parts: Vec<Part>) -> Expression
+    pub(crate) fn new(parts: SmallVec<Part, 2>) -> Expression
         ensures { result ≡ parts.items }
     {
         Expression { parts }

@@ -5,11 +5,12 @@ use std::marker::Model;
 use word12::Word;
 
 /// What an expression is made of.
-#[derive(Clone, Copy, PartialEq, Eq, Debug)]
+#[derive(Clone, Copy, PartialEq, Eq, Debug, Default)]
 pub enum Term {
     Name(Name),
     Number(Word),
     /// `.`, the present location.
+    #[default]
     Here,
 }
 

@@ -27,7 +27,7 @@ impl Radix {
 
 /// A name with one character more, which counts by its weight.
 #[inline(always)]
-fn longer_name(name: Name, weight: u32, character: u8) -> Name
+pub fn longer_name(name: Name, weight: u32, character: u8) -> Name
     ensures { result ≡ longer_name name weight character }
 {
     let code = u64::from(sixbit(character).unwrap_or(0));

@@ -1,1 +1,4 @@
+pub mod EntryLemmas
+pub mod PermanentLemmas
+pub mod PlaceLemmas
 pub mod TableLemmas

@@ -1,3 +1,4 @@
+pub mod Entries
 pub mod Names
 pub mod Permanent
 pub mod SymbolTable

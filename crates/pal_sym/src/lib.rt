@@ -1,13 +1,16 @@
 //! The symbols of a PAL III source: names of which six characters count, and the value that each stands for.
 //!
-//! Permanent names have their values from the start; a source defines further ones, each once or again to the same
-//! value (PAL III Symbolic Assembler manual, and this project's profile of it). In each contract a [`SymbolName`] is a
-//! number, and a [`Symbols`] is a finite map from such numbers to words, beside the room that is made for new names.
+//! Permanent names have their values from the start; a source defines further ones: a tag once, or again to the same value,
+//! and what `=` defines as often as it likes (PAL III Symbolic Assembler manual, and this project's profile of it). In each
+//! contract a [`SymbolName`] is a number, and a [`Symbols`] is a finite map from such numbers to words, each of a tag or
+//! not, beside the room that is made for new names.
 #![tactic(auto)]
 
+mod entries;
 mod faults;
 mod names;
 mod permanent_names;
+mod symbols;
 mod tables;
 
 pub use faults::SymFault;

@@ -71,12 +71,15 @@ pub(crate) const PERMANENT: [(u64, u16); 53] = [
     (name!(b'R' b'M' b'F'), 0o6244),
 ];
 
-/// The permanent value of a name, if it has one.
+/// The permanent value of a name, if it has one. Each permanent name has three letters, and most others have more.
 #[tactic(auto, unfolding(crate::specs::Permanent::permanent))]
 pub(crate) fn permanent_value(name: SymbolName) -> Option<Word>
     ensures value { result ≡ permanent name }
     ensures range { IfSome result (λ word. word < 4096) }
 {
+    if name.number() % 262144 != 0 {
+        return None;
+    }
     listed(&PERMANENT, name.number())
 }
 

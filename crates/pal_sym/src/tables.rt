@@ -1,11 +1,10 @@
-ghost use Rattle.std.specs.Prelude.{◌≡◌, ◌≢◌, ℕ, ◌<◌, IfSome, List};
-ghost use Rattle.std.specs.Ordering.{nat_cmp};
-ghost use Rattle.std.specs.FinMap.{find};
-ghost use Rattle.pal_sym.specs.declared.faults.SymFault.TheVariants.{DT, RD, Memory};
+ghost use Rattle.std.specs.Prelude.{◌≡◌, ℕ, ◌<◌, None, IfSome, is_some};
 ghost use Rattle.pal_sym.specs.Permanent.{permanent};
-ghost use Rattle.pal_sym.specs.Values.{symbol_value, Defines, MakesRoom};
+ghost use Rattle.pal_sym.specs.Values.{symbol_value, is_fixed, DefinesTag, DefinesValue, IsRefused, IsSetAgain, MakesRoom};
 
+use crate::entries::{find, insert, search};
 use crate::permanent_names::permanent_value;
+use crate::symbols::Symbol;
 use crate::{SymFault, SymbolName};
 use std::alloc::Global;
 use std::marker::Model;
@@ -14,12 +13,13 @@ use word12::Word;
 /// Names with the values that they stand for: the permanent names, and those that were defined.
 #[derive(Drop)]
 pub struct Symbols {
-    entries: Vec<(SymbolName, Word)>,
+    entries: Vec<(SymbolName, Symbol)>,
 }
 
 impl Model for Symbols {
     ghost use Rattle.std.specs.Prelude.{◌-◌, vec_len, vec_capacity};
     ghost use Rattle.std.specs.FinMap.{from_entries};
+    ghost use Rattle.pal_sym.specs.Entries.{Rise};
     ghost use Rattle.pal_sym.specs.SymbolTable.{SymbolTable, table_code};
 
     ghost Value = { SymbolTable };
@@ -30,13 +30,15 @@ impl Model for Symbols {
       defined = from_entries symbols.entries.items;
       room = vec_capacity symbols.entries - vec_len symbols.entries;
     } };
+
+    ghost invariant = { λ symbols. Rise symbols.entries.items };
 }
 
 impl Symbols {
     /// The permanent names alone.
-    #[tactic(auto, using(crate::proofs::TableLemmas::nothing_defined))]
     pub fn new(alloc: Global) -> Symbols
-        ensures { (name : ℕ) → symbol_value result name ≡ permanent name }
+        ensures values { (name : ℕ) → symbol_value result name ≡ permanent name }
+        ensures fixed { (name : ℕ) → is_fixed result name ≡ is_some (permanent name) }
     {
         Symbols {
             entries: Vec::new(alloc),
@@ -52,7 +54,6 @@ impl Symbols {
     }
 
     /// Makes room for so many new names: that many definitions then take no memory.
-    #[tactic(auto, unfolding(crate::specs::Values::symbol_value))]
     pub fn room(&mut self, names: usize) -> Result<(), SymFault>
         ensures { MakesRoom names self.old self.new result }
     {
@@ -60,24 +61,40 @@ impl Symbols {
         Ok(())
     }
 
-    /// Gives the name of a tag its value, the place of the tag. A name is defined once, or again to the same value, and
-    /// the permanent names count as defined (this project's profile of PAL III).
+    /// Gives the name of a tag its value, the place of the tag. The name is new, or stands for that value already, as a
+    /// permanent name may; else the fault is DT (PAL III Symbolic Assembler manual, and this project's profile of it).
     pub fn define_tag(&mut self, name: SymbolName, value: Word) -> Result<(), SymFault>
-        ensures { Defines DT name value self.old self.new result }
+        ensures { DefinesTag name value self.old self.new result }
     {
-        self.define(name, value, SymFault::DT)
+        match permanent_value(name) {
+            Some(known) => unless_other(known, value, SymFault::DT),
+            None => self.put_tag(name, value),
+        }
     }
 
-    /// Gives a name the value of an expression, as `=` does. A name is defined once, or again to the same value, and
-    /// the permanent names count as defined (this project's profile of PAL III).
+    /// Gives a name the value of an expression, as `=` does. It may stand for another value, unless it is a permanent name
+    /// or a tag: then the fault is RD (PAL III Symbolic Assembler manual, and this project's profile of it).
     pub fn define_value(&mut self, name: SymbolName, value: Word) -> Result<(), SymFault>
-        ensures { Defines RD name value self.old self.new result }
+        ensures { DefinesValue name value self.old self.new result }
     {
-        self.define(name, value, SymFault::RD)
+        match permanent_value(name) {
+            Some(known) => unless_other(known, value, SymFault::RD),
+            None => self.put_value(name, value),
+        }
+    }
+
+    /// Sets the value of a name that was defined, whatever it stands for. A permanent name keeps its value, and a name that
+    /// isn't there stays so. It takes no memory.
+    pub fn again(&mut self, name: SymbolName, value: Word)
+        ensures { IsSetAgain name value self.old self.new }
+    {
+        match permanent_value(name) {
+            Some(_) => {}
+            None => self.set(name, value),
+        }
     }
 
     /// The value of a name, permanent or defined, if it has one.
-    #[tactic(auto, unfolding(crate::specs::Values::symbol_value))]
     pub fn value(&self, name: SymbolName) -> Option<Word>
         ensures value { result ≡ symbol_value self.now name }
         ensures range { IfSome result (λ word. word < 4096) }
@@ -88,47 +105,67 @@ impl Symbols {
         }
     }
 
-    /// Gives a name its value, or answers the fault of a name that has another one.
-    fn define(&mut self, name: SymbolName, value: Word, twice: SymFault) -> Result<(), SymFault>
-        requires { twice ≢ Memory }
-        ensures { Defines twice name value self.old self.new result }
+    fn put_tag(&mut self, name: SymbolName, value: Word) -> Result<(), SymFault>
+        requires { None ≡ permanent name }
+        ensures { DefinesTag name value self.old self.new result }
     {
-        match self.value(name) {
-            Some(known) => {
-                if known == value {
-                    return Ok(());
+        let tag = Symbol {
+            value,
+            is_tag: true,
+        };
+        match search(&self.entries, name) {
+            Ok(place) => {
+                if self.entries[place].1.value != value {
+                    return Err(SymFault::DT);
                 }
-                Err(twice)
+                self.entries[place] = (name, tag);
+                Ok(())
             }
-            None => self.add(name, value),
+            Err(place) => insert(&mut self.entries, place, name, tag),
         }
     }
 
-    /// Gives a new name its value.
-    #[tactic(auto, unfolding(crate::specs::Values::symbol_value))]
-    fn add(&mut self, name: SymbolName, value: Word) -> Result<(), SymFault>
-        requires { symbol_value self.old name ≡ None }
-        ensures { Defines DT name value self.old self.new result }
+    fn put_value(&mut self, name: SymbolName, value: Word) -> Result<(), SymFault>
+        requires { None ≡ permanent name }
+        ensures { DefinesValue name value self.old self.new result }
     {
-        self.entries.reserve(1)?;
-        self.entries.push_reserved((name, value));
-        Ok(())
+        let symbol = Symbol {
+            value,
+            is_tag: false,
+        };
+        match search(&self.entries, name) {
+            Ok(place) => {
+                let known = self.entries[place].1;
+                if known.is_tag {
+                    return unless_other(known.value, value, SymFault::RD);
+                }
+                self.entries[place] = (name, symbol);
+                Ok(())
+            }
+            Err(place) => insert(&mut self.entries, place, name, symbol),
+        }
+    }
+
+    fn set(&mut self, name: SymbolName, value: Word)
+        requires { None ≡ permanent name }
+        ensures { IsSetAgain name value self.old self.new }
+    {
+        match search(&self.entries, name) {
+            Ok(place) => {
+                let is_tag = self.entries[place].1.is_tag;
+                self.entries[place] = (name, Symbol { value, is_tag });
+            }
+            Err(_) => {}
+        }
     }
 }
 
-/// The word that stands beside a name.
-fn find(entries: &[(SymbolName, Word)], name: SymbolName) -> Option<Word>
-    ensures value { result ≡ find nat_cmp name entries.now }
-    ensures range { IfSome result (λ word. word < 4096) }
+/// The fault of a name that stands for another value, if it does.
+fn unless_other(known: Word, value: Word, fault: SymFault) -> Result<(), SymFault>
+    ensures { IsRefused fault known value result }
 {
-    let mut rest = entries;
-    while let [entry, others @ ..] = rest {
-        if entry.0 == name {
-            let word = entry.1;
-            let _number = word.get();
-            return Some(word);
-        }
-        rest = others;
+    if known == value {
+        return Ok(());
     }
-    None
+    Err(fault)
 }

@@ -22,12 +22,17 @@ const NOTHING: Learnt = Learnt {
     words: 0,
 };
 
-/// A name and what it was defined as.
+/// A name, what it was defined as, by a tag or not, and the number of the statement that defined it.
 #[derive(Clone, Copy, Drop)]
 struct Known {
     name: SymbolName,
     value: u64,
+    is_tag: bool,
+    at: usize,
 }
+
+/// Behind the last statement.
+const END: usize = usize::MAX;
 
 /// The place behind some statements: the last setting, or 0200, and one more for each word since.
 fn place(learnt: &[Learnt]) -> u64 {
@@ -47,17 +52,31 @@ fn field(learnt: &[Learnt]) -> u64 {
     field
 }
 
-/// What a name stands for.
-fn value_of(known: &[Known], name: SymbolName) -> Option<u64> {
+/// What a name stands for at a statement: its last definition up to it, or its last of all where there is none.
+fn value_of(known: &[Known], at: usize, name: SymbolName) -> Option<u64> {
     if let Some(word) = Symbols::permanent(name) {
         return Some(u64::from(word.get()));
     }
+    let mut before = None;
+    let mut last = None;
     for item in known {
         if item.name == name {
-            return Some(item.value);
+            last = Some(item.value);
+            if item.at <= at {
+                before = last;
+            }
         }
     }
-    None
+    before.or(last)
+}
+
+/// Whether a name is permanent, or was defined by a tag.
+fn is_fixed(known: &[Known], name: SymbolName) -> bool {
+    let mut is_fixed = Symbols::permanent(name).is_some();
+    for item in known {
+        is_fixed = is_fixed || item.name == name && item.is_tag;
+    }
+    is_fixed
 }
 
 /// The place, where it is not past 7777.
@@ -68,18 +87,20 @@ fn here(place: u64) -> Result<u64, Code> {
     Ok(place)
 }
 
-fn term_value(term: Term, known: &[Known], place: u64) -> Result<u64, Code> {
+fn term_value(term: Term, known: &[Known], at: usize, place: u64) -> Result<u64, Code> {
     match term {
         Term::Number(word) => Ok(u64::from(word.get())),
         Term::Here => here(place),
-        Term::Name(name) => value_of(known, SymbolName::numbered(name.number())).ok_or(Code::UA),
+        Term::Name(name) => value_of(known, at, SymbolName::numbered(name.number())).ok_or(
+            Code::UA,
+        ),
     }
 }
 
-fn value(parts: &[Part], known: &[Known], place: u64) -> Result<u64, Code> {
+fn value(parts: &[Part], known: &[Known], at: usize, place: u64) -> Result<u64, Code> {
     let mut value = 0u64;
     for part in parts {
-        let term = term_value(part.term, known, place)?;
+        let term = term_value(part.term, known, at, place)?;
         value = match part.joint {
             Joint::Add => value.wrapping_add(term) % 4096,
             Joint::Subtract => value.wrapping_sub(term) % 4096,
@@ -89,26 +110,40 @@ fn value(parts: &[Part], known: &[Known], place: u64) -> Result<u64, Code> {
     Ok(value)
 }
 
-/// One definition more, or the code where the name stands for another value.
-fn define(known: &mut Vec<Known>, name: SymbolName, value: u64, code: Code) -> Result<(), Code> {
-    if let Some(old) = value_of(known, name) {
-        if old == value {
-            return Ok(());
+/// What the tags of a statement define.
+fn define_tags(
+    statement: &Statement,
+    known: &mut Vec<Known>,
+    at: usize,
+    place: u64,
+) -> Result<(), Code> {
+    for tag in statement.tags.names() {
+        let name = SymbolName::numbered(tag.number());
+        let value = here(place)?;
+        if value_of(known, END, name).unwrap_or(value) != value {
+            return Err(Code::DT);
         }
-        return Err(code);
+        let _ = known.push(Known {
+            name,
+            value,
+            is_tag: true,
+            at,
+        });
     }
-    let _ = known.push(Known { name, value });
     Ok(())
 }
 
-/// What the tags of a statement define.
-fn define_tags(statement: &Statement, known: &mut Vec<Known>, place: u64) -> Result<(), Code> {
-    for tag in statement.tags.names() {
-        if place > 4095 {
-            return Err(Code::PF);
-        }
-        define(known, SymbolName::numbered(tag.number()), place, Code::DT)?;
+/// What `=` defines.
+fn define(known: &mut Vec<Known>, at: usize, name: SymbolName, value: u64) -> Result<(), Code> {
+    if is_fixed(known, name) && value_of(known, END, name).unwrap_or(value) != value {
+        return Err(Code::RD);
     }
+    let _ = known.push(Known {
+        name,
+        value,
+        is_tag: false,
+        at,
+    });
     Ok(())
 }
 
@@ -124,7 +159,7 @@ fn word_at(place: u64) -> Result<Learnt, Code> {
 }
 
 fn origin(parts: &[Part], known: &[Known], place: u64) -> Result<Learnt, Code> {
-    let location = value(parts, known, place)?;
+    let location = value(parts, known, END, place)?;
     Ok(Learnt {
         location: Some(location),
         field: None,
@@ -133,7 +168,7 @@ fn origin(parts: &[Part], known: &[Known], place: u64) -> Result<Learnt, Code> {
 }
 
 fn field_set(parts: &[Part], known: &[Known], place: u64) -> Result<Learnt, Code> {
-    let field = value(parts, known, place)?;
+    let field = value(parts, known, END, place)?;
     if field > 7 {
         return Err(Code::FD);
     }
@@ -145,13 +180,13 @@ fn field_set(parts: &[Part], known: &[Known], place: u64) -> Result<Learnt, Code
 }
 
 /// What the body of a statement sets and defines.
-fn learn(body: &Body, known: &mut Vec<Known>, place: u64) -> Result<Learnt, Code> {
+fn learn(body: &Body, known: &mut Vec<Known>, at: usize, place: u64) -> Result<Learnt, Code> {
     match body {
         Body::Origin(expression) => origin(expression.parts(), known, place),
         Body::Field(expression) => field_set(expression.parts(), known, place),
         Body::Define(name, expression) => {
-            let value = value(expression.parts(), known, place)?;
-            define(known, SymbolName::numbered(name.number()), value, Code::RD)?;
+            let value = value(expression.parts(), known, END, place)?;
+            define(known, at, SymbolName::numbered(name.number()), value)?;
             Ok(NOTHING)
         }
         Body::Reference { .. } => word_at(place),
@@ -171,18 +206,23 @@ fn offset(address: u64, place: u64) -> Result<u64, Code> {
     Ok(address % 128 + 128)
 }
 
-fn address_of(address: &Option<Expression>, known: &[Known], place: u64) -> Result<u64, Code> {
+fn address_of(
+    address: &Option<Expression>,
+    known: &[Known],
+    at: usize,
+    place: u64,
+) -> Result<u64, Code> {
     match address {
-        Some(expression) => value(expression.parts(), known, place),
+        Some(expression) => value(expression.parts(), known, at, place),
         None => Ok(0),
     }
 }
 
 /// The word of a statement, where it is one.
-fn word_of(body: &Body, known: &[Known], place: u64) -> Result<Option<u64>, Code> {
+fn word_of(body: &Body, known: &[Known], at: usize, place: u64) -> Result<Option<u64>, Code> {
     match body {
         Body::Word(expression) => {
-            let word = value(expression.parts(), known, place)?;
+            let word = value(expression.parts(), known, at, place)?;
             Ok(Some(word))
         }
         Body::Reference {
@@ -190,7 +230,7 @@ fn word_of(body: &Body, known: &[Known], place: u64) -> Result<Option<u64>, Code
             indirect,
             address,
         } => {
-            let address = address_of(address, known, place)?;
+            let address = address_of(address, known, at, place)?;
             let offset = offset(address, place)?;
             let indirect = if *indirect { 0o400u64 } else { 0 };
             let operation = u64::from(operation.word().get());
@@ -212,8 +252,9 @@ struct Source {
 /// What a statement sets, by those before it.
 fn learn_all(source: &mut Source, statement: &Statement) -> Result<Learnt, Code> {
     let place = place(&source.learnt);
-    define_tags(statement, &mut source.known, place)?;
-    learn(&statement.body, &mut source.known, place)
+    let at = source.statements.len();
+    define_tags(statement, &mut source.known, at, place)?;
+    learn(&statement.body, &mut source.known, at, place)
 }
 
 /// One statement more.
@@ -266,7 +307,7 @@ pub fn plain(alloc: Global, bytes: &[u8]) -> Result<Vec<(Cell, Word)>, AsmFault>
         last = statement.line;
         let (front, _) = source.learnt.split_at(number.min(source.learnt.len()));
         let place = place(front);
-        match word_of(&statement.body, &source.known, place) {
+        match word_of(&statement.body, &source.known, number, place) {
             Ok(Some(word)) => {
                 let cell = Cell::at((field(front) % 8) as u8, Word::low((place % 4096) as u16));
                 let _ = pairs.push((cell, Word::low((word % 4096) as u16)));

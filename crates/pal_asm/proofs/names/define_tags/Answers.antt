@@ -7,8 +7,9 @@ loop-rest-preserved c =
     let left = tags_left c.loop-rest.rest.now c.tag-item.result c.numbered.result c.args.location c.in_ok-place.place c.loop-rest.symbols c.define_tag.new.self
     c.in-len1-up.len_at_least c.tag-item.is (c.numbered.ensures ∙ c.number.ensures) c.in_ok-place.ensures.value c.in-Ok.ensures in
     record {
-      values = λ n. left.0 n ∙ c.loop-rest.invariant.values n;
-      fault = left.1 ∙ c.loop-rest.invariant.fault;
-      enough = omega (arith, left.2, left.3, c.loop-rest.invariant.enough);
-      room = omega (arith, left.2, left.3, c.loop-rest.invariant.room);
+      values = λ n. left.values n ∙ c.loop-rest.invariant.values n;
+      fixed = λ n. left.fixed n ∙ c.loop-rest.invariant.fixed n;
+      fault = left.fault ∙ c.loop-rest.invariant.fault;
+      enough = omega (arith, left.less, left.room, c.loop-rest.invariant.enough);
+      room = omega (arith, left.less, left.room, c.loop-rest.invariant.room);
     }

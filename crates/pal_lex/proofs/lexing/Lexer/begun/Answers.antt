@@ -2,11 +2,11 @@ use Rattle.std.proofs.Common.{refl}
 use Rattle.pal_lex.specs.Statements.{statements}
 use Rattle.pal_lex.specs.Reading.{HasRead}
 use Rattle.pal_lex.specs.declared.runs.Radix.TheVariants.{Octal}
-use Rattle.pal_lex.proofs.lexing.Lexer.new.Goals as goal
+use Rattle.pal_lex.proofs.lexing.Lexer.begun.Goals as goal
 
-pub returns : goal.returns
+pub returns-clause-read : goal.returns-clause-read
 unfolding HasRead statements
-returns c = record {
+returns-clause-read c = record {
   comment = refl;
   place = refl;
   line = refl;

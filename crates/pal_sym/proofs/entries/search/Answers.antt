@@ -1,0 +1,16 @@
+use Rattle.std.proofs.Common.{rules, ◌≡◌, subst, sym, IfOk, IfErr}
+use Rattle.std.proofs.lemmas.List.Sorted.{answers_always}
+use Rattle.pal_sym.proofs.PlaceLemmas.{searched}
+use Rattle.pal_sym.proofs.entries.search.Goals as goal
+
+pub returns-clause-found : goal.returns-clause-found
+returns-clause-found c =
+    let facts = c.binary_search_by_key.ensures in
+    let by_key = facts.position (λ entry. entry.0) (answers_always _ _ _ (λ f a r g called. search rules)) in
+    (searched _ c.requires c.args.name _ facts.bound (rw c.number.ensures at by_key)).found
+
+pub returns-clause-absent : goal.returns-clause-absent
+returns-clause-absent c =
+    let facts = c.binary_search_by_key.ensures in
+    let by_key = facts.position (λ entry. entry.0) (answers_always _ _ _ (λ f a r g called. search rules)) in
+    (searched _ c.requires c.args.name _ facts.bound (rw c.number.ensures at by_key)).absent

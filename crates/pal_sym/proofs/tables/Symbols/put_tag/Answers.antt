@@ -1,0 +1,21 @@
+use Rattle.std.proofs.Common.{refl, arith}
+use Rattle.pal_sym.proofs.PlaceLemmas.{found_there, found_in_gap, put_over}
+use Rattle.pal_sym.proofs.TableLemmas.{differ, agree, tag_over, tag_inserted, other_value}
+use Rattle.pal_sym.proofs.tables.Symbols.put_tag.Goals as goal
+
+pub returns-then-ne : goal.returns-then-ne
+returns-then-ne c = (
+  refl,
+  other_value c.self.inside.entries.items _ c.args.name c.args.self.now c.self.view_is c.requires c.index.result.now.1 c.args.value
+      (found_there c.self.inside.entries.items c.self.invariant c.args.name c.in-Ok.place (rw c.deref.ensures.value at c.in-Ok.ensures.found) c.index.result.now c.index.ensures) (differ _ _ c.if-ne.ensures),
+)
+
+pub returns-else-ne : goal.returns-else-ne
+returns-else-ne c =
+    tag_over c.self.inside.entries.items _ c.args.name c.args.self.now c.self.view_is c.requires c.args.value _ _ _ c.index.result.now.1
+    (found_there c.self.inside.entries.items c.self.invariant c.args.name c.in-Ok.place (rw c.deref.ensures.value at c.in-Ok.ensures.found) c.index.result.now c.index.ensures) (agree _ _ c.if-ne.ensures) refl refl refl (put_over c.self.inside.entries.items c.self.invariant c.args.name c.in-Ok.place (rw c.deref.ensures.value at c.in-Ok.ensures.found) _)
+
+pub returns-in-Err : goal.returns-in-Err
+returns-in-Err c =
+    tag_inserted c.self.inside.entries.items _ c.args.name c.args.self.now c.self.view_is c.requires c.args.value _ c.insert.new.entries.items _ c.insert.result
+    (found_in_gap c.self.inside.entries.items c.args.name c.in-Err.place (rw c.deref.ensures.value at c.in-Err.ensures.absent)) refl refl c.insert.ensures
