@@ -1,0 +1,4 @@
+pub mod BreakLemmas
+pub mod GoLemmas
+pub mod Json
+pub mod Digits

@@ -1,0 +1,4 @@
+pub mod Breaks
+pub mod Go
+pub mod Snapshot
+pub mod Values

@@ -1,0 +1,13 @@
+//! A debugger for the machine: breaks, runs to the next stop, core by cells, and a snapshot of the registers.
+//!
+//! A contract sees a debugger as the list that tells of each cell, by its number, whether it has a break.
+#![tactic(auto)]
+
+mod debuggers;
+mod faults;
+mod outcomes;
+mod snapshots;
+
+pub use debuggers::Debugger;
+pub use faults::DebugFault;
+pub use outcomes::{Gone, Why};

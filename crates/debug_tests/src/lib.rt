@@ -1,0 +1,7 @@
+//! Tests of the debugger.
+#![tactic(auto)]
+
+#[cfg(test)]
+mod console;
+#[cfg(test)]
+mod debugger;
