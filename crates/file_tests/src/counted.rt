@@ -55,6 +55,6 @@ fn counts(alloc: Global) -> Option<[[u64; 2]; 5]> {
 fn counts_with_six_segments(rt: HostRuntime) {
     assert_eq!(rt;
         counts(rt.alloc()),
-        Some([[6, 6], [6 + 5, 5 + 6], [6, 1 + 6], [6, 0], [6 + 1, 0]])
+        Some([[12, 1], [12 + 5, 5 + 1], [12, 1 + 1], [12, 0], [12 + 1, 0]])
     );
 }

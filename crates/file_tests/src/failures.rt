@@ -1,5 +1,6 @@
 //! Stores of which a read or a write fails.
 use crate::files::{changed, first_word, held, listed, mounted, moved};
+use os8_dir::DirFault;
 use os8_files::FileService;
 use std::alloc::Global;
 use std::process::Abort;
@@ -55,11 +56,37 @@ fn failing_writes(rt: HostRuntime) {
     }
 }
 
+/// The free blocks of an empty volume of 20 blocks that is mounted again after the write behind so many failed in the storing of
+/// a file of one block; 1000 where it is refused for the count of information words in block 1.
+fn mounted_again(alloc: Global, passes: u32) -> Option<usize> {
+    let volume = MemoryVolume::create(alloc, 20).ok()?;
+    let mut files = mounted(alloc, FuseVolume::new(volume, None, Some(passes)))?;
+    if changed(alloc, &mut files, (1, 1, 1, 1)) != 8 {
+        return None;
+    }
+    match FileService::mount(alloc, files.into_store().into_inner()) {
+        Ok(again) => Some(again.free()),
+        Err((_store, fault)) => {
+            if fault == DirFault::BadCount(1) {
+                return Some(1000);
+            }
+            None
+        }
+    }
+}
+
+#[test]
+fn mounts_after_failed_writes(rt: HostRuntime) {
+    for (passes, want) in [(0, 13), (1, 1000)] {
+        assert_eq!(rt; mounted_again(rt.alloc(), passes), Some(want), "{passes}");
+    }
+}
+
 /// Where the second read of a squeeze fails behind two stores and a delete: what it is refused as, 1 where the service has
 /// stopped, the first word of the file's last block then, what the next turn does, and the first word of its last block then.
 fn failing_squeeze(alloc: Global) -> Option<[usize; 5]> {
     let volume = MemoryVolume::create(alloc, 20).ok()?;
-    let mut files = mounted(alloc, FuseVolume::new(volume, Some(2), None))?;
+    let mut files = mounted(alloc, FuseVolume::new(volume, Some(8), None))?;
     let [_, _, _, refused] = four_changes(alloc, &mut files);
     Some([
         refused,

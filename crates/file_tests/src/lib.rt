@@ -1,8 +1,11 @@
-//! Tests of the file service: its calls and refusals, stores that count or fail, refused growths, and the most files.
+//! Tests of the file service: its calls and refusals, stores that count or fail and what
+//! those leave, refused growths, and the most files.
 #![tactic(auto)]
 
 #[cfg(test)]
 mod blocks;
+#[cfg(test)]
+mod broken;
 #[cfg(test)]
 mod counted;
 #[cfg(test)]
@@ -15,3 +18,5 @@ mod growths;
 mod largest;
 #[cfg(test)]
 mod refusals;
+#[cfg(test)]
+mod segments;

@@ -5,7 +5,6 @@ pub mod MarkLemmas
 pub mod QuietLemmas
 pub mod StoreLemmas
 pub mod SessionLemmas
-pub mod NameLemmas
 pub mod ToldLemmas
 pub mod EntryLemmas
 pub mod TextLemmas

@@ -6,6 +6,7 @@ use Rattle.char_pack.specs.Texts.{is_storable, stored}
 use Rattle.os8_dir.specs.Entries.{contains}
 use Rattle.os8_dir.specs.Files.{Files, files_of, above_of}
 use Rattle.os8_files.specs.Calls.{Deletes, HasDeleted, IsLargest, IsOver}
+use Rattle.os8_files.specs.Failed.{Survives}
 use Rattle.os8_files.specs.Mounted.{Mounted, Begun}
 use Rattle.os8_files.specs.declared.faults.FileFault.{FileFault}
 use Rattle.os8_files.specs.declared.faults.FileFault.TheVariants as file
@@ -41,6 +42,7 @@ pub same_does : (P : Steps) (s : Seen) (answer : Answer) → s.volume.stopped �
 same_does P s answer running step reply = record {
   step = λ quiet. step;
   later = record { reads = omega arith; writes = omega arith };
+  files = λ running more. absurd (omega (arith, more));
   running = λ quiet. running;
   memory = λ is. record { state = refl; stopped = refl; reads = refl; writes = refl };
   reply = reply;
@@ -50,6 +52,7 @@ same_does P s answer running step reply = record {
 pub failed_does : (P : Steps) (old new : Seen) (answer : Answer) → HasFailed old.volume new.volume → answer ≢ Err fault.Memory → IsReply answer → Does P old answer new
 failed_does P old new answer failed other reply = record {
   step = λ quiet. absurd (loud quiet failed.more);
+  files = failed.files;
   later = record { reads = failed.behind.reads; writes = failed.behind.writes };
   running = λ quiet. absurd (loud quiet failed.more);
   memory = λ is. absurd (other is);
@@ -63,6 +66,7 @@ failed_does P old new answer failed other reply = record {
 pub stopped_does : (P : Steps) (old new : Seen) (answer : Answer) → old.volume.stopped ≡ true → IsBehind old.volume new.volume → answer ≢ Err fault.Memory → IsReply answer → Does P old answer new
 stopped_does P old new answer stopped behind other reply = record {
   step = λ quiet. absurd (true≢false (sym stopped ∙ quiet.running));
+  files = λ running more. absurd (true≢false (sym stopped ∙ running));
   later = record { reads = behind.reads; writes = behind.writes };
   running = λ quiet. absurd (true≢false (sym stopped ∙ quiet.running));
   memory = λ is. absurd (other is);
@@ -119,8 +123,9 @@ crowded v jobs wanted n short is = record { short = short; least = is.least; mos
 full : (v : Mounted) (jobs : List (Option job.Job)) (after : Files) → IsOver v.blocks after → IsFull (state_of (seen v jobs)) after
 full v jobs after over = record { files = over.files; tight = λ low. over.tight (zero_is _ low) }
 
-write_failed : (v v' : Mounted) → v' ≡ record v { blocks = v'.blocks; failed_writes = v.failed_writes + 1; stopped = true } → HasFailed v v'
-write_failed v v' is = record {
+write_failed : (v v' : Mounted) → v' ≡ record v { blocks = v'.blocks; writes = v'.writes; failed_writes = v.failed_writes + 1; stopped = true } → Survives v.blocks v'.blocks → HasFailed v v'
+write_failed v v' is left = record {
+  files = λ running more. (v.blocks, refl, left);
   behind = record {
     reads = omega (arith, ap (λ (m : Mounted). m.failed_reads) is);
     writes = omega (arith, ap (λ (m : Mounted). m.failed_writes) is);
@@ -155,6 +160,7 @@ kept_does : (v v' : Mounted) (jobs : List (Option job.Job)) (name : ℕ) (text :
 kept_does v v' jobs name text why other reply kept step = record {
   step = λ quiet. step _ (kept_state v v' jobs kept);
   later = record { reads = omega (arith, ap (λ (m : Mounted). m.failed_reads) kept.others); writes = omega (arith, ap (λ (m : Mounted). m.failed_writes) kept.others) };
+  files = λ running more. absurd (omega (arith, more, ap (λ (m : Mounted). m.failed_writes) kept.others));
   running = λ quiet. ap (λ (m : Mounted). m.stopped) kept.others ∙ quiet.running;
   memory = λ is. absurd (other is);
   reply = reply;
@@ -166,9 +172,9 @@ pub delete_refused : (v v' : Mounted) (jobs : List (Option job.Job)) (name : ℕ
 delete_refused v v' jobs name file.NotFound settled failed = subst (λ (m : Mounted). Does (λ old answer new. DeleteNamed old name answer new) (seen v jobs) (Err (fault_of_file file.NotFound)) (seen m jobs)) (sym failed.2) (same_does _ (seen v jobs) _ failed.0.running (failed.1, refl) tt)
 delete_refused v v' jobs name (file.Busy other) settled failed = absurd (not_held v name settled.free failed.3)
 delete_refused v v' jobs name file.DirectoryFull settled failed = subst (λ (m : Mounted). Does (λ old answer new. DeleteNamed old name answer new) (seen v jobs) (Err (fault_of_file file.DirectoryFull)) (seen m jobs)) (sym failed.5) (same_does _ (seen v jobs) _ failed.0.running ((failed.1, free_name jobs name, full v jobs _ failed.4), refl) tt)
-delete_refused v v' jobs name file.Device settled failed = failed_does _ (seen v jobs) (seen v' jobs) _ (write_failed v v' failed.1) (not_memory file.Device) tt
+delete_refused v v' jobs name file.Device settled failed = failed_does _ (seen v jobs) (seen v' jobs) _ (write_failed v v' failed.others (inr (inr (inl failed.files)))) (not_memory file.Device) tt
 delete_refused v v' jobs name file.Stopped settled failed = stopped_does _ (seen v jobs) (seen v' jobs) _ failed.0 (behind_same v v' failed.1) (not_memory file.Stopped) tt
-delete_refused v v' jobs name file.Memory settled failed = subst (λ (m : Mounted). Does (λ old answer new. DeleteNamed old name answer new) (seen v jobs) (Err fault.Memory) (seen m jobs)) (sym failed.1) (same_does _ (seen v jobs) _ failed.0.running refl tt)
+delete_refused v v' jobs name file.Memory settled failed = subst (λ (m : Mounted). Does (λ old answer new. DeleteNamed old name answer new) (seen v jobs) (Err fault.Memory) (seen m jobs)) (sym failed.3) (same_does _ (seen v jobs) _ failed.0.running refl tt)
 delete_refused v v' jobs name file.TentativeOpen settled failed = absurd (not_open v failed.1 settled.none failed.2)
 delete_refused v v' jobs name (file.NoRoom n) settled failed = absurd failed
 delete_refused v v' jobs name file.BadName settled failed = absurd failed
@@ -189,6 +195,7 @@ delete_done v v' jobs name has = record {
     },
   );
   later = record { reads = omega (arith, ap (λ (m : Mounted). m.failed_reads) has.others); writes = omega (arith, ap (λ (m : Mounted). m.failed_writes) has.others) };
+  files = λ running more. absurd (omega (arith, more, ap (λ (m : Mounted). m.failed_writes) has.others));
   running = λ quiet. ap (λ (m : Mounted). m.stopped) has.others ∙ quiet.running;
   memory = λ is. absurd (ok_not_memory _ is);
   reply = tt;
@@ -206,6 +213,7 @@ store_refused v v' jobs name text words blocks file.Stopped settled storable wor
 store_refused v v' jobs name text words blocks file.Memory settled storable words_are blocks_are failed = record {
   step = λ quiet. kept_state v v' jobs failed;
   later = record { reads = omega (arith, ap (λ (m : Mounted). m.failed_reads) failed.others); writes = omega (arith, ap (λ (m : Mounted). m.failed_writes) failed.others) };
+  files = λ running more. absurd (omega (arith, more, ap (λ (m : Mounted). m.failed_writes) failed.others));
   running = λ quiet. ap (λ (m : Mounted). m.stopped) failed.others ∙ quiet.running;
   memory = λ is. kept_is v v' jobs failed;
   reply = tt;
@@ -231,6 +239,7 @@ store_done v v' jobs name text words blocks storable words_are blocks_are has = 
     },
   );
   later = record { reads = omega (arith, ap (λ (m : Mounted). m.failed_reads) has.others); writes = omega (arith, ap (λ (m : Mounted). m.failed_writes) has.others) };
+  files = λ running more. absurd (omega (arith, more, ap (λ (m : Mounted). m.failed_writes) has.others));
   running = λ quiet. ap (λ (m : Mounted). m.stopped) has.others ∙ quiet.running;
   memory = λ is. absurd (ok_not_memory _ is);
   reply = tt;
@@ -249,6 +258,7 @@ turn_done v v' jobs place number clean left is there files low = subst (λ n. Do
     },
   );
   later = record { reads = omega (arith, ap (λ (m : Mounted). m.failed_reads) files.others); writes = omega (arith, ap (λ (m : Mounted). m.failed_writes) files.others) };
+  files = λ running more. absurd (omega (arith, more, ap (λ (m : Mounted). m.failed_writes) files.others));
   running = λ quiet. ap (λ (m : Mounted). m.stopped) files.others ∙ quiet.running;
   memory = λ is. absurd (ok_not_memory _ is);
   reply = tt;
@@ -263,6 +273,7 @@ pub turn_undone : (v v' : Mounted) (jobs : List (Option job.Job)) (place number 
 turn_undone v v' jobs place number clean left is there files high high' = subst (λ n. Does (λ old answer new. TurnStep old n answer new) (seen v jobs) (Err fault.Memory) (seen v' jobs)) (sym (is ∙ add-one place)) (record {
   step = λ quiet. subst (λ (o : Option job.Job). JobTurn (state_of (seen v jobs)) (suc place) o (Err fault.Memory) (state_of (seen v' jobs))) (sym there) same;
   later = record { reads = omega (arith, ap (λ (m : Mounted). m.failed_reads) files.others); writes = omega (arith, ap (λ (m : Mounted). m.failed_writes) files.others) };
+  files = λ running more. absurd (omega (arith, more, ap (λ (m : Mounted). m.failed_writes) files.others));
   running = λ quiet. ap (λ (m : Mounted). m.stopped) files.others ∙ quiet.running;
   memory = λ is. record {
     state = same;
@@ -289,6 +300,7 @@ turn_refused v v' jobs place number clean left file.DirectoryFull is there other
     },
   );
   later = record { reads = omega (arith, ap (λ (m : Mounted). m.failed_reads) failed.0.others); writes = omega (arith, ap (λ (m : Mounted). m.failed_writes) failed.0.others) };
+  files = λ running more. absurd (omega (arith, more, ap (λ (m : Mounted). m.failed_writes) failed.0.others));
   running = λ quiet. ap (λ (m : Mounted). m.stopped) failed.0.others ∙ quiet.running;
   memory = λ is. absurd (not_memory file.DirectoryFull is);
   reply = tt;

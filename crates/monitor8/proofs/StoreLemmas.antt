@@ -5,11 +5,15 @@ use Rattle.os8_dir.specs.Files.{files_of, capacity_of, limit_of, above_of, run}
 use Rattle.os8_dir.specs.Entries.{IsNamed, contains}
 use Rattle.os8_dir.specs.Names.{padded}
 use Rattle.os8_files.specs.Calls.{IsOf, IsOver, HasWritten, HasEntered, HasMoved, Writes, Enters, Closes, Squeezes, info_of, new_held, Spent}
+use Rattle.volume_image.specs.Volume.{counted}
+use Rattle.os8_dir.specs.Reading.{directory_of}
+use Rattle.os8_dir.specs.Changes.{moved_down}
+use Rattle.os8_files.specs.Failed.{extent_or, with_list, lowest_or, KeepsDirectory, StandInFull, Survives}
 use Rattle.os8_files.specs.Mounted.{Mounted, Begun}
 use Rattle.os8_files.specs.Service.{count_of}
 use Rattle.os8_files.specs.declared.faults.FileFault.{FileFault}
 use Rattle.os8_files.specs.declared.faults.FileFault.TheVariants.{NotFound, NoRoom, DirectoryFull, Busy, BadName, TooLong, TentativeOpen, Device, Stopped, Memory, NothingWritten}
-use Rattle.monitor8.specs.Steps.{IsBeginning, IsBehind, HasFilled, HasFiles, HasKept, Fills, StoresFile, SqueezesAll, plain_file}
+use Rattle.monitor8.specs.Steps.{Outlives, IsBeginning, IsBehind, HasFilled, HasFiles, HasKept, Fills, StoresFile, SqueezesAll, plain_file}
 
 abbrev or_else : {A : Type 0} → Option A → A → A
 or_else None d = d
@@ -18,11 +22,49 @@ or_else (Some x) d = x
 some_same : {A : Type 0} (x y : A) → Some x ≡ Some y → x ≡ y
 some_same x y e = ap (λ o. or_else o x) e
 
+-- What a failed write leaves, where no block of the directory and no file was changed before.
+keeps_trans : (old mid new : List (List ℕ)) → KeepsDirectory old mid → KeepsDirectory mid new → KeepsDirectory old new
+keeps_trans old mid new one two = record {
+  count = two.count ∙ one.count;
+  segments = λ k low high. two.segments k low high ∙ one.segments k low high;
+  directory = two.directory ∙ one.directory;
+}
+
+survives_from : (old mid new : List (List ℕ)) → KeepsDirectory old mid → files_of mid ≡ files_of old → Survives mid new → Survives old new
+survives_from old mid new kept files left = elim left [
+  | inl found ↦ inl (record { kept = keeps_trans old mid new kept found.kept; files = found.files ∙ files })
+  | inr rest ↦ elim rest [
+    | inl part ↦ inr (inl (record {
+      name = part.name;
+      gap = part.gap;
+      lowest = ap lowest_or (sym kept.directory) ∙ part.lowest;
+      place = part.place;
+      size = part.size;
+      was = ap (extent_or part.name) (sym kept.directory) ∙ part.was;
+      found = record {
+        kept = keeps_trans old mid new kept part.found.kept;
+        others = λ other differ. part.found.others other differ ∙ ap (λ fs. get fs other) files;
+        short = λ little. part.found.short little ∙ files;
+      };
+    }))
+    | inr more ↦ elim more [
+      | inl stand ↦ inr (inr (inl (subst (λ r. StandInFull new r (files_of old)) kept.directory (subst (λ fs. StandInFull new (directory_of mid) fs) files stand))))
+      | inr full ↦ inr (inr (inr (record {
+        name = full.name;
+        gap = full.gap;
+        lowest = ap lowest_or (sym kept.directory) ∙ full.lowest;
+        files = subst (λ r. StandInFull new (with_list (λ d. moved_down full.name d.entries) r) (files_of old)) kept.directory (subst (λ fs. StandInFull new (with_list (λ d. moved_down full.name d.entries) (directory_of mid)) fs) files full.files);
+      })))
+    ]
+  ]
+]
+
 -- a file that was begun has no block
 pub filled_none : (m : Mounted) (token blocks : ℕ) (b : IsBeginning m token blocks) → HasFilled m b.begun [] 0 m
 filled_none m token blocks b = record {
   was = b.was;
   text = refl;
+  kept = record { count = refl; segments = λ k low high. refl; directory = refl };
   files = refl;
   capacity = refl;
   limit = refl;
@@ -40,12 +82,14 @@ pub filled_more : (old : Mounted) (begun : Begun) (front words : List ℕ) (writ
 filled_more old begun front words written mid new done more = record {
   was = done.was;
   text = ap (λ (b : Begun). run new.blocks b.place (b.written + 1)) (sym same) ∙ more.text ∙ ap (λ (b : Begun). run mid.blocks b.place b.written ++ words) same ∙ ap (λ l. l ++ words) done.text;
+  kept = keeps_trans old.blocks mid.blocks new.blocks done.kept more.kept;
   files = more.files ∙ done.files;
   capacity = more.capacity ∙ done.capacity;
   limit = more.limit ∙ done.limit;
   info_count = more.info ∙ done.info_count;
   above = more.above ∙ done.above;
-  others = more.others ∙ ap (λ (b : Begun). record mid { blocks = new.blocks; tentative = Some (record { name = b.name; place = b.place; room = b.room; written = b.written + 1 }) }) same ∙ ap (λ (m : Mounted). record m { blocks = new.blocks; tentative = Some (record { name = begun.name; place = begun.place; room = begun.room; written = written + 1 }) }) done.others;
+  others = more.others ∙ ap (λ (b : Begun). record mid { blocks = new.blocks; writes = counted mid.writes; tentative = Some (record { name = b.name; place = b.place; room = b.room; written = b.written + 1 }) }) same ∙ ap (λ (m : Mounted). record m { blocks = new.blocks; writes = counted mid.writes; tentative = Some (record { name = begun.name; place = begun.place; room = begun.room; written = written + 1 }) }) done.others
+      ∙ ap (λ n. record old { blocks = new.blocks; writes = n; tentative = Some (record { name = begun.name; place = begun.place; room = begun.room; written = written + 1 }) }) (sym (ap (λ (m : Mounted). m.writes) more.others));
 }
   where
     same : more.begun ≡ record { name = begun.name; place = begun.place; room = begun.room; written = written }
@@ -67,12 +111,13 @@ filled_not old begun front words all written blocks mid new TooLong done fits sh
     past : {r w : ℕ} → r ≡ begun.room → w ≡ written → r ≤ w → ⊥
     past one two full = omega (arith, one, two, full, fits, short)
 filled_not old begun front words all written blocks mid new Device done fits short failed = record {
+  files = λ running more. (old.blocks, refl, survives_from old.blocks mid.blocks new.blocks done.kept done.files (inl failed.files));
   behind = record {
-    reads = omega (arith, ap (λ (m : Mounted). m.failed_reads) failed.1, ap (λ (m : Mounted). m.failed_reads) done.others);
-    writes = omega (arith, ap (λ (m : Mounted). m.failed_writes) failed.1, ap (λ (m : Mounted). m.failed_writes) done.others);
-    holds = ap (λ (m : Mounted). m.holds) failed.1 ∙ ap (λ (m : Mounted). m.holds) done.others;
+    reads = omega (arith, ap (λ (m : Mounted). m.failed_reads) failed.others, ap (λ (m : Mounted). m.failed_reads) done.others);
+    writes = omega (arith, ap (λ (m : Mounted). m.failed_writes) failed.others, ap (λ (m : Mounted). m.failed_writes) done.others);
+    holds = ap (λ (m : Mounted). m.holds) failed.others ∙ ap (λ (m : Mounted). m.holds) done.others;
   };
-  more = inr (omega (arith, ap (λ (m : Mounted). m.failed_writes) failed.1, ap (λ (m : Mounted). m.failed_writes) done.others));
+  more = inr (omega (arith, ap (λ (m : Mounted). m.failed_writes) failed.others, ap (λ (m : Mounted). m.failed_writes) done.others));
 }
 filled_not old begun front words all written blocks mid new Stopped done fits short failed = (
   sym (ap (λ (m : Mounted). m.stopped) done.others) ∙ failed.0,
@@ -98,7 +143,7 @@ moved_more old mid new name files moved = record {
   capacity = moved.capacity ∙ files.capacity;
   limit = moved.limit ∙ files.limit;
   info_count = moved.info ∙ files.info_count;
-  others = moved.others ∙ ap (λ (m : Mounted). record m { blocks = new.blocks; reads = new.reads }) files.others;
+  others = moved.others ∙ ap (λ (m : Mounted). record m { blocks = new.blocks; reads = new.reads; writes = new.writes }) files.others;
 }
 
 -- a turn that was refused
@@ -113,27 +158,36 @@ squeezed_not old mid new DirectoryFull files above none failed = (
     capacity = ap (λ (m : Mounted). capacity_of m.blocks) failed.7 ∙ files.capacity;
     limit = ap (λ (m : Mounted). limit_of m.blocks) failed.7 ∙ files.limit;
     info_count = ap (λ (m : Mounted). info_of m.blocks) failed.7 ∙ files.info_count;
-    others = failed.7 ∙ files.others ∙ ap (λ (m : Mounted). record old { blocks = m.blocks; reads = m.reads }) (sym failed.7);
+    others = failed.7 ∙ files.others ∙ ap (λ (m : Mounted). record old { blocks = m.blocks; reads = m.reads; writes = m.writes }) (sym failed.7);
   },
   omega (arith, above, failed.5),
   subst (λ (n : ℕ). limit_of old.blocks < 2 * n + 1) (ap count_of files.files) (omega (arith, failed.6.files, files.limit)),
 )
-squeezed_not old mid new Device files above none failed = elim failed.1 [
+squeezed_not old mid new Device files above none failed = elim failed [
   | inl missed ↦ record {
+    files = λ running more. absurd (omega (arith, more, ap (λ (m : Mounted). m.failed_writes) missed.1, ap (λ (m : Mounted). m.failed_writes) files.others));
     behind = record {
-      reads = omega (arith, ap (λ (m : Mounted). m.failed_reads) missed, ap (λ (m : Mounted). m.failed_reads) files.others);
-      writes = omega (arith, ap (λ (m : Mounted). m.failed_writes) missed, ap (λ (m : Mounted). m.failed_writes) files.others);
-      holds = ap (λ (m : Mounted). m.holds) missed ∙ ap (λ (m : Mounted). m.holds) files.others;
+      reads = omega (arith, ap (λ (m : Mounted). m.failed_reads) missed.1, ap (λ (m : Mounted). m.failed_reads) files.others);
+      writes = omega (arith, ap (λ (m : Mounted). m.failed_writes) missed.1, ap (λ (m : Mounted). m.failed_writes) files.others);
+      holds = ap (λ (m : Mounted). m.holds) missed.1 ∙ ap (λ (m : Mounted). m.holds) files.others;
     };
-    more = inl (omega (arith, ap (λ (m : Mounted). m.failed_reads) missed, ap (λ (m : Mounted). m.failed_reads) files.others));
+    more = inl (omega (arith, ap (λ (m : Mounted). m.failed_reads) missed.1, ap (λ (m : Mounted). m.failed_reads) files.others));
   }
   | inr damaged ↦ record {
+    files = λ running more. (
+      mid.blocks,
+      files.files,
+      elim damaged.files [
+        | inl found ↦ inr (inl (record { name = damaged.name; gap = damaged.gap; lowest = damaged.lowest; place = damaged.place; size = damaged.size; was = damaged.was; found = found }))
+        | inr stand ↦ inr (inr (inr (record { name = damaged.name; gap = damaged.gap; lowest = damaged.lowest; files = stand.0 })))
+      ],
+    );
     behind = record {
-      reads = omega (arith, ap (λ (m : Mounted). m.failed_reads) damaged, ap (λ (m : Mounted). m.failed_reads) files.others);
-      writes = omega (arith, ap (λ (m : Mounted). m.failed_writes) damaged, ap (λ (m : Mounted). m.failed_writes) files.others);
-      holds = ap (λ (m : Mounted). m.holds) damaged ∙ ap (λ (m : Mounted). m.holds) files.others;
+      reads = omega (arith, ap (λ (m : Mounted). m.failed_reads) damaged.others, ap (λ (m : Mounted). m.failed_reads) files.others);
+      writes = omega (arith, ap (λ (m : Mounted). m.failed_writes) damaged.others, ap (λ (m : Mounted). m.failed_writes) files.others);
+      holds = ap (λ (m : Mounted). m.holds) damaged.others ∙ ap (λ (m : Mounted). m.holds) files.others;
     };
-    more = inr (omega (arith, ap (λ (m : Mounted). m.failed_writes) damaged, ap (λ (m : Mounted). m.failed_writes) files.others));
+    more = inr (omega (arith, ap (λ (m : Mounted). m.failed_writes) damaged.others, ap (λ (m : Mounted). m.failed_writes) files.others));
   }
 ]
 squeezed_not old mid new Stopped files above none failed = (
@@ -150,7 +204,7 @@ squeezed_not old mid new Memory files above none failed = (
     capacity = ap (λ (m : Mounted). capacity_of m.blocks) failed.2 ∙ files.capacity;
     limit = ap (λ (m : Mounted). limit_of m.blocks) failed.2 ∙ files.limit;
     info_count = ap (λ (m : Mounted). info_of m.blocks) failed.2 ∙ files.info_count;
-    others = failed.2 ∙ files.others ∙ ap (λ (m : Mounted). record old { blocks = m.blocks; reads = m.reads }) (sym failed.2);
+    others = failed.2 ∙ files.others ∙ ap (λ (m : Mounted). record old { blocks = m.blocks; reads = m.reads; writes = m.writes }) (sym failed.2);
   },
   omega (arith, above, failed.1),
   subst (λ (m : Mounted). 0 < above_of m.blocks) (sym failed.2) failed.1,
@@ -170,7 +224,7 @@ kept_same old new is = record {
   limit = ap (λ (m : Mounted). limit_of m.blocks) is;
   info_count = ap (λ (m : Mounted). info_of m.blocks) is;
   above = ap (λ (m : Mounted). above_of m.blocks) is;
-  others = is ∙ ap (λ (m : Mounted). record old { blocks = m.blocks }) (sym is);
+  others = is ∙ ap (λ (m : Mounted). record old { blocks = m.blocks; writes = m.writes }) (sym is);
 }
 
 behind_same : (old new : Mounted) → new ≡ old → IsBehind old new
@@ -221,6 +275,7 @@ filled_of old m1 m2 name blocks token token' words begun e done same = (
 -- a file whose blocks were not all written is given up
 pub filled_failed : (old m1 m2 new : Mounted) (name blocks token : ℕ) (words : List ℕ) (why : FileFault) → HasEntered old name blocks token m1 → Fills m1 words blocks (Err why) m2 → new ≡ record m2 { tentative = None } → StoresFile old name words blocks (Err why) new
 filled_failed old m1 m2 new name blocks token words Device e failed is = record {
+  files = λ running more. subst (λ (m : Mounted). Outlives old.blocks m.blocks) (sym is) (subst (λ (m : Mounted). Outlives m.blocks m2.blocks) e.others (failed.files (ap (λ (m : Mounted). m.stopped) e.others ∙ running) (omega (arith, more, ap (λ (m : Mounted). m.failed_writes) is, ap (λ (m : Mounted). m.failed_writes) e.others))));
   behind = record {
     reads = omega (arith, failed.behind.reads, ap (λ (m : Mounted). m.failed_reads) is, ap (λ (m : Mounted). m.failed_reads) e.others);
     writes = omega (arith, failed.behind.writes, ap (λ (m : Mounted). m.failed_writes) is, ap (λ (m : Mounted). m.failed_writes) e.others);
@@ -249,9 +304,9 @@ filled_failed old m1 m2 new name blocks token words TentativeOpen e failed is = 
 filled_failed old m1 m2 new name blocks token words Memory e failed is = absurd failed
 filled_failed old m1 m2 new name blocks token words NothingWritten e failed is = absurd failed
 
-spent_is : (old m1 m2 : Mounted) (name blocks token : ℕ) (words : List ℕ) (begun : Begun) → old.tentative ≡ None → HasEntered old name blocks token m1 → HasFilled m1 begun words blocks m2 → Spent m2 ≡ record old { blocks = m2.blocks }
+spent_is : (old m1 m2 : Mounted) (name blocks token : ℕ) (words : List ℕ) (begun : Begun) → old.tentative ≡ None → HasEntered old name blocks token m1 → HasFilled m1 begun words blocks m2 → Spent m2 ≡ record old { blocks = m2.blocks; writes = m2.writes }
 spent_is old m1 m2 name blocks token words begun none e done =
-    ap Spent done.others ∙ ap (λ (m : Mounted). record m { blocks = m2.blocks; tentative = None }) e.others ∙ ap (λ (t : Option Begun). record old { blocks = m2.blocks; tentative = t }) (sym none)
+    ap Spent done.others ∙ ap (λ (m : Mounted). record m { blocks = m2.blocks; writes = m2.writes; tentative = None }) e.others ∙ ap (λ (t : Option Begun). record old { blocks = m2.blocks; writes = m2.writes; tentative = t }) (sym none)
 
 -- a file that was filled and is gone leaves the files as they were
 spent_kept : (old m1 m2 new : Mounted) (name blocks token : ℕ) (words : List ℕ) (begun : Begun) → old.tentative ≡ None → HasEntered old name blocks token m1 → HasFilled m1 begun words blocks m2 → new ≡ Spent m2 → HasKept old new
@@ -261,7 +316,7 @@ spent_kept old m1 m2 new name blocks token words begun none e done is = record {
   limit = ap (λ (m : Mounted). limit_of m.blocks) is ∙ done.limit ∙ ap (λ (m : Mounted). limit_of m.blocks) e.others;
   info_count = ap (λ (m : Mounted). info_of m.blocks) is ∙ done.info_count ∙ ap (λ (m : Mounted). info_of m.blocks) e.others;
   above = ap (λ (m : Mounted). above_of m.blocks) is ∙ done.above ∙ ap (λ (m : Mounted). above_of m.blocks) e.others;
-  others = is ∙ spent_is old m1 m2 name blocks token words begun none e done ∙ ap (λ (m : Mounted). record old { blocks = m.blocks }) (sym is);
+  others = is ∙ spent_is old m1 m2 name blocks token words begun none e done ∙ ap (λ (m : Mounted). record old { blocks = m.blocks; writes = m.writes }) (sym is);
 }
 
 -- what was written is the file
@@ -281,7 +336,7 @@ closed old m1 m2 new name blocks token words begun (Ok done) none some e filled 
   limit = has.limit ∙ kept.limit;
   info_count = has.info ∙ kept.info_count;
   tight = λ fresh low. has.tight (subst (λ fs. get fs name ≡ None) (sym kept.files) fresh) (kept.above ∙ low);
-  others = has.others ∙ ap (λ (m : Mounted). record m { blocks = new.blocks }) (spent_is old m1 m2 name blocks token words begun none e filled);
+  others = has.others ∙ ap (λ (m : Mounted). record m { blocks = new.blocks; writes = new.writes }) (spent_is old m1 m2 name blocks token words begun none e filled);
 }
   where
     kept : HasKept old (Spent m2)
@@ -308,12 +363,13 @@ closed old m1 m2 new name blocks token words begun (Err DirectoryFull) none some
       tight = λ low. omega (arith, has.5.tight (kept.above ∙ low), kept.limit, ap count_of kept.files);
     }
 closed old m1 m2 new name blocks token words begun (Err Device) none some e filled has = record {
+  files = λ running more. subst (λ (m : Mounted). Outlives m.blocks new.blocks) e.others (m1.blocks, refl, survives_from m1.blocks m2.blocks new.blocks filled.kept filled.files (inr (inr (inl has.3.older))));
   behind = record {
-    reads = omega (arith, ap (λ (m : Mounted). m.failed_reads) has.5, ap (λ (m : Mounted). m.failed_reads) filled.others, ap (λ (m : Mounted). m.failed_reads) e.others);
-    writes = omega (arith, ap (λ (m : Mounted). m.failed_writes) has.5, ap (λ (m : Mounted). m.failed_writes) filled.others, ap (λ (m : Mounted). m.failed_writes) e.others);
-    holds = ap (λ (m : Mounted). m.holds) has.5 ∙ ap (λ (m : Mounted). m.holds) filled.others ∙ ap (λ (m : Mounted). m.holds) e.others;
+    reads = omega (arith, ap (λ (m : Mounted). m.failed_reads) has.3.others, ap (λ (m : Mounted). m.failed_reads) filled.others, ap (λ (m : Mounted). m.failed_reads) e.others);
+    writes = omega (arith, ap (λ (m : Mounted). m.failed_writes) has.3.others, ap (λ (m : Mounted). m.failed_writes) filled.others, ap (λ (m : Mounted). m.failed_writes) e.others);
+    holds = ap (λ (m : Mounted). m.holds) has.3.others ∙ ap (λ (m : Mounted). m.holds) filled.others ∙ ap (λ (m : Mounted). m.holds) e.others;
   };
-  more = inr (omega (arith, ap (λ (m : Mounted). m.failed_writes) has.5, ap (λ (m : Mounted). m.failed_writes) filled.others, ap (λ (m : Mounted). m.failed_writes) e.others));
+  more = inr (omega (arith, ap (λ (m : Mounted). m.failed_writes) has.3.others, ap (λ (m : Mounted). m.failed_writes) filled.others, ap (λ (m : Mounted). m.failed_writes) e.others));
 }
 closed old m1 m2 new name blocks token words begun (Err Stopped) none some e filled has = absurd (never (sym has.0 ∙ ap (λ (m : Mounted). m.stopped) filled.others ∙ ap (λ (m : Mounted). m.stopped) e.others ∙ e.ready.running))
   where

@@ -1,9 +1,10 @@
 -- What is seen of a session, and the state of the system machine in it.
-use Rattle.std.specs.Prelude.{◌≡◌, ◌≤◌, false, nat_eq, Option, List, [], None, Err}
+use Rattle.std.specs.Prelude.{◌≡◌, ◌≤◌, ◌<◌, false, nat_eq, Option, List, [], None, Err}
 use Rattle.os8_dir.specs.Files.{files_of, capacity_of, limit_of, above_of}
 use Rattle.os8_files.specs.Calls.{info_of}
 use Rattle.os8_files.specs.Mounted.{Mounted}
 use Rattle.script8.specs.declared.faults.SessionFault.TheVariants.{Reader, Writer, Memory}
+use Rattle.monitor8.specs.Steps.{Outlives}
 use Rattle.monitor8.specs.System.{State, Answer}
 use Rattle.monitor8.specs.declared.jobs.Job.{Job}
 
@@ -51,6 +52,7 @@ IsReply answer = Unit {0}
 pub record Does (steps : State → Answer → State → Type 0) (old : Seen) (answer : Answer) (new : Seen) : Type 0 where
   pub step : IsQuiet old new → steps (state_of old) answer (state_of new)
   pub later : IsLater old new
+  pub files : old.volume.stopped ≡ false → old.volume.failed_writes < new.volume.failed_writes → Outlives old.volume.blocks new.volume.blocks
   pub running : IsQuiet old new → new.volume.stopped ≡ false
   pub memory : answer ≡ Err Memory → IsSame old new
   pub reply : IsReply answer

@@ -4,6 +4,7 @@ use Rattle.std.specs.FinMap.{get, insert}
 use Rattle.os8_dir.specs.Files.{Held, files_of, capacity_of, limit_of, above_of, run}
 use Rattle.os8_dir.specs.Names.{padded}
 use Rattle.os8_files.specs.Calls.{info_of, IsFree, IsHeld, IsLargest, IsOver}
+use Rattle.os8_files.specs.Failed.{KeepsDirectory, Survives}
 use Rattle.os8_files.specs.Mounted.{Mounted, Begun}
 use Rattle.os8_files.specs.Service.{count_of}
 use Rattle.os8_files.specs.declared.faults.FileFault.{FileFault}
@@ -15,8 +16,13 @@ pub record IsBehind (old new : Mounted) : Type 0 where
   pub writes : old.failed_writes ≤ new.failed_writes
   pub holds : new.holds ≡ old.holds
 
+-- a write failed over a volume of the same files, of which it left what it leaves of any
+abbrev pub Outlives : List (List ℕ) → List (List ℕ) → Type 0
+Outlives old new = (mid : List (List ℕ)) × (files_of mid ≡ files_of old) × Survives mid new
+
 -- a block call failed
 pub record HasFailed (old new : Mounted) : Type 0 where
+  pub files : old.stopped ≡ false → old.failed_writes < new.failed_writes → Outlives old.blocks new.blocks
   pub behind : IsBehind old new
   pub more : (old.failed_reads < new.failed_reads) ⊎ (old.failed_writes < new.failed_writes)
 
@@ -30,7 +36,7 @@ pub record HasFiles (old new : Mounted) : Type 0 where
   pub capacity : capacity_of new.blocks ≡ capacity_of old.blocks
   pub limit : limit_of new.blocks ≡ limit_of old.blocks
   pub info_count : info_of new.blocks ≡ info_of old.blocks
-  pub others : new ≡ record old { blocks = new.blocks; reads = new.reads }
+  pub others : new ≡ record old { blocks = new.blocks; reads = new.reads; writes = new.writes }
 
 -- Squeezing until no file has a free block below it.
 abbrev pub SqueezesAll : Mounted → Result (Unit {0}) FileFault → Mounted → Type 0
@@ -53,12 +59,13 @@ pub record IsBeginning (m : Mounted) (token blocks : ℕ) : Type 0 where
 pub record HasFilled (old : Mounted) (begun : Begun) (words : List ℕ) (blocks : ℕ) (new : Mounted) : Type 0 where
   pub was : old.tentative ≡ Some begun
   pub text : run new.blocks begun.place blocks ≡ words
+  pub kept : KeepsDirectory old.blocks new.blocks
   pub files : files_of new.blocks ≡ files_of old.blocks
   pub capacity : capacity_of new.blocks ≡ capacity_of old.blocks
   pub limit : limit_of new.blocks ≡ limit_of old.blocks
   pub info_count : info_of new.blocks ≡ info_of old.blocks
   pub above : above_of new.blocks ≡ above_of old.blocks
-  pub others : new ≡ record old { blocks = new.blocks; tentative = Some (record { name = begun.name; place = begun.place; room = begun.room; written = blocks }) }
+  pub others : new ≡ record old { blocks = new.blocks; writes = new.writes; tentative = Some (record { name = begun.name; place = begun.place; room = begun.room; written = blocks }) }
 
 abbrev pub Fills : Mounted → List ℕ → ℕ → Result (Unit {0}) FileFault → Mounted → Type 0
 Fills old words blocks (Ok done) new = (begun : Begun) × HasFilled old begun words blocks new
@@ -73,7 +80,7 @@ pub record HasKept (old new : Mounted) : Type 0 where
   pub limit : limit_of new.blocks ≡ limit_of old.blocks
   pub info_count : info_of new.blocks ≡ info_of old.blocks
   pub above : above_of new.blocks ≡ above_of old.blocks
-  pub others : new ≡ record old { blocks = new.blocks }
+  pub others : new ≡ record old { blocks = new.blocks; writes = new.writes }
 
 -- what a file of these words is: its information words are 0
 abbrev pub plain_file : Mounted → List ℕ → Held
@@ -88,7 +95,7 @@ pub record HasStoredFile (old : Mounted) (name : ℕ) (words : List ℕ) (new : 
   pub limit : limit_of new.blocks ≡ limit_of old.blocks
   pub info_count : info_of new.blocks ≡ info_of old.blocks
   pub tight : get (files_of old.blocks) name ≡ None → above_of old.blocks ≡ 0 → above_of new.blocks ≡ 0
-  pub others : new ≡ record old { blocks = new.blocks }
+  pub others : new ≡ record old { blocks = new.blocks; writes = new.writes }
 
 abbrev pub StoresFile : Mounted → ℕ → List ℕ → ℕ → Result (Unit {0}) FileFault → Mounted → Type 0
 StoresFile old name words blocks (Ok done) new = HasStoredFile old name words new

@@ -6,6 +6,7 @@ ghost use Rattle.os8_dir.specs.declared.faults.DirFault.TheVariants.{Device};
 ghost use Rattle.monitor8.specs.Jobs.{no_jobs, with_job};
 ghost use Rattle.monitor8.specs.declared.jobs.Work.TheVariants.{Squeezing};
 ghost use Rattle.monitor8.specs.System.{Step, StoreStep, StoreNamed, DeleteStep, DirectStep, SqueezeStep, TurnStep, Run, is_memory};
+ghost use Rattle.monitor8.specs.Steps.{Outlives};
 ghost use Rattle.monitor8.specs.Session.{state_of, IsQuiet, IsLater, IsSame, IsReply, Does};
 ghost use Rattle.script8.specs.declared.faults.SessionFault.TheVariants.{Memory};
 
@@ -52,14 +53,14 @@ pub struct Ran {
 }
 
 impl<S: BlockStore> Session<S> {
-    /// A session over a sound volume, after at most six reads. Another store is handed back with the first fault of its
+    /// A session over a sound volume, after at most twelve reads. Another store is handed back with the first fault of its
     /// directory; so is any store with `Device` where a read failed, and with `Memory`.
     pub fn mount(alloc: Global, store: S) -> Result<Session<S>, (S, DirFault)>
         ensures blocks { IfOk result (λ s. s.volume.blocks ≡ S.contents store) }
         ensures sound { IfOk result (λ s. Sound (S.contents store)) }
         ensures fresh { IfOk result (λ s. (s.volume.stopped ≡ false) × (s.volume.holds ≡ []) × (s.volume.tentative ≡ None) × (s.jobs ≡ no_jobs)) }
-        ensures reads { IfOk result (λ s. (s.volume.reads ≤ S.reads store + 6) × (s.volume.failed_reads ≡ S.failed_reads store) × (s.volume.failed_writes ≡ S.failed_writes store)) }
-        ensures handed_back { IfErr result (λ e. (S.contents e.0 ≡ S.contents store) × (S.reads e.0 ≤ S.reads store + 6) × (S.failed_writes e.0 ≡ S.failed_writes store)) }
+        ensures reads { IfOk result (λ s. (s.volume.reads ≤ S.reads store + 12) × (s.volume.failed_reads ≡ S.failed_reads store) × (s.volume.failed_writes ≡ S.failed_writes store)) }
+        ensures handed_back { IfErr result (λ e. (S.contents e.0 ≡ S.contents store) × (S.reads e.0 ≤ S.reads store + 12) × (S.failed_writes e.0 ≡ S.failed_writes store)) }
         ensures fault { IfErr result (λ e. Meets e.1 (directory_of (S.contents store))) }
         ensures device { IfErr result (λ e. (e.1 ≡ Device) ↔ (S.failed_reads store < S.failed_reads e.0)) }
     {
@@ -96,6 +97,7 @@ impl<S: BlockStore> Session<S> {
     pub fn enter(&mut self, alloc: Global, entry: Entry) -> Result<Reply, SessionFault>
         ensures step { IsQuiet self.old self.new → Step (state_of self.old) entry result (state_of self.new) }
         ensures later { IsLater self.old self.new }
+        ensures files { self.old.volume.stopped ≡ false → self.old.volume.failed_writes < self.new.volume.failed_writes → Outlives self.old.volume.blocks self.new.volume.blocks }
         ensures running { IsQuiet self.old self.new → self.new.volume.stopped ≡ false }
         ensures memory { IsErrOf result Memory → IsSame self.old self.new }
         ensures reply { IsReply result }

@@ -1,4 +1,5 @@
 pub mod NameLemmas
+pub mod SpelledLemmas
 mod WorkedVolumes
 pub mod OrderLemmas
 pub mod FoundLemmas

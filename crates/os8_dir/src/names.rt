@@ -1,4 +1,5 @@
 ghost use Rattle.std.specs.Prelude.{◌≡◌, ℕ, ◌+◌, ◌*◌, ◌/◌, ◌%◌, ◌<◌, ◌≤◌, ◌^◌, length, IfSome};
+ghost use Rattle.os8_dir.specs.Entries.{IsNamed};
 ghost use Rattle.os8_dir.specs.Names.{name_of, words_of_name, before_dot, codes_within, parsed_name};
 ghost use Rattle.os8_dir.specs.Packed.{packed as packed_of, packed_codes, extension_from};
 
@@ -15,6 +16,8 @@ pub struct Name {
 }
 
 impl Model for Name {
+    ghost use Rattle.std.specs.Prelude.{ℕ, ◌<◌};
+
     ghost Value = { ℕ };
 
     ghost view = { λ name. name.number };
@@ -82,9 +85,10 @@ fn packed_extension(text: &[u8]) -> Option<u64>
 
 impl Name {
     /// The name that a text spells: 1 to 6 capital letters or digits, then nothing, or a dot and 1 or 2 more; else
-    /// nothing (this project's profile).
+    /// nothing (this project's profile). Its first word is not 0.
     pub fn parse(text: &[u8]) -> Option<Name>
         ensures name { result ≡ parsed_name text.now }
+        ensures named { IfSome result IsNamed }
     {
         let (stem, rest) = text.split_at(dot_in(text));
         let front = packed_within(stem, 6)?;

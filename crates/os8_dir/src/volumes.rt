@@ -23,6 +23,7 @@ fn read_block<S: BlockStore>(
     ensures reads { S.reads store.new ≤ S.reads store.old + 1 }
     ensures failed_reads { S.failed_reads store.new ≡ (if is_ok result then S.failed_reads store.old else S.failed_reads store.old + 1) }
     ensures failed_writes { S.failed_writes store.new ≡ S.failed_writes store.old }
+    ensures writes { S.writes store.new ≡ S.writes store.old }
 {
     match store.read(number, words) {
         Ok(()) => Ok(()),
@@ -40,6 +41,7 @@ impl Directory {
         ensures reads { S.reads store.new ≤ S.reads store.old + 6 }
         ensures failed_reads { S.failed_reads store.new ≡ (if is_device result then S.failed_reads store.old + 1 else S.failed_reads store.old) }
         ensures failed_writes { S.failed_writes store.new ≡ S.failed_writes store.old }
+        ensures writes { S.writes store.new ≡ S.writes store.old }
     {
         let volume = store.blocks();
         let mut words = [Word::ZERO; 256];
@@ -69,6 +71,7 @@ impl Draft {
         ensures reads { S.reads store.new ≤ S.reads store.old + 1 }
         ensures failed_reads { S.failed_reads store.new ≡ (if is_device result then S.failed_reads store.old + 1 else S.failed_reads store.old) }
         ensures failed_writes { S.failed_writes store.new ≡ S.failed_writes store.old }
+        ensures writes { S.writes store.new ≡ S.writes store.old }
     {
         let mut words = [Word::ZERO; 256];
         read_block(store, number, &mut words)?;
@@ -92,6 +95,7 @@ impl Draft {
         ensures reads { S.reads store.new ≤ S.reads store.old + 5 }
         ensures failed_reads { S.failed_reads store.new ≡ (if is_device result then S.failed_reads store.old + 1 else S.failed_reads store.old) }
         ensures failed_writes { S.failed_writes store.new ≡ S.failed_writes store.old }
+        ensures writes { S.writes store.new ≡ S.writes store.old }
     {
         let mut seen = [false, true, false, false, false, false, false];
         let mut from = 1;

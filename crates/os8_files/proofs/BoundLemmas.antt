@@ -84,7 +84,7 @@ find-held_by blocks info name [] = refl
 find-held_by blocks info name (f ∷ fs) =
     rw (tied f.name name, find-held_by blocks info name fs) (elim (eqb f.name name) as (λ b. cond b (Some (held blocks info f)) (held_of blocks info (find name fs)) ≡ held_of blocks info (cond b (Some f) (find name fs))) [ true ↦ refl | false ↦ refl ])
 
-get-made : (blocks : List (List ℕ)) (info name : ℕ) (fs : List Placed) → get (from_entries {R = nat_cmp} (held_by blocks info fs)) name ≡ held_of blocks info (find name fs)
+pub get-made : (blocks : List (List ℕ)) (info name : ℕ) (fs : List Placed) → get (from_entries {R = nat_cmp} (held_by blocks info fs)) name ≡ held_of blocks info (find name fs)
 get-made blocks info name fs = get-from_entries nat_cmp_total (held_by blocks info fs) name ∙ find-held_by blocks info name fs
 
 pub removed-made : FindsFiles

@@ -8,7 +8,8 @@ use Rattle.os8_dir.specs.Found.{IsDirectory, files_at, find, limit}
 use Rattle.os8_dir.specs.Files.{Held, files_of, held_of, of_directory}
 use Rattle.os8_dir.specs.Changes.{removed, relisted}
 use Rattle.os8_files.specs.Mounted.{Mounted}
-use Rattle.os8_files.specs.Calls.{IsReady, IsFree, HasDeleted, with_list}
+use Rattle.os8_files.specs.Calls.{IsReady, IsFree, HasDeleted}
+use Rattle.os8_files.specs.Failed.{with_list}
 use Rattle.os8_files.specs.Written.{HasDirectory}
 use Rattle.os8_files.proofs.MapLemmas.{files-removed}
 use Rattle.os8_files.proofs.CallLemmas.{FindsFiles, file-kept}
@@ -37,6 +38,8 @@ deleted finds limits covers gone others covered old new d name h ready kept is t
       capacity = covers new.blocks d' done.read ∙ covered name d.entries ∙ sym (covers old.blocks d kept);
       limit = limits new.blocks d' done.read ∙ sym (limits old.blocks d kept);
       info = info-of new.blocks d' done.read ∙ sym (info-of old.blocks d kept);
+      written = record { directory = d'; read = done.read; segments = done.segments; unused = λ k more few. done.unused k more };
       blocks = directory-keeps old new d' done;
+      writes = done.writes;
       others = done.others;
     }

@@ -55,7 +55,7 @@ pub holds-keep : (old new : Mounted) (name : ℕ) (result : Result ℕ FileFault
 holds-keep old new name (Ok hold) held = same-blocks old new (ap (λ (m : Mounted). m.blocks) held.others)
 holds-keep old new name (Err NotFound) held = blocks-same old new held.2
 holds-keep old new name (Err Stopped) held = blocks-same old new held.1
-holds-keep old new name (Err Memory) held = blocks-same old new held.1
+holds-keep old new name (Err Memory) held = blocks-same old new held.2
 holds-keep old new name (Err (NoRoom n)) held = absurd held
 holds-keep old new name (Err DirectoryFull) held = absurd held
 holds-keep old new name (Err (Busy n)) held = absurd held
@@ -82,7 +82,7 @@ enters-keep old new name wish (Err NothingWritten) entered = absurd entered
 pub writes-keep : (old new : Mounted) (words : List ℕ) (result : Result (Unit {0}) FileFault) → Writes old words result new → KeepsHeld old new
 writes-keep old new words (Ok done) written = same-files old new written.files
 writes-keep old new words (Err TooLong) written = blocks-same old new written.4
-writes-keep old new words (Err Device) written = has-failed old new (ap (λ (m : Mounted). m.stopped) written.1)
+writes-keep old new words (Err Device) written = has-failed old new (ap (λ (m : Mounted). m.stopped) written.others)
 writes-keep old new words (Err Stopped) written = blocks-same old new written.1
 writes-keep old new words (Err NotFound) written = absurd written
 writes-keep old new words (Err (NoRoom n)) written = absurd written
@@ -99,7 +99,7 @@ closes-keep old new name info (Ok done) closed = λ q held running.
 closes-keep old new name info (Err NothingWritten) closed = same-blocks old new (ap (λ (m : Mounted). m.blocks) closed.3)
 closes-keep old new name info (Err (Busy n)) closed = same-blocks old new (ap (λ (m : Mounted). m.blocks) closed.5)
 closes-keep old new name info (Err DirectoryFull) closed = same-blocks old new (ap (λ (m : Mounted). m.blocks) closed.6)
-closes-keep old new name info (Err Device) closed = has-failed old new (ap (λ (m : Mounted). m.stopped) closed.5)
+closes-keep old new name info (Err Device) closed = has-failed old new (ap (λ (m : Mounted). m.stopped) closed.3.others)
 closes-keep old new name info (Err Stopped) closed = same-blocks old new (ap (λ (m : Mounted). m.blocks) closed.1)
 closes-keep old new name info (Err Memory) closed = same-blocks old new (ap (λ (m : Mounted). m.blocks) closed.4)
 closes-keep old new name info (Err NotFound) closed = absurd closed
@@ -115,9 +115,9 @@ deletes-keep old new name (Err TentativeOpen) deleted = blocks-same old new dele
 deletes-keep old new name (Err NotFound) deleted = blocks-same old new deleted.2
 deletes-keep old new name (Err (Busy n)) deleted = blocks-same old new deleted.4
 deletes-keep old new name (Err DirectoryFull) deleted = blocks-same old new deleted.5
-deletes-keep old new name (Err Device) deleted = has-failed old new (ap (λ (m : Mounted). m.stopped) deleted.1)
+deletes-keep old new name (Err Device) deleted = has-failed old new (ap (λ (m : Mounted). m.stopped) deleted.others)
 deletes-keep old new name (Err Stopped) deleted = blocks-same old new deleted.1
-deletes-keep old new name (Err Memory) deleted = blocks-same old new deleted.1
+deletes-keep old new name (Err Memory) deleted = blocks-same old new deleted.3
 deletes-keep old new name (Err (NoRoom n)) deleted = absurd deleted
 deletes-keep old new name (Err BadName) deleted = absurd deleted
 deletes-keep old new name (Err TooLong) deleted = absurd deleted
@@ -128,9 +128,9 @@ squeezes-keep old new (Ok (Moved name)) squeezed = same-files old new squeezed.f
 squeezes-keep old new (Ok Nothing) squeezed = blocks-same old new squeezed.2
 squeezes-keep old new (Err TentativeOpen) squeezed = blocks-same old new squeezed.3
 squeezes-keep old new (Err DirectoryFull) squeezed = blocks-same old new squeezed.7
-squeezes-keep old new (Err Device) squeezed = elim squeezed.1 [
-  | inl missed ↦ same-blocks old new (ap (λ (m : Mounted). m.blocks) missed)
-  | inr failed ↦ has-failed old new (ap (λ (m : Mounted). m.stopped) failed)
+squeezes-keep old new (Err Device) squeezed = elim squeezed [
+  | inl missed ↦ same-blocks old new (ap (λ (m : Mounted). m.blocks) missed.1)
+  | inr failed ↦ has-failed old new (ap (λ (m : Mounted). m.stopped) failed.others)
 ]
 squeezes-keep old new (Err Stopped) squeezed = blocks-same old new squeezed.1
 squeezes-keep old new (Err Memory) squeezed = blocks-same old new squeezed.2

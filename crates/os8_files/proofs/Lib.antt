@@ -13,3 +13,10 @@ pub mod PlaceLemmas
 pub mod RunLemmas
 pub mod SqueezeLemmas
 pub mod KeptLemmas
+pub mod CountLemmas
+pub mod FailedLemmas
+pub mod SegmentLemmas
+pub mod SurviveLemmas
+pub mod MissLemmas
+mod WorkedFailures
+pub mod StoppedLemmas

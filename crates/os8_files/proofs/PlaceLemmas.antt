@@ -11,7 +11,8 @@ use Rattle.os8_dir.specs.Found.{Placed, IsDirectory, IsTight, files_at, rooms_at
 use Rattle.os8_dir.specs.Files.{files_of, held_of, run, limit_of, of_directory}
 use Rattle.os8_dir.specs.Changes.{placed, relisted, new_file, LieIn, IsRoom}
 use Rattle.os8_files.specs.Mounted.{Mounted, Begun, IsBegun}
-use Rattle.os8_files.specs.Calls.{with_list, IsFree, HasPlaced, HasWritten, HasEntered, IsOf, info_of, entries_with}
+use Rattle.os8_files.specs.Calls.{IsFree, HasPlaced, HasWritten, HasEntered, IsOf, info_of, entries_with}
+use Rattle.os8_files.specs.Failed.{with_list}
 use Rattle.os8_files.specs.Written.{HasDirectory}
 use Rattle.os8_files.proofs.MapLemmas.{files-inserted, files-same}
 use Rattle.os8_files.proofs.WrittenLemmas.{run-high, held-kept}
@@ -92,7 +93,9 @@ placed-file finds lie limits covers aboves there others covered tight old new d 
       limit = limits new.blocks d' done.read ∙ sym (limits old.blocks d kept);
       info = info-of new.blocks d' done.read ∙ sym (info-of old.blocks d kept);
       tight = λ none low. aboves new.blocks d' done.read ∙ tight d.first b.room f d.entries is.neat (sym (aboves old.blocks d kept) ∙ low) (find-none old.blocks d.info (find name (files_at d.first d.entries)) (sym (finds old.blocks d name kept) ∙ none)) some lies.most lies.room;
+      written = record { directory = d'; read = done.read; segments = done.segments; unused = λ k more few. done.unused k more };
       blocks = directory-keeps old new d' done;
+      writes = done.writes;
       others = done.others;
     }
 

@@ -12,7 +12,7 @@ use Rattle.std.proofs.lemmas.Grind.{take-set_at}
 use Rattle.os8_dir.specs.Reading.{block}
 use Rattle.os8_dir.specs.Found.{Placed, AreApart, find}
 use Rattle.os8_dir.specs.Files.{joined, run}
-use Rattle.os8_files.specs.Written.{with_run}
+use Rattle.os8_files.specs.Written.{with_run, HasBrokenOff}
 use Rattle.os8_files.proofs.RoomLemmas.{run-other}
 use Rattle.os8_files.proofs.CallLemmas.{find-from}
 
@@ -104,3 +104,20 @@ write-more blocks place k ws inside =
     ap (with_run blocks place) (take_more ws k [] inside)
     ∙ with_run-more blocks place (take k ws) (get_or ws k [])
     ∙ ap (λ n. slice_set (with_run blocks place (take k ws)) (place + n) (get_or ws k [])) (length-take-le k ws (omega (arith, inside)))
+
+-- Some blocks of a run are written, and one that comes next has any words.
+pub broken-off : (old mid new : List (List ℕ)) (place k : ℕ) (ws : List (List ℕ)) (w : List ℕ) → k < length ws → mid ≡ with_run old place (take k ws) → new ≡ slice_set mid (place + k) w → HasBrokenOff old place (length ws) new
+broken-off old mid new place k ws w inside at is =
+    let long : length (take k ws) ≡ k = length-take-le k ws (omega (arith, inside)) in
+    record {
+      run = take k ws ++ w ∷ [];
+      short = omega (arith, inside, long, length-more (take k ws) w);
+      blocks = is
+          ∙ ap (λ bs. slice_set bs (place + k) w) at
+          ∙ ap (λ n. slice_set (with_run old place (take k ws)) (place + n) w) (sym long)
+          ∙ sym (with_run-more old place (take k ws) w);
+    }
+  where
+    length-more : (xs : List (List ℕ)) (x : List ℕ) → length (xs ++ x ∷ []) ≡ length xs + 1
+    length-more [] x = refl
+    length-more (y ∷ ys) x = omega (arith, length-more ys x)

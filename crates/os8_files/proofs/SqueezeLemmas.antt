@@ -6,13 +6,16 @@ use Rattle.std.proofs.lemmas.List.{length-take-le, length-drop}
 use Rattle.std.proofs.lemmas.Bool.Decides.{eqb_tells}
 use Rattle.os8_dir.specs.declared.entries.DirEntry.{DirEntry}
 use Rattle.os8_dir.specs.Entries.{Listed, total, IsTidy}
-use Rattle.os8_dir.specs.Reading.{directory_of}
+use Rattle.os8_dir.specs.Reading.{directory_of, block}
 use Rattle.os8_dir.specs.Found.{Placed, IsDirectory, files_at, rooms_at, find, extent_of, above}
 use Rattle.os8_dir.specs.Files.{files_of, held_of, run, above_of}
 use Rattle.os8_dir.specs.Changes.{moved_down, relisted, lowest_above, gap_below, lowered, IsRoom}
 use Rattle.os8_files.specs.Mounted.{Mounted}
-use Rattle.os8_files.specs.Calls.{IsReady, HasMoved, Squeezes, with_list, lowest_or, extent_or, counted_more}
-use Rattle.os8_files.specs.Written.{HasDirectory, Copies, with_run}
+use Rattle.os8_files.specs.Calls.{IsReady, HasFailed, HasMoved, MoveFailed, Squeezes, counted_more, differing}
+use Rattle.os8_files.specs.Failed.{with_list, lowest_or}
+use Rattle.os8_files.proofs.CountLemmas.{differing-same}
+use Rattle.os8_files.specs.Failed.{extent_or, IsWrittenInPart}
+use Rattle.os8_files.specs.Written.{HasDirectory, HasBrokenOff, KeepsHigh, Rewrites, Copies, with_run}
 use Rattle.os8_files.specs.declared.faults.FileFault.{FileFault}
 use Rattle.os8_files.specs.declared.faults.FileFault.TheVariants.{NotFound, NoRoom, DirectoryFull, Busy, BadName, TooLong, TentativeOpen, Device, Stopped, Memory, NothingWritten}
 use Rattle.os8_files.proofs.LookupLemmas.{find_within}
@@ -49,18 +52,37 @@ some-above aboves none blocks d name gap kept is low =
     ]
 
 -- A file's blocks were not copied.
-pub copy-refused : (old new : Mounted) (place size gap : ℕ) (fault : FileFault) → IsReady old → 0 < above_of old.blocks → Copies old place size gap (Err fault) new → Squeezes old (Err fault) new
-copy-refused old new place size gap NotFound ready some copies = absurd copies
-copy-refused old new place size gap (NoRoom n) ready some copies = absurd copies
-copy-refused old new place size gap DirectoryFull ready some copies = absurd copies
-copy-refused old new place size gap (Busy n) ready some copies = absurd copies
-copy-refused old new place size gap BadName ready some copies = absurd copies
-copy-refused old new place size gap TooLong ready some copies = absurd copies
-copy-refused old new place size gap TentativeOpen ready some copies = absurd copies
-copy-refused old new place size gap Device ready some copies = (ready, copies)
-copy-refused old new place size gap Stopped ready some copies = absurd copies
-copy-refused old new place size gap Memory ready some copies = (ready, some, copies)
-copy-refused old new place size gap NothingWritten ready some copies = absurd copies
+pub copy-refused : (old new : Mounted) (place size gap : ℕ) (fault : FileFault) → IsReady old → 0 < above_of old.blocks
+    → (HasFailed (record old { reads = new.reads }) new → new.reads ≡ counted_more size old.reads → HasBrokenOff old.blocks (place - gap) size new.blocks → MoveFailed old new)
+    → Copies old place size gap (Err fault) new → Squeezes old (Err fault) new
+copy-refused old new place size gap NotFound ready some failed copies = absurd copies
+copy-refused old new place size gap (NoRoom n) ready some failed copies = absurd copies
+copy-refused old new place size gap DirectoryFull ready some failed copies = absurd copies
+copy-refused old new place size gap (Busy n) ready some failed copies = absurd copies
+copy-refused old new place size gap BadName ready some failed copies = absurd copies
+copy-refused old new place size gap TooLong ready some failed copies = absurd copies
+copy-refused old new place size gap TentativeOpen ready some failed copies = absurd copies
+copy-refused old new place size gap Device ready some failed copies = elim copies [
+  | inl missed ↦ inl (ready, missed)
+  | inr broken ↦ inr (failed broken.0 broken.1 broken.2)
+]
+copy-refused old new place size gap Stopped ready some failed copies = absurd copies
+copy-refused old new place size gap Memory ready some failed copies = (ready, some, copies)
+copy-refused old new place size gap NothingWritten ready some failed copies = absurd copies
+
+-- The directory was not written.
+pub rewrite-refused : (old mid new : Mounted) (d : Listed) (fault : FileFault) → (HasFailed mid new → KeepsHigh mid.blocks new.blocks → IsWrittenInPart mid.blocks new.blocks d → MoveFailed old new) → Rewrites mid d (Err fault) new → Squeezes old (Err fault) new
+rewrite-refused old mid new d NotFound failed is = absurd is
+rewrite-refused old mid new d (NoRoom n) failed is = absurd is
+rewrite-refused old mid new d DirectoryFull failed is = absurd is
+rewrite-refused old mid new d (Busy n) failed is = absurd is
+rewrite-refused old mid new d BadName failed is = absurd is
+rewrite-refused old mid new d TooLong failed is = absurd is
+rewrite-refused old mid new d TentativeOpen failed is = absurd is
+rewrite-refused old mid new d Device failed is = inr (failed is.0 is.1 is.2)
+rewrite-refused old mid new d Stopped failed is = absurd is
+rewrite-refused old mid new d Memory failed is = absurd is
+rewrite-refused old mid new d NothingWritten failed is = absurd is
 
 pub moved-file : FindsFiles → LieInside → LieOutside → LimitIs → CapacityIs → AboveIs
     → (gaps : (es : List DirEntry) (name gap : ℕ) → IsTidy es → lowest_above es ≡ Some (name, gap) → (0 < gap) × (gap_below name es ≡ gap))
@@ -69,9 +91,9 @@ pub moved-file : FindsFiles → LieInside → LieOutside → LimitIs → Capacit
     → (others : (name other first : ℕ) (es : List DirEntry) → name ≢ other → find other (files_at first (moved_down name es)) ≡ find other (files_at first es))
     → (covered : (name : ℕ) (es : List DirEntry) → total (moved_down name es) ≡ total es)
     → (old mid new : Mounted) (d : Listed) (name gap : ℕ) → IsReady old → directory_of old.blocks ≡ Ok d → IsDirectory (length old.blocks) d → lowest_above d.entries ≡ Some (name, gap)
-    → (r : LiesAbove d name gap) → mid.blocks ≡ with_run old.blocks (r.0.place - gap) (take r.0.size (drop r.0.place old.blocks)) → mid ≡ record old { blocks = mid.blocks; reads = mid.reads } → mid.reads ≡ counted_more r.0.size old.reads
+    → (r : LiesAbove d name gap) → mid.blocks ≡ with_run old.blocks (r.0.place - gap) (take r.0.size (drop r.0.place old.blocks)) → mid ≡ record old { blocks = mid.blocks; reads = mid.reads; writes = mid.writes } → mid.reads ≡ counted_more r.0.size old.reads → mid.writes ≡ counted_more r.0.size old.writes
     → HasDirectory mid (relisted d (moved_down name d.entries)) new → HasMoved old name new
-moved-file finds lie outside limits covers aboves gaps fewer there others covered old mid new d name gap ready kept is low r copied same counts done =
+moved-file finds lie outside limits covers aboves gaps fewer there others covered old mid new d name gap ready kept is low r copied same counts writes done =
     let f = r.0 in
     let fs = files_at d.first d.entries in
     let d' = relisted d (moved_down name d.entries) in
@@ -122,7 +144,9 @@ moved-file finds lie outside limits covers aboves gaps fewer there others covere
       capacity = covers new.blocks d' done.read ∙ covered name d.entries ∙ sym (covers old.blocks d kept);
       limit = limits new.blocks d' done.read ∙ sym (limits old.blocks d kept);
       info = info-of new.blocks d' done.read ∙ sym (info-of old.blocks d kept);
+      written = record { directory = d'; read = done.read; segments = done.segments; unused = λ k more few. done.unused k more ∙ ap (λ bs. block bs k) copied ∙ block-with_run old.blocks to ws k (omega (arith, few, high)) };
       blocks = moved-keeps old mid new d' to f.size ws copied long high done;
       reads = ap (λ (m : Mounted). m.reads) done.others ∙ counts;
-      others = done.others ∙ ap (λ (m : Mounted). record m { blocks = new.blocks }) same ∙ ap (λ n. record old { blocks = new.blocks; reads = n }) (sym (ap (λ (m : Mounted). m.reads) done.others));
+      writes = done.writes ∙ ap (λ n. counted_more n mid.writes) (differing-same 6 old.blocks mid.blocks new.blocks (λ k few. ap (λ bs. block bs k) copied ∙ block-with_run old.blocks to ws k (omega (arith, few, high)))) ∙ ap (counted_more (differing 6 old.blocks new.blocks)) writes;
+      others = done.others ∙ ap (λ (m : Mounted). record m { blocks = new.blocks; writes = new.writes }) same ∙ ap (λ n. record old { blocks = new.blocks; reads = n; writes = new.writes }) (sym (ap (λ (m : Mounted). m.reads) done.others));
     }

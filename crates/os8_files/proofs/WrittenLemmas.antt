@@ -10,8 +10,9 @@ use Rattle.os8_dir.specs.Entries.{Listed}
 use Rattle.os8_dir.specs.Reading.{block}
 use Rattle.os8_dir.specs.Found.{Placed}
 use Rattle.os8_dir.specs.Files.{joined, run, held_of}
-use Rattle.os8_dir.specs.Segments.{segment_of}
-use Rattle.os8_files.specs.Written.{with_segments}
+use Rattle.os8_dir.specs.Segments.{segment_of, segment_count}
+use Rattle.os8_files.specs.Failed.{IsWrittenInPart}
+use Rattle.os8_files.specs.Written.{with_segments, KeepsHigh}
 
 pub segments-next : (k : ℕ) (d : Listed) (blocks : List (List ℕ)) → with_segments (k + 1) d blocks ≡ slice_set (with_segments k d blocks) (k + 1) (segment_of d k)
 segments-next k d blocks = ap (λ j. with_segments j d blocks) (add-one k) ∙ ap (λ j. slice_set (with_segments k d blocks) j (segment_of d k)) (sym (add-one k))
@@ -38,6 +39,30 @@ drop-segments (suc n) d blocks few = drop-set-lt 7 (with_segments n d blocks) (s
 pub first-segments : (n : ℕ) (d : Listed) (blocks : List (List ℕ)) → block (with_segments n d blocks) 0 ≡ block blocks 0
 first-segments zero d blocks = refl
 first-segments (suc n) d blocks = get_or-set_other (with_segments n d blocks) (suc n) 0 (segment_of d n) [] (omega arith) ∙ first-segments n d blocks
+
+pub unused-segments : (n : ℕ) (d : Listed) (blocks : List (List ℕ)) (k : ℕ) → n < k → block (with_segments n d blocks) k ≡ block blocks k
+unused-segments zero d blocks k more = refl
+unused-segments (suc n) d blocks k more = get_or-set_other (with_segments n d blocks) (suc n) k (segment_of d n) [] (omega (arith, more)) ∙ unused-segments n d blocks k (omega (arith, more))
+
+-- Some segments are written, and one that comes next has any words.
+pub keeps-high : (n : ℕ) (d : Listed) (old mid new : List (List ℕ)) (words : List ℕ) → n < 6 → mid ≡ with_segments n d old → new ≡ slice_set mid (n + 1) words → KeepsHigh old new
+keeps-high n d old mid new words few at is =
+    let mid-high : drop 7 mid ≡ drop 7 old = ap (drop 7) at ∙ drop-segments n d old (omega (arith, few)) in
+    let mid-first : block mid 0 ≡ block old 0 = ap (λ bs. block bs 0) at ∙ first-segments n d old in
+    let mid-size : length mid ≡ length old = ap (λ (bs : List (List ℕ)). length bs) at ∙ length-segments n d old in
+    record {
+      high = ap (drop 7) is ∙ drop-set-lt 7 mid (n + 1) words (omega (arith, few)) ∙ mid-high;
+      first = ap (λ bs. block bs 0) is ∙ get_or-set_other mid (n + 1) 0 words [] (omega arith) ∙ mid-first;
+      size = ap (λ (bs : List (List ℕ)). length bs) is ∙ length-set mid (n + 1) words ∙ mid-size;
+    }
+
+pub in-part : (n : ℕ) (d : Listed) (old mid new : List (List ℕ)) (words : List ℕ) → n < segment_count d → n < length old → mid ≡ with_segments n d old → new ≡ slice_set mid (n + 1) words → IsWrittenInPart old new d
+in-part n d old mid new words taken inside at is = record {
+  number = n;
+  taken = taken;
+  below = λ k low. ap (λ bs. block bs (k + 1)) is ∙ get_or-set_other mid (n + 1) (k + 1) words [] (omega (arith, low)) ∙ ap (λ bs. block bs (k + 1)) at ∙ block-segments n d old k inside low;
+  above = λ k high few. ap (λ bs. block bs k) is ∙ get_or-set_other mid (n + 1) k words [] (omega (arith, high)) ∙ ap (λ bs. block bs k) at ∙ unused-segments n d old k (omega (arith, high));
+}
 
 drop-none : {A : Type 0} (n : ℕ) → drop {A = A} n [] ≡ []
 drop-none zero = refl

@@ -1,23 +1,29 @@
 -- What each call of the file service does: one relation by cases on its answer (this project's profile).
-use Rattle.std.specs.Prelude.{◌≡◌, ◌≢◌, ◌⊎◌, ◌-◌, ℕ, zero, suc, ◌+◌, ◌*◌, ◌/◌, ◌<◌, ◌≤◌, true, false, Option, Some, None, List, [], ◌++◌, length, take, drop, slice_set, Result, Ok, Err}
+use lib.Pointwise.{pointwise}
+use Rattle.std.specs.Prelude.{nat_eq, if◌then◌else◌, ◌≡◌, ◌≢◌, ◌⊎◌, ◌-◌, ℕ, zero, suc, ◌+◌, ◌*◌, ◌/◌, ◌<◌, ◌≤◌, true, false, Some, None, List, [], ◌++◌, length, take, drop, slice_set, Result, Ok, Err}
 use Rattle.std.specs.Global.{Vec}
 use Rattle.std.specs.FinMap.{get, insert, remove}
 use Rattle.volume_image.specs.Volume.{counted}
 use Rattle.os8_dir.specs.Names.{padded}
 use Rattle.os8_dir.specs.Entries.{Listed, contains, IsNamed}
 use Rattle.os8_dir.specs.Reading.{directory_of, block}
-use Rattle.os8_dir.specs.Found.{rooms_at, files_at, find, extent_of, largest, size_or_zero}
+use Rattle.os8_dir.specs.Found.{rooms_at, largest, size_or_zero}
 use Rattle.os8_dir.specs.Files.{Held, Files, files_of, run, of_directory, limit_of, above_of, capacity_of}
-use Rattle.os8_dir.specs.Changes.{removed, placed, relisted, new_file, moved_down, fitting, lowest_above}
-use Rattle.os8_dir.specs.declared.entries.DirEntry.{DirEntry}
+use Rattle.os8_dir.specs.Changes.{removed, placed, new_file, moved_down, fitting}
 use Rattle.os8_dir.specs.declared.faults.DirFault.{DirFault}
 use Rattle.os8_files.specs.Mounted.{Mounted, Begun, IsBegun}
 use Rattle.os8_files.specs.Service.{blocks_of, lengths_of, used_of, count_of}
+use Rattle.os8_dir.specs.Segments.{HoldsSegments, segment_count}
+use Rattle.os8_files.specs.Failed.{extent_or, with_list, lowest_or, KeepsDirectory, FoundAgain, FoundAgainBut, StandInFull, IsWrittenInPart}
 use Rattle.os8_files.specs.Holds.{with_hold}
 use Rattle.os8_files.specs.declared.tokens.Squeezed.{Squeezed}
 use Rattle.os8_files.specs.declared.tokens.Squeezed.TheVariants.{Moved, Nothing}
 use Rattle.os8_files.specs.declared.faults.FileFault.{FileFault}
 use Rattle.os8_files.specs.declared.faults.FileFault.TheVariants.{NotFound, NoRoom, DirectoryFull, Busy, BadName, TooLong, TentativeOpen, Device, Stopped, Memory, NothingWritten}
+
+-- there is a file of the name
+abbrev pub IsThere : Mounted → ℕ → Type 0
+IsThere m name = (file : Held) × (get (files_of m.blocks) name ≡ Some file)
 
 -- no file is held under the name
 abbrev pub IsFree : Mounted → ℕ → Type 0
@@ -27,9 +33,23 @@ IsFree m name = contains m.holds name ≡ false
 abbrev pub IsHeld : Mounted → ℕ → Type 0
 IsHeld m name = contains m.holds name ≡ true
 
--- a write failed: of the blocks nothing is said here
+-- a count after so many more
+abbrev pub counted_more : ℕ → ℕ → ℕ
+counted_more zero count = count
+counted_more (suc k) count = counted (counted_more k count)
+
+-- how many of blocks 1 to n have other words
+abbrev pub differing : ℕ → List (List ℕ) → List (List ℕ) → ℕ
+differing zero old new = 0
+differing (suc n) old new = if pointwise nat_eq (block old (suc n)) (block new (suc n)) then differing n old new else suc (differing n old new)
+
+-- the directory was written with one write for each of blocks 1 to 6 that has other words
+abbrev pub WritesFew : Mounted → Mounted → Type 0
+WritesFew old new = new.writes ≡ counted_more (differing 6 old.blocks new.blocks) old.writes
+
+-- a write failed: of the blocks nothing is said here, and all else but the stop and the count is as before
 abbrev pub HasFailed : Mounted → Mounted → Type 0
-HasFailed old new = new ≡ record old { blocks = new.blocks; failed_writes = old.failed_writes + 1; stopped = true }
+HasFailed old new = new ≡ record old { blocks = new.blocks; writes = new.writes; failed_writes = old.failed_writes + 1; stopped = true }
 
 -- a write has failed before, and nothing is changed
 abbrev pub HasStopped : Mounted → Mounted → Type 0
@@ -77,7 +97,7 @@ abbrev pub Holds : Mounted → ℕ → Result ℕ FileFault → Mounted → Type
 Holds old name (Ok hold) new = HasTaken old name hold new
 Holds old name (Err NotFound) new = (old.stopped ≡ false) × (get (files_of old.blocks) name ≡ None) × (new ≡ old)
 Holds old name (Err Stopped) new = HasStopped old new
-Holds old name (Err Memory) new = (old.stopped ≡ false) × (new ≡ old)
+Holds old name (Err Memory) new = (old.stopped ≡ false) × IsThere old name × (new ≡ old)
 Holds old name (Err fault) new = ⊥
 
 -- a call may change files: no write has failed, and no file is being written
@@ -104,22 +124,21 @@ pub record KeepsBlocks (old new : List (List ℕ)) (place size : ℕ) : Type 0 w
   pub first : block new 0 ≡ block old 0
   pub behind : (k : ℕ) → 7 ≤ k → (k < place) ⊎ (place + size ≤ k) → block new k ≡ block old k
 
+-- The directory stands as it is written: pieces of as many entries as a segment takes, in blocks 1, 2 and so on, each with a
+-- link to the block behind it, a flag word of 0, and zeros behind its entries. Blocks up to 6 that it does not need are as before.
+pub record IsWritten (old new : List (List ℕ)) : Type 0 where
+  pub directory : Listed
+  pub read : directory_of new ≡ Ok directory
+  pub segments : HoldsSegments new directory
+  pub unused : (k : ℕ) → segment_count directory < k → k ≤ 6 → block new k ≡ block old k
+
 -- how many information words a file of the volume has
 abbrev pub info_of : List (List ℕ) → ℕ
 info_of blocks = of_directory (λ d. d.info) (directory_of blocks)
 
--- what a directory is read as, with another list of entries
-abbrev pub with_list : (Listed → List DirEntry) → Result Listed DirFault → Result Listed DirFault
-with_list made (Ok d) = Ok (relisted d (made d))
-with_list made (Err fault) = Err fault
-
 -- how many entries the directory has without the file of a name
 abbrev pub entries_without : ℕ → List (List ℕ) → ℕ
 entries_without name blocks = of_directory (λ d. length (removed name d.entries)) (directory_of blocks)
-
--- there is a file of the name
-abbrev pub IsThere : Mounted → ℕ → Type 0
-IsThere m name = (file : Held) × (get (files_of m.blocks) name ≡ Some file)
 
 -- a file is taken out
 pub record HasDeleted (old : Mounted) (name : ℕ) (new : Mounted) : Type 0 where
@@ -133,8 +152,20 @@ pub record HasDeleted (old : Mounted) (name : ℕ) (new : Mounted) : Type 0 wher
   pub capacity : capacity_of new.blocks ≡ capacity_of old.blocks
   pub limit : limit_of new.blocks ≡ limit_of old.blocks
   pub info : info_of new.blocks ≡ info_of old.blocks
+  pub written : IsWritten old.blocks new.blocks
   pub blocks : KeepsBlocks old.blocks new.blocks 0 0
-  pub others : new ≡ record old { blocks = new.blocks }
+  pub writes : WritesFew old new
+  pub others : new ≡ record old { blocks = new.blocks; writes = new.writes }
+
+-- A write failed where a file is taken out. Each file, the deleted one too, stands in full in its blocks.
+pub record DeleteFailed (old : Mounted) (name : ℕ) (new : Mounted) : Type 0 where
+  pub ready : IsReady old
+  pub there : IsThere old name
+  pub free : IsFree old name
+  pub files : StandInFull new.blocks (directory_of old.blocks) (files_of old.blocks)
+  pub written : (directory : Listed) × (with_list (λ d. removed name d.entries) (directory_of old.blocks) ≡ Ok directory) × IsWrittenInPart old.blocks new.blocks directory
+  pub blocks : KeepsBlocks old.blocks new.blocks 0 0
+  pub others : HasFailed old new
 
 abbrev pub Deletes : Mounted → ℕ → Result (Unit {0}) FileFault → Mounted → Type 0
 Deletes old name (Ok done) new = HasDeleted old name new
@@ -142,9 +173,9 @@ Deletes old name (Err TentativeOpen) new = (old.stopped ≡ false) × (begun : B
 Deletes old name (Err NotFound) new = IsReady old × (get (files_of old.blocks) name ≡ None) × (new ≡ old)
 Deletes old name (Err (Busy other)) new = IsReady old × IsThere old name × (other ≡ name) × IsHeld old name × (new ≡ old)
 Deletes old name (Err DirectoryFull) new = IsReady old × IsThere old name × IsFree old name × (limit_of old.blocks < entries_without name old.blocks) × IsOver old.blocks (remove (files_of old.blocks) name) × (new ≡ old)
-Deletes old name (Err Device) new = IsReady old × HasFailed old new
+Deletes old name (Err Device) new = DeleteFailed old name new
 Deletes old name (Err Stopped) new = HasStopped old new
-Deletes old name (Err Memory) new = IsReady old × (new ≡ old)
+Deletes old name (Err Memory) new = IsReady old × IsThere old name × IsFree old name × (new ≡ old)
 Deletes old name (Err fault) new = ⊥
 
 -- the empties of a volume with their places
@@ -187,18 +218,29 @@ pub record HasWritten (old : Mounted) (words : List ℕ) (new : Mounted) : Type 
   pub short : begun.written < begun.room
   pub blocks : new.blocks ≡ slice_set old.blocks (begun.place + begun.written) words
   pub text : run new.blocks begun.place (begun.written + 1) ≡ run old.blocks begun.place begun.written ++ words
-  pub directory : directory_of new.blocks ≡ directory_of old.blocks
+  pub kept : KeepsDirectory old.blocks new.blocks
+  pub others_kept : KeepsBlocks old.blocks new.blocks (begun.place + begun.written) 1
   pub files : files_of new.blocks ≡ files_of old.blocks
   pub capacity : capacity_of new.blocks ≡ capacity_of old.blocks
   pub limit : limit_of new.blocks ≡ limit_of old.blocks
   pub info : info_of new.blocks ≡ info_of old.blocks
   pub above : above_of new.blocks ≡ above_of old.blocks
-  pub others : new ≡ record old { blocks = new.blocks; tentative = Some (record { name = begun.name; place = begun.place; room = begun.room; written = begun.written + 1 }) }
+  pub others : new ≡ record old { blocks = new.blocks; writes = counted old.writes; tentative = Some (record { name = begun.name; place = begun.place; room = begun.room; written = begun.written + 1 }) }
+
+-- A write failed of the next block of the file that is being written. Mounting finds all files with their words.
+pub record WriteFailed (old new : Mounted) : Type 0 where
+  pub running : old.stopped ≡ false
+  pub begun : Begun
+  pub was : old.tentative ≡ Some begun
+  pub short : begun.written < begun.room
+  pub files : FoundAgain old.blocks new.blocks
+  pub blocks : KeepsBlocks old.blocks new.blocks (begun.place + begun.written) 1
+  pub others : HasFailed old new
 
 abbrev pub Writes : Mounted → List ℕ → Result (Unit {0}) FileFault → Mounted → Type 0
 Writes old words (Ok done) new = HasWritten old words new
 Writes old words (Err TooLong) new = (old.stopped ≡ false) × (begun : Begun) × (old.tentative ≡ Some begun) × (begun.room ≤ begun.written) × (new ≡ old)
-Writes old words (Err Device) new = (old.stopped ≡ false) × HasFailed old new
+Writes old words (Err Device) new = WriteFailed old new
 Writes old words (Err Stopped) new = HasStopped old new
 Writes old words (Err fault) new = ⊥
 
@@ -229,20 +271,42 @@ pub record HasClosed (old : Mounted) (name : ℕ) (given : List ℕ) (new : Moun
   pub limit : limit_of new.blocks ≡ limit_of old.blocks
   pub info : info_of new.blocks ≡ info_of old.blocks
   pub tight : get (files_of old.blocks) name ≡ None → above_of old.blocks ≡ 0 → above_of new.blocks ≡ 0
+  pub written : IsWritten old.blocks new.blocks
   pub blocks : KeepsBlocks old.blocks new.blocks 0 0
-  pub others : new ≡ record (Spent old) { blocks = new.blocks }
+  pub writes : WritesFew old new
+  pub others : new ≡ record (Spent old) { blocks = new.blocks; writes = new.writes }
 
 -- no write has failed, and this file is being written
 pub record IsWriting (m : Mounted) (begun : Begun) : Type 0 where
   pub running : m.stopped ≡ false
   pub was : m.tentative ≡ Some begun
 
+-- what the files of a volume would be with one that was written
+abbrev pub files_with : Mounted → Begun → List ℕ → Files
+files_with m begun info = insert (files_of m.blocks) begun.name (new_held m begun info)
+
+-- where they would lie
+abbrev pub list_with : Mounted → Begun → List ℕ → Result Listed DirFault
+list_with m begun info = with_list (λ d. placed d.first (new_file d begun.name info begun.place begun.written) d.entries) (directory_of m.blocks)
+
+-- A write failed where a file that was written is placed in the directory. Each older file, a replaced one too, stands in
+-- full in its blocks, and so does the new one in those that were written.
+pub record PlaceFailed (old : Mounted) (begun : Begun) (given : List ℕ) (new : Mounted) : Type 0 where
+  pub some : 0 < begun.written
+  pub free : IsFree old begun.name
+  pub fits : entries_with begun given old.blocks ≤ limit_of old.blocks
+  pub older : StandInFull new.blocks (directory_of old.blocks) (files_of old.blocks)
+  pub newer : StandInFull new.blocks (list_with old begun given) (files_with old begun given)
+  pub written : (directory : Listed) × (list_with old begun given ≡ Ok directory) × IsWrittenInPart old.blocks new.blocks directory
+  pub blocks : KeepsBlocks old.blocks new.blocks 0 0
+  pub others : HasFailed old new
+
 abbrev pub Closes : Mounted → ℕ → List ℕ → Result (Unit {0}) FileFault → Mounted → Type 0
 Closes old name info (Ok done) new = HasClosed old name info new
 Closes old name info (Err NothingWritten) new = (begun : Begun) × IsWriting old begun × (begun.written ≡ 0) × (new ≡ Spent old)
 Closes old name info (Err (Busy other)) new = (begun : Begun) × IsWriting old begun × (0 < begun.written) × (other ≡ name) × IsHeld old name × (new ≡ Spent old)
 Closes old name info (Err DirectoryFull) new = (begun : Begun) × IsWriting old begun × (0 < begun.written) × IsFree old name × (limit_of old.blocks < entries_with begun info old.blocks) × IsOver old.blocks (insert (files_of old.blocks) name (new_held old begun info)) × (new ≡ Spent old)
-Closes old name info (Err Device) new = (begun : Begun) × IsWriting old begun × (0 < begun.written) × IsFree old name × (entries_with begun info old.blocks ≤ limit_of old.blocks) × HasFailed (Spent old) new
+Closes old name info (Err Device) new = (begun : Begun) × IsWriting old begun × (begun.name ≡ name) × PlaceFailed (Spent old) begun info new
 Closes old name info (Err Stopped) new = (old.stopped ≡ true) × (new ≡ Spent old)
 Closes old name info (Err Memory) new = (begun : Begun) × IsWriting old begun × (0 < begun.written) × IsFree old name × (new ≡ Spent old)
 Closes old name info (Err fault) new = ⊥
@@ -265,32 +329,19 @@ pub record HasPlaced (old : Mounted) (name : ℕ) (begun : Begun) (given : List 
   pub limit : limit_of new.blocks ≡ limit_of old.blocks
   pub info : info_of new.blocks ≡ info_of old.blocks
   pub tight : get (files_of old.blocks) name ≡ None → above_of old.blocks ≡ 0 → above_of new.blocks ≡ 0
+  pub written : IsWritten old.blocks new.blocks
   pub blocks : KeepsBlocks old.blocks new.blocks 0 0
-  pub others : new ≡ record old { blocks = new.blocks }
+  pub writes : WritesFew old new
+  pub others : new ≡ record old { blocks = new.blocks; writes = new.writes }
 
 abbrev pub Places : Mounted → ℕ → Begun → List ℕ → Result (Unit {0}) FileFault → Mounted → Type 0
 Places old name begun info (Ok done) new = HasPlaced old name begun info new
 Places old name begun info (Err NothingWritten) new = (begun.written ≡ 0) × (new ≡ old)
 Places old name begun info (Err (Busy other)) new = (0 < begun.written) × (other ≡ name) × IsHeld old name × (new ≡ old)
 Places old name begun info (Err DirectoryFull) new = (0 < begun.written) × IsFree old name × (limit_of old.blocks < entries_with begun info old.blocks) × IsOver old.blocks (insert (files_of old.blocks) name (new_held old begun info)) × (new ≡ old)
-Places old name begun info (Err Device) new = (0 < begun.written) × IsFree old name × (entries_with begun info old.blocks ≤ limit_of old.blocks) × HasFailed old new
+Places old name begun info (Err Device) new = PlaceFailed old begun info new
 Places old name begun info (Err Memory) new = (0 < begun.written) × IsFree old name × (new ≡ old)
 Places old name begun info (Err fault) new = ⊥
-
--- the lowest file with an empty directly below it, and that empty's blocks
-abbrev pub lowest_or : Result Listed DirFault → Option (ℕ × ℕ)
-lowest_or (Ok d) = lowest_above d.entries
-lowest_or (Err fault) = None
-
--- where the file of a name lies
-abbrev pub extent_or : ℕ → Result Listed DirFault → Option (ℕ × ℕ)
-extent_or name (Ok d) = extent_of (find name (files_at d.first d.entries))
-extent_or name (Err fault) = None
-
--- a count after so many more
-abbrev pub counted_more : ℕ → ℕ → ℕ
-counted_more zero count = count
-counted_more (suc k) count = counted (counted_more k count)
 
 -- the lowest file with an empty directly below it lies lower by that empty, with one read for each of its blocks; the files
 -- are the same
@@ -309,9 +360,11 @@ pub record HasMoved (old : Mounted) (name : ℕ) (new : Mounted) : Type 0 where
   pub capacity : capacity_of new.blocks ≡ capacity_of old.blocks
   pub limit : limit_of new.blocks ≡ limit_of old.blocks
   pub info : info_of new.blocks ≡ info_of old.blocks
+  pub written : IsWritten old.blocks new.blocks
   pub blocks : KeepsBlocks old.blocks new.blocks (place - gap) size
   pub reads : new.reads ≡ counted_more size old.reads
-  pub others : new ≡ record old { blocks = new.blocks; reads = new.reads }
+  pub writes : new.writes ≡ counted_more (differing 6 old.blocks new.blocks) (counted_more size old.writes)
+  pub others : new ≡ record old { blocks = new.blocks; reads = new.reads; writes = new.writes }
 
 -- how many entries the directory has with a file moved down
 abbrev pub entries_moved : ℕ → List (List ℕ) → ℕ
@@ -321,12 +374,27 @@ entries_moved name blocks = of_directory (λ d. length (moved_down name d.entrie
 abbrev pub HasMissed : Mounted → Mounted → Type 0
 HasMissed old new = new ≡ record old { reads = new.reads; failed_reads = old.failed_reads + 1 }
 
+-- A write failed where the lowest file with an empty directly below it is moved down. Either mounting finds all files with
+-- their words, but perhaps this one where it is longer than that empty; or each file stands in full where the new list has it.
+pub record MoveFailed (old new : Mounted) : Type 0 where
+  pub ready : IsReady old
+  pub name : ℕ
+  pub gap : ℕ
+  pub lowest : lowest_or (directory_of old.blocks) ≡ Some (name, gap)
+  pub place : ℕ
+  pub size : ℕ
+  pub was : extent_or name (directory_of old.blocks) ≡ Some (place, size)
+  pub files : FoundAgainBut old.blocks new.blocks name size gap ⊎ (StandInFull new.blocks (with_list (λ d. moved_down name d.entries) (directory_of old.blocks)) (files_of old.blocks) × (directory : Listed) × (with_list (λ d. moved_down name d.entries) (directory_of old.blocks) ≡ Ok directory) × IsWrittenInPart old.blocks new.blocks directory)
+  pub blocks : KeepsBlocks old.blocks new.blocks (place - gap) size
+  pub reads : new.reads ≡ counted_more size old.reads
+  pub others : HasFailed (record old { reads = new.reads }) new
+
 abbrev pub Squeezes : Mounted → Result Squeezed FileFault → Mounted → Type 0
 Squeezes old (Ok (Moved name)) new = HasMoved old name new
 Squeezes old (Ok Nothing) new = IsReady old × (above_of old.blocks ≡ 0) × (new ≡ old)
 Squeezes old (Err TentativeOpen) new = (old.stopped ≡ false) × (begun : Begun) × (old.tentative ≡ Some begun) × (new ≡ old)
 Squeezes old (Err DirectoryFull) new = IsReady old × (name : ℕ) × (gap : ℕ) × (lowest_or (directory_of old.blocks) ≡ Some (name, gap)) × (limit_of old.blocks < entries_moved name old.blocks) × (0 < above_of old.blocks) × IsOver old.blocks (files_of old.blocks) × (new ≡ old)
-Squeezes old (Err Device) new = IsReady old × (HasMissed old new ⊎ HasFailed (record old { reads = new.reads }) new)
+Squeezes old (Err Device) new = (IsReady old × HasMissed old new) ⊎ MoveFailed old new
 Squeezes old (Err Stopped) new = HasStopped old new
 Squeezes old (Err Memory) new = IsReady old × (0 < above_of old.blocks) × (new ≡ old)
 Squeezes old (Err fault) new = ⊥

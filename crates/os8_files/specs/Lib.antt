@@ -3,6 +3,7 @@ pub mod Service
 pub mod Lengths
 pub mod Holds
 pub mod Steps
+pub mod Failed
 pub mod Calls
 pub mod Written
 pub mod Laws

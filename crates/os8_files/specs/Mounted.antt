@@ -1,10 +1,10 @@
 -- What is seen of a mounted volume.
-use Rattle.std.specs.Prelude.{◌≡◌, ◌≤◌, ℕ, Bool, false, Option, Some, List, Ok}
+use Rattle.std.specs.Prelude.{◌≡◌, ◌≤◌, ◌<◌, ◌+◌, ℕ, Bool, false, Option, Some, List, length, Ok}
 use Rattle.volume_image.specs.Volume.{IsVolume}
 use Rattle.os8_dir.specs.Entries.{Listed, IsNamed}
 use Rattle.os8_dir.specs.Found.{rooms_at}
 use Rattle.os8_dir.specs.Changes.{IsRoom}
-use Rattle.os8_dir.specs.Reading.{directory_of}
+use Rattle.os8_dir.specs.Reading.{directory_of, block}
 
 -- a file that is being written: its name, its first block, the blocks that it may grow to, and those written
 pub record Begun : Type 0 where
@@ -17,6 +17,7 @@ pub record Mounted : Type 0 where
   -- the words of the store's blocks
   pub blocks : List (List ℕ)
   pub reads : ℕ
+  pub writes : ℕ
   pub failed_reads : ℕ
   pub failed_writes : ℕ
   -- a write has failed
@@ -31,8 +32,14 @@ pub record IsBegun (directory : Listed) (begun : Begun) : Type 0 where
   pub room : IsRoom begun.place begun.room (rooms_at directory.first directory.entries)
   pub most : begun.written ≤ begun.room
 
--- the entries that are kept are those of the volume, which is sound, until a write fails
-pub record IsKept (blocks : List (List ℕ)) (directory : Listed) (stopped : Bool) (tentative : Option Begun) : Type 0 where
+-- six blocks that are kept have the words of blocks 1 to 6
+pub record AreSegments (blocks kept : List (List ℕ)) : Type 0 where
+  pub size : length kept ≡ 6
+  pub words : (k : ℕ) → k < 6 → block kept k ≡ block blocks (k + 1)
+
+-- the entries and the words of blocks 1 to 6 that are kept are those of the volume, which is sound, until a write fails
+pub record IsKept (blocks low : List (List ℕ)) (directory : Listed) (stopped : Bool) (tentative : Option Begun) : Type 0 where
+  pub segments : stopped ≡ false → AreSegments blocks low
   pub volume : IsVolume blocks
   pub kept : stopped ≡ false → directory_of blocks ≡ Ok directory
   pub begun : stopped ≡ false → (begun : Begun) → tentative ≡ Some begun → IsBegun directory begun

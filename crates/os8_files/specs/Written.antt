@@ -1,10 +1,12 @@
 -- What the blocks are where a directory is written.
-use Rattle.std.specs.Prelude.{◌≡◌, ◌⊎◌, ◌-◌, take, ℕ, zero, suc, List, [], ◌∷◌, length, drop, slice_set, Result, Ok, Err}
+use lib.Pointwise.{pointwise}
+use Rattle.std.specs.Prelude.{nat_eq, if◌then◌else◌, ◌≡◌, ◌⊎◌, ◌-◌, ◌≤◌, ◌<◌, take, ℕ, zero, suc, List, [], ◌∷◌, length, drop, slice_set, Result, Ok, Err}
 use Rattle.os8_dir.specs.Entries.{Listed}
 use Rattle.os8_dir.specs.Reading.{directory_of, block}
-use Rattle.os8_dir.specs.Segments.{segment_of}
+use Rattle.os8_dir.specs.Segments.{segment_of, segment_count, HoldsSegments}
 use Rattle.os8_files.specs.Mounted.{Mounted}
-use Rattle.os8_files.specs.Calls.{HasFailed, HasMissed, counted_more}
+use Rattle.os8_files.specs.Failed.{IsWrittenInPart}
+use Rattle.os8_files.specs.Calls.{WritesFew, HasFailed, HasMissed, counted_more}
 use Rattle.os8_files.specs.declared.faults.FileFault.{FileFault}
 use Rattle.os8_files.specs.declared.faults.FileFault.TheVariants.{Device, Memory}
 
@@ -13,17 +15,31 @@ abbrev pub with_segments : ℕ → Listed → List (List ℕ) → List (List ℕ
 with_segments zero d blocks = blocks
 with_segments (suc k) d blocks = slice_set (with_segments k d blocks) (suc k) (segment_of d k)
 
+-- how many of the first segments of a directory are not what the blocks hold
+abbrev pub changed : ℕ → Listed → List (List ℕ) → ℕ
+changed zero d blocks = 0
+changed (suc k) d blocks = if pointwise nat_eq (block blocks (suc k)) (segment_of d k) then changed k d blocks else suc (changed k d blocks)
+
 -- another directory is written, which is read back as it
 pub record HasDirectory (old : Mounted) (d : Listed) (new : Mounted) : Type 0 where
   pub high : drop 7 new.blocks ≡ drop 7 old.blocks
   pub first : block new.blocks 0 ≡ block old.blocks 0
   pub size : length new.blocks ≡ length old.blocks
   pub read : directory_of new.blocks ≡ Ok d
-  pub others : new ≡ record old { blocks = new.blocks }
+  pub segments : HoldsSegments new.blocks d
+  pub unused : (k : ℕ) → segment_count d < k → block new.blocks k ≡ block old.blocks k
+  pub writes : WritesFew old new
+  pub others : new ≡ record old { blocks = new.blocks; writes = new.writes }
+
+-- of all blocks only 1 to 6 may differ
+pub record KeepsHigh (old new : List (List ℕ)) : Type 0 where
+  pub high : drop 7 new ≡ drop 7 old
+  pub first : block new 0 ≡ block old 0
+  pub size : length new ≡ length old
 
 abbrev pub Rewrites : Mounted → Listed → Result (Unit {0}) FileFault → Mounted → Type 0
 Rewrites old d (Ok done) new = HasDirectory old d new
-Rewrites old d (Err Device) new = HasFailed old new
+Rewrites old d (Err Device) new = HasFailed old new × KeepsHigh old.blocks new.blocks × IsWrittenInPart old.blocks new.blocks d
 Rewrites old d (Err fault) new = ⊥
 
 -- blocks are written one behind the other from a place on
@@ -31,9 +47,15 @@ abbrev pub with_run : List (List ℕ) → ℕ → List (List ℕ) → List (List
 with_run blocks place [] = blocks
 with_run blocks place (words ∷ run) = with_run (slice_set blocks place words) (suc place) run
 
+-- at most so many blocks were written one behind the other from a place on; the last of them may have any words
+pub record HasBrokenOff (old : List (List ℕ)) (place size : ℕ) (new : List (List ℕ)) : Type 0 where
+  pub run : List (List ℕ)
+  pub short : length run ≤ size
+  pub blocks : new ≡ with_run old place run
+
 -- a run of blocks is copied so many blocks down
 abbrev pub Copies : Mounted → ℕ → ℕ → ℕ → Result (Unit {0}) FileFault → Mounted → Type 0
-Copies old place size gap (Ok done) new = (new.blocks ≡ with_run old.blocks (place - gap) (take size (drop place old.blocks))) × (new ≡ record old { blocks = new.blocks; reads = new.reads }) × (new.reads ≡ counted_more size old.reads)
-Copies old place size gap (Err Device) new = HasMissed old new ⊎ HasFailed (record old { reads = new.reads }) new
+Copies old place size gap (Ok done) new = (new.blocks ≡ with_run old.blocks (place - gap) (take size (drop place old.blocks))) × (new ≡ record old { blocks = new.blocks; reads = new.reads; writes = new.writes }) × (new.writes ≡ counted_more size old.writes) × (new.reads ≡ counted_more size old.reads)
+Copies old place size gap (Err Device) new = HasMissed old new ⊎ (HasFailed (record old { reads = new.reads }) new × (new.reads ≡ counted_more size old.reads) × HasBrokenOff old.blocks (place - gap) size new.blocks)
 Copies old place size gap (Err Memory) new = new ≡ old
 Copies old place size gap (Err fault) new = ⊥

@@ -9,6 +9,7 @@ ghost use Rattle.os8_files.specs.Calls.{Reads, Lists, Holds, IsLonger};
 ghost use Rattle.os8_dir.specs.Entries.{contains};
 
 use crate::begun::Begun;
+use crate::copying::{blank_run, read_run};
 use crate::holds::{first_of, place_of};
 use crate::lengths::files_by_name;
 use crate::{FileFault, Hold, Tentative};
@@ -28,6 +29,7 @@ mod writing;
 pub struct FileService<S: BlockStore> {
     store: S,
     directory: Directory,
+    segments: Vec<[Word; 256]>,
     stopped: bool,
     holds: Vec<Name>,
     tentative: Option<Begun>,
@@ -41,6 +43,7 @@ impl<S: BlockStore> Model for FileService<S> {
     ghost view = { λ s. record {
       blocks = S.contents s.store;
       reads = S.reads s.store;
+      writes = S.writes s.store;
       failed_reads = S.failed_reads s.store;
       failed_writes = S.failed_writes s.store;
       stopped = s.stopped;
@@ -48,30 +51,39 @@ impl<S: BlockStore> Model for FileService<S> {
       tentative = s.tentative;
     } };
 
-    ghost invariant = { λ s. IsKept (S.contents s.store) s.directory s.stopped s.tentative };
+    ghost invariant = { λ s. IsKept (S.contents s.store) s.segments.items s.directory s.stopped s.tentative };
 }
 
 impl<S: BlockStore> FileService<S> {
-    /// The files of a sound volume, after at most six reads. Another store is handed back with the first fault of its
-    /// directory; so is any store with `Device` where a read failed, and with `Memory`.
+    /// The files of a sound volume, after at most twelve reads: those of its directory, and then those of blocks 1 to 6,
+    /// whose words are kept. Another store is handed back with the first fault of its directory; so is any store with
+    /// `Device` where a read failed, and with `Memory`.
     pub fn mount(alloc: Global, mut store: S) -> Result<FileService<S>, (S, DirFault)>
         ensures blocks { IfOk result (λ s. s.blocks ≡ S.contents store) }
         ensures sound { IfOk result (λ s. Sound (S.contents store)) }
         ensures fresh { IfOk result (λ s. (s.stopped ≡ false) × (s.holds ≡ []) × (s.tentative ≡ None)) }
-        ensures reads { IfOk result (λ s. (s.reads ≤ S.reads store + 6) × (s.failed_reads ≡ S.failed_reads store) × (s.failed_writes ≡ S.failed_writes store)) }
-        ensures handed_back { IfErr result (λ e. (S.contents e.0 ≡ S.contents store) × (S.reads e.0 ≤ S.reads store + 6) × (S.failed_writes e.0 ≡ S.failed_writes store)) }
+        ensures reads { IfOk result (λ s. (s.reads ≤ S.reads store + 12) × (s.writes ≡ S.writes store) × (s.failed_reads ≡ S.failed_reads store) × (s.failed_writes ≡ S.failed_writes store)) }
+        ensures no_write { IfErr result (λ e. S.writes e.0 ≡ S.writes store) }
+        ensures handed_back { IfErr result (λ e. (S.contents e.0 ≡ S.contents store) × (S.reads e.0 ≤ S.reads store + 12) × (S.failed_writes e.0 ≡ S.failed_writes store)) }
         ensures fault { IfErr result (λ e. Meets e.1 (directory_of (S.contents store))) }
         ensures device { IfErr result (λ e. (e.1 ≡ Device) ↔ (S.failed_reads store < S.failed_reads e.0)) }
     {
         let _blocks = store.blocks();
         match Directory::read(alloc, &mut store) {
-            Ok(directory) => Ok(FileService {
-                store,
-                directory,
-                stopped: false,
-                holds: Vec::new(alloc),
-                tentative: None,
-            }),
+            Ok(directory) => match blank_run(alloc, 6) {
+                Err(_) => Err((store, DirFault::Memory)),
+                Ok(mut segments) => match read_run(&mut store, 1, &mut segments) {
+                    Err(_) => Err((store, DirFault::Device)),
+                    Ok(()) => Ok(FileService {
+                        store,
+                        directory,
+                        segments,
+                        stopped: false,
+                        holds: Vec::new(alloc),
+                        tentative: None,
+                    }),
+                },
+            },
             Err(fault) => Err((store, fault)),
         }
     }
@@ -79,16 +91,18 @@ impl<S: BlockStore> FileService<S> {
     /// The store.
     pub fn into_store(self) -> S
         ensures blocks { S.contents result ≡ self.blocks }
-        ensures counts { (S.reads result ≡ self.reads) × (S.failed_reads result ≡ self.failed_reads) × (S.failed_writes result ≡ self.failed_writes) }
+        ensures counts { (S.reads result ≡ self.reads) × (S.writes result ≡ self.writes) × (S.failed_reads result ≡ self.failed_reads) × (S.failed_writes result ≡ self.failed_writes) }
     {
         let FileService {
             store,
             directory,
+            segments,
             stopped: _,
             holds,
             tentative: _,
         } = self;
         drop(directory);
+        drop(segments);
         drop(holds);
         store
     }

@@ -1,13 +1,13 @@
 -- A text with no fault has a word.
-use Rattle.std.proofs.Common.{◌≡◌, ℕ, ◌+◌, ◌*◌, ◌/◌, ◌<◌, nat_lt, nat_eq, Bool, true, false, if◌then◌else◌, Option, Some, None, Ok, Err, length, List, [], ◌∷◌, ◌++◌, refl, ap, sym, subst, ◌∙◌, arith, length-append}
+use Rattle.std.proofs.Common.{◌≡◌, ℕ, ◌<◌, Bool, true, false, if◌then◌else◌, Option, Some, None, Ok, Err, length, List, [], ◌∷◌, refl, ap, sym, subst, ◌∙◌, arith, length-append}
 use Rattle.pal_lex.specs.Statements.{statements}
 use Rattle.pal_lex.specs.declared.phrases.Body.{Body}
 use Rattle.pal_lex.specs.declared.phrases.Body.TheVariants.{Nothing, Origin, Define, Decimal, Octal, Field, Reference, Word}
 use Rattle.pal_lex.specs.declared.phrases.Part.{Part}
-use Rattle.pal_asm.specs.Expressions.{Known, value_of, address_value}
+use Rattle.pal_asm.specs.Expressions.{Known, address_value}
 use Rattle.pal_asm.specs.Places.{Source, is_word, values, place_at}
-use Rattle.pal_asm.specs.Words.{offset_of, offset_to, with_offset, body_word, cell_at, with_pair, word_values, pairs_by, pairs_of}
-use Rattle.pal_asm.specs.Faults.{first_of, at_line, address_fault, no_offset, out_of_reach, word_fault, words_fault, has_word, last_line, no_word, fault_of}
+use Rattle.pal_asm.specs.Words.{offset_of, offset_to, with_offset, body_word, cell_at, with_pair, word_values, pairs_by}
+use Rattle.pal_asm.specs.Faults.{at_line, address_fault, no_offset, out_of_reach, word_fault, words_fault, has_word, last_line, no_word}
 use Rattle.pal_asm.specs.Laws.{HasWords}
 use Rattle.pal_asm.specs.declared.faults.AsmFault.TheVariants.{At}
 use Rattle.pal_asm.specs.declared.faults.Code.TheVariants.{NW}

@@ -10,7 +10,6 @@ use Rattle.pal_asm.specs.declared.faults.Code.TheVariants.{NW}
 use Rattle.pal_asm.specs.declared.faults.AsmFault.{AsmFault}
 use Rattle.pal_asm.specs.declared.faults.AsmFault.TheVariants.{At}
 use Rattle.pal_asm.specs.declared.spots.Spot.{Spot}
-use Rattle.pal_asm.specs.Expressions.{Known}
 use Rattle.pal_asm.specs.Places.{Source, is_among, fixed_at, values, place_at, values_at, field_by, field_at}
 use Rattle.pal_asm.specs.Words.{word_values, body_word, with_pair, pairs_by}
 use Rattle.pal_asm.specs.Faults.{first_of, tags_fault, body_fault, at_line, first_order, last_line, word_fault}

@@ -1,5 +1,5 @@
 -- What holds of the faults and names of each source.
-use Rattle.std.specs.Prelude.{◌≡◌, ℕ, ◌<◌, true, Option, Some, None, length, List, ◌∷◌, ◌++◌}
+use Rattle.std.specs.Prelude.{◌≡◌, ℕ, ◌<◌, true, Some, None, length, List, ◌∷◌, ◌++◌}
 use Rattle.pal_lex.specs.Statements.{statements, first_fault}
 use Rattle.pal_lex.specs.declared.faults.LexFault.{LexFault}
 use Rattle.pal_asm.specs.declared.faults.AsmFault.{AsmFault}

@@ -1,15 +1,14 @@
 -- Letters and digits that are taken together.
-use Rattle.std.proofs.Common.{◌≡◌, ℕ, ◌+◌, ◌-◌, ◌/◌, ◌≤◌, ◌<◌, nat_eq, nat_le, nat_lt, min, Bool, true, false, ◌&&◌, ◌||◌, not, if◌then◌else◌, zero, suc, length, get_or, take, drop, Option, Some, List, [], ◌∷◌, ◌++◌, refl, ap, sym, subst, ◌∙◌, arith, append-nil, append_assoc}
+use Rattle.std.proofs.Common.{◌≡◌, ℕ, ◌+◌, ◌-◌, ◌/◌, ◌≤◌, ◌<◌, nat_eq, min, Bool, true, false, ◌&&◌, ◌||◌, not, if◌then◌else◌, zero, suc, length, get_or, take, drop, Some, List, [], ◌∷◌, ◌++◌, refl, ap, sym, subst, ◌∙◌, arith, append-nil, append_assoc}
 use Rattle.std.proofs.lemmas.Bool.Decides.{nat_tests}
-use Rattle.pal_lex.specs.Text.{is_ignored, in_comment, is_dead, is_end, is_over, ends_statement, stretch, limit, line_after, cr_count, has_cr, text_from}
-use Rattle.pal_lex.specs.Cutting.{Piece, Run, Mark, is_coded, are_coded, is_legal, has_illegal, is_blank, is_operand, trimmed, with_character, with_characters, with_byte, pieces}
+use Rattle.pal_lex.specs.Text.{is_ignored, in_comment, is_dead, is_end, is_over, stretch, limit, line_after, cr_count, has_cr, text_from}
+use Rattle.pal_lex.specs.Cutting.{Piece, Run, Mark, is_coded, are_coded, has_illegal, trimmed, with_character, with_characters, pieces}
 use Rattle.pal_lex.specs.Runs.{base, run_kind, token, in_order}
 use Rattle.pal_lex.specs.Growth.{IsRun, grown}
 use Rattle.pal_lex.specs.Drafting.{Cut, cut_of, cut, pending, tail_of, weight_after, PutsRun}
 use Rattle.pal_lex.specs.Statements.{statements, with_stretch, radix_after, first_fault}
 use Rattle.pal_lex.specs.Progress.{Progress}
 use Rattle.pal_lex.specs.Reading.{HasRead, IsReading, StateIs, ReadsOn}
-use Rattle.pal_lex.specs.declared.drafts.Tail.{Tail}
 use Rattle.pal_lex.specs.declared.drafts.Tail.TheVariants as tail
 use Rattle.pal_lex.specs.declared.growing.Grown.{Grown}
 use Rattle.pal_lex.specs.declared.lexing.State.{State}
@@ -261,16 +260,16 @@ run_read old text bytes others first more count place draft e outside coded whol
 
 -- ## A comment in a text
 
+neither : (a b : Bool) → (a || b) ≡ false → (a ≡ false) × (b ≡ false)
+neither true b e = absurd cc
+neither false b e = (refl, e)
+
 cr_more : (l : List ℕ) (n : ℕ) → n < length l → (get_or l n 0 ≡ 13 → ⊥) → has_cr (take n l) ≡ false → has_cr (take (suc n) l) ≡ false
 cr_more [] n short other none = absurd (omega (arith, short))
 cr_more (x ∷ l) zero short other none = grind (arith, nat_tests)
 cr_more (x ∷ l) (suc n) short other none =
     let parts = neither (nat_eq x 13) (has_cr (take n l)) none in
     rw (parts.0, cr_more l n (omega (arith, short)) other parts.1) refl
-  where
-    neither : (a b : Bool) → (a || b) ≡ false → (a ≡ false) × (b ≡ false)
-    neither true b e = absurd cc
-    neither false b e = (refl, e)
 
 pub no_cr_more : (l : List ℕ) (n : ℕ) → n < length l → (get_or l n 0 ≡ 13 → ⊥) → has_cr (take n l) ≡ false → has_cr (take (n + 1) l) ≡ false
 no_cr_more l n short other none = ap (λ k. has_cr (take k l)) (next n) ∙ cr_more l n short other none
@@ -345,10 +344,6 @@ all_die (b ∷ bytes) text none inside =
       same_stretch = rest.same_stretch ∙ one.same_stretch;
       many = rest.many ∙ omega arith;
     }
-  where
-    neither : (a b : Bool) → (a || b) ≡ false → (a ≡ false) × (b ≡ false)
-    neither true b e = absurd cc
-    neither false b e = (refl, e)
 
 -- bytes of a comment
 pub comment_read : (old : Progress) (text bytes : List ℕ) (count place : ℕ) → old.state ≡ Reading → old.comment ≡ true → count ≤ length bytes → has_cr (take count bytes) ≡ false

@@ -1,6 +1,6 @@
 -- The tokens of a stretch (PAL III Symbolic Assembler manual, and this project's profile of it). A name is a letter
 -- followed by letters and digits; its first six characters count. What begins with a digit is a number or a bad one.
-use Rattle.std.specs.Prelude.{ℕ, ◌+◌, ◌-◌, ◌*◌, nat_lt, nat_le, Bool, true, ◌&&◌, if◌then◌else◌, unwrap_or, List, [], ◌∷◌, ◌++◌, slice_index}
+use Rattle.std.specs.Prelude.{ℕ, ◌+◌, ◌-◌, ◌*◌, nat_lt, nat_le, Bool, true, ◌&&◌, if◌then◌else◌, List, [], ◌∷◌, ◌++◌}
 use Rattle.word12.specs.Sixbit.{is_letter}
 pub use Rattle.word12.specs.Sixbit.{code_at, name_number}
 use Rattle.pal_lex.specs.Text.{limit}

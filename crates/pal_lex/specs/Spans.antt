@@ -1,5 +1,5 @@
 -- What stands in a source between the places of a token.
-use Rattle.std.specs.Prelude.{◌≡◌, ℕ, ◌<◌, ◌≤◌, nat_eq, nat_le, nat_lt, Bool, true, ◌&&◌, not, if◌then◌else◌, Option, Some, None, Ok, length, List, [], ◌∷◌, ◌++◌}
+use Rattle.std.specs.Prelude.{◌≡◌, ℕ, ◌<◌, ◌≤◌, nat_eq, nat_le, nat_lt, ◌&&◌, not, if◌then◌else◌, Option, Some, None, Ok, length, List, [], ◌∷◌, ◌++◌}
 use Rattle.pal_lex.specs.Text.{is_ignored, stretch}
 use Rattle.pal_lex.specs.Cutting.{is_coded, is_space, sign_of, is_blank}
 use Rattle.pal_lex.specs.Cutting.{are_coded}

@@ -1,5 +1,5 @@
 -- What the names of a table stand for, by its entries.
-use Rattle.std.proofs.Common.{◌≡◌, ◌≢◌, ℕ, ◌+◌, ◌≤◌, nat_eq, if◌then◌else◌, Bool, true, false, not, ◌||◌, ◌⊎◌, inl, inr, Option, Some, None, is_some, Result, Ok, Err, [], refl, sym, ap, subst, ◌∙◌, arith}
+use Rattle.std.proofs.Common.{◌≡◌, ◌≢◌, ℕ, ◌+◌, ◌≤◌, nat_eq, if◌then◌else◌, Bool, true, false, not, ◌||◌, inl, inr, Option, Some, None, is_some, Result, Ok, Err, [], refl, sym, ap, subst, ◌∙◌, arith}
 use Rattle.std.proofs.lemmas.Bool.{eqb-true}
 use Rattle.std.proofs.lemmas.Bool.Decides.{nat_tests}
 use Rattle.std.proofs.lemmas.Cmp.{nat_cmp_total}

@@ -1,5 +1,5 @@
 -- The names of symbols (PAL III Symbolic Assembler manual), in sixbit as the OS/8 Software Support Manual packs names.
-use Rattle.std.specs.Prelude.{ℕ, ◌+◌, ◌*◌, Bool, true, false, ◌&&◌, if◌then◌else◌, Option, Some, None, is_some, unwrap_or, List, [], ◌∷◌, slice_index}
+use Rattle.std.specs.Prelude.{ℕ, Bool, true, false, ◌&&◌, if◌then◌else◌, Option, Some, None, is_some, List, [], ◌∷◌}
 use Rattle.word12.specs.Sixbit.{is_letter, sixbit_code}
 pub use Rattle.word12.specs.Sixbit.{code_at, name_number}
 

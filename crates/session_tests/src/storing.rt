@@ -42,13 +42,13 @@ fn reads_and_writes(rt: HostRuntime) -> Result<(), Fail> {
     let front = b"DIRECT\nSTORE A 0\nSTORE B 1\n";
     let script = long_text(alloc, front, b'A', 400, b"\nDELETE A\nSQUEEZE\nTURN 1\n")?;
     for (bytes, reads, writes) in [
-        (0, 1, 0),
-        (7, 1, 0),
-        (17, 1, 2),
-        (428, 1, 5),
-        (437, 1, 6),
-        (445, 1, 6),
-        (452, 3, 9),
+        (0, 7, 0),
+        (7, 7, 0),
+        (17, 7, 2),
+        (428, 7, 5),
+        (437, 7, 6),
+        (445, 7, 6),
+        (452, 9, 9),
     ] {
         let found = counted(alloc, &script[..script.len().min(bytes)]);
         assert_eq!(rt; found, (reads, writes), "of {bytes} bytes");
@@ -71,10 +71,10 @@ fn failing(alloc: Global, read: u32, write: u32, out: &mut Vec<u8>) -> Option<Di
     None
 }
 
-/// Which read and which write fail, and what is written. A squeeze first reads at read 1, and writes at write 5.
+/// Which read and which write fail, and what is written. A squeeze first reads at read 7, and writes at write 5.
 const FAILING: [(u32, u32, &[u8]); 3] = [
     (
-        1,
+        7,
         99,
         b"STORED A 1\nSTORED B 1\nDELETED A\nJOB 1\nJOB 1 ? 4.8 DEVICE\nB 1\nFREE 12\nJOB 1\nJOB 1 SQUEEZED\nFINISHED\n",
     ),

@@ -1,6 +1,6 @@
 -- Which call of a store fails, where one is to fail after a number of calls that pass (this project's profile).
 use Rattle.std.specs.Prelude.{◌≡◌, ◌↔◌, IsTrue, ℕ, zero, suc, Bool, true, false, List, Option, Some, None, slice_set, All}
-use Rattle.volume_image.specs.Volume.{IsBlock}
+use Rattle.volume_image.specs.Volume.{IsBlock, counted}
 use Rattle.volume_image.specs.Stores.{InMemory}
 
 -- the next call fails
@@ -20,7 +20,7 @@ pub record IsSpoilt (old new : InMemory) (number : ℕ) : Type 0 where
   pub words : List ℕ
   pub block : IsBlock words
   pub each : All (λ word. word ≡ 2730) words
-  pub rest : new ≡ record old { blocks = slice_set old.blocks number words }
+  pub rest : new ≡ record old { blocks = slice_set old.blocks number words; writes = counted old.writes }
 
 -- how many calls pass from then on until one fails, after so many calls
 abbrev pub left_after_calls : ℕ → Option ℕ → Option ℕ

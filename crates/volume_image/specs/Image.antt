@@ -43,7 +43,7 @@ pub record IsImageOf (bytes : List ℕ) (blocks : List (List ℕ)) : Type 0 wher
 
 -- what is answered where bytes are to be read as an image: want of memory is told of an image only
 abbrev pub Reads : List ℕ → Result InMemory ImageFault → Type 0
-Reads bytes (Ok volume) = IsImageOf bytes volume.blocks × (volume.reads ≡ 0)
+Reads bytes (Ok volume) = IsImageOf bytes volume.blocks × (volume.reads ≡ 0) × (volume.writes ≡ 0)
 Reads bytes (Err NotWhole) = length bytes % 512 ≢ 0
 Reads bytes (Err TooSmall) = (length bytes % 512 ≡ 0) × (length bytes / 512 < 8)
 Reads bytes (Err TooLarge) = (length bytes % 512 ≡ 0) × (4095 < length bytes / 512)
@@ -72,7 +72,7 @@ pub record IsNewVolume (count : ℕ) (blocks : List (List ℕ)) : Type 0 where
 
 -- what is answered where an empty volume of so many blocks is wanted
 abbrev pub Creates : ℕ → Result InMemory ImageFault → Type 0
-Creates count (Ok volume) = IsNewVolume count volume.blocks × (volume.reads ≡ 0)
+Creates count (Ok volume) = IsNewVolume count volume.blocks × (volume.reads ≡ 0) × (volume.writes ≡ 0)
 Creates count (Err NotWhole) = ⊥
 Creates count (Err TooSmall) = count < 8
 Creates count (Err TooLarge) = 4095 < count

@@ -1,10 +1,11 @@
 -- What is seen of the stores of this crate.
 use Rattle.std.specs.Prelude.{ℕ, List, Option}
 
--- a volume in memory: its blocks, and how many reads were made
+-- a volume in memory: its blocks, and how many reads and writes were made
 pub record InMemory : Type 0 where
   pub blocks : List (List ℕ)
   pub reads : ℕ
+  pub writes : ℕ
 
 -- a store below, and how many reads and writes of it were asked for
 pub record Counted (S : Type 0) : Type 0 where

@@ -66,6 +66,8 @@ impl<S: BlockStore> BlockStore for CountVolume<S> {
 
     ghost reads = { λ count. count.reads };
 
+    ghost writes = { λ count. count.writes };
+
     ghost failed_reads = { λ count. S.failed_reads count.store };
 
     ghost failed_writes = { λ count. S.failed_writes count.store };
@@ -80,6 +82,7 @@ impl<S: BlockStore> BlockStore for CountVolume<S> {
         ensures err { OnErr result (words.new ≡ words.old) }
         ensures same { S.contents self.new.store ≡ S.contents self.old.store }
         ensures passed_on { S.reads self.new.store ≡ counted (S.reads self.old.store) }
+        ensures writes { S.writes self.new.store ≡ S.writes self.old.store }
         ensures failed_reads { S.failed_reads self.new.store ≡
             (if is_ok result then S.failed_reads self.old.store else S.failed_reads self.old.store + 1) }
         ensures failed_writes { S.failed_writes self.new.store ≡ S.failed_writes self.old.store }
@@ -94,6 +97,7 @@ impl<S: BlockStore> BlockStore for CountVolume<S> {
         ensures ok { OnOk result (S.contents self.new.store ≡ slice_set (S.contents self.old.store) number words.now) }
         ensures err { OnErr result (IsDamaged (S.contents self.old.store) (S.contents self.new.store) number) }
         ensures reads { S.reads self.new.store ≡ S.reads self.old.store }
+        ensures passed_on { S.writes self.new.store ≡ counted (S.writes self.old.store) }
         ensures failed_reads { S.failed_reads self.new.store ≡ S.failed_reads self.old.store }
         ensures failed_writes { S.failed_writes self.new.store ≡
             (if is_ok result then S.failed_writes self.old.store else S.failed_writes self.old.store + 1) }

@@ -95,6 +95,8 @@ impl BlockStore for FuseVolume {
 
     ghost reads = { λ fuse. fuse.volume.reads };
 
+    ghost writes = { λ fuse. fuse.volume.writes };
+
     ghost failed_reads = { λ fuse. fuse.failed_reads };
 
     ghost failed_writes = { λ fuse. fuse.failed_writes };
@@ -126,7 +128,7 @@ impl BlockStore for FuseVolume {
         requires { number < length self.old.volume.blocks }
         ensures fails { is_err result ≡ fails_next self.old.writes_left }
         ensures ok { OnOk result (self.new.volume ≡
-            record self.old.volume { blocks = slice_set self.old.volume.blocks number words.now }) }
+            record self.old.volume { blocks = slice_set self.old.volume.blocks number words.now; writes = counted self.old.volume.writes }) }
         ensures err { OnErr result (IsSpoilt self.old.volume self.new.volume number) }
         ensures after { self.new ≡ record self.old {
           volume = self.new.volume;

@@ -13,6 +13,7 @@ use word12::Word;
 pub struct MemoryVolume {
     blocks: Vec<[Word; 256]>,
     reads: u64,
+    writes: u64,
 }
 
 impl Model for MemoryVolume {
@@ -21,7 +22,7 @@ impl Model for MemoryVolume {
 
     ghost Value = { InMemory };
 
-    ghost view = { λ volume. record { blocks = volume.blocks.items; reads = volume.reads } };
+    ghost view = { λ volume. record { blocks = volume.blocks.items; reads = volume.reads; writes = volume.writes } };
 
     ghost invariant = { λ volume. IsVolume volume.blocks.items };
 }
@@ -46,7 +47,11 @@ impl MemoryVolume {
             return Err(ImageFault::BadWord(number));
         }
         let blocks = blocks_of(alloc, bytes, count)?;
-        Ok(MemoryVolume { blocks, reads: 0 })
+        Ok(MemoryVolume {
+            blocks,
+            reads: 0,
+            writes: 0,
+        })
     }
 
     /// The image of the volume, 512 bytes for each block (this project's profile).
@@ -73,6 +78,7 @@ impl MemoryVolume {
         Ok(MemoryVolume {
             blocks: made,
             reads: 0,
+            writes: 0,
         })
     }
 
@@ -98,6 +104,8 @@ impl BlockStore for MemoryVolume {
 
     ghost reads = { λ volume. volume.reads };
 
+    ghost writes = { λ volume. volume.writes };
+
     ghost failed_reads = { λ _. 0 };
 
     ghost failed_writes = { λ _. 0 };
@@ -120,8 +128,9 @@ impl BlockStore for MemoryVolume {
     fn write(&mut self, number: usize, words: &[Word; 256]) -> Result<(), DeviceFault>
         requires { number < length self.old.blocks }
         ensures done { IsOk result }
-        ensures words { self.new ≡ record self.old { blocks = slice_set self.old.blocks number words.now } }
+        ensures words { self.new ≡ record self.old { blocks = slice_set self.old.blocks number words.now; writes = counted self.old.writes } }
     {
+        count_up(&mut self.writes);
         self.blocks[number] = *words;
         Ok(())
     }

@@ -17,6 +17,9 @@ pub trait BlockStore {
     /// How many reads were made, failed ones too, until the count stays at its greatest value.
     ghost reads: { Self → ℕ };
 
+    /// How many writes were made, failed ones too, until the count stays at its greatest value.
+    ghost writes: { Self → ℕ };
+
     /// How many reads failed.
     ghost failed_reads: { Self → ℕ };
 
@@ -35,6 +38,7 @@ pub trait BlockStore {
         ensures err { OnErr result (words.new ≡ words.old) }
         ensures same { contents self.new ≡ contents self.old }
         ensures reads { reads self.new ≡ counted (reads self.old) }
+        ensures writes { writes self.new ≡ writes self.old }
         ensures failed_reads { failed_reads self.new ≡ (if is_ok result then failed_reads self.old else failed_reads self.old + 1) }
         ensures failed_writes { failed_writes self.new ≡ failed_writes self.old };
 
@@ -44,6 +48,7 @@ pub trait BlockStore {
         ensures ok { OnOk result (contents self.new ≡ slice_set (contents self.old) number words.now) }
         ensures err { OnErr result (IsDamaged (contents self.old) (contents self.new) number) }
         ensures reads { reads self.new ≡ reads self.old }
+        ensures writes { writes self.new ≡ counted (writes self.old) }
         ensures failed_reads { failed_reads self.new ≡ failed_reads self.old }
         ensures failed_writes { failed_writes self.new ≡ (if is_ok result then failed_writes self.old else failed_writes self.old + 1) };
 }

@@ -1,6 +1,6 @@
 //! Each law is called once. A law runs as nothing.
 use os8_dir::laws;
-use os8_files::laws::{held_files, released_hold};
+use os8_files::laws::{failed_reads, failed_writes, held_files, released_hold, stopped_calls};
 use volume_image::{image_round_trip, one_call_fails};
 
 #[test]
@@ -25,4 +25,7 @@ fn laws_are_called() {
     laws::entry_counts();
     held_files();
     released_hold();
+    failed_reads();
+    failed_writes();
+    stopped_calls();
 }

@@ -31,7 +31,9 @@ fn failing_mounts(rt: HostRuntime) {
         (0, [1, 1, name]),
         (1, [1, 2, name]),
         (2, [1, 3, name]),
-        (3, [0, 3, name]),
+        (3, [1, 4, name]),
+        (8, [1, 9, name]),
+        (9, [0, 9, name]),
     ] {
         assert_eq!(rt; failing_mount(alloc, passes), Some(want), "{passes}");
     }

@@ -24,7 +24,7 @@ impl<S: BlockStore> FileService<S> {
         ensures { Rewrites self.old directory result self.new }
     {
         read_back();
-        match write_segments(&mut self.store, &directory) {
+        match write_segments(&mut self.store, &mut self.segments, &directory) {
             Ok(()) => {
                 self.directory = directory;
                 Ok(())
@@ -36,8 +36,9 @@ impl<S: BlockStore> FileService<S> {
         }
     }
 
-    /// Takes a file out of the directory, and writes that. While a file is written it is `TentativeOpen`; then come
-    /// `NotFound`, `Busy` where the file is held, and `DirectoryFull` where the list without it is too long.
+    /// Takes a file out of the directory, and writes that: one write for each of blocks 1 to 6 whose words change. While a
+    /// file is written it is `TentativeOpen`; then come `NotFound`, `Busy` where the file is held, and `DirectoryFull`
+    /// where the list without it is too long.
     pub fn delete(&mut self, alloc: Global, name: &Name) -> Result<(), FileFault>
         ensures { Deletes self.old name.now result self.new }
     {

@@ -1,6 +1,7 @@
 //! The moving of files to lower blocks.
 ghost use Rattle.std.specs.Prelude.{◌≡◌, ◌+◌, ◌<◌, ◌≤◌, false, None, Some, length};
-ghost use Rattle.os8_files.specs.Calls.{Squeezes, IsReady, lowest_or};
+ghost use Rattle.os8_files.specs.Calls.{Squeezes, IsReady};
+ghost use Rattle.os8_files.specs.Failed.{lowest_or};
 ghost use Rattle.os8_files.specs.Written.{Copies};
 ghost use Rattle.os8_dir.specs.Reading.{directory_of};
 
@@ -15,7 +16,8 @@ use std::alloc::Global;
 use volume_image::BlockStore;
 
 impl<S: BlockStore> FileService<S> {
-    /// Moves the lowest file with an empty directly below it down by that empty's blocks, and writes the directory; where
+    /// Moves the lowest file with an empty directly below it down by that empty's blocks, with one read and one write for
+    /// each of its blocks, and writes the directory, with one write for each of blocks 1 to 6 whose words change; where
     /// there is none it is `Nothing` (this project's profile). A held file is moved too. While a file is written it is
     /// `TentativeOpen`; then comes `DirectoryFull` where the new list is too long. All blocks of the file are read before
     /// the first is written, so a read that fails changes nothing.
@@ -45,6 +47,7 @@ impl<S: BlockStore> FileService<S> {
     {
         lowest_file();
         directory_numbers();
+        directory_blocks();
         sound_directory();
         files_found();
         rooms();

@@ -116,10 +116,10 @@ impl<S: BlockStore> FileService<S> {
         }
     }
 
-    /// Makes the file that is being written one of the directory, and writes that. Of the words given the first are its
-    /// information words, and missing ones are 0; an older file of the name goes. Where no block was written it is
-    /// `NothingWritten`; then come `Busy` where the file is held, and `DirectoryFull` where the new list is too long. On
-    /// each of these the file is given up.
+    /// Makes the file that is being written one of the directory, and writes that: one write for each of blocks 1 to 6
+    /// whose words change. Of the words given the first are its information words, and missing ones are 0; an older file
+    /// of the name goes. Where no block was written it is `NothingWritten`; then come `Busy` where the file is held, and
+    /// `DirectoryFull` where the new list is too long. On each of these the file is given up.
     pub fn close(
         &mut self,
         alloc: Global,

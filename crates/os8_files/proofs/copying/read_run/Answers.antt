@@ -5,6 +5,7 @@ use Rattle.std.proofs.lemmas.Option.{get_or_from_slice_get}
 use Rattle.volume_image.specs.Volume.{counted}
 use Rattle.os8_files.specs.Calls.{counted_more}
 use Rattle.os8_files.proofs.RunLemmas.{read-more}
+use Rattle.os8_files.proofs.SegmentLemmas.{counted-few, counted_more-few}
 use Rattle.os8_files.proofs.copying.read_run.Goals as goal
 
 pub loop-k-preserved : goal.loop-k-preserved
@@ -19,5 +20,16 @@ loop-k-preserved g c =
       contents = c.in-Ok.ensures.same ∙ i.contents;
       reads = c.in-Ok.ensures.reads ∙ ap counted i.reads ∙ ap (λ n. counted_more n (g.S.BlockStore.reads c.args.store.now)) next;
       failed_reads = c.in-Ok.ensures.failed_reads ∙ i.failed_reads;
+      writes = c.in-Ok.ensures.writes ∙ i.writes;
       failed_writes = c.in-Ok.ensures.failed_writes ∙ i.failed_writes;
     }
+
+pub returns-in-Err-clause-few : goal.returns-in-Err-clause-few
+returns-in-Err-clause-few g c =
+    let i = c.loop-k.invariant in
+    omega (arith, c.in-Err.ensures.reads, counted-few (g.S.BlockStore.reads c.loop-k.store), i.reads, counted_more-few c.loop-k.k (g.S.BlockStore.reads c.args.store.now), c.loop-k-test.true, i.size)
+
+pub returns-clause-few : goal.returns-clause-few
+returns-clause-few g c =
+    let i = c.loop-k.invariant in
+    omega (arith, i.reads, counted_more-few c.loop-k.k (g.S.BlockStore.reads c.args.store.now), c.loop-k.auto, i.size)

@@ -9,5 +9,6 @@ invariant-loop-k g l = record {
   contents : g.S.BlockStore.contents l.store ≡ g.S.BlockStore.contents l.fn.store;
   reads : g.S.BlockStore.reads l.store ≡ counted_more l.k (g.S.BlockStore.reads l.fn.store);
   failed_reads : g.S.BlockStore.failed_reads l.store ≡ g.S.BlockStore.failed_reads l.fn.store;
+  writes : g.S.BlockStore.writes l.store ≡ g.S.BlockStore.writes l.fn.store;
   failed_writes : g.S.BlockStore.failed_writes l.store ≡ g.S.BlockStore.failed_writes l.fn.store;
 }

@@ -1,7 +1,9 @@
-use Rattle.std.proofs.Common.{◌≡◌, ◌+◌, List, ℕ, length, take, get_or, slice_set, [], ap, sym, ◌∙◌, arith}
+use Rattle.std.proofs.Common.{◌≡◌, suc, ◌+◌, List, ℕ, length, take, get_or, slice_set, [], ap, sym, ◌∙◌, arith}
 use Rattle.std.proofs.lemmas.List.{get_or_default}
+use Rattle.volume_image.specs.Volume.{counted}
+use Rattle.os8_files.specs.Calls.{counted_more}
 use Rattle.os8_files.specs.Written.{with_run}
-use Rattle.os8_files.proofs.RunLemmas.{length-with_run, write-more}
+use Rattle.os8_files.proofs.RunLemmas.{length-with_run, write-more, broken-off}
 use Rattle.os8_files.proofs.copying.write_run.Goals as goal
 
 pub write-written-requires : goal.write-written-requires
@@ -14,10 +16,17 @@ loop-k-preserved g c =
     let old = g.S.BlockStore.contents c.args.store.now in
     let i = c.loop-k.invariant in
     let at : c.index-run-k.result ≡ get_or c.args.run.now c.loop-k.k [] = c.index-run-k.is ∙ get_or_default c.args.run.now c.loop-k.k c.index-run-k.result [] c.loop-k-test.true in
+    let next : suc c.loop-k.k ≡ c.loop-k.k + 1 = omega arith in
     record {
+      writes = c.in-Ok.ensures.writes ∙ ap counted i.writes ∙ ap (λ n. counted_more n (g.S.BlockStore.writes c.args.store.now)) next;
       contents = c.in-Ok.ensures.ok ∙ ap (λ bs. slice_set bs (c.args.place + c.loop-k.k) c.index-run-k.result) i.contents ∙ ap (λ w. slice_set (with_run old c.args.place (take c.loop-k.k c.args.run.now)) (c.args.place + c.loop-k.k) w) at ∙ sym (write-more old c.args.place c.loop-k.k c.args.run.now c.loop-k-test.true);
       volume = c.blocks-blocks-in-loop-k.ensures.volume;
       reads = c.in-Ok.ensures.reads ∙ i.reads;
       failed_reads = c.in-Ok.ensures.failed_reads ∙ i.failed_reads;
       failed_writes = c.in-Ok.ensures.failed_writes ∙ i.failed_writes;
     }
+
+pub returns-in-Err-clause-err : goal.returns-in-Err-clause-err
+returns-in-Err-clause-err g c =
+    broken-off (g.S.BlockStore.contents c.args.store.now) (g.S.BlockStore.contents c.loop-k.store) (g.S.BlockStore.contents c.write-written.new.self) c.args.place c.loop-k.k c.args.run.now c.in-Err.ensures.err.words
+    c.loop-k-test.true c.loop-k.invariant.contents c.in-Err.ensures.err.rest

@@ -1,5 +1,4 @@
 use Rattle.std.proofs.Common.{◌∙◌, sym, subst, [], ◌∷◌, get_or}
-use Rattle.pal_lex.specs.Statements.{statements}
 use Rattle.pal_asm.specs.Passes.{IsFirst}
 use Rattle.pal_asm.proofs.TextLemmas.{nothing_read, more_behind, first_told}
 use Rattle.pal_asm.proofs.texts.first_pass.Goals as goal

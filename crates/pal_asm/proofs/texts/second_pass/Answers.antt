@@ -1,4 +1,4 @@
-use Rattle.std.proofs.Common.{refl, sym, subst, ap, ◌∙◌, [], ◌∷◌, get_or}
+use Rattle.std.proofs.Common.{sym, subst, ap, ◌∙◌, [], ◌∷◌, get_or}
 use Rattle.pal_lex.specs.Statements.{statements}
 use Rattle.pal_lex.specs.Text.{text_of}
 use Rattle.pal_asm.specs.Places.{values}

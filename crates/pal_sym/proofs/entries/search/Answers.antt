@@ -1,4 +1,4 @@
-use Rattle.std.proofs.Common.{rules, ◌≡◌, subst, sym, IfOk, IfErr}
+use Rattle.std.proofs.Common.{rules}
 use Rattle.std.proofs.lemmas.List.Sorted.{answers_always}
 use Rattle.pal_sym.proofs.PlaceLemmas.{searched}
 use Rattle.pal_sym.proofs.entries.search.Goals as goal

@@ -15,6 +15,7 @@ loop-left-init g c = record {
   reads = omega arith;
   failed_reads = refl;
   failed_writes = refl;
+  writes = refl;
   read = (1 ∷ [], (λ k low. seen-first k low), refl);
 }
 
@@ -49,6 +50,7 @@ loop-left-preserved g c =
       reads = omega (arith, c.loop-left.invariant.reads, c.in_ok-next.ensures.reads, c.loop-left-test.true);
       failed_reads = c.in_ok-next.ensures.failed_reads ∙ c.loop-left.invariant.failed_reads;
       failed_writes = c.in_ok-next.ensures.failed_writes ∙ c.loop-left.invariant.failed_writes;
+      writes = c.in_ok-next.ensures.writes ∙ c.loop-left.invariant.writes;
       read = (c.loop-left.link ∷ i.0, (λ k small. seen-more c.loop-left.seen i.0 c.loop-left.link k (omega (arith, c.loop-left.invariant.marks)) (i.1 k small)), rw next (i.2 ∙ with_links-next c.loop-left.left c.loop-left.self c.add_linked.new.self blocks i.0 c.loop-left.from c.loop-left.link c.loop-left-test.true c.if-link-gt0.true unread added));
     }
 

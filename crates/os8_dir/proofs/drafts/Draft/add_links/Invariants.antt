@@ -11,6 +11,7 @@ invariant-loop-left g l = record {
   reads : g.S.BlockStore.reads l.store + l.left ≤ g.S.BlockStore.reads l.fn.store + 5;
   failed_reads : g.S.BlockStore.failed_reads l.store ≡ g.S.BlockStore.failed_reads l.fn.store;
   failed_writes : g.S.BlockStore.failed_writes l.store ≡ g.S.BlockStore.failed_writes l.fn.store;
+  writes : g.S.BlockStore.writes l.store ≡ g.S.BlockStore.writes l.fn.store;
   read : (read : List ℕ)
       × ((k : ℕ) → k < 7 → get_or l.seen k false ≡ contains read k)
       × (with_links 5 l.fn.self (g.S.BlockStore.contents l.fn.store) (1 ∷ []) 1 l.fn.first_link ≡ with_links l.left l.self (g.S.BlockStore.contents l.fn.store) read l.from l.link);

@@ -11,11 +11,13 @@ use Rattle.os8_dir.specs.Changes.{removed}
 use Rattle.os8_dir.specs.declared.entries.DirEntry.{DirEntry}
 use Rattle.os8_dir.specs.Entries.{Listed}
 use Rattle.os8_dir.specs.Reading.{directory_of}
+use Rattle.os8_files.specs.Failed.{IsWrittenInPart}
 use Rattle.os8_files.specs.Written.{HasDirectory}
 use Rattle.os8_files.specs.Calls.{IsReady, Deletes}
 use Rattle.os8_files.proofs.CallLemmas.{some-of, none-of, held-none, found-some, by-rewrite}
 use Rattle.os8_files.proofs.BoundLemmas.{is-over, removed-made}
 use Rattle.os8_files.proofs.DeleteLemmas.{deleted}
+use Rattle.os8_files.proofs.FailedLemmas.{delete-failed}
 use Rattle.os8_files.proofs.service.FileService.delete.Goals as goal
 
 pub returns-then-is_some : goal.returns-then-is_some
@@ -82,7 +84,7 @@ returns-else-entries-limit g c =
     (λ done has. deleted c.files_found.ensures c.directory_numbers.ensures.limit c.directory_numbers.ensures.capacity c.file_removed.ensures.gone c.file_removed.ensures.others c.file_removed.ensures.covered
     old c.rewrite.new.self d name _ ready kept (c.sound_directory.ensures old.blocks d kept) (c.files_found.ensures old.blocks d name kept ∙ ap (held_of old.blocks d.info) f.1) (sym c.is_held.ensures ∙ c.if-is_held.false)
     fits (subst (λ (x : Listed). HasDirectory old x c.rewrite.new.self) list has))
-    (λ failed. (ready, failed))
+    (λ failed keeps part. delete-failed old c.rewrite.new.self d name ready (_, c.files_found.ensures old.blocks d name kept ∙ ap (held_of old.blocks d.info) f.1) (sym c.is_held.ensures ∙ c.if-is_held.false) kept (c.sound_directory.ensures old.blocks d kept) (c.files_made.ensures old.blocks d kept) failed keeps (subst (λ (x : Listed). IsWrittenInPart old.blocks c.rewrite.new.self.blocks x) list part))
 
 pub returns-then-is_held : goal.returns-then-is_held
 returns-then-is_held g c =
@@ -97,3 +99,17 @@ returns-then-is_held g c =
     let p = some-of c.find.result there in
     let f = found-some (find name (files_at d.first d.entries)) p.0.0 p.0.1 (sym c.find.ensures ∙ p.1) in
     (ready, (_, c.files_found.ensures old.blocks d name kept ∙ ap (held_of old.blocks d.info) f.1), refl, sym c.is_held.ensures ∙ c.if-is_held.true, refl)
+
+pub returns-in-Err : goal.returns-in-Err
+returns-in-Err g c =
+    let blocks = g.S.BlockStore.contents c.self.inside.store in
+    let d = c.self.inside.directory in
+    let name = c.args.name.now in
+    let old = c.args.self.now in
+    let same : old.blocks ≡ blocks = ap (λ (m : Mounted). m.blocks) (sym c.self.view_is) in
+    let kept : directory_of old.blocks ≡ Ok d = subst (λ bs. directory_of bs ≡ Ok d) (sym same) (c.self.invariant.kept c.if-self.false) in
+    let ready : IsReady old = subst (λ (m : Mounted). IsReady m) c.self.view_is (record { running = c.if-self.false; none = none-of c.self.inside.tentative (sym c.is_some.ensures ∙ c.if-is_some.false) }) in
+    let there : is_some c.find.result ≡ true = c.is_none.ensures ∙ rw c.if-is_none.false refl in
+    let p = some-of c.find.result there in
+    let f = found-some (find name (files_at d.first d.entries)) p.0.0 p.0.1 (sym c.find.ensures ∙ p.1) in
+    (ready, (_, c.files_found.ensures old.blocks d name kept ∙ ap (held_of old.blocks d.info) f.1), sym c.is_held.ensures ∙ c.if-is_held.false, refl)

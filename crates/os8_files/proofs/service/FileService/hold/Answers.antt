@@ -36,5 +36,5 @@ returns-after-insert g c =
             names = w.new.ensures;
             others = rw e refl;
           })
-      | in-Err w ↦ rw (w.result-is, ← c.self.view_is) (c.if-self.false, rw w.in-Err.ensures.items refl)
+      | in-Err w ↦ rw (w.result-is, ← c.self.view_is) (c.if-self.false, (held blocks d.info f.0, c.files_found.ensures blocks d name (c.self.invariant.kept c.if-self.false) ∙ ap (held_of blocks d.info) f.1), rw w.in-Err.ensures.items refl)
     ]

@@ -8,14 +8,17 @@ use Rattle.os8_dir.specs.Files.{files_of, limit_of, of_directory}
 use Rattle.os8_dir.specs.Found.{IsDirectory, files_at, extent_of, limit}
 use Rattle.os8_dir.specs.Changes.{lowest_above, moved_down}
 use Rattle.os8_files.specs.Mounted.{Mounted}
-use Rattle.os8_files.specs.Calls.{lowest_or, entries_moved, counted_more}
-use Rattle.os8_files.specs.Written.{HasDirectory, with_run}
+use Rattle.os8_files.specs.Calls.{entries_moved, counted_more}
+use Rattle.os8_files.specs.Failed.{lowest_or}
+use Rattle.os8_files.specs.Failed.{IsWrittenInPart}
+use Rattle.os8_files.specs.Written.{HasDirectory, HasBrokenOff, with_run}
 use Rattle.os8_files.proofs.LookupLemmas.{find_within}
 use Rattle.os8_files.proofs.BoundLemmas.{is-over}
 use Rattle.os8_files.proofs.CallLemmas.{extent-at}
 use Rattle.os8_files.proofs.RoomLemmas.{room-inside}
 use Rattle.os8_files.proofs.RunLemmas.{length-with_run}
-use Rattle.os8_files.proofs.SqueezeLemmas.{lies-above, moved-file, some-above, copy-refused}
+use Rattle.os8_files.proofs.SqueezeLemmas.{lies-above, moved-file, some-above, copy-refused, rewrite-refused}
+use Rattle.os8_files.proofs.FailedLemmas.{copy-failed, move-failed}
 use Rattle.os8_files.proofs.service.FileService.move_down.Goals as goal
 
 pub moved_down-requires : goal.moved_down-requires
@@ -124,7 +127,7 @@ returns-in_ok-rewrite-in-Some g c =
     ∙ ap (λ n. with_run old.blocks (r.0.place - gap) (take n (drop r.0.place old.blocks))) (sym at.1) in
     moved-file c.files_found.ensures c.rooms.ensures.lie c.rooms.ensures.outside c.directory_numbers.ensures.limit c.directory_numbers.ensures.capacity c.directory_numbers.ensures.above
     c.lowest_file.ensures.gap c.lowest_file.ensures.fewer c.file_moved_down.ensures.there c.file_moved_down.ensures.others c.file_moved_down.ensures.covered
-    old mid c.rewrite.new.self d name gap c.requires.ready kept is low r put copied.1 (copied.2 ∙ ap (λ n. counted_more n old.reads) (sym at.1))
+    old mid c.rewrite.new.self d name gap c.requires.ready kept is low r put copied.1 (copied.3 ∙ ap (λ n. counted_more n old.reads) (sym at.1)) (copied.2 ∙ ap (λ n. counted_more n old.writes) (sym at.1))
     (subst (λ (x : Listed). HasDirectory mid x c.rewrite.new.self) c.in-Ok.ensures.list c.in_ok-rewrite-in-Some.ensures)
 
 pub returns-then-entries-limit : goal.returns-then-entries-limit
@@ -163,7 +166,14 @@ returns-in_err-copy_down-in-Some g c =
     let low : lowest_above d.entries ≡ Some (name, gap) = sym (ap lowest_or kept) ∙ c.requires.lowest in
     let some = some-above c.directory_numbers.ensures.above c.lowest_file.ensures.none old.blocks d name gap kept is low in
     let p = err_from_is_err_and c.from_residual.result c.from_residual.ensures.1 in
-    rw (p.1, p.2) (copy-refused old c.copy_down.new.self c.in-Some.place c.in-Some.size gap c.in_err-copy_down-in-Some.field-0.0 c.requires.ready some c.in_err-copy_down-in-Some.ensures)
+    let r = lies-above c.lowest_file.ensures.gap c.file_moved_down.ensures.found (length old.blocks) name gap d is low in
+    let at = extent-at r.0 c.in-Some.place c.in-Some.size (ap extent_of (sym r.1.0) ∙ sym c.find.ensures ∙ c.in-Some.is) in
+    let new = c.copy_down.new.self in
+    rw (p.1, p.2) (copy-refused old new c.in-Some.place c.in-Some.size gap c.in_err-copy_down-in-Some.field-0.0 c.requires.ready some
+    (λ failed counts broken. copy-failed c.directory_blocks.ensures c.files_found.ensures c.rooms.ensures.lie c.rooms.ensures.outside old new d name gap c.requires.ready kept is low r
+    (subst (λ n. HasBrokenOff old.blocks (r.0.place - gap) n new.blocks) (sym at.1) (subst (λ n. HasBrokenOff old.blocks (n - gap) c.in-Some.size new.blocks) (sym at.0) broken))
+    (counts ∙ ap (λ n. counted_more n old.reads) (sym at.1)) failed)
+    c.in_err-copy_down-in-Some.ensures)
 
 pub returns-in-Err : goal.returns-in-Err
 returns-in-Err g c =
@@ -179,3 +189,30 @@ returns-in-Err g c =
     let low : lowest_above d.entries ≡ Some (name, gap) = sym (ap lowest_or kept) ∙ c.requires.lowest in
     let some = some-above c.directory_numbers.ensures.above c.lowest_file.ensures.none old.blocks d name gap kept is low in
     (c.requires.ready, some, refl)
+
+pub returns-in_err-rewrite-in-Some : goal.returns-in_err-rewrite-in-Some
+returns-in_err-rewrite-in-Some g c =
+    let blocks = g.S.BlockStore.contents c.self.inside.store in
+    let old = c.args.self.now in
+    let d = c.self.inside.directory in
+    let name = c.args.name in
+    let gap = c.args.gap in
+    let same : old.blocks ≡ blocks = ap (λ (m : Mounted). m.blocks) (sym c.self.view_is) in
+    let running : c.self.inside.stopped ≡ false = ap (λ (m : Mounted). m.stopped) c.self.view_is ∙ c.requires.ready.running in
+    let kept : directory_of old.blocks ≡ Ok d = subst (λ bs. directory_of bs ≡ Ok d) (sym same) (c.self.invariant.kept running) in
+    let is = c.sound_directory.ensures old.blocks d kept in
+    let low : lowest_above d.entries ≡ Some (name, gap) = sym (ap lowest_or kept) ∙ c.requires.lowest in
+    let r = lies-above c.lowest_file.ensures.gap c.file_moved_down.ensures.found (length old.blocks) name gap d is low in
+    let at = extent-at r.0 c.in-Some.place c.in-Some.size (ap extent_of (sym r.1.0) ∙ sym c.find.ensures ∙ c.in-Some.is) in
+    let within = find_within name d.first (length old.blocks) (files_at d.first d.entries) r.0 is.apart r.1.0 in
+    let inside = room-inside (r.0.place - gap) gap d.first d.entries r.1.2 in
+    let copied = c.in_ok-copy_down-in-Some.ensures in
+    let mid = c.copy_down.new.self in
+    let put : mid.blocks ≡ with_run old.blocks (r.0.place - gap) (take r.0.size (drop r.0.place old.blocks)) = copied.0
+    ∙ ap (λ p. with_run old.blocks (p - gap) (take c.in-Some.size (drop p old.blocks))) (sym at.0)
+    ∙ ap (λ n. with_run old.blocks (r.0.place - gap) (take n (drop r.0.place old.blocks))) (sym at.1) in
+    let p = err_from_is_err_and c.from_residual-in_err-rewrite-in-Some.result c.from_residual-in_err-rewrite-in-Some.ensures.1 in
+    rw (p.1, p.2) (rewrite-refused old mid c.rewrite.new.self c.in-Ok.directory c.in_err-rewrite-in-Some.field-0.0
+    (λ failed keeps part. move-failed c.files_found.ensures c.rooms.ensures.lie c.rooms.ensures.outside c.lowest_file.ensures.gap c.file_moved_down.ensures.there c.file_moved_down.ensures.others c.file_moved_down.ensures.directory
+    old mid c.rewrite.new.self d name gap c.requires.ready kept is low r put copied.1 (copied.3 ∙ ap (λ n. counted_more n old.reads) (sym at.1)) failed keeps (subst (λ (x : Listed). IsWrittenInPart mid.blocks c.rewrite.new.self.blocks x) c.in-Ok.ensures.list part))
+    c.in_err-rewrite-in-Some.ensures)

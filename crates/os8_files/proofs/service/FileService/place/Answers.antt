@@ -9,10 +9,12 @@ use Rattle.os8_dir.specs.Files.{files_of, limit_of, of_directory}
 use Rattle.os8_dir.specs.Changes.{placed, relisted, new_file}
 use Rattle.os8_files.specs.Mounted.{Mounted, Begun, IsBegun}
 use Rattle.os8_files.specs.Calls.{IsFree, Places, entries_with, new_held}
+use Rattle.os8_files.specs.Failed.{IsWrittenInPart}
 use Rattle.os8_files.specs.Written.{HasDirectory}
 use Rattle.os8_files.proofs.CallLemmas.{by-rewrite}
 use Rattle.os8_files.proofs.BoundLemmas.{IsMade, is-over, placed-made}
 use Rattle.os8_files.proofs.PlaceLemmas.{ok-same, placed-file}
+use Rattle.os8_files.proofs.FailedLemmas.{place-failed}
 use Rattle.os8_files.proofs.service.FileService.place.Goals as goal
 
 pub returns-then-entries-limit : goal.returns-then-entries-limit
@@ -82,11 +84,14 @@ returns-else-entries-limit g c =
     let less : length (placed d.first (new_file d name info b.place b.written) d.entries) ≤ limit d = subst (λ (x : Listed). length x.entries ≤ limit x) list room in
     let named : length (placed d.first (new_file d b.name info b.place b.written) d.entries) ≤ limit d = subst (λ n. length (placed d.first (new_file d n info b.place b.written) d.entries) ≤ limit d) (sym c.requires.names) less in
     let fits : entries_with b info old.blocks ≤ limit_of old.blocks = omega (arith, named, c.directory_numbers.ensures.limit old.blocks d kept, ap (of_directory (λ (x : Listed). length (placed x.first (new_file x b.name info b.place b.written) x.entries))) kept) in
+    let lain = c.rooms.ensures.lie b.place b.room b.place b.written (rooms_at d.first d.entries) lies.room (omega arith) (omega (arith, lies.most)) in
     by-rewrite old c.rewrite.new.self c.in-Ok.directory c.rewrite.result (λ r. Places old name b info r c.rewrite.new.self) c.rewrite.ensures
     (λ done has. placed-file c.files_found.ensures c.rooms.ensures.lie c.directory_numbers.ensures.limit c.directory_numbers.ensures.capacity c.directory_numbers.ensures.above
     c.file_placed.ensures.there c.file_placed.ensures.others c.file_placed.ensures.covered c.file_placed.ensures.tight
     old c.rewrite.new.self d name b info kept is lies some free fits (subst (λ (x : Listed). HasDirectory old x c.rewrite.new.self) list has))
-    (λ failed. (some, free, fits, failed))
+    (λ failed keeps part. place-failed old c.rewrite.new.self d b info some (subst (IsFree old) (sym c.requires.names) free) fits kept is (c.files_made.ensures old.blocks d kept)
+    (c.file_placed.ensures.directory (length old.blocks) b.name b.place b.written info d is lies.named some)
+    (placed-made c.files_found.ensures c.file_placed.ensures.there c.file_placed.ensures.others old d b.name b info kept is some lain) failed keeps (subst (λ n. IsWrittenInPart old.blocks c.rewrite.new.self.blocks (relisted d (placed d.first (new_file d n info b.place b.written) d.entries))) (sym c.requires.names) (subst (λ (x : Listed). IsWrittenInPart old.blocks c.rewrite.new.self.blocks x) list part)))
 
 pub returns-in-Err : goal.returns-in-Err
 returns-in-Err g c = (omega (arith, c.if-begun-eq0.false, ap (λ (x : Begun). x.written) c.begun.view_is), sym c.is_held.ensures ∙ c.if-is_held.false, refl)

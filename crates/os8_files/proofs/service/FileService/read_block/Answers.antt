@@ -53,6 +53,6 @@ returns-after-read g c =
     elim c.match-read.branch [
       | in-Ok w ↦ rw w.result-is (read-done c.files_found.ensures old _ d c.args.name.now c.args.k c.in-Some.place c.in-Some.field-0-1 c.read.new.words volume running kept (c.sound_directory.ensures old.blocks d kept) (sym c.find.ensures ∙ c.in-Some.is) (c.requires running)
           (ap (λ bs. slice_get bs (c.in-Some.place + c.args.k)) same ∙ w.in-Ok.ensures.ok)
-          (rw (← c.self.view_is, c.read.ensures.same, c.read.ensures.reads, w.in-Ok.ensures.failed_reads, c.read.ensures.failed_writes) refl))
-      | in-Err w ↦ rw w.result-is (running, rw (← c.self.view_is, c.read.ensures.same, c.read.ensures.reads, w.in-Err.ensures.failed_reads, c.read.ensures.failed_writes) refl, w.in-Err.ensures.err)
+          (rw (← c.self.view_is, c.read.ensures.same, c.read.ensures.reads, c.read.ensures.writes, w.in-Ok.ensures.failed_reads, c.read.ensures.failed_writes) refl))
+      | in-Err w ↦ rw w.result-is (running, rw (← c.self.view_is, c.read.ensures.same, c.read.ensures.reads, c.read.ensures.writes, w.in-Err.ensures.failed_reads, c.read.ensures.failed_writes) refl, w.in-Err.ensures.err)
     ]

@@ -1,4 +1,4 @@
-use Rattle.std.proofs.Common.{refl, arith, ap, sym, ◌∙◌}
+use Rattle.std.proofs.Common.{refl, arith, ap, ◌∙◌}
 use Rattle.pal_lex.specs.Drafting.{Cut}
 use Rattle.pal_lex.specs.Runs.{base}
 use Rattle.pal_lex.proofs.RunLemmas.{run_put}

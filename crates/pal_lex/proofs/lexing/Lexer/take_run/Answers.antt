@@ -1,21 +1,12 @@
 use Rattle.std.proofs.Common.{◌-◌, length, refl, ap, sym, subst, ◌∙◌}
 use Rattle.pal_lex.specs.Progress.{Progress}
-use Rattle.pal_lex.specs.Reading.{HasRead, ReadsOn}
+use Rattle.pal_lex.specs.Reading.{HasRead}
 use Rattle.pal_lex.proofs.RunLemmas.{moved, run_read, none_read}
 use Rattle.pal_lex.proofs.lexing.Lexer.take_run.Goals as goal
 
 pub returns-in-Some-clause-read : goal.returns-in-Some-clause-read
 returns-in-Some-clause-read c = λ text read.
-    let old : Progress = record {
-      state = c.self.inside.state;
-      comment = c.self.inside.comment;
-      place = c.self.inside.place;
-      line = c.self.inside.line;
-      radix = c.self.inside.radix;
-      keeps_tokens = c.self.inside.keeps_tokens;
-      draft = c.self.inside.draft;
-    } in
-    run_read old text c.args.bytes.now c.args.others.now c.args.first c.in-Some.more (length c.args.bytes.now - (length c.args.others.now - c.in-Some.more)) c.saturating_add-self-inside.result c.put_run.new.self
+    run_read _ text c.args.bytes.now c.args.others.now c.args.first c.in-Some.more (length c.args.bytes.now - (length c.args.others.now - c.in-Some.more)) c.saturating_add-self-inside.result c.put_run.new.self
     (ap (λ (l : Progress). l.state) c.self.view_is ∙ c.requires.reading) (ap (λ (l : Progress). l.comment) c.self.view_is ∙ c.requires.live) c.requires.coded
     c.requires.bytes refl (subst (λ l. HasRead l text) (sym c.self.view_is) read) c.in-Some.ensures.put c.saturating_add-self-inside.ensures
 

@@ -1,4 +1,4 @@
-use Rattle.std.proofs.Common.{refl, arith}
+use Rattle.std.proofs.Common.{refl}
 use Rattle.pal_sym.proofs.PlaceLemmas.{found_there, found_in_gap, put_over}
 use Rattle.pal_sym.proofs.TableLemmas.{differ, agree, tag_over, tag_inserted, other_value}
 use Rattle.pal_sym.proofs.tables.Symbols.put_tag.Goals as goal

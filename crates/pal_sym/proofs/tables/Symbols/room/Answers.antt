@@ -1,4 +1,4 @@
-use Rattle.std.proofs.Common.{arith, sym, ap, ◌∙◌}
+use Rattle.std.proofs.Common.{arith}
 use Rattle.pal_sym.proofs.TableLemmas.{roomed}
 use Rattle.pal_sym.proofs.tables.Symbols.room.Goals as goal
 

@@ -1,0 +1,50 @@
+-- How many blocks are written where a directory is.
+use lib.Pointwise.{pointwise}
+use Rattle.std.proofs.Common.{◌≡◌, ℕ, zero, suc, ◌+◌, ◌<◌, ◌≤◌, true, List, nat_eq, length, if◌then◌else◌, refl, ap, sym, ◌∙◌, arith, add-one, inl, inr}
+use Rattle.std.proofs.lemmas.Bool.Decides.{Decides-eqb, eqb_tells}
+use Rattle.std.proofs.lemmas.Slice.Eq.{slice_eq-Decides}
+use Rattle.os8_dir.specs.Entries.{Listed}
+use Rattle.os8_dir.specs.Reading.{block}
+use Rattle.os8_dir.specs.Segments.{segment_of}
+use Rattle.os8_files.specs.Calls.{differing}
+use Rattle.os8_files.specs.Written.{changed, with_segments}
+use Rattle.os8_files.proofs.WrittenLemmas.{block-segments, unused-segments}
+
+pub same-list : (xs : List ℕ) → pointwise nat_eq xs xs ≡ true
+same-list xs = (slice_eq-Decides Decides-eqb xs xs _ refl).1 refl
+
+-- A block that is as before is not counted.
+not-counted : (m : ℕ) (old new : List (List ℕ)) → block new (suc m) ≡ block old (suc m) → differing (suc m) old new ≡ differing m old new
+not-counted m old new same =
+    ap (λ ws. if pointwise nat_eq (block old (suc m)) ws then differing m old new else suc (differing m old new)) same
+    ∙ ap (λ b. if b then differing m old new else suc (differing m old new)) (same-list (block old (suc m)))
+
+-- Of the blocks that have other words each holds a segment that was written.
+pub counts : (n : ℕ) (d : Listed) (old new : List (List ℕ)) → n < length old → new ≡ with_segments n d old → (m : ℕ) → (m ≤ n → differing m old new ≡ changed m d old) × (n ≤ m → differing m old new ≡ changed n d old)
+counts n d old new inside is zero = ((λ low. refl), (λ none. ap (λ j. changed j d old) (sym (zero-of none))))
+  where
+    zero-of : n ≤ zero → n ≡ 0
+    zero-of none = omega (arith, none)
+counts n d old new inside is (suc m) =
+    let behind = counts n d old new inside is m in
+    let low : suc m ≤ n → differing (suc m) old new ≡ changed (suc m) d old = λ less.
+    let e : suc m ≡ m + 1 = sym (add-one m) in
+    let at : block new (suc m) ≡ segment_of d m = ap (λ j. block new j) e ∙ ap (λ bs. block bs (m + 1)) is ∙ block-segments n d old m inside (omega (arith, less)) in
+    ap (λ ws. if pointwise nat_eq (block old (suc m)) ws then differing m old new else suc (differing m old new)) at
+    ∙ ap (λ j. if pointwise nat_eq (block old (suc m)) (segment_of d m) then j else suc j) (behind.0 (omega (arith, less))) in (
+      low,
+      λ more. elim (eqb_tells n (suc m)) [
+        | inl p ↦ let e : suc m ≤ n = omega (arith, p.1) in low e ∙ ap (λ j. changed j d old) (sym p.1)
+        | inr p ↦ not-counted m old new (ap (λ bs. block bs (suc m)) is ∙ unused-segments n d old (suc m) (omega (arith, more, p.1))) ∙ behind.1 (omega (arith, more, p.1))
+      ],
+    )
+
+pub few-writes : (n : ℕ) (d : Listed) (old new : List (List ℕ)) → n ≤ 6 → n < length old → new ≡ with_segments n d old → changed n d old ≡ differing 6 old new
+few-writes n d old new few inside is = sym ((counts n d old new inside is 6).1 few)
+
+-- The same blocks differ from those that are the same.
+pub differing-same : (m : ℕ) (old mid new : List (List ℕ)) → ((k : ℕ) → k ≤ m → block mid k ≡ block old k) → differing m mid new ≡ differing m old new
+differing-same zero old mid new same = refl
+differing-same (suc m) old mid new same =
+    ap (λ ws. if pointwise nat_eq ws (block new (suc m)) then differing m mid new else suc (differing m mid new)) (same (suc m) (omega arith))
+    ∙ ap (λ j. if pointwise nat_eq (block old (suc m)) (block new (suc m)) then j else suc j) (differing-same m old mid new (λ k low. same k (omega (arith, low))))

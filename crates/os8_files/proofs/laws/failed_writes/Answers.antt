@@ -1,0 +1,10 @@
+use Rattle.os8_files.proofs.SurviveLemmas.{writes-survive, closes-survive, deletes-survive, squeezes-survive}
+use Rattle.os8_files.proofs.laws.failed_writes.Goals as goal
+
+pub returns : goal.returns
+returns c = record {
+  write = writes-survive;
+  close = closes-survive;
+  delete = deletes-survive;
+  squeeze_turn = squeezes-survive;
+}
