@@ -10,13 +10,11 @@ use Rattle.os8_dir.specs.declared.faults.DirFault.{DirFault}
 use Rattle.os8_dir.specs.Entries.{Listed, IsTidy}
 use Rattle.os8_dir.specs.Reading.{directory_of, block}
 use Rattle.os8_dir.specs.Found.{Placed, IsDirectory, files_at, find, extent_of}
-use Rattle.os8_dir.specs.Files.{Files, Held, files_of, held_of, run}
+use Rattle.os8_dir.specs.Files.{Files, Held, files_of, held_of, run, limit_of}
 use Rattle.os8_dir.specs.Changes.{removed, moved_down, relisted, lowest_above, gap_below, lowered, placed, new_file}
 use Rattle.os8_files.specs.Mounted.{Mounted, Begun, IsBegun}
-use Rattle.os8_files.specs.Failed.{extent_or, KeepsDirectory, StandInFull, IsWrittenInPart}
+use Rattle.os8_files.specs.Failed.{extent_or, KeepsDirectory, StandInFull, IsWrittenInPart, with_list, lowest_or}
 use Rattle.os8_files.specs.Calls.{IsReady, IsFree, IsThere, HasFailed, DeleteFailed, WriteFailed, PlaceFailed, MoveFailed, counted_more, list_with, files_with, entries_with}
-use Rattle.os8_files.specs.Failed.{with_list, lowest_or}
-use Rattle.os8_dir.specs.Files.{limit_of}
 use Rattle.os8_files.specs.Written.{KeepsHigh, HasBrokenOff, with_run}
 use Rattle.os8_files.proofs.LookupLemmas.{find_within}
 use Rattle.os8_files.proofs.MapLemmas.{files-same}

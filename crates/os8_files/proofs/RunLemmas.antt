@@ -4,10 +4,9 @@ use Rattle.std.specs.Prelude.{◌⊎◌}
 use Rattle.std.proofs.Math.ListN.{length-set}
 use Rattle.std.proofs.Math.Seq.{take-append_seam, drop-append_seam, sets}
 use Rattle.std.proofs.lemmas.List.Edits.{sets-eq}
-use Rattle.std.proofs.lemmas.List.{length-take-le}
+use Rattle.std.proofs.lemmas.List.{length-take-le, take_more}
 use Rattle.std.proofs.lemmas.Bool.{true≢false}
 use Rattle.std.proofs.lemmas.Bool.Decides.{eqb_tells}
-use Rattle.std.proofs.lemmas.List.{take_more}
 use Rattle.std.proofs.lemmas.Grind.{take-set_at}
 use Rattle.os8_dir.specs.Reading.{block}
 use Rattle.os8_dir.specs.Found.{Placed, AreApart, find}

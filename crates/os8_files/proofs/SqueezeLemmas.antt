@@ -12,9 +12,8 @@ use Rattle.os8_dir.specs.Files.{files_of, held_of, run, above_of}
 use Rattle.os8_dir.specs.Changes.{moved_down, relisted, lowest_above, gap_below, lowered, IsRoom}
 use Rattle.os8_files.specs.Mounted.{Mounted}
 use Rattle.os8_files.specs.Calls.{IsReady, HasFailed, HasMoved, MoveFailed, Squeezes, counted_more, differing}
-use Rattle.os8_files.specs.Failed.{with_list, lowest_or}
+use Rattle.os8_files.specs.Failed.{with_list, lowest_or, extent_or, IsWrittenInPart}
 use Rattle.os8_files.proofs.CountLemmas.{differing-same}
-use Rattle.os8_files.specs.Failed.{extent_or, IsWrittenInPart}
 use Rattle.os8_files.specs.Written.{HasDirectory, HasBrokenOff, KeepsHigh, Rewrites, Copies, with_run}
 use Rattle.os8_files.specs.declared.faults.FileFault.{FileFault}
 use Rattle.os8_files.specs.declared.faults.FileFault.TheVariants.{NotFound, NoRoom, DirectoryFull, Busy, BadName, TooLong, TentativeOpen, Device, Stopped, Memory, NothingWritten}

@@ -2,11 +2,10 @@
 use Rattle.std.proofs.Common.{◌≡◌, ℕ, ◌+◌, ◌≤◌, ◌<◌, nat_eq, nat_le, nat_lt, Bool, true, false, ◌&&◌, ◌||◌, not, if◌then◌else◌, Option, Some, None, is_some, Result, Ok, Err, suc, length, List, [], ◌∷◌, ◌++◌, refl, ap, sym, subst, ◌∙◌, arith, length-append, append-nil}
 use Rattle.std.proofs.lemmas.Bool.Decides.{nat_tests}
 use Rattle.pal_lex.specs.Text.{is_ignored, in_comment, is_dead, is_end, ends_statement, stretch, limit, line_after}
-use Rattle.pal_lex.specs.Cutting.{Piece, Run, Mark, is_coded, is_space, sign_of, is_legal, has_illegal, is_blank, is_operand, trimmed, with_character, with_blank, with_sign, pieces}
+use Rattle.pal_lex.specs.Cutting.{Piece, Run, Mark, is_coded, is_space, sign_of, is_legal, has_illegal, is_blank, is_operand, trimmed, with_character, with_blank, with_sign, pieces, are_coded}
 use Rattle.pal_lex.specs.Runs.{base, run_kind, token, in_order, tokens}
 use Rattle.pal_lex.specs.Grammar.{said, has_bad_number}
 use Rattle.pal_lex.specs.Statements.{stated, radix_after, with_stretch, statements}
-use Rattle.pal_lex.specs.Cutting.{are_coded}
 use Rattle.pal_lex.specs.Spans.{between, mark_of, spelled, Spells, AllSpell, HasSpans}
 use Rattle.pal_lex.specs.declared.faults.LexFault.{LexFault}
 use Rattle.pal_lex.specs.declared.faults.LexFault.TheVariants.{IC, NU}

@@ -1,8 +1,7 @@
 -- What stands in a source between the places of a token.
 use Rattle.std.specs.Prelude.{◌≡◌, ℕ, ◌<◌, ◌≤◌, nat_eq, nat_le, nat_lt, ◌&&◌, not, if◌then◌else◌, Option, Some, None, Ok, length, List, [], ◌∷◌, ◌++◌}
 use Rattle.pal_lex.specs.Text.{is_ignored, stretch}
-use Rattle.pal_lex.specs.Cutting.{is_coded, is_space, sign_of, is_blank}
-use Rattle.pal_lex.specs.Cutting.{are_coded}
+use Rattle.pal_lex.specs.Cutting.{is_coded, are_coded, is_space, sign_of, is_blank}
 use Rattle.pal_lex.specs.Runs.{base, run_kind}
 use Rattle.pal_lex.specs.Statements.{radix_after, statements}
 use Rattle.pal_lex.specs.declared.pieces.Token.{Token}

@@ -1,12 +1,10 @@
 use Rattle.std.proofs.Common.{List, All, ◌≡◌, ◌≤◌, ◌<◌, false, true, None, Some, Ok, length, refl, ap, sym, subst, ◌∙◌, arith}
 use Rattle.std.specs.FinMap.{get, remove}
 use Rattle.volume_image.specs.Volume.{IsBlock}
-use Rattle.os8_dir.specs.Files.{files_of}
-use Rattle.os8_dir.specs.Found.{files_at, find}
+use Rattle.os8_dir.specs.Files.{files_of, held_of, of_directory}
+use Rattle.os8_dir.specs.Found.{files_at, find, IsDirectory, limit}
 use Rattle.os8_files.specs.Mounted.{Mounted, Begun}
 use Rattle.std.specs.Option.{is_some}
-use Rattle.os8_dir.specs.Files.{held_of, of_directory}
-use Rattle.os8_dir.specs.Found.{IsDirectory, limit}
 use Rattle.os8_dir.specs.Changes.{removed}
 use Rattle.os8_dir.specs.declared.entries.DirEntry.{DirEntry}
 use Rattle.os8_dir.specs.Entries.{Listed}

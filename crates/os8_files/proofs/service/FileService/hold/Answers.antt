@@ -1,12 +1,11 @@
 use Rattle.std.proofs.Common.{◌≡◌, false, None, refl, ap, sym, subst, ◌∙◌}
 use Rattle.std.specs.FinMap.{get}
-use Rattle.os8_dir.specs.Files.{files_of}
+use Rattle.os8_dir.specs.Files.{files_of, held, held_of}
 use Rattle.os8_dir.specs.Found.{files_at, find}
 use Rattle.os8_files.specs.Mounted.{Mounted}
 use Rattle.std.specs.List.{insert}
 use Rattle.os8_files.specs.Holds.{with_hold}
 use Rattle.os8_files.specs.Steps.{place_of}
-use Rattle.os8_dir.specs.Files.{held, held_of}
 use Rattle.os8_files.proofs.HoldLemmas.{insert-place}
 use Rattle.os8_files.proofs.CallLemmas.{held-none, found-some}
 use Rattle.os8_files.proofs.service.FileService.hold.Goals as goal

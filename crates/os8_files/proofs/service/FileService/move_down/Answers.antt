@@ -9,8 +9,7 @@ use Rattle.os8_dir.specs.Found.{IsDirectory, files_at, extent_of, limit}
 use Rattle.os8_dir.specs.Changes.{lowest_above, moved_down}
 use Rattle.os8_files.specs.Mounted.{Mounted}
 use Rattle.os8_files.specs.Calls.{entries_moved, counted_more}
-use Rattle.os8_files.specs.Failed.{lowest_or}
-use Rattle.os8_files.specs.Failed.{IsWrittenInPart}
+use Rattle.os8_files.specs.Failed.{lowest_or, IsWrittenInPart}
 use Rattle.os8_files.specs.Written.{HasDirectory, HasBrokenOff, with_run}
 use Rattle.os8_files.proofs.LookupLemmas.{find_within}
 use Rattle.os8_files.proofs.BoundLemmas.{is-over}
