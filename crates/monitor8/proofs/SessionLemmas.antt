@@ -6,7 +6,8 @@ use Rattle.char_pack.specs.Texts.{is_storable, stored}
 use Rattle.os8_dir.specs.Entries.{contains}
 use Rattle.os8_dir.specs.Files.{Files, files_of, above_of}
 use Rattle.os8_files.specs.Calls.{Deletes, HasDeleted, IsLargest, IsOver}
-use Rattle.os8_files.specs.Failed.{Survives}
+use Rattle.os8_dir.specs.Reading.{directory_of}
+use Rattle.os8_files.specs.Failed.{listed_or, Survives}
 use Rattle.os8_files.specs.Mounted.{Mounted, Begun}
 use Rattle.os8_files.specs.declared.faults.FileFault.{FileFault}
 use Rattle.os8_files.specs.declared.faults.FileFault.TheVariants as file
@@ -123,7 +124,7 @@ crowded v jobs wanted n short is = record { short = short; least = is.least; mos
 full : (v : Mounted) (jobs : List (Option job.Job)) (after : Files) → IsOver v.blocks after → IsFull (state_of (seen v jobs)) after
 full v jobs after over = record { files = over.files; tight = λ low. over.tight (zero_is _ low) }
 
-write_failed : (v v' : Mounted) → v' ≡ record v { blocks = v'.blocks; writes = v'.writes; failed_writes = v.failed_writes + 1; stopped = true } → Survives v.blocks v'.blocks → HasFailed v v'
+write_failed : (v v' : Mounted) → v' ≡ record v { blocks = v'.blocks; writes = v'.writes; failed_writes = v.failed_writes + 1; stopped = true; last = listed_or (directory_of v.blocks) } → Survives v.blocks v'.blocks → HasFailed v v'
 write_failed v v' is left = record {
   files = λ running more. (v.blocks, refl, left);
   behind = record {
@@ -172,7 +173,7 @@ pub delete_refused : (v v' : Mounted) (jobs : List (Option job.Job)) (name : ℕ
 delete_refused v v' jobs name file.NotFound settled failed = subst (λ (m : Mounted). Does (λ old answer new. DeleteNamed old name answer new) (seen v jobs) (Err (fault_of_file file.NotFound)) (seen m jobs)) (sym failed.2) (same_does _ (seen v jobs) _ failed.0.running (failed.1, refl) tt)
 delete_refused v v' jobs name (file.Busy other) settled failed = absurd (not_held v name settled.free failed.3)
 delete_refused v v' jobs name file.DirectoryFull settled failed = subst (λ (m : Mounted). Does (λ old answer new. DeleteNamed old name answer new) (seen v jobs) (Err (fault_of_file file.DirectoryFull)) (seen m jobs)) (sym failed.5) (same_does _ (seen v jobs) _ failed.0.running ((failed.1, free_name jobs name, full v jobs _ failed.4), refl) tt)
-delete_refused v v' jobs name file.Device settled failed = failed_does _ (seen v jobs) (seen v' jobs) _ (write_failed v v' failed.others (inr (inr (inl failed.files)))) (not_memory file.Device) tt
+delete_refused v v' jobs name file.Device settled failed = failed_does _ (seen v jobs) (seen v' jobs) _ (write_failed v v' failed.others (inr (inr (inl (record { files = failed.files; directory = failed.written.0; part = failed.written.2.part }))))) (not_memory file.Device) tt
 delete_refused v v' jobs name file.Stopped settled failed = stopped_does _ (seen v jobs) (seen v' jobs) _ failed.0 (behind_same v v' failed.1) (not_memory file.Stopped) tt
 delete_refused v v' jobs name file.Memory settled failed = subst (λ (m : Mounted). Does (λ old answer new. DeleteNamed old name answer new) (seen v jobs) (Err fault.Memory) (seen m jobs)) (sym failed.3) (same_does _ (seen v jobs) _ failed.0.running refl tt)
 delete_refused v v' jobs name file.TentativeOpen settled failed = absurd (not_open v failed.1 settled.none failed.2)

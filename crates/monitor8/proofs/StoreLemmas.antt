@@ -2,13 +2,13 @@
 use Rattle.std.proofs.Common.{◌≡◌, ℕ, ◌+◌, ◌*◌, ◌/◌, ◌<◌, ◌≤◌, false, true, true≢false, List, [], ◌++◌, Option, Some, None, Result, Ok, Err, refl, ap, sym, subst, ◌∙◌, arith, inl, inr}
 use Rattle.std.specs.FinMap.{get, insert}
 use Rattle.os8_dir.specs.Files.{files_of, capacity_of, limit_of, above_of, run}
-use Rattle.os8_dir.specs.Entries.{IsNamed, contains}
+use Rattle.os8_dir.specs.Entries.{Listed, IsNamed, contains}
 use Rattle.os8_dir.specs.Names.{padded}
 use Rattle.os8_files.specs.Calls.{IsOf, IsOver, HasWritten, HasEntered, HasMoved, Writes, Enters, Closes, Squeezes, info_of, new_held, Spent}
 use Rattle.volume_image.specs.Volume.{counted}
 use Rattle.os8_dir.specs.Reading.{directory_of}
 use Rattle.os8_dir.specs.Changes.{moved_down}
-use Rattle.os8_files.specs.Failed.{extent_or, with_list, lowest_or, KeepsDirectory, StandInFull, Survives}
+use Rattle.os8_files.specs.Failed.{extent_or, with_list, lowest_or, KeepsDirectory, StandInFull, IsWrittenInPart, Survives}
 use Rattle.os8_files.specs.Mounted.{Mounted, Begun}
 use Rattle.os8_files.specs.Service.{count_of}
 use Rattle.os8_files.specs.declared.faults.FileFault.{FileFault}
@@ -30,6 +30,15 @@ keeps_trans old mid new one two = record {
   directory = two.directory ∙ one.directory;
 }
 
+part_from : (old mid new : List (List ℕ)) (directory : Listed) → KeepsDirectory old mid → IsWrittenInPart mid new directory → IsWrittenInPart old new directory
+part_from old mid new directory kept part = record {
+  number = part.number;
+  taken = part.taken;
+  low = part.low;
+  below = part.below;
+  above = λ k high few. part.above k high few ∙ kept.segments k (omega (arith, high)) few;
+}
+
 survives_from : (old mid new : List (List ℕ)) → KeepsDirectory old mid → files_of mid ≡ files_of old → Survives mid new → Survives old new
 survives_from old mid new kept files left = elim left [
   | inl found ↦ inl (record { kept = keeps_trans old mid new kept found.kept; files = found.files ∙ files })
@@ -48,12 +57,19 @@ survives_from old mid new kept files left = elim left [
       };
     }))
     | inr more ↦ elim more [
-      | inl stand ↦ inr (inr (inl (subst (λ r. StandInFull new r (files_of old)) kept.directory (subst (λ fs. StandInFull new (directory_of mid) fs) files stand))))
+      | inl stand ↦ inr (inr (inl (record {
+        files = subst (λ r. StandInFull new r (files_of old)) kept.directory (subst (λ fs. StandInFull new (directory_of mid) fs) files stand.files);
+        directory = stand.directory;
+        part = part_from old mid new stand.directory kept stand.part;
+      })))
       | inr full ↦ inr (inr (inr (record {
         name = full.name;
         gap = full.gap;
         lowest = ap lowest_or (sym kept.directory) ∙ full.lowest;
         files = subst (λ r. StandInFull new (with_list (λ d. moved_down full.name d.entries) r) (files_of old)) kept.directory (subst (λ fs. StandInFull new (with_list (λ d. moved_down full.name d.entries) (directory_of mid)) fs) files full.files);
+        directory = full.directory;
+        list = ap (with_list (λ d. moved_down full.name d.entries)) (sym kept.directory) ∙ full.list;
+        part = part_from old mid new full.directory kept full.part;
       })))
     ]
   ]
@@ -178,8 +194,8 @@ squeezed_not old mid new Device files above none failed = elim failed [
       mid.blocks,
       files.files,
       elim damaged.files [
-        | inl found ↦ inr (inl (record { name = damaged.name; gap = damaged.gap; lowest = damaged.lowest; place = damaged.place; size = damaged.size; was = damaged.was; found = found }))
-        | inr stand ↦ inr (inr (inr (record { name = damaged.name; gap = damaged.gap; lowest = damaged.lowest; files = stand.0 })))
+        | inl found ↦ inr (inl (record { name = damaged.name; gap = damaged.gap; lowest = damaged.lowest; place = damaged.place; size = damaged.size; was = damaged.was; found = found.0 }))
+        | inr stand ↦ inr (inr (inr (record { name = damaged.name; gap = damaged.gap; lowest = damaged.lowest; files = stand.0; directory = stand.1; list = stand.2; part = stand.3.part })))
       ],
     );
     behind = record {
@@ -363,7 +379,7 @@ closed old m1 m2 new name blocks token words begun (Err DirectoryFull) none some
       tight = λ low. omega (arith, has.5.tight (kept.above ∙ low), kept.limit, ap count_of kept.files);
     }
 closed old m1 m2 new name blocks token words begun (Err Device) none some e filled has = record {
-  files = λ running more. subst (λ (m : Mounted). Outlives m.blocks new.blocks) e.others (m1.blocks, refl, survives_from m1.blocks m2.blocks new.blocks filled.kept filled.files (inr (inr (inl has.3.older))));
+  files = λ running more. subst (λ (m : Mounted). Outlives m.blocks new.blocks) e.others (m1.blocks, refl, survives_from m1.blocks m2.blocks new.blocks filled.kept filled.files (inr (inr (inl (record { files = has.3.older; directory = has.3.written.0; part = has.3.written.2.part })))));
   behind = record {
     reads = omega (arith, ap (λ (m : Mounted). m.failed_reads) has.3.others, ap (λ (m : Mounted). m.failed_reads) filled.others, ap (λ (m : Mounted). m.failed_reads) e.others);
     writes = omega (arith, ap (λ (m : Mounted). m.failed_writes) has.3.others, ap (λ (m : Mounted). m.failed_writes) filled.others, ap (λ (m : Mounted). m.failed_writes) e.others);

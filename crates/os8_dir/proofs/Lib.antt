@@ -16,3 +16,4 @@ pub mod FileLemmas
 pub mod CountLemmas
 pub mod ApartLemmas
 pub mod SteadyLemmas
+pub mod ChosenLemmas

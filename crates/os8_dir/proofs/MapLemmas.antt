@@ -1,10 +1,11 @@
 -- The files of a volume as a map.
-use Rattle.std.proofs.Common.{◌≡◌, ℕ, true, false, cond, eqb, List, [], ◌∷◌, Some, Ok, refl, ◌∙◌, arith}
+use Rattle.std.proofs.Common.{◌≡◌, ℕ, true, false, cond, eqb, List, [], ◌∷◌, Some, Ok, Err, refl, ◌∙◌, arith}
 use Rattle.std.specs.Ordering.{nat_cmp, eq_by_cmp}
-use Rattle.std.specs.FinMap.{get, get-from_entries}
+use Rattle.std.specs.FinMap.{get, from_entries, get-from_entries}
 use Rattle.std.specs.FinMap as map
 use Rattle.std.proofs.lemmas.Cmp.{nat_cmp_total}
 use Rattle.std.proofs.lemmas.Bool.Decides.{nat_tests}
+use Rattle.os8_dir.specs.declared.faults.DirFault.{DirFault}
 use Rattle.os8_dir.specs.Entries.{Listed, capacity}
 use Rattle.os8_dir.specs.Reading.{directory_of}
 use Rattle.os8_dir.specs.Found.{Placed, files_at, find, limit, above}
@@ -34,3 +35,12 @@ limit_of-read blocks d read = rw read refl
 pub above_of-read : (blocks : List (List ℕ)) (d : Listed) → directory_of blocks ≡ Ok d → above_of blocks ≡ above d.entries
 unfolding above_of
 above_of-read blocks d read = rw read refl
+
+-- Those of a volume that is not sound.
+pub files_of-unsound : (blocks : List (List ℕ)) (fault : DirFault) → directory_of blocks ≡ Err fault → files_of blocks ≡ from_entries []
+unfolding files_of
+files_of-unsound blocks fault read = rw read refl
+
+pub above_of-unsound : (blocks : List (List ℕ)) (fault : DirFault) → directory_of blocks ≡ Err fault → above_of blocks ≡ 0
+unfolding above_of
+above_of-unsound blocks fault read = rw read refl

@@ -8,3 +8,4 @@ pub mod Files
 pub mod Segments
 pub mod Changes
 pub mod Steps
+pub mod Chosen

@@ -1,10 +1,10 @@
 ghost use Rattle.std.specs.Prelude.{◌≡◌, ℕ, ◌+◌, ◌<◌, ◌≤◌, length, IfOk, IfSome};
 ghost use Rattle.os8_dir.specs.Entries.{Listed, minus as minus_of, size_of, total, IsTidy, capacity as capacity_of};
 ghost use Rattle.os8_dir.specs.Kept.{IsKept};
-ghost use Rattle.os8_dir.specs.Found.{files_at, rooms_at, find as found, extent_of, largest as largest_of, size_or_zero, free_blocks, used_blocks, limit as limit_of};
+ghost use Rattle.os8_dir.specs.Found.{files_at, rooms_at, find as found, extent_of, largest as largest_of, size_or_zero, free_blocks, used_blocks, count_files as count_of, limit as limit_of};
 ghost use Rattle.os8_dir.specs.Changes.{fitting as fitting_of, lowest_above as lowest_above_of};
 
-use crate::found::{find, fitting, free_blocks, largest_room, lowest_above};
+use crate::found::{count_files, find, fitting, free_blocks, largest_room, lowest_above};
 use crate::{DirEntry, Name};
 use std::marker::Model;
 
@@ -68,6 +68,13 @@ impl Directory {
         ensures files { result + used_blocks (files_at self.now.first self.now.entries) ≡ capacity_of self.now }
     {
         free_blocks(self.entries.as_slice())
+    }
+
+    /// How many files there are (OS/8 Software Support Manual).
+    pub fn count(&self) -> usize
+        ensures { result ≡ count_of self.now.entries }
+    {
+        count_files(self.entries.as_slice())
     }
 
     /// The first block that the directory covers, 7 to 4095 (OS/8 Software Support Manual; 7 is this project's profile).

@@ -1,7 +1,7 @@
 ghost use Rattle.std.specs.Prelude.{◌≡◌, ℕ, ◌+◌, ◌<◌, ◌≤◌, ◌++◌, length, take, drop};
 ghost use Rattle.os8_dir.specs.Entries.{total, IsTidy};
 ghost use Rattle.os8_dir.specs.Changes.{gap_below, swapped, lowest_above as lowest_above_of, fitting as fitting_of};
-ghost use Rattle.os8_dir.specs.Found.{files_at, rooms_at, find as found, extent_of, largest, size_or_zero, room_of, free_blocks as free_of};
+ghost use Rattle.os8_dir.specs.Found.{files_at, rooms_at, find as found, extent_of, largest, size_or_zero, room_of, free_blocks as free_of, count_files as count_of};
 ghost use Rattle.os8_dir.specs.Steps.{is_named as is_named_in, last_room as last_room_of, is_gap as is_gap_in, beats as beats_in, with_room as with_room_of};
 
 use crate::{DirEntry, Name};
@@ -77,6 +77,20 @@ pub fn free_blocks(entries: &[DirEntry]) -> usize
         free += room(entry);
     }
     free
+}
+
+/// How many of the entries are files.
+pub fn count_files(entries: &[DirEntry]) -> usize
+    ensures { result ≡ count_of entries.now }
+{
+    let mut count = 0;
+    for entry in entries {
+        count += match entry {
+            DirEntry::File { .. } => 1,
+            DirEntry::Empty { .. } => 0,
+        };
+    }
+    count
 }
 
 /// Whether the first of two entries is an empty, and the second the file of a name.

@@ -1,11 +1,12 @@
 //! What holds of every volume and its directory. Each function does nothing: its contract is the law.
-ghost use Rattle.std.specs.Prelude.{◌≡◌, ◌≢◌, ◌+◌, ◌-◌, ◌*◌, ◌<◌, ◌≤◌, ◌↔◌, ℕ, ◌⊎◌, List, length, take, Option, Some, None, Ok};
+ghost use Rattle.std.specs.Prelude.{◌≡◌, ◌≢◌, ◌+◌, ◌-◌, ◌*◌, ◌<◌, ◌≤◌, ◌↔◌, ℕ, ◌⊎◌, List, [], length, take, Option, Some, None, Ok};
 ghost use Rattle.std.specs.FinMap.{get, from_entries};
 ghost use Rattle.os8_dir.specs.Names.{name_of, padded, IsFourWords, IsBefore};
 ghost use Rattle.os8_dir.specs.Entries.{Listed, capacity, total, IsTidy, IsNamed};
 ghost use Rattle.os8_dir.specs.Reading.{Sound, HasFault, IsOfWords, block, directory_of};
 ghost use Rattle.os8_dir.specs.Found.{Placed, IsDirectory, files_at, find, rooms_at, largest, size_or_zero, free_blocks, count_files, count_empties, limit, above, IsTight};
 ghost use Rattle.os8_dir.specs.Files.{files_of, held_of, capacity_of, limit_of, above_of, held_by};
+ghost use Rattle.os8_dir.specs.Chosen.{IsFirstLargest, IsFirstSmallest, IsLowestAbove, IsCountAbove};
 ghost use Rattle.os8_dir.specs.Segments.{HoldsSegments};
 ghost use Rattle.os8_dir.specs.Changes.{removed, placed, moved_down, relisted, new_file, lowered, fitting, lowest_above, gap_below, LieIn, IsRoom};
 ghost use Rattle.os8_dir.specs.declared.faults.DirFault.{DirFault};
@@ -63,6 +64,12 @@ pub fn directory_numbers()
     ensures above { (blocks : List (List ℕ)) (d : Listed) → directory_of blocks ≡ Ok d → above_of blocks ≡ above d.entries }
 {}
 
+/// A volume that is not sound has no files, and none has an empty below it.
+pub fn unsound_volumes()
+    ensures files { (blocks : List (List ℕ)) (fault : DirFault) → HasFault blocks fault → files_of blocks ≡ from_entries [] }
+    ensures above { (blocks : List (List ℕ)) (fault : DirFault) → HasFault blocks fault → above_of blocks ≡ 0 }
+{}
+
 /// A file that is found has its name and some blocks, and lies inside its directory's volume; two files do not overlap.
 pub fn files_inside()
     ensures inside { (volume name : ℕ) (d : Listed) (f : Placed) → IsDirectory volume d → find name (files_at d.first d.entries) ≡ Some f → (f.name ≡ name) × (d.first ≤ f.place) × (0 < f.size) × (f.place + f.size ≤ volume) }
@@ -105,17 +112,23 @@ pub fn file_moved_down()
 {}
 
 /// There is a lowest file with an empty directly below it just where some file has one; and where that file is moved
-/// down, one file fewer has one.
+/// down, one file fewer has one. Below it and its empty there are only files. How many files have one is how many have a
+/// covered block of no file below them.
 pub fn lowest_file()
     ensures none { (es : List DirEntry) → IsTidy es → (lowest_above es ≡ None) ↔ (above es ≡ 0) }
     ensures gap { (es : List DirEntry) (name gap : ℕ) → IsTidy es → lowest_above es ≡ Some (name, gap) → (0 < gap) × (gap_below name es ≡ gap) }
     ensures fewer { (es : List DirEntry) (name gap : ℕ) → IsTidy es → lowest_above es ≡ Some (name, gap) → above (moved_down name es) + 1 ≡ above es }
+    ensures first { (es : List DirEntry) (name gap : ℕ) → IsTidy es → lowest_above es ≡ Some (name, gap) → IsLowestAbove es name gap }
+    ensures count { (first : ℕ) (es : List DirEntry) → IsTidy es → IsCountAbove first es (above es) }
 {}
 
-/// The room for a wish is an empty that has so many blocks, and there is one where any empty has. Blocks that lie in an
-/// empty are no file's.
+/// The room for a wish is an empty that has so many blocks, and there is one where any empty has: the smallest of those, or
+/// for a wish of 0 the largest, of equals the first. Blocks that lie in an empty are no file's.
 pub fn rooms()
     ensures fitting { (wish from size : ℕ) (rooms : List (ℕ × ℕ)) → fitting wish rooms ≡ Some (from, size) → IsRoom from size rooms × (wish ≤ size) }
+    ensures smallest { (wish : ℕ) (rooms : List (ℕ × ℕ)) (room : ℕ × ℕ) → 0 < wish → fitting wish rooms ≡ Some room → IsFirstSmallest wish rooms room }
+    ensures largest { (rooms : List (ℕ × ℕ)) (room : ℕ × ℕ) → largest rooms ≡ Some room → IsFirstLargest rooms room }
+    ensures no_wish { (rooms : List (ℕ × ℕ)) (room : ℕ × ℕ) → fitting 0 rooms ≡ Some room → IsFirstLargest rooms room }
     ensures none { (wish : ℕ) (rooms : List (ℕ × ℕ)) → fitting wish rooms ≡ None → (from size : ℕ) → IsRoom from size rooms → wish ≤ size → ⊥ }
     ensures short { (wish : ℕ) (rooms : List (ℕ × ℕ)) → 0 < wish → fitting wish rooms ≡ None → size_or_zero (largest rooms) < wish }
     ensures lie { (place size from count : ℕ) (rooms : List (ℕ × ℕ)) → IsRoom place size rooms → place ≤ from → from + count ≤ place + size → LieIn from count rooms }

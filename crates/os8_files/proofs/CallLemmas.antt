@@ -14,12 +14,11 @@ use Rattle.os8_dir.specs.Files.{files_of, held, held_of}
 use Rattle.os8_dir.specs.Segments.{HoldsSegments, segment_count, segment_of}
 use Rattle.os8_files.specs.Mounted.{Mounted}
 use Rattle.os8_files.specs.Service.{blocks_of}
-use Rattle.os8_files.specs.Calls.{HasFailed, HasBlock, HasRead}
-use Rattle.os8_files.specs.Failed.{IsWrittenInPart}
+use Rattle.os8_files.specs.Calls.{HasFailed, HasBlock, HasRead, StopsInPart}
 use Rattle.os8_files.specs.Written.{with_segments, HasDirectory, KeepsHigh, Rewrites}
 use Rattle.os8_files.specs.declared.faults.FileFault.{FileFault}
 use Rattle.os8_files.specs.declared.faults.FileFault.TheVariants.{NotFound, NoRoom, DirectoryFull, Busy, BadName, TooLong, TentativeOpen, Device, Stopped, Memory, NothingWritten}
-use Rattle.os8_files.proofs.LookupLemmas.{told, blocks_found, find_within}
+use Rattle.os8_files.proofs.LookupLemmas.{told, blocks_found, find_within, whole-run, blocks-run}
 use Rattle.os8_files.proofs.WrittenLemmas.{block-segments, run-high, held-kept, block-joined}
 
 -- The files of a directory, where it is what the blocks are read as.
@@ -89,6 +88,9 @@ read-done finds m new d name k place size words volume running kept is found lon
       running = running;
       file = held m.blocks d.info f.0;
       there = finds m.blocks d name kept ∙ ap (held_of m.blocks d.info) f.1;
+      whole = whole-run m.blocks f.0 volume.each (omega (arith, inside.1, f.2, f.3));
+      inside = omega (arith, inside.0, f.3, blocks-run m.blocks f.0 volume.each (omega (arith, inside.1, f.2, f.3)));
+      most = omega (arith, blocks-run m.blocks f.0 volume.each (omega (arith, inside.1, f.2, f.3)), inside.1, f.3, volume.most);
       block = sym (block-joined 256 bs k (All-take IsBlock f.0.size (drop f.0.place m.blocks) (All-drop IsBlock f.0.place m.blocks volume.each)) (omega (arith, long, inside.0))
           ∙ get_or-take f.0.size (drop f.0.place m.blocks) k [] (omega (arith, inside.0, f.3))
           ∙ get_or-drop f.0.place m.blocks k []
@@ -101,7 +103,7 @@ read-done finds m new d name k place size words volume running kept is found lon
 pub holds-segments : (old new : List (List ℕ)) (d : Listed) → new ≡ with_segments (segment_count d) d old → segment_count d < length old → HoldsSegments new d
 holds-segments old new d is inside = λ k less. subst (λ (bs : List (List ℕ)). get_or bs (k + 1) [] ≡ segment_of d k) (sym is) (block-segments (segment_count d) d old k inside less)
 
-pub by-rewrite : (old new : Mounted) (d : Listed) (r : Result (Unit {0}) FileFault) (P : Result (Unit {0}) FileFault → Type 0) → Rewrites old d r new → ((done : Unit {0}) → HasDirectory old d new → P (Ok done)) → (HasFailed old new → KeepsHigh old.blocks new.blocks → IsWrittenInPart old.blocks new.blocks d → P (Err Device)) → P r
+pub by-rewrite : (old new : Mounted) (d : Listed) (r : Result (Unit {0}) FileFault) (P : Result (Unit {0}) FileFault → Type 0) → Rewrites old d r new → ((done : Unit {0}) → HasDirectory old d new → P (Ok done)) → (HasFailed old new → KeepsHigh old.blocks new.blocks → StopsInPart old.blocks new.blocks d old.writes new.writes → P (Err Device)) → P r
 by-rewrite old new d (Ok done) P is ok failed = ok done is
 by-rewrite old new d (Err NotFound) P is ok failed = absurd is
 by-rewrite old new d (Err (NoRoom n)) P is ok failed = absurd is

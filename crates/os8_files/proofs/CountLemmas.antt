@@ -1,12 +1,13 @@
 -- How many blocks are written where a directory is.
 use lib.Pointwise.{pointwise}
-use Rattle.std.proofs.Common.{◌≡◌, ℕ, zero, suc, ◌+◌, ◌<◌, ◌≤◌, true, List, nat_eq, length, if◌then◌else◌, refl, ap, sym, ◌∙◌, arith, add-one, inl, inr}
+use Rattle.std.proofs.Common.{◌≡◌, ℕ, zero, suc, ◌+◌, ◌<◌, ◌≤◌, true, List, [], nat_eq, length, slice_set, if◌then◌else◌, refl, ap, sym, ◌∙◌, arith, add-one, get_or-set_other, inl, inr}
 use Rattle.std.proofs.lemmas.Bool.Decides.{Decides-eqb, eqb_tells}
 use Rattle.std.proofs.lemmas.Slice.Eq.{slice_eq-Decides}
 use Rattle.os8_dir.specs.Entries.{Listed}
 use Rattle.os8_dir.specs.Reading.{block}
-use Rattle.os8_dir.specs.Segments.{segment_of}
-use Rattle.os8_files.specs.Calls.{differing}
+use Rattle.volume_image.specs.Volume.{counted}
+use Rattle.os8_dir.specs.Segments.{segment_of, segment_count}
+use Rattle.os8_files.specs.Calls.{differing, counted_more, StopsInPart}
 use Rattle.os8_files.specs.Written.{changed, with_segments}
 use Rattle.os8_files.proofs.WrittenLemmas.{block-segments, unused-segments}
 
@@ -41,6 +42,28 @@ counts n d old new inside is (suc m) =
 
 pub few-writes : (n : ℕ) (d : Listed) (old new : List (List ℕ)) → n ≤ 6 → n < length old → new ≡ with_segments n d old → changed n d old ≡ differing 6 old new
 few-writes n d old new few inside is = sym ((counts n d old new inside is 6).1 few)
+
+-- As many blocks differ from those that are the same.
+differing-to : (m : ℕ) (old mid new : List (List ℕ)) → ((k : ℕ) → k ≤ m → block new k ≡ block mid k) → differing m old new ≡ differing m old mid
+differing-to zero old mid new same = refl
+differing-to (suc m) old mid new same =
+    ap (λ ws. if pointwise nat_eq (block old (suc m)) ws then differing m old new else suc (differing m old new)) (same (suc m) (omega arith))
+    ∙ ap (λ j. if pointwise nat_eq (block old (suc m)) (block mid (suc m)) then j else suc j) (differing-to m old mid new (λ k low. same k (omega (arith, low))))
+
+-- A segment was not written behind so many others.
+pub stops-in-part : (n : ℕ) (d : Listed) (old mid new : List (List ℕ)) (words : List ℕ) (before after : ℕ) → n < segment_count d → n < 6 → n < length old → mid ≡ with_segments n d old → new ≡ slice_set mid (n + 1) words → after ≡ counted (counted_more (changed n d old) before) → StopsInPart old new d before after
+stops-in-part n d old mid new words before after taken low inside at is risen = record {
+  part = record {
+    number = n;
+    taken = taken;
+    low = low;
+    below = λ k under. ap (λ bs. block bs (k + 1)) is ∙ get_or-set_other mid (n + 1) (k + 1) words [] (omega (arith, under)) ∙ ap (λ bs. block bs (k + 1)) at ∙ block-segments n d old k inside under;
+    above = λ k high few. ap (λ bs. block bs k) is ∙ get_or-set_other mid (n + 1) k words [] (omega (arith, high)) ∙ ap (λ bs. block bs k) at ∙ unused-segments n d old k (omega (arith, high));
+  };
+  writes = risen ∙ ap (λ j. counted (counted_more j before)) (sym (
+      differing-to n old mid new (λ k under. ap (λ bs. block bs k) is ∙ get_or-set_other mid (n + 1) k words [] (omega (arith, under)))
+      ∙ (counts n d old mid inside at n).0 (omega arith)));
+}
 
 -- The same blocks differ from those that are the same.
 pub differing-same : (m : ℕ) (old mid new : List (List ℕ)) → ((k : ℕ) → k ≤ m → block mid k ≡ block old k) → differing m mid new ≡ differing m old new

@@ -4,12 +4,12 @@ use Rattle.std.specs.FinMap.{get}
 use Rattle.os8_dir.specs.declared.entries.DirEntry.{DirEntry}
 use Rattle.os8_dir.specs.Entries.{Listed, total}
 use Rattle.os8_dir.specs.Reading.{directory_of}
-use Rattle.os8_dir.specs.Found.{IsDirectory, files_at, find, limit}
+use Rattle.os8_dir.specs.Found.{IsDirectory, files_at, find, extent_of, limit}
 use Rattle.os8_dir.specs.Files.{Held, files_of, held_of, of_directory}
 use Rattle.os8_dir.specs.Changes.{removed, relisted}
 use Rattle.os8_files.specs.Mounted.{Mounted}
 use Rattle.os8_files.specs.Calls.{IsReady, IsFree, HasDeleted}
-use Rattle.os8_files.specs.Failed.{with_list}
+use Rattle.os8_files.specs.Failed.{extent_or, with_list}
 use Rattle.os8_files.specs.Written.{HasDirectory}
 use Rattle.os8_files.proofs.MapLemmas.{files-removed}
 use Rattle.os8_files.proofs.CallLemmas.{FindsFiles, file-kept}
@@ -32,6 +32,7 @@ deleted finds limits covers gone others covered old new d name h ready kept is t
       free = free;
       fits = omega (arith, fits, limits old.blocks d kept, ap (of_directory (λ (d : Listed). length (removed name d.entries))) kept);
       list = done.read ∙ ap (with_list (λ (x : Listed). removed name x.entries)) (sym kept);
+      places = λ other differ. ap (extent_or other) done.read ∙ ap extent_of (others name other d.first d.entries differ) ∙ sym (ap (extent_or other) kept);
       files = files-removed (files_of old.blocks) (files_of new.blocks) name
           (finds new.blocks d' name done.read ∙ ap (held_of new.blocks d.info) (gone name d.first d.entries))
           (λ q other. finds new.blocks d' q done.read ∙ ap (held_of new.blocks d.info) (others name q d.first d.entries other) ∙ file-kept old.blocks new.blocks d q is done.high ∙ sym (finds old.blocks d q kept));

@@ -13,8 +13,9 @@ use Rattle.os8_dir.specs.Found.{Placed, IsDirectory, files_at, find, extent_of}
 use Rattle.os8_dir.specs.Files.{Files, Held, files_of, held_of, run, limit_of}
 use Rattle.os8_dir.specs.Changes.{removed, moved_down, relisted, lowest_above, gap_below, lowered, placed, new_file}
 use Rattle.os8_files.specs.Mounted.{Mounted, Begun, IsBegun}
-use Rattle.os8_files.specs.Failed.{extent_or, KeepsDirectory, StandInFull, IsWrittenInPart, with_list, lowest_or}
-use Rattle.os8_files.specs.Calls.{IsReady, IsFree, IsThere, HasFailed, DeleteFailed, WriteFailed, PlaceFailed, MoveFailed, counted_more, list_with, files_with, entries_with}
+use Rattle.volume_image.specs.Volume.{counted}
+use Rattle.os8_files.specs.Failed.{extent_or, listed_or, KeepsDirectory, StandInFull, with_list, lowest_or}
+use Rattle.os8_files.specs.Calls.{IsReady, IsFree, IsThere, HasFailed, DeleteFailed, WriteFailed, PlaceFailed, MoveFailed, StopsInPart, counted_more, differing, list_with, files_with, entries_with}
 use Rattle.os8_files.specs.Written.{KeepsHigh, HasBrokenOff, with_run}
 use Rattle.os8_files.proofs.LookupLemmas.{find_within}
 use Rattle.os8_files.proofs.MapLemmas.{files-same}
@@ -25,6 +26,7 @@ use Rattle.os8_files.proofs.KeepLemmas.{high-keeps, written-keeps, moved-high-ke
 use Rattle.os8_files.proofs.BoundLemmas.{IsMade, get-made}
 use Rattle.os8_files.proofs.PlaceLemmas.{LieInside, LieOutside, some-same, write-inside, written-directory, written-files}
 use Rattle.os8_files.proofs.RunLemmas.{length-with_run, block-with_run, run-beside, run-written, two-apart, find-some}
+use Rattle.os8_files.proofs.CountLemmas.{differing-same}
 use Rattle.os8_files.proofs.SqueezeLemmas.{LiesAbove, run-directory}
 
 -- What is held of a file that is found.
@@ -44,7 +46,7 @@ stand blocks new d r files read is made high name file there =
     let from = find-from name d.first (length blocks) fs at.0 is.apart at.1 in
     (at.0.place, at.0.size, ap (extent_or name) read ∙ ap extent_of at.1, run-high blocks new at.0.place at.0.size high (omega (arith, from, is.starts)) ∙ at.2)
 
-pub delete-failed : (old new : Mounted) (d : Listed) (name : ℕ) → IsReady old → IsThere old name → IsFree old name → directory_of old.blocks ≡ Ok d → IsDirectory (length old.blocks) d → IsMade old.blocks d (files_of old.blocks) → HasFailed old new → KeepsHigh old.blocks new.blocks → IsWrittenInPart old.blocks new.blocks (relisted d (removed name d.entries)) → DeleteFailed old name new
+pub delete-failed : (old new : Mounted) (d : Listed) (name : ℕ) → IsReady old → IsThere old name → IsFree old name → directory_of old.blocks ≡ Ok d → IsDirectory (length old.blocks) d → IsMade old.blocks d (files_of old.blocks) → HasFailed old new → KeepsHigh old.blocks new.blocks → StopsInPart old.blocks new.blocks (relisted d (removed name d.entries)) old.writes new.writes → DeleteFailed old name new
 delete-failed old new d name ready there free kept is made failed keeps part = record {
   written = (relisted d (removed name d.entries), ap (with_list (λ (x : Listed). removed name x.entries)) kept, part);
   ready = ready;
@@ -56,8 +58,8 @@ delete-failed old new d name ready there free kept is made failed keeps part = r
 }
 
 pub write-failed : (reads : ReadsLow) (finds : FindsFiles) (lie : LieInside) (outside : LieOutside) (old new : Mounted) (d : Listed) (b : Begun) (words : List ℕ) → old.stopped ≡ false → old.tentative ≡ Some b → directory_of old.blocks ≡ Ok d → IsDirectory (length old.blocks) d → IsBegun d b → b.written < b.room
-    → new.blocks ≡ slice_set old.blocks (b.place + b.written) words → HasFailed old new → WriteFailed old new
-write-failed reads finds lie outside old new d b words running was kept is lies short spoilt failed =
+    → new.blocks ≡ slice_set old.blocks (b.place + b.written) words → new.writes ≡ counted old.writes → HasFailed old new → WriteFailed old new
+write-failed reads finds lie outside old new d b words running was kept is lies short spoilt risen failed =
     let k = b.place + b.written in
     let inside = write-inside old.blocks d b is lies short in
     record {
@@ -74,12 +76,13 @@ write-failed reads finds lie outside old new d b words running was kept is lies 
         files = ap (λ bs. files_of bs) spoilt ∙ written-files reads finds lie outside old.blocks d b words kept is lies short;
       };
       blocks = written-keeps old.blocks new.blocks k words (omega (arith, inside.0)) spoilt;
+      writes = risen;
       others = failed;
     }
 
 pub place-failed : (old new : Mounted) (d : Listed) (b : Begun) (info : List ℕ) → 0 < b.written → IsFree old b.name → entries_with b info old.blocks ≤ limit_of old.blocks → directory_of old.blocks ≡ Ok d → IsDirectory (length old.blocks) d → IsMade old.blocks d (files_of old.blocks)
     → IsDirectory (length old.blocks) (relisted d (placed d.first (new_file d b.name info b.place b.written) d.entries)) → IsMade old.blocks (relisted d (placed d.first (new_file d b.name info b.place b.written) d.entries)) (files_with old b info)
-    → HasFailed old new → KeepsHigh old.blocks new.blocks → IsWrittenInPart old.blocks new.blocks (relisted d (placed d.first (new_file d b.name info b.place b.written) d.entries)) → PlaceFailed old b info new
+    → HasFailed old new → KeepsHigh old.blocks new.blocks → StopsInPart old.blocks new.blocks (relisted d (placed d.first (new_file d b.name info b.place b.written) d.entries)) old.writes new.writes → PlaceFailed old b info new
 place-failed old new d b info some free fits kept is made next made-next failed keeps part = record {
   written = (relisted d (placed d.first (new_file d b.name info b.place b.written) d.entries), ap (with_list (λ (x : Listed). placed x.first (new_file x b.name info b.place b.written) x.entries)) kept, part);
   some = some;
@@ -108,7 +111,7 @@ beside-moved lie outside volume name q gap n d r h is differ found few =
 -- Blocks of the file that is moved were written in part.
 pub copy-failed : ReadsLow → FindsFiles → LieInside → LieOutside
     → (old new : Mounted) (d : Listed) (name gap : ℕ) → IsReady old → directory_of old.blocks ≡ Ok d → IsDirectory (length old.blocks) d → lowest_above d.entries ≡ Some (name, gap)
-    → (r : LiesAbove d name gap) → HasBrokenOff old.blocks (r.0.place - gap) r.0.size new.blocks → new.reads ≡ counted_more r.0.size old.reads → HasFailed (record old { reads = new.reads }) new → MoveFailed old new
+    → (r : LiesAbove d name gap) → HasBrokenOff old.blocks (r.0.place - gap) r.0.size new.blocks old.writes new.writes → new.reads ≡ counted_more r.0.size old.reads → HasFailed (record old { reads = new.reads }) new → MoveFailed old new
 copy-failed reads finds lie outside old new d name gap ready kept is low r broken counts failed =
     let f = r.0 in
     let fs = files_at d.first d.entries in
@@ -134,20 +137,23 @@ copy-failed reads finds lie outside old new d name gap ready kept is low r broke
       place = f.place;
       size = f.size;
       was = ap (extent_or name) kept ∙ ap extent_of r.1.0;
-      files = inl (record {
-        kept = keeps;
-        others = other;
-        short = λ little. files-same (files_of old.blocks) (files_of new.blocks) (λ q. elim (eqb_tells name q) [
-          | inl p ↦ ap (get (files_of new.blocks)) (sym p.1)
-              ∙ finds new.blocks d name (steady ∙ kept)
-              ∙ held-kept old.blocks new.blocks d.info (find name fs) (λ h found.
-              let at : f ≡ h = some-same f h (sym r.1.0 ∙ found) in
-              ap (λ bs. run bs h.place h.size) broken.blocks ∙ run-beside old.blocks to ws h.place h.size (inr (omega (arith, broken.short, little, r.1.1, ap (λ (x : Placed). x.place) at))))
-              ∙ sym (finds old.blocks d name kept)
-              ∙ ap (get (files_of old.blocks)) p.1
-          | inr p ↦ other q p.1
-        ]);
-      });
+      files = inl (
+        record {
+          kept = keeps;
+          others = other;
+          short = λ little. files-same (files_of old.blocks) (files_of new.blocks) (λ q. elim (eqb_tells name q) [
+            | inl p ↦ ap (get (files_of new.blocks)) (sym p.1)
+                ∙ finds new.blocks d name (steady ∙ kept)
+                ∙ held-kept old.blocks new.blocks d.info (find name fs) (λ h found.
+                let at : f ≡ h = some-same f h (sym r.1.0 ∙ found) in
+                ap (λ bs. run bs h.place h.size) broken.blocks ∙ run-beside old.blocks to ws h.place h.size (inr (omega (arith, broken.short, little, r.1.1, ap (λ (x : Placed). x.place) at))))
+                ∙ sym (finds old.blocks d name kept)
+                ∙ ap (get (files_of old.blocks)) p.1
+            | inr p ↦ other q p.1
+          ]);
+        },
+        record { number = length ws; some = broken.some; few = broken.short; rise = broken.writes },
+      );
       blocks = run-keeps old.blocks new.blocks to f.size ws broken.blocks broken.short high;
       reads = counts;
       others = failed;
@@ -187,15 +193,15 @@ moved-made finds lie outside gaps there others old mid d name gap kept is low r 
     ]))
 
 -- The file was copied, and the new directory was written in part.
-pub move-failed : FindsFiles → LieInside → LieOutside
+pub move-failed : ReadsLow → FindsFiles → LieInside → LieOutside
     → (gaps : (es : List DirEntry) (name gap : ℕ) → IsTidy es → lowest_above es ≡ Some (name, gap) → (0 < gap) × (gap_below name es ≡ gap))
     → (there : (volume name : ℕ) (d : Listed) → IsDirectory volume d → 0 < gap_below name d.entries → find name (files_at d.first (moved_down name d.entries)) ≡ lowered (gap_below name d.entries) (find name (files_at d.first d.entries)))
     → (others : (name other first : ℕ) (es : List DirEntry) → name ≢ other → find other (files_at first (moved_down name es)) ≡ find other (files_at first es))
     → (next : (volume name : ℕ) (d : Listed) → IsDirectory volume d → IsDirectory volume (relisted d (moved_down name d.entries)))
     → (old mid new : Mounted) (d : Listed) (name gap : ℕ) → IsReady old → directory_of old.blocks ≡ Ok d → IsDirectory (length old.blocks) d → lowest_above d.entries ≡ Some (name, gap)
-    → (r : LiesAbove d name gap) → mid.blocks ≡ with_run old.blocks (r.0.place - gap) (take r.0.size (drop r.0.place old.blocks)) → mid ≡ record old { blocks = mid.blocks; reads = mid.reads; writes = mid.writes } → mid.reads ≡ counted_more r.0.size old.reads
-    → HasFailed mid new → KeepsHigh mid.blocks new.blocks → IsWrittenInPart mid.blocks new.blocks (relisted d (moved_down name d.entries)) → MoveFailed old new
-move-failed finds lie outside gaps there others next old mid new d name gap ready kept is low r copied same counts failed keeps part =
+    → (r : LiesAbove d name gap) → mid.blocks ≡ with_run old.blocks (r.0.place - gap) (take r.0.size (drop r.0.place old.blocks)) → mid ≡ record old { blocks = mid.blocks; reads = mid.reads; writes = mid.writes } → mid.reads ≡ counted_more r.0.size old.reads → mid.writes ≡ counted_more r.0.size old.writes
+    → HasFailed mid new → KeepsHigh mid.blocks new.blocks → StopsInPart mid.blocks new.blocks (relisted d (moved_down name d.entries)) mid.writes new.writes → MoveFailed old new
+move-failed reads finds lie outside gaps there others next old mid new d name gap ready kept is low r copied same counts risen failed keeps stops =
     let f = r.0 in
     let to = f.place - gap in
     let ws = take f.size (drop f.place old.blocks) in
@@ -204,6 +210,10 @@ move-failed finds lie outside gaps there others next old mid new d name gap read
     let long : length ws ≡ f.size = length-take-le f.size (drop f.place old.blocks) (omega (arith, length-drop f.place old.blocks, within)) in
     let count : length mid.blocks ≡ length old.blocks = ap (λ (bs : List (List ℕ)). length bs) copied ∙ length-with_run old.blocks to ws in
     let read : new.reads ≡ mid.reads = ap (λ (m : Mounted). m.reads) failed in
+    let high : 7 ≤ to = omega (arith, inside.0, is.starts) in
+    let steady : directory_of mid.blocks ≡ directory_of old.blocks = ap (λ bs. directory_of bs) copied ∙ run-directory reads old.blocks to ws high in
+    let part = stops.part in
+    let under : (k : ℕ) → k ≤ 6 → block mid.blocks k ≡ block old.blocks k = λ k few. ap (λ bs. block bs k) copied ∙ block-with_run old.blocks to ws k (omega (arith, few, high)) in
     record {
       ready = ready;
       name = name;
@@ -221,13 +231,22 @@ move-failed finds lie outside gaps there others next old mid new d name gap read
         relisted d (moved_down name d.entries),
         ap (with_list (λ (x : Listed). moved_down name x.entries)) kept,
         record {
-          number = part.number;
-          taken = part.taken;
-          below = part.below;
-          above = λ k high few. part.above k high few ∙ ap (λ bs. block bs k) copied ∙ block-with_run old.blocks to ws k (omega (arith, few, inside.0, is.starts));
+          part = record {
+            number = part.number;
+            taken = part.taken;
+            low = part.low;
+            below = part.below;
+            above = λ k over few. part.above k over few ∙ under k few;
+          };
+          writes = stops.writes
+              ∙ ap (λ j. counted (counted_more j mid.writes)) (differing-same part.number old.blocks mid.blocks new.blocks (λ k few. under k (omega (arith, few, part.low))))
+              ∙ ap (λ j. counted (counted_more (differing part.number old.blocks new.blocks) j)) risen;
         },
       );
-      blocks = moved-high-keeps old.blocks mid.blocks new.blocks to f.size ws copied long (omega (arith, inside.0, is.starts)) keeps;
+      blocks = moved-high-keeps old.blocks mid.blocks new.blocks to f.size ws copied long high keeps;
       reads = read ∙ counts;
-      others = failed ∙ ap (λ (m : Mounted). record m { blocks = new.blocks; writes = new.writes; failed_writes = m.failed_writes + 1; stopped = true }) same ∙ ap (λ n. record old { blocks = new.blocks; reads = n; writes = new.writes; failed_writes = old.failed_writes + 1; stopped = true }) (sym read);
+      others = failed
+          ∙ ap (λ (m : Mounted). record m { blocks = new.blocks; writes = new.writes; failed_writes = m.failed_writes + 1; stopped = true; last = listed_or (directory_of mid.blocks) }) same
+          ∙ ap (λ n. record old { blocks = new.blocks; reads = n; writes = new.writes; failed_writes = old.failed_writes + 1; stopped = true; last = listed_or (directory_of mid.blocks) }) (sym read)
+          ∙ ap (λ l. record old { blocks = new.blocks; reads = new.reads; writes = new.writes; failed_writes = old.failed_writes + 1; stopped = true; last = listed_or l }) steady;
     }

@@ -20,3 +20,6 @@ pub mod SurviveLemmas
 pub mod MissLemmas
 mod WorkedFailures
 pub mod StoppedLemmas
+pub mod LeaveLemmas
+pub mod TimesLemmas
+pub mod WholeLemmas

@@ -2,7 +2,7 @@
 use Rattle.std.proofs.Common.{◌≡◌, ℕ, ◌+◌, ◌*◌, ◌/◌, ◌≤◌, ◌==◌, All, true, false, Option, Some, None, if◌then◌else◌, ◌∙◌, ap, sym, refl, arith, length, List, [], ◌∷◌}
 use Rattle.volume_image.specs.Volume.{IsBlock}
 use Rattle.os8_dir.specs.Found.{Placed, find, extent_of, AreApart}
-use Rattle.os8_dir.specs.Files.{held_of}
+use Rattle.os8_dir.specs.Files.{held_of, run}
 use Rattle.os8_files.specs.Service.{blocks_of}
 use Rattle.os8_files.proofs.LengthLemmas.{length-run}
 
@@ -33,3 +33,10 @@ pub blocks_found : (blocks : List (List ℕ)) (info name from : ℕ) (files : Li
 blocks_found blocks info name from files each apart None found = refl
 blocks_found blocks info name from files each apart (Some f) found =
     ap Some (sym (ap (λ n. n / 256) (length-run blocks f.place f.size each (find_within name from (length blocks) files f apart found)) ∙ size_again f.size))
+
+-- The words of a file are those of whole blocks.
+pub blocks-run : (blocks : List (List ℕ)) (f : Placed) → All IsBlock blocks → f.place + f.size ≤ length blocks → length (run blocks f.place f.size) / 256 ≡ f.size
+blocks-run blocks f each inside = ap (λ n. n / 256) (length-run blocks f.place f.size each inside) ∙ size_again f.size
+
+pub whole-run : (blocks : List (List ℕ)) (f : Placed) → All IsBlock blocks → f.place + f.size ≤ length blocks → 256 * (length (run blocks f.place f.size) / 256) ≡ length (run blocks f.place f.size)
+whole-run blocks f each inside = omega (arith, blocks-run blocks f each inside, length-run blocks f.place f.size each inside)

@@ -7,12 +7,12 @@ use Rattle.os8_dir.specs.declared.faults.DirFault.{DirFault}
 use Rattle.os8_dir.specs.Names.{padded}
 use Rattle.os8_dir.specs.Entries.{Listed, total, IsTidy}
 use Rattle.os8_dir.specs.Reading.{directory_of}
-use Rattle.os8_dir.specs.Found.{Placed, IsDirectory, IsTight, files_at, rooms_at, find}
+use Rattle.os8_dir.specs.Found.{Placed, IsDirectory, IsTight, files_at, rooms_at, find, extent_of}
 use Rattle.os8_dir.specs.Files.{files_of, held_of, run, limit_of, of_directory}
 use Rattle.os8_dir.specs.Changes.{placed, relisted, new_file, LieIn, IsRoom}
 use Rattle.os8_files.specs.Mounted.{Mounted, Begun, IsBegun}
-use Rattle.os8_files.specs.Calls.{IsFree, HasPlaced, HasWritten, HasEntered, IsOf, info_of, entries_with}
-use Rattle.os8_files.specs.Failed.{with_list}
+use Rattle.os8_files.specs.Calls.{IsFree, IsReady, HasClosed, HasWritten, HasEntered, IsOf, info_of, entries_with}
+use Rattle.os8_files.specs.Failed.{extent_or, with_list}
 use Rattle.os8_files.specs.Written.{HasDirectory}
 use Rattle.os8_files.proofs.MapLemmas.{files-inserted, files-same}
 use Rattle.os8_files.proofs.WrittenLemmas.{run-high, held-kept}
@@ -72,9 +72,9 @@ pub placed-file : FindsFiles → LieInside → LimitIs → CapacityIs → AboveI
     → (others : (other first : ℕ) (f : Placed) (es : List DirEntry) → f.name ≢ other → find other (files_at first (placed first f es)) ≡ find other (files_at first es))
     → (covered : (first : ℕ) (f : Placed) (es : List DirEntry) → total (placed first f es) ≡ total es)
     → (tight : (first size : ℕ) (f : Placed) (es : List DirEntry) → IsTidy es → IsTight es → find f.name (files_at first es) ≡ None → 0 < f.size → f.size ≤ size → IsRoom f.place size (rooms_at first es) → IsTight (placed first f es))
-    → (old new : Mounted) (d : Listed) (name : ℕ) (b : Begun) (info : List ℕ) → directory_of old.blocks ≡ Ok d → IsDirectory (length old.blocks) d → IsBegun d b → 0 < b.written → IsFree old name → entries_with b info old.blocks ≤ limit_of old.blocks
-    → HasDirectory old (relisted d (placed d.first (new_file d name info b.place b.written) d.entries)) new → HasPlaced old name b info new
-placed-file finds lie limits covers aboves there others covered tight old new d name b info kept is lies some free fits done =
+    → (old new : Mounted) (d : Listed) (name : ℕ) (b : Begun) (info : List ℕ) → IsReady old → b.name ≡ name → directory_of old.blocks ≡ Ok d → IsDirectory (length old.blocks) d → IsBegun d b → 0 < b.written → IsFree old name → entries_with b info old.blocks ≤ limit_of old.blocks
+    → HasDirectory old (relisted d (placed d.first (new_file d name info b.place b.written) d.entries)) new → HasClosed (record old { tentative = Some b }) name info new
+placed-file finds lie limits covers aboves there others covered tight old new d name b info ready names kept is lies some free fits done =
     let f = new_file d name info b.place b.written in
     let d' = relisted d (placed d.first f d.entries) in
     let lain = lie b.place b.room b.place b.written (rooms_at d.first d.entries) lies.room (omega arith) (omega (arith, lies.most)) in
@@ -82,10 +82,16 @@ placed-file finds lie limits covers aboves there others covered tight old new d 
     let words : take d.info f.info ≡ padded (info_of old.blocks) info = info-again d.info 10 info is.few ∙ ap (λ n. padded n info) (sym (ap (of_directory (λ (x : Listed). x.info)) kept)) in
     let same : run new.blocks b.place b.written ≡ run old.blocks b.place b.written = run-high old.blocks new.blocks b.place b.written done.high (omega (arith, inside.0, is.starts)) in
     record {
+      running = ready.running;
+      begun = b;
+      was = refl;
+      names = names;
       some = some;
       free = free;
       fits = fits;
       list = done.read ∙ ap (with_list (λ (x : Listed). placed x.first (new_file x name info b.place b.written) x.entries)) (sym kept);
+      place = ap (extent_or name) done.read ∙ ap extent_of (there d.first f d.entries some lain);
+      places = λ other differ. ap (extent_or other) done.read ∙ ap extent_of (others other d.first f d.entries differ) ∙ sym (ap (extent_or other) kept);
       files = files-inserted (files_of old.blocks) (files_of new.blocks) name (padded (info_of old.blocks) info, run old.blocks b.place b.written)
           (finds new.blocks d' name done.read ∙ ap (held_of new.blocks d.info) (there d.first f d.entries some lain) ∙ ap (λ ws. Some (ws, run new.blocks b.place b.written)) words ∙ ap (λ ws. Some (padded (info_of old.blocks) info, ws)) same)
           (λ q other. finds new.blocks d' q done.read ∙ ap (held_of new.blocks d.info) (others q d.first f d.entries other) ∙ file-kept old.blocks new.blocks d q is done.high ∙ sym (finds old.blocks d q kept));
@@ -96,7 +102,7 @@ placed-file finds lie limits covers aboves there others covered tight old new d 
       written = record { directory = d'; read = done.read; segments = done.segments; unused = λ k more few. done.unused k more };
       blocks = directory-keeps old new d' done;
       writes = done.writes;
-      others = done.others;
+      others = done.others ∙ ap (λ (t : Option Begun). record old { blocks = new.blocks; writes = new.writes; tentative = t }) ready.none;
     }
 
 -- The file that is being written stays the same where a block is written.

@@ -8,9 +8,11 @@ use Rattle.std.proofs.lemmas.List.{length-take-le, take_more}
 use Rattle.std.proofs.lemmas.Bool.{true≢false}
 use Rattle.std.proofs.lemmas.Bool.Decides.{eqb_tells}
 use Rattle.std.proofs.lemmas.Grind.{take-set_at}
+use Rattle.volume_image.specs.Volume.{counted}
 use Rattle.os8_dir.specs.Reading.{block}
 use Rattle.os8_dir.specs.Found.{Placed, AreApart, find}
 use Rattle.os8_dir.specs.Files.{joined, run}
+use Rattle.os8_files.specs.Calls.{counted_more}
 use Rattle.os8_files.specs.Written.{with_run, HasBrokenOff}
 use Rattle.os8_files.proofs.RoomLemmas.{run-other}
 use Rattle.os8_files.proofs.CallLemmas.{find-from}
@@ -105,11 +107,14 @@ write-more blocks place k ws inside =
     ∙ ap (λ n. slice_set (with_run blocks place (take k ws)) (place + n) (get_or ws k [])) (length-take-le k ws (omega (arith, inside)))
 
 -- Some blocks of a run are written, and one that comes next has any words.
-pub broken-off : (old mid new : List (List ℕ)) (place k : ℕ) (ws : List (List ℕ)) (w : List ℕ) → k < length ws → mid ≡ with_run old place (take k ws) → new ≡ slice_set mid (place + k) w → HasBrokenOff old place (length ws) new
-broken-off old mid new place k ws w inside at is =
+pub broken-off : (old mid new : List (List ℕ)) (place k before after : ℕ) (ws : List (List ℕ)) (w : List ℕ) → k < length ws → mid ≡ with_run old place (take k ws) → new ≡ slice_set mid (place + k) w → after ≡ counted (counted_more k before) → HasBrokenOff old place (length ws) new before after
+broken-off old mid new place k before after ws w inside at is risen =
     let long : length (take k ws) ≡ k = length-take-le k ws (omega (arith, inside)) in
+    let longer : length (take k ws ++ w ∷ []) ≡ suc k = omega (arith, long, length-more (take k ws) w) in
     record {
       run = take k ws ++ w ∷ [];
+      some = omega (arith, longer);
+      writes = risen ∙ ap (λ n. counted_more n before) (sym longer);
       short = omega (arith, inside, long, length-more (take k ws) w);
       blocks = is
           ∙ ap (λ bs. slice_set bs (place + k) w) at

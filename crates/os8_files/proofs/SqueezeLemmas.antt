@@ -11,8 +11,8 @@ use Rattle.os8_dir.specs.Found.{Placed, IsDirectory, files_at, rooms_at, find, e
 use Rattle.os8_dir.specs.Files.{files_of, held_of, run, above_of}
 use Rattle.os8_dir.specs.Changes.{moved_down, relisted, lowest_above, gap_below, lowered, IsRoom}
 use Rattle.os8_files.specs.Mounted.{Mounted}
-use Rattle.os8_files.specs.Calls.{IsReady, HasFailed, HasMoved, MoveFailed, Squeezes, counted_more, differing}
-use Rattle.os8_files.specs.Failed.{with_list, lowest_or, extent_or, IsWrittenInPart}
+use Rattle.os8_files.specs.Calls.{IsReady, HasFailed, HasMoved, MoveMissed, MoveFailed, RisesBy, StopsInPart, Squeezes, counted_more, differing}
+use Rattle.os8_files.specs.Failed.{with_list, lowest_or, extent_or}
 use Rattle.os8_files.proofs.CountLemmas.{differing-same}
 use Rattle.os8_files.specs.Written.{HasDirectory, HasBrokenOff, KeepsHigh, Rewrites, Copies, with_run}
 use Rattle.os8_files.specs.declared.faults.FileFault.{FileFault}
@@ -52,25 +52,26 @@ some-above aboves none blocks d name gap kept is low =
 
 -- A file's blocks were not copied.
 pub copy-refused : (old new : Mounted) (place size gap : ℕ) (fault : FileFault) → IsReady old → 0 < above_of old.blocks
-    → (HasFailed (record old { reads = new.reads }) new → new.reads ≡ counted_more size old.reads → HasBrokenOff old.blocks (place - gap) size new.blocks → MoveFailed old new)
+    → (RisesBy size old.reads new.reads → MoveMissed old new)
+    → (HasFailed (record old { reads = new.reads }) new → new.reads ≡ counted_more size old.reads → HasBrokenOff old.blocks (place - gap) size new.blocks old.writes new.writes → MoveFailed old new)
     → Copies old place size gap (Err fault) new → Squeezes old (Err fault) new
-copy-refused old new place size gap NotFound ready some failed copies = absurd copies
-copy-refused old new place size gap (NoRoom n) ready some failed copies = absurd copies
-copy-refused old new place size gap DirectoryFull ready some failed copies = absurd copies
-copy-refused old new place size gap (Busy n) ready some failed copies = absurd copies
-copy-refused old new place size gap BadName ready some failed copies = absurd copies
-copy-refused old new place size gap TooLong ready some failed copies = absurd copies
-copy-refused old new place size gap TentativeOpen ready some failed copies = absurd copies
-copy-refused old new place size gap Device ready some failed copies = elim copies [
-  | inl missed ↦ inl (ready, missed)
+copy-refused old new place size gap NotFound ready some missed failed copies = absurd copies
+copy-refused old new place size gap (NoRoom n) ready some missed failed copies = absurd copies
+copy-refused old new place size gap DirectoryFull ready some missed failed copies = absurd copies
+copy-refused old new place size gap (Busy n) ready some missed failed copies = absurd copies
+copy-refused old new place size gap BadName ready some missed failed copies = absurd copies
+copy-refused old new place size gap TooLong ready some missed failed copies = absurd copies
+copy-refused old new place size gap TentativeOpen ready some missed failed copies = absurd copies
+copy-refused old new place size gap Device ready some missed failed copies = elim copies [
+  | inl short ↦ inl (ready, short.0, missed short.1)
   | inr broken ↦ inr (failed broken.0 broken.1 broken.2)
 ]
-copy-refused old new place size gap Stopped ready some failed copies = absurd copies
-copy-refused old new place size gap Memory ready some failed copies = (ready, some, copies)
-copy-refused old new place size gap NothingWritten ready some failed copies = absurd copies
+copy-refused old new place size gap Stopped ready some missed failed copies = absurd copies
+copy-refused old new place size gap Memory ready some missed failed copies = (ready, some, copies)
+copy-refused old new place size gap NothingWritten ready some missed failed copies = absurd copies
 
 -- The directory was not written.
-pub rewrite-refused : (old mid new : Mounted) (d : Listed) (fault : FileFault) → (HasFailed mid new → KeepsHigh mid.blocks new.blocks → IsWrittenInPart mid.blocks new.blocks d → MoveFailed old new) → Rewrites mid d (Err fault) new → Squeezes old (Err fault) new
+pub rewrite-refused : (old mid new : Mounted) (d : Listed) (fault : FileFault) → (HasFailed mid new → KeepsHigh mid.blocks new.blocks → StopsInPart mid.blocks new.blocks d mid.writes new.writes → MoveFailed old new) → Rewrites mid d (Err fault) new → Squeezes old (Err fault) new
 rewrite-refused old mid new d NotFound failed is = absurd is
 rewrite-refused old mid new d (NoRoom n) failed is = absurd is
 rewrite-refused old mid new d DirectoryFull failed is = absurd is

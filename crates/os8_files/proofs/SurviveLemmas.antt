@@ -37,7 +37,7 @@ deletes-survive old new name (Err (Busy n)) is more = none-failed old new (ap (�
 deletes-survive old new name (Err BadName) is more = absurd is
 deletes-survive old new name (Err TooLong) is more = absurd is
 deletes-survive old new name (Err TentativeOpen) is more = none-failed old new (ap (λ (m : Mounted). m.failed_writes) is.3) more
-deletes-survive old new name (Err Device) is more = inr (inr (inl is.files))
+deletes-survive old new name (Err Device) is more = inr (inr (inl (record { files = is.files; directory = is.written.0; part = is.written.2.part })))
 deletes-survive old new name (Err Stopped) is more = none-failed old new (ap (λ (m : Mounted). m.failed_writes) is.1) more
 deletes-survive old new name (Err Memory) is more = none-failed old new (ap (λ (m : Mounted). m.failed_writes) is.3) more
 deletes-survive old new name (Err NothingWritten) is more = absurd is
@@ -51,7 +51,7 @@ closes-survive old new name info (Err (Busy n)) is more = none-failed old new (a
 closes-survive old new name info (Err BadName) is more = absurd is
 closes-survive old new name info (Err TooLong) is more = absurd is
 closes-survive old new name info (Err TentativeOpen) is more = absurd is
-closes-survive old new name info (Err Device) is more = inr (inr (inl is.3.older))
+closes-survive old new name info (Err Device) is more = inr (inr (inl (record { files = is.3.older; directory = is.3.written.0; part = is.3.written.2.part })))
 closes-survive old new name info (Err Stopped) is more = none-failed old new (ap (λ (m : Mounted). m.failed_writes) is.1) more
 closes-survive old new name info (Err Memory) is more = none-failed old new (ap (λ (m : Mounted). m.failed_writes) is.4) more
 closes-survive old new name info (Err NothingWritten) is more = none-failed old new (ap (λ (m : Mounted). m.failed_writes) is.3) more
@@ -69,8 +69,8 @@ squeezes-survive old new (Err TentativeOpen) is more = none-failed old new (ap (
 squeezes-survive old new (Err Device) is more = elim is [
   | inl missed ↦ none-failed old new (ap (λ (m : Mounted). m.failed_writes) missed.1) more
   | inr failed ↦ elim failed.files [
-    | inl found ↦ inr (inl (record { name = failed.name; gap = failed.gap; lowest = failed.lowest; place = failed.place; size = failed.size; was = failed.was; found = found }))
-    | inr stand ↦ inr (inr (inr (record { name = failed.name; gap = failed.gap; lowest = failed.lowest; files = stand.0 })))
+    | inl found ↦ inr (inl (record { name = failed.name; gap = failed.gap; lowest = failed.lowest; place = failed.place; size = failed.size; was = failed.was; found = found.0 }))
+    | inr stand ↦ inr (inr (inr (record { name = failed.name; gap = failed.gap; lowest = failed.lowest; files = stand.0; directory = stand.1; list = stand.2; part = stand.3.part })))
   ]
 ]
 squeezes-survive old new (Err Stopped) is more = none-failed old new (ap (λ (m : Mounted). m.failed_writes) is.1) more

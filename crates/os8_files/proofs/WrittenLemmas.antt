@@ -9,8 +9,7 @@ use Rattle.os8_dir.specs.Entries.{Listed}
 use Rattle.os8_dir.specs.Reading.{block}
 use Rattle.os8_dir.specs.Found.{Placed}
 use Rattle.os8_dir.specs.Files.{joined, run, held_of}
-use Rattle.os8_dir.specs.Segments.{segment_of, segment_count}
-use Rattle.os8_files.specs.Failed.{IsWrittenInPart}
+use Rattle.os8_dir.specs.Segments.{segment_of}
 use Rattle.os8_files.specs.Written.{with_segments, KeepsHigh}
 
 pub segments-next : (k : ℕ) (d : Listed) (blocks : List (List ℕ)) → with_segments (k + 1) d blocks ≡ slice_set (with_segments k d blocks) (k + 1) (segment_of d k)
@@ -54,14 +53,6 @@ keeps-high n d old mid new words few at is =
       first = ap (λ bs. block bs 0) is ∙ get_or-set_other mid (n + 1) 0 words [] (omega arith) ∙ mid-first;
       size = ap (λ (bs : List (List ℕ)). length bs) is ∙ length-set mid (n + 1) words ∙ mid-size;
     }
-
-pub in-part : (n : ℕ) (d : Listed) (old mid new : List (List ℕ)) (words : List ℕ) → n < segment_count d → n < length old → mid ≡ with_segments n d old → new ≡ slice_set mid (n + 1) words → IsWrittenInPart old new d
-in-part n d old mid new words taken inside at is = record {
-  number = n;
-  taken = taken;
-  below = λ k low. ap (λ bs. block bs (k + 1)) is ∙ get_or-set_other mid (n + 1) (k + 1) words [] (omega (arith, low)) ∙ ap (λ bs. block bs (k + 1)) at ∙ block-segments n d old k inside low;
-  above = λ k high few. ap (λ bs. block bs k) is ∙ get_or-set_other mid (n + 1) k words [] (omega (arith, high)) ∙ ap (λ bs. block bs k) at ∙ unused-segments n d old k (omega (arith, high));
-}
 
 drop-none : {A : Type 0} (n : ℕ) → drop {A = A} n [] ≡ []
 drop-none zero = refl

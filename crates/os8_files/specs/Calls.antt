@@ -12,9 +12,9 @@ use Rattle.os8_dir.specs.Files.{Held, Files, files_of, run, of_directory, limit_
 use Rattle.os8_dir.specs.Changes.{removed, placed, new_file, moved_down, fitting}
 use Rattle.os8_dir.specs.declared.faults.DirFault.{DirFault}
 use Rattle.os8_files.specs.Mounted.{Mounted, Begun, IsBegun}
-use Rattle.os8_files.specs.Service.{blocks_of, lengths_of, used_of, count_of}
+use Rattle.os8_files.specs.Service.{blocks_in, blocks_of, lengths_of, used_of, count_of}
 use Rattle.os8_dir.specs.Segments.{HoldsSegments, segment_count}
-use Rattle.os8_files.specs.Failed.{extent_or, with_list, lowest_or, KeepsDirectory, FoundAgain, FoundAgainBut, StandInFull, IsWrittenInPart}
+use Rattle.os8_files.specs.Failed.{extent_or, listed_or, with_list, lowest_or, KeepsDirectory, FoundAgain, FoundAgainBut, StandInFull, IsWrittenInPart}
 use Rattle.os8_files.specs.Holds.{with_hold}
 use Rattle.os8_files.specs.declared.tokens.Squeezed.{Squeezed}
 use Rattle.os8_files.specs.declared.tokens.Squeezed.TheVariants.{Moved, Nothing}
@@ -47,9 +47,23 @@ differing (suc n) old new = if pointwise nat_eq (block old (suc n)) (block new (
 abbrev pub WritesFew : Mounted → Mounted → Type 0
 WritesFew old new = new.writes ≡ counted_more (differing 6 old.blocks new.blocks) old.writes
 
--- a write failed: of the blocks nothing is said here, and all else but the stop and the count is as before
+-- a count has risen by some more, but at most by so many
+pub record RisesBy (most before after : ℕ) : Type 0 where
+  pub number : ℕ
+  pub some : 0 < number
+  pub few : number ≤ most
+  pub rise : after ≡ counted_more number before
+
+-- A directory was written in part, and the count of writes has risen by one for each block with other words below that whose
+-- write failed, and by one for that.
+pub record StopsInPart (old new : List (List ℕ)) (directory : Listed) (before after : ℕ) : Type 0 where
+  pub part : IsWrittenInPart old new directory
+  pub writes : after ≡ counted (counted_more (differing part.number old new) before)
+
+-- A write failed: of the blocks and of the number of writes nothing is said here, the directory stays the one that was held,
+-- and all else but the stop and the count is as before.
 abbrev pub HasFailed : Mounted → Mounted → Type 0
-HasFailed old new = new ≡ record old { blocks = new.blocks; writes = new.writes; failed_writes = old.failed_writes + 1; stopped = true }
+HasFailed old new = new ≡ record old { blocks = new.blocks; writes = new.writes; failed_writes = old.failed_writes + 1; stopped = true; last = listed_or (directory_of old.blocks) }
 
 -- a write has failed before, and nothing is changed
 abbrev pub HasStopped : Mounted → Mounted → Type 0
@@ -63,11 +77,14 @@ HasBlock m name k = (size : ℕ) → blocks_of (get (files_of m.blocks) name) �
 abbrev pub IsLonger : Mounted → ℕ → ℕ → Type 0
 IsLonger m name k = m.stopped ≡ false → HasBlock m name k
 
--- block k of a file is read by one read
+-- block k of a file, which has whole blocks, is read by one read
 pub record HasRead (old : Mounted) (name k : ℕ) (words : List ℕ) (new : Mounted) : Type 0 where
   pub running : old.stopped ≡ false
   pub file : Held
   pub there : get (files_of old.blocks) name ≡ Some file
+  pub whole : 256 * blocks_in file ≡ length file.1
+  pub inside : k < blocks_in file
+  pub most : blocks_in file ≤ 4095
   pub block : words ≡ take 256 (drop (256 * k) file.1)
   pub others : new ≡ record old { reads = counted old.reads }
 
@@ -85,11 +102,14 @@ Lists m (Err Stopped) = m.stopped ≡ true
 Lists m (Err Memory) = m.stopped ≡ false
 Lists m (Err fault) = ⊥
 
--- one hold more of a file that is there
+-- one hold more of a file that is there, which has whole blocks, at least one
 pub record HasTaken (old : Mounted) (name hold : ℕ) (new : Mounted) : Type 0 where
   pub running : old.stopped ≡ false
   pub file : Held
   pub there : get (files_of old.blocks) name ≡ Some file
+  pub whole : 256 * blocks_in file ≡ length file.1
+  pub some : 0 < blocks_in file
+  pub most : blocks_in file ≤ 4095
   pub names : hold ≡ name
   pub others : new ≡ record old { holds = with_hold name old.holds }
 
@@ -140,7 +160,7 @@ info_of blocks = of_directory (λ d. d.info) (directory_of blocks)
 abbrev pub entries_without : ℕ → List (List ℕ) → ℕ
 entries_without name blocks = of_directory (λ d. length (removed name d.entries)) (directory_of blocks)
 
--- a file is taken out
+-- a file is taken out, and the others stay in their places
 pub record HasDeleted (old : Mounted) (name : ℕ) (new : Mounted) : Type 0 where
   pub ready : IsReady old
   pub file : Held
@@ -148,6 +168,7 @@ pub record HasDeleted (old : Mounted) (name : ℕ) (new : Mounted) : Type 0 wher
   pub free : IsFree old name
   pub fits : entries_without name old.blocks ≤ limit_of old.blocks
   pub list : directory_of new.blocks ≡ with_list (λ d. removed name d.entries) (directory_of old.blocks)
+  pub places : (other : ℕ) → name ≢ other → extent_or other (directory_of new.blocks) ≡ extent_or other (directory_of old.blocks)
   pub files : files_of new.blocks ≡ remove (files_of old.blocks) name
   pub capacity : capacity_of new.blocks ≡ capacity_of old.blocks
   pub limit : limit_of new.blocks ≡ limit_of old.blocks
@@ -163,7 +184,7 @@ pub record DeleteFailed (old : Mounted) (name : ℕ) (new : Mounted) : Type 0 wh
   pub there : IsThere old name
   pub free : IsFree old name
   pub files : StandInFull new.blocks (directory_of old.blocks) (files_of old.blocks)
-  pub written : (directory : Listed) × (with_list (λ d. removed name d.entries) (directory_of old.blocks) ≡ Ok directory) × IsWrittenInPart old.blocks new.blocks directory
+  pub written : (directory : Listed) × (with_list (λ d. removed name d.entries) (directory_of old.blocks) ≡ Ok directory) × StopsInPart old.blocks new.blocks directory old.writes new.writes
   pub blocks : KeepsBlocks old.blocks new.blocks 0 0
   pub others : HasFailed old new
 
@@ -235,6 +256,7 @@ pub record WriteFailed (old new : Mounted) : Type 0 where
   pub short : begun.written < begun.room
   pub files : FoundAgain old.blocks new.blocks
   pub blocks : KeepsBlocks old.blocks new.blocks (begun.place + begun.written) 1
+  pub writes : new.writes ≡ counted old.writes
   pub others : HasFailed old new
 
 abbrev pub Writes : Mounted → List ℕ → Result (Unit {0}) FileFault → Mounted → Type 0
@@ -256,7 +278,8 @@ new_held m begun info = (padded (info_of m.blocks) info, run m.blocks begun.plac
 abbrev pub Spent : Mounted → Mounted
 Spent m = record m { tentative = None }
 
--- a file has the blocks that were written, and these information words; an older one of its name is gone
+-- A file has the blocks that were written, and these information words; an older one of its name is gone, and the others stay
+-- in their places.
 pub record HasClosed (old : Mounted) (name : ℕ) (given : List ℕ) (new : Mounted) : Type 0 where
   pub running : old.stopped ≡ false
   pub begun : Begun
@@ -266,6 +289,8 @@ pub record HasClosed (old : Mounted) (name : ℕ) (given : List ℕ) (new : Moun
   pub free : IsFree old name
   pub fits : entries_with begun given old.blocks ≤ limit_of old.blocks
   pub list : directory_of new.blocks ≡ with_list (λ d. placed d.first (new_file d name given begun.place begun.written) d.entries) (directory_of old.blocks)
+  pub place : extent_or name (directory_of new.blocks) ≡ Some (begun.place, begun.written)
+  pub places : (other : ℕ) → name ≢ other → extent_or other (directory_of new.blocks) ≡ extent_or other (directory_of old.blocks)
   pub files : files_of new.blocks ≡ insert (files_of old.blocks) name (new_held old begun given)
   pub capacity : capacity_of new.blocks ≡ capacity_of old.blocks
   pub limit : limit_of new.blocks ≡ limit_of old.blocks
@@ -297,7 +322,7 @@ pub record PlaceFailed (old : Mounted) (begun : Begun) (given : List ℕ) (new :
   pub fits : entries_with begun given old.blocks ≤ limit_of old.blocks
   pub older : StandInFull new.blocks (directory_of old.blocks) (files_of old.blocks)
   pub newer : StandInFull new.blocks (list_with old begun given) (files_with old begun given)
-  pub written : (directory : Listed) × (list_with old begun given ≡ Ok directory) × IsWrittenInPart old.blocks new.blocks directory
+  pub written : (directory : Listed) × (list_with old begun given ≡ Ok directory) × StopsInPart old.blocks new.blocks directory old.writes new.writes
   pub blocks : KeepsBlocks old.blocks new.blocks 0 0
   pub others : HasFailed old new
 
@@ -318,24 +343,9 @@ pub record IsPlaced (m : Mounted) (begun : Begun) : Type 0 where
   pub read : directory_of m.blocks ≡ Ok directory
   pub lies : IsBegun directory begun
 
--- what is done where that file is placed in the directory
-pub record HasPlaced (old : Mounted) (name : ℕ) (begun : Begun) (given : List ℕ) (new : Mounted) : Type 0 where
-  pub some : 0 < begun.written
-  pub free : IsFree old name
-  pub fits : entries_with begun given old.blocks ≤ limit_of old.blocks
-  pub list : directory_of new.blocks ≡ with_list (λ d. placed d.first (new_file d name given begun.place begun.written) d.entries) (directory_of old.blocks)
-  pub files : files_of new.blocks ≡ insert (files_of old.blocks) name (new_held old begun given)
-  pub capacity : capacity_of new.blocks ≡ capacity_of old.blocks
-  pub limit : limit_of new.blocks ≡ limit_of old.blocks
-  pub info : info_of new.blocks ≡ info_of old.blocks
-  pub tight : get (files_of old.blocks) name ≡ None → above_of old.blocks ≡ 0 → above_of new.blocks ≡ 0
-  pub written : IsWritten old.blocks new.blocks
-  pub blocks : KeepsBlocks old.blocks new.blocks 0 0
-  pub writes : WritesFew old new
-  pub others : new ≡ record old { blocks = new.blocks; writes = new.writes }
-
+-- what placing that file in the directory answers: where it is done, the file that was being written is closed
 abbrev pub Places : Mounted → ℕ → Begun → List ℕ → Result (Unit {0}) FileFault → Mounted → Type 0
-Places old name begun info (Ok done) new = HasPlaced old name begun info new
+Places old name begun info (Ok done) new = HasClosed (record old { tentative = Some begun }) name info new
 Places old name begun info (Err NothingWritten) new = (begun.written ≡ 0) × (new ≡ old)
 Places old name begun info (Err (Busy other)) new = (0 < begun.written) × (other ≡ name) × IsHeld old name × (new ≡ old)
 Places old name begun info (Err DirectoryFull) new = (0 < begun.written) × IsFree old name × (limit_of old.blocks < entries_with begun info old.blocks) × IsOver old.blocks (insert (files_of old.blocks) name (new_held old begun info)) × (new ≡ old)
@@ -384,17 +394,27 @@ pub record MoveFailed (old new : Mounted) : Type 0 where
   pub place : ℕ
   pub size : ℕ
   pub was : extent_or name (directory_of old.blocks) ≡ Some (place, size)
-  pub files : FoundAgainBut old.blocks new.blocks name size gap ⊎ (StandInFull new.blocks (with_list (λ d. moved_down name d.entries) (directory_of old.blocks)) (files_of old.blocks) × (directory : Listed) × (with_list (λ d. moved_down name d.entries) (directory_of old.blocks) ≡ Ok directory) × IsWrittenInPart old.blocks new.blocks directory)
+  pub files : (FoundAgainBut old.blocks new.blocks name size gap × RisesBy size old.writes new.writes) ⊎ (StandInFull new.blocks (with_list (λ d. moved_down name d.entries) (directory_of old.blocks)) (files_of old.blocks) × (directory : Listed) × (with_list (λ d. moved_down name d.entries) (directory_of old.blocks) ≡ Ok directory) × StopsInPart old.blocks new.blocks directory (counted_more size old.writes) new.writes)
   pub blocks : KeepsBlocks old.blocks new.blocks (place - gap) size
   pub reads : new.reads ≡ counted_more size old.reads
   pub others : HasFailed (record old { reads = new.reads }) new
+
+-- A read failed of the file that is to be moved down, and nothing is changed but the counts of reads.
+pub record MoveMissed (old new : Mounted) : Type 0 where
+  pub name : ℕ
+  pub gap : ℕ
+  pub lowest : lowest_or (directory_of old.blocks) ≡ Some (name, gap)
+  pub place : ℕ
+  pub size : ℕ
+  pub was : extent_or name (directory_of old.blocks) ≡ Some (place, size)
+  pub reads : RisesBy size old.reads new.reads
 
 abbrev pub Squeezes : Mounted → Result Squeezed FileFault → Mounted → Type 0
 Squeezes old (Ok (Moved name)) new = HasMoved old name new
 Squeezes old (Ok Nothing) new = IsReady old × (above_of old.blocks ≡ 0) × (new ≡ old)
 Squeezes old (Err TentativeOpen) new = (old.stopped ≡ false) × (begun : Begun) × (old.tentative ≡ Some begun) × (new ≡ old)
 Squeezes old (Err DirectoryFull) new = IsReady old × (name : ℕ) × (gap : ℕ) × (lowest_or (directory_of old.blocks) ≡ Some (name, gap)) × (limit_of old.blocks < entries_moved name old.blocks) × (0 < above_of old.blocks) × IsOver old.blocks (files_of old.blocks) × (new ≡ old)
-Squeezes old (Err Device) new = (IsReady old × HasMissed old new) ⊎ MoveFailed old new
+Squeezes old (Err Device) new = (IsReady old × HasMissed old new × MoveMissed old new) ⊎ MoveFailed old new
 Squeezes old (Err Stopped) new = HasStopped old new
 Squeezes old (Err Memory) new = IsReady old × (0 < above_of old.blocks) × (new ≡ old)
 Squeezes old (Err fault) new = ⊥

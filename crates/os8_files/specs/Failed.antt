@@ -3,17 +3,26 @@ use Rattle.std.specs.Prelude.{◌⊎◌, ◌≡◌, ◌≢◌, ℕ, ◌+◌, ◌
 use Rattle.std.specs.FinMap.{get}
 use Rattle.os8_dir.specs.Entries.{Listed}
 use Rattle.os8_dir.specs.Reading.{directory_of, block}
-use Rattle.os8_dir.specs.Found.{files_at, find, extent_of}
+use Rattle.os8_dir.specs.Found.{Placed, files_at, find, extent_of}
 use Rattle.os8_dir.specs.Segments.{segment_count, segment_of}
 use Rattle.os8_dir.specs.Files.{Held, Files, files_of, run}
 use Rattle.os8_dir.specs.Changes.{relisted, lowest_above, moved_down}
 use Rattle.os8_dir.specs.declared.entries.DirEntry.{DirEntry}
 use Rattle.os8_dir.specs.declared.faults.DirFault.{DirFault}
 
+-- the blocks of a file that may be there
+abbrev pub size_or_none : Option Placed → Option ℕ
+size_or_none None = None
+size_or_none (Some f) = Some f.size
+
 -- where the file of a name lies
 abbrev pub extent_or : ℕ → Result Listed DirFault → Option (ℕ × ℕ)
 extent_or name (Ok d) = extent_of (find name (files_at d.first d.entries))
 extent_or name (Err fault) = None
+
+-- how many blocks the file of a name has in a directory
+abbrev pub size_in : Listed → ℕ → Option ℕ
+size_in d name = size_or_none (find name (files_at d.first d.entries))
 
 -- blocks 1 to 6 are as before, so a volume that is mounted again has the directory that it had
 pub record KeepsDirectory (old new : List (List ℕ)) : Type 0 where
@@ -46,11 +55,17 @@ abbrev pub lowest_or : Result Listed DirFault → Option (ℕ × ℕ)
 lowest_or (Ok d) = lowest_above d.entries
 lowest_or (Err fault) = None
 
+-- the directory that blocks are read as, where they are sound
+abbrev pub listed_or : Result Listed DirFault → Option Listed
+listed_or (Ok d) = Some d
+listed_or (Err fault) = None
+
 -- A directory was being written in rising order: blocks below one that it takes have its segments, that one has any words, and
 -- those above it up to 6 are as before.
 pub record IsWrittenInPart (old new : List (List ℕ)) (directory : Listed) : Type 0 where
   pub number : ℕ
   pub taken : number < segment_count directory
+  pub low : number < 6
   pub below : (k : ℕ) → k < number → block new (k + 1) ≡ segment_of directory k
   pub above : (k : ℕ) → number + 1 < k → k ≤ 6 → block new k ≡ block old k
 
@@ -64,15 +79,25 @@ pub record MovedInPart (old new : List (List ℕ)) : Type 0 where
   pub was : extent_or name (directory_of old) ≡ Some (place, size)
   pub found : FoundAgainBut old new name size gap
 
--- each file stands in full where it lies when that one is moved down
+-- each file stands in full where it lay, and a directory was written in part
+pub record KeptInFull (old new : List (List ℕ)) : Type 0 where
+  pub files : StandInFull new (directory_of old) (files_of old)
+  pub directory : Listed
+  pub part : IsWrittenInPart old new directory
+
+-- each file stands in full where it lies when that one is moved down, and the directory that says so was written in part
 pub record MovedInFull (old new : List (List ℕ)) : Type 0 where
   pub name : ℕ
   pub gap : ℕ
   pub lowest : lowest_or (directory_of old) ≡ Some (name, gap)
   pub files : StandInFull new (with_list (λ d. moved_down name d.entries) (directory_of old)) (files_of old)
+  pub directory : Listed
+  pub list : with_list (λ d. moved_down name d.entries) (directory_of old) ≡ Ok directory
+  pub part : IsWrittenInPart old new directory
 
 -- After a failed write either blocks 1 to 6 are as before, and mounting the volume again finds every file with its words, but
 -- perhaps one that was being moved and is longer than the empty below it; or the words of each file stand in full in its
--- old blocks or, where it was moved, in its new ones.
+-- old blocks or, where it was moved, in its new ones, and of blocks 1 to 6 the first ones have segments of the new
+-- directory, one has any words, and the others are as before.
 abbrev pub Survives : List (List ℕ) → List (List ℕ) → Type 0
-Survives old new = FoundAgain old new ⊎ (MovedInPart old new ⊎ (StandInFull new (directory_of old) (files_of old) ⊎ MovedInFull old new))
+Survives old new = FoundAgain old new ⊎ (MovedInPart old new ⊎ (KeptInFull old new ⊎ MovedInFull old new))

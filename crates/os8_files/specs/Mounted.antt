@@ -22,6 +22,8 @@ pub record Mounted : Type 0 where
   pub failed_writes : ℕ
   -- a write has failed
   pub stopped : Bool
+  -- the directory as it was held when that write failed
+  pub last : Option Listed
   -- the names that are held, in name order, one as often as it is held
   pub holds : List ℕ
   pub tentative : Option Begun

@@ -5,8 +5,7 @@ use Rattle.os8_dir.specs.Entries.{Listed}
 use Rattle.os8_dir.specs.Reading.{directory_of, block}
 use Rattle.os8_dir.specs.Segments.{segment_of, segment_count, HoldsSegments}
 use Rattle.os8_files.specs.Mounted.{Mounted}
-use Rattle.os8_files.specs.Failed.{IsWrittenInPart}
-use Rattle.os8_files.specs.Calls.{WritesFew, HasFailed, HasMissed, counted_more}
+use Rattle.os8_files.specs.Calls.{WritesFew, HasFailed, HasMissed, RisesBy, StopsInPart, counted_more}
 use Rattle.os8_files.specs.declared.faults.FileFault.{FileFault}
 use Rattle.os8_files.specs.declared.faults.FileFault.TheVariants.{Device, Memory}
 
@@ -39,7 +38,7 @@ pub record KeepsHigh (old new : List (List ℕ)) : Type 0 where
 
 abbrev pub Rewrites : Mounted → Listed → Result (Unit {0}) FileFault → Mounted → Type 0
 Rewrites old d (Ok done) new = HasDirectory old d new
-Rewrites old d (Err Device) new = HasFailed old new × KeepsHigh old.blocks new.blocks × IsWrittenInPart old.blocks new.blocks d
+Rewrites old d (Err Device) new = HasFailed old new × KeepsHigh old.blocks new.blocks × StopsInPart old.blocks new.blocks d old.writes new.writes
 Rewrites old d (Err fault) new = ⊥
 
 -- blocks are written one behind the other from a place on
@@ -47,15 +46,18 @@ abbrev pub with_run : List (List ℕ) → ℕ → List (List ℕ) → List (List
 with_run blocks place [] = blocks
 with_run blocks place (words ∷ run) = with_run (slice_set blocks place words) (suc place) run
 
--- at most so many blocks were written one behind the other from a place on; the last of them may have any words
-pub record HasBrokenOff (old : List (List ℕ)) (place size : ℕ) (new : List (List ℕ)) : Type 0 where
+-- At most so many blocks were written one behind the other from a place on; the last of them may have any words. The count of
+-- writes has risen by one for each.
+pub record HasBrokenOff (old : List (List ℕ)) (place size : ℕ) (new : List (List ℕ)) (before after : ℕ) : Type 0 where
   pub run : List (List ℕ)
+  pub some : 0 < length run
   pub short : length run ≤ size
   pub blocks : new ≡ with_run old place run
+  pub writes : after ≡ counted_more (length run) before
 
 -- a run of blocks is copied so many blocks down
 abbrev pub Copies : Mounted → ℕ → ℕ → ℕ → Result (Unit {0}) FileFault → Mounted → Type 0
 Copies old place size gap (Ok done) new = (new.blocks ≡ with_run old.blocks (place - gap) (take size (drop place old.blocks))) × (new ≡ record old { blocks = new.blocks; reads = new.reads; writes = new.writes }) × (new.writes ≡ counted_more size old.writes) × (new.reads ≡ counted_more size old.reads)
-Copies old place size gap (Err Device) new = HasMissed old new ⊎ (HasFailed (record old { reads = new.reads }) new × (new.reads ≡ counted_more size old.reads) × HasBrokenOff old.blocks (place - gap) size new.blocks)
+Copies old place size gap (Err Device) new = (HasMissed old new × RisesBy size old.reads new.reads) ⊎ (HasFailed (record old { reads = new.reads }) new × (new.reads ≡ counted_more size old.reads) × HasBrokenOff old.blocks (place - gap) size new.blocks old.writes new.writes)
 Copies old place size gap (Err Memory) new = new ≡ old
 Copies old place size gap (Err fault) new = ⊥

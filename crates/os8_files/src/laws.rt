@@ -1,13 +1,23 @@
 //! What holds of every call of the file service. Each function does nothing: its contract is the law.
-ghost use Rattle.std.specs.Prelude.{◌≡◌, ◌<◌, ℕ, List, Result};
+ghost use Rattle.std.specs.Prelude.{◌≡◌, ◌⊎◌, ◌+◌, ◌*◌, ◌<◌, ◌≤◌, ℕ, nat_lt, List, [], ◌∷◌, length, take, drop, None, Some, Ok, Result};
+ghost use Rattle.std.specs.FinMap.{get};
 ghost use Rattle.std.specs.Global.{Vec};
+ghost use Rattle.volume_image.specs.Volume.{IsVolume};
+ghost use Rattle.os8_dir.specs.Entries.{contains};
+ghost use Rattle.os8_dir.specs.Files.{Held, files_of, above_of};
+ghost use Rattle.os8_files.specs.Service.{blocks_in, count_of};
 ghost use Rattle.os8_files.specs.Mounted.{Mounted};
-ghost use Rattle.os8_files.specs.Calls.{Reads, Lists, Holds, Deletes, Enters, Writes, Closes, Squeezes, HasMissed};
-ghost use Rattle.os8_files.specs.Holds.{with_hold, without_hold};
+ghost use Rattle.os8_files.specs.Calls.{Reads, Lists, Holds, Deletes, Enters, Writes, Closes, Squeezes, Spent, HasMissed};
+ghost use Rattle.os8_files.specs.Holds.{with_hold, without_hold, times};
 ghost use Rattle.os8_files.specs.Failed.{Survives};
-ghost use Rattle.os8_files.specs.Laws.{KeepsHeld, IsStopped};
+ghost use Rattle.os8_files.specs.Laws.{KeepsHeld, KeepsHolds, IsHeldThrough, KeepsPlaces, KeepsOtherPlaces, MovesOne, ReadsOne, ReadsLowest, IsStopped};
 ghost use Rattle.os8_files.specs.declared.faults.FileFault.{FileFault};
 ghost use Rattle.os8_files.specs.declared.tokens.Squeezed.{Squeezed};
+
+use os8_dir::laws::{
+    directory_numbers, entry_counts, files_found, files_inside, files_made, sound_directory,
+    unsound_volumes,
+};
 
 /// A file that is held keeps its words through every call, whatever is answered, until a write fails.
 pub fn held_files()
@@ -18,12 +28,90 @@ pub fn held_files()
     ensures close { (old new : Mounted) (name : ℕ) (info : List ℕ) (result : Result (Unit {0}) FileFault) → Closes old name info result new → KeepsHeld old new }
     ensures delete { (old new : Mounted) (name : ℕ) (result : Result (Unit {0}) FileFault) → Deletes old name result new → KeepsHeld old new }
     ensures squeeze_turn { (old new : Mounted) (result : Result Squeezed FileFault) → Squeezes old result new → KeepsHeld old new }
+    ensures release { (old : Mounted) (hold : ℕ) → KeepsHeld old (record old { holds = without_hold hold old.holds }) }
+    ensures give_up { (old : Mounted) → KeepsHeld old (Spent old) }
+{}
+
+/// Block k of a file that stays held is block k of the same words at each later call, wherever the file lies by then.
+pub fn held_blocks()
+    ensures { (name k : ℕ) (first last new : Mounted) (others : List Mounted) (before after : List ℕ) (file : Held) → IsHeldThrough name first others last → get (files_of first.blocks) name ≡ Some file → Reads last name k before (Ok tt) new after → after ≡ take 256 (drop (256 * k) file.1) }
+{}
+
+/// Calls that speak of no hold take and release none, and behind them files that are held have their words; so behind two
+/// such calls. None goes on where a write has failed before.
+pub fn kept_holds()
+    ensures read_block { (old new : Mounted) (name k : ℕ) (before after : List ℕ) (result : Result (Unit {0}) FileFault) → Reads old name k before result new after → KeepsHolds old new }
+    ensures enter { (old new : Mounted) (name wish : ℕ) (result : Result ℕ FileFault) → Enters old name wish result new → KeepsHolds old new }
+    ensures write { (old new : Mounted) (words : List ℕ) (result : Result (Unit {0}) FileFault) → Writes old words result new → KeepsHolds old new }
+    ensures close { (old new : Mounted) (name : ℕ) (info : List ℕ) (result : Result (Unit {0}) FileFault) → Closes old name info result new → KeepsHolds old new }
+    ensures give_up { (old : Mounted) → KeepsHolds old (Spent old) }
+    ensures delete { (old new : Mounted) (name : ℕ) (result : Result (Unit {0}) FileFault) → Deletes old name result new → KeepsHolds old new }
+    ensures squeeze_turn { (old new : Mounted) (result : Result Squeezed FileFault) → Squeezes old result new → KeepsHolds old new }
+    ensures both { (old mid new : Mounted) → KeepsHolds old mid → KeepsHolds mid new → KeepsHolds old new }
 {}
 
 /// A hold that is taken and released leaves the holds as they were.
 pub fn released_hold()
     ensures { (name : ℕ) (holds : List ℕ) → without_hold name (with_hold name holds) ≡ holds }
 {}
+
+/// How often a name is held: a hold that is taken adds one to its name alone, and one that is released takes one away from
+/// it. In which order two are taken is all one. A name is held where it stands among the holds at least once.
+pub fn counted_holds()
+    ensures taken { (name hold : ℕ) (holds : List ℕ) → times name (with_hold hold holds) ≡ times name (hold ∷ []) + times name holds }
+    ensures released { (name hold : ℕ) (holds : List ℕ) → 1 ≤ times hold holds → times name (hold ∷ []) + times name (without_hold hold holds) ≡ times name holds }
+    ensures order { (one two : ℕ) (holds : List ℕ) → with_hold one (with_hold two holds) ≡ with_hold two (with_hold one holds) }
+    ensures held { (name : ℕ) (holds : List ℕ) → contains holds name ≡ nat_lt 0 (times name holds) }
+{}
+
+/// Of all calls only a turn of squeezing changes the place of a file that it neither writes nor deletes, and of one file at
+/// most, the one that it answers.
+pub fn file_places()
+    ensures read_block { (old new : Mounted) (name k : ℕ) (before after : List ℕ) (result : Result (Unit {0}) FileFault) → Reads old name k before result new after → KeepsPlaces old new }
+    ensures hold { (old new : Mounted) (name : ℕ) (result : Result ℕ FileFault) → Holds old name result new → KeepsPlaces old new }
+    ensures release { (old : Mounted) (hold : ℕ) → KeepsPlaces old (record old { holds = without_hold hold old.holds }) }
+    ensures enter { (old new : Mounted) (name wish : ℕ) (result : Result ℕ FileFault) → Enters old name wish result new → KeepsPlaces old new }
+    ensures write { (old new : Mounted) (words : List ℕ) (result : Result (Unit {0}) FileFault) → Writes old words result new → KeepsPlaces old new }
+    ensures close { (old new : Mounted) (name : ℕ) (info : List ℕ) (result : Result (Unit {0}) FileFault) → Closes old name info result new → KeepsOtherPlaces name old new }
+    ensures give_up { (old : Mounted) → KeepsPlaces old (Spent old) }
+    ensures delete { (old new : Mounted) (name : ℕ) (result : Result (Unit {0}) FileFault) → Deletes old name result new → KeepsOtherPlaces name old new }
+    ensures squeeze_turn { (old new : Mounted) (result : Result Squeezed FileFault) → Squeezes old result new → MovesOne old result new }
+{}
+
+/// Which calls of a mounted volume read: `read_block` one block at most, and `squeeze_turn` each block of the file that it is to
+/// move at most once. The others read none.
+pub fn block_reads()
+    ensures read_block { (old new : Mounted) (name k : ℕ) (before after : List ℕ) (result : Result (Unit {0}) FileFault) → Reads old name k before result new after → ReadsOne old new }
+    ensures hold { (old new : Mounted) (name : ℕ) (result : Result ℕ FileFault) → Holds old name result new → new.reads ≡ old.reads }
+    ensures enter { (old new : Mounted) (name wish : ℕ) (result : Result ℕ FileFault) → Enters old name wish result new → new.reads ≡ old.reads }
+    ensures write { (old new : Mounted) (words : List ℕ) (result : Result (Unit {0}) FileFault) → Writes old words result new → new.reads ≡ old.reads }
+    ensures close { (old new : Mounted) (name : ℕ) (info : List ℕ) (result : Result (Unit {0}) FileFault) → Closes old name info result new → new.reads ≡ old.reads }
+    ensures delete { (old new : Mounted) (name : ℕ) (result : Result (Unit {0}) FileFault) → Deletes old name result new → new.reads ≡ old.reads }
+    ensures squeeze_turn { (old new : Mounted) (result : Result Squeezed FileFault) → Squeezes old result new → (new.reads ≡ old.reads) ⊎ ReadsLowest old new }
+{}
+
+/// A file has 256 words for each of its blocks, and 1 to 4095 blocks.
+pub fn whole_files()
+    ensures whole { (blocks : List (List ℕ)) (name : ℕ) (file : Held) → IsVolume blocks → get (files_of blocks) name ≡ Some file → 256 * blocks_in file ≡ length file.1 }
+    ensures some { (blocks : List (List ℕ)) (name : ℕ) (file : Held) → IsVolume blocks → get (files_of blocks) name ≡ Some file → 0 < blocks_in file }
+    ensures most { (blocks : List (List ℕ)) (name : ℕ) (file : Held) → IsVolume blocks → get (files_of blocks) name ≡ Some file → blocks_in file ≤ 4095 }
+{
+    files_found();
+    sound_directory();
+    files_inside();
+    unsound_volumes();
+}
+
+/// No more files have a free block below them than there are files.
+pub fn files_above()
+    ensures { (blocks : List (List ℕ)) → above_of blocks ≤ count_of (files_of blocks) }
+{
+    directory_numbers();
+    sound_directory();
+    files_made();
+    entry_counts();
+    unsound_volumes();
+}
 
 /// What a read that fails leaves: nothing is changed but the two counts of reads.
 pub fn failed_reads()

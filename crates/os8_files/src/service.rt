@@ -1,19 +1,22 @@
 ghost use Rattle.std.specs.Prelude.{◌≡◌, ℕ, ◌+◌, ◌<◌, ◌≤◌, ◌↔◌, List, [], true, false, Option, Some, None, Ok, IfOk, IfErr, OnErr};
 ghost use Rattle.std.specs.FinMap.{get};
 ghost use Rattle.os8_dir.specs.Reading.{Sound, HasFault, Meets, directory_of};
-ghost use Rattle.os8_dir.specs.Files.{files_of, capacity_of};
+ghost use Rattle.std.specs.Option.{is_some};
+ghost use Rattle.os8_dir.specs.Found.{free_blocks, count_files};
+ghost use Rattle.os8_dir.specs.Files.{files_of, capacity_of, above_of};
 ghost use Rattle.os8_dir.specs.declared.faults.DirFault.TheVariants.{Device};
-ghost use Rattle.os8_files.specs.Service.{blocks_of, used_of};
+ghost use Rattle.os8_files.specs.Service.{blocks_of, used_of, count_of};
+ghost use Rattle.os8_files.specs.Failed.{size_in};
 ghost use Rattle.os8_files.specs.Holds.{without_hold};
 ghost use Rattle.os8_files.specs.Calls.{Reads, Lists, Holds, IsLonger};
-ghost use Rattle.os8_dir.specs.Entries.{contains};
+ghost use Rattle.os8_dir.specs.Entries.{Listed, contains};
 
 use crate::begun::Begun;
 use crate::copying::{blank_run, read_run};
 use crate::holds::{first_of, place_of};
 use crate::lengths::files_by_name;
 use crate::{FileFault, Hold, Tentative};
-use os8_dir::laws::{directory_numbers, files_found, files_made, sound_directory};
+use os8_dir::laws::{directory_numbers, files_found, files_inside, files_made, sound_directory};
 use os8_dir::{DirFault, Directory, Name};
 use std::alloc::Global;
 use std::marker::Model;
@@ -36,6 +39,7 @@ pub struct FileService<S: BlockStore> {
 }
 
 impl<S: BlockStore> Model for FileService<S> {
+    ghost use Rattle.std.specs.Prelude.{if◌then◌else◌, Some, None};
     ghost use Rattle.os8_files.specs.Mounted.{Mounted, IsKept};
 
     ghost Value = { Mounted };
@@ -47,6 +51,7 @@ impl<S: BlockStore> Model for FileService<S> {
       failed_reads = S.failed_reads s.store;
       failed_writes = S.failed_writes s.store;
       stopped = s.stopped;
+      last = if s.stopped then Some s.directory else None;
       holds = s.holds.items;
       tentative = s.tentative;
     } };
@@ -61,7 +66,7 @@ impl<S: BlockStore> FileService<S> {
     pub fn mount(alloc: Global, mut store: S) -> Result<FileService<S>, (S, DirFault)>
         ensures blocks { IfOk result (λ s. s.blocks ≡ S.contents store) }
         ensures sound { IfOk result (λ s. Sound (S.contents store)) }
-        ensures fresh { IfOk result (λ s. (s.stopped ≡ false) × (s.holds ≡ []) × (s.tentative ≡ None)) }
+        ensures fresh { IfOk result (λ s. (s.stopped ≡ false) × (s.holds ≡ []) × (s.last ≡ None) × (s.tentative ≡ None)) }
         ensures reads { IfOk result (λ s. (s.reads ≤ S.reads store + 12) × (s.writes ≡ S.writes store) × (s.failed_reads ≡ S.failed_reads store) × (s.failed_writes ≡ S.failed_writes store)) }
         ensures no_write { IfErr result (λ e. S.writes e.0 ≡ S.writes store) }
         ensures handed_back { IfErr result (λ e. (S.contents e.0 ≡ S.contents store) × (S.reads e.0 ≤ S.reads store + 12) × (S.failed_writes e.0 ≡ S.failed_writes store)) }
@@ -107,9 +112,11 @@ impl<S: BlockStore> FileService<S> {
         store
     }
 
-    /// The length in blocks of the file of a name; nothing where there is none.
+    /// The length in blocks of the file of a name; nothing where there is none. Where a write has failed it is that of the
+    /// directory that was held then.
     pub fn lookup(&self, name: &Name) -> Option<usize>
-        ensures { self.now.stopped ≡ false → result ≡ blocks_of (get (files_of self.now.blocks) name.now) }
+        ensures running { self.now.stopped ≡ false → result ≡ blocks_of (get (files_of self.now.blocks) name.now) }
+        ensures stopped { (d : Listed) → self.now.last ≡ Some d → result ≡ size_in d name.now }
     {
         files_found();
         sound_directory();
@@ -119,14 +126,29 @@ impl<S: BlockStore> FileService<S> {
         }
     }
 
-    /// The covered blocks that belong to no file.
+    /// The covered blocks that belong to no file. Where a write has failed they are those of the directory that was held
+    /// then.
     pub fn free(&self) -> usize
-        ensures { self.now.stopped ≡ false → result + used_of (files_of self.now.blocks) ≡ capacity_of self.now.blocks }
+        ensures running { self.now.stopped ≡ false → result + used_of (files_of self.now.blocks) ≡ capacity_of self.now.blocks }
+        ensures stopped { (d : Listed) → self.now.last ≡ Some d → result ≡ free_blocks d.entries }
     {
         sound_directory();
         files_made();
         directory_numbers();
         self.directory.free()
+    }
+
+    /// How many files there are, no fewer than have a free block below them. Where a write has failed they are those of the
+    /// directory that was held then.
+    pub fn count(&self) -> usize
+        ensures running { self.now.stopped ≡ false → result ≡ count_of (files_of self.now.blocks) }
+        ensures above { self.now.stopped ≡ false → above_of self.now.blocks ≤ result }
+        ensures stopped { (d : Listed) → self.now.last ≡ Some d → result ≡ count_files d.entries }
+    {
+        sound_directory();
+        files_made();
+        directory_numbers();
+        self.directory.count()
     }
 
     /// The names of the files in name order, each with its length in blocks.
@@ -142,9 +164,11 @@ impl<S: BlockStore> FileService<S> {
         Ok(list)
     }
 
-    /// Whether a write has failed. From then on each call that can answer a `FileFault` answers `Stopped`.
+    /// Whether a write has failed. From then on each call that can answer a `FileFault` answers `Stopped`, and the directory
+    /// that was held then is told of.
     pub fn stopped(&self) -> bool
-        ensures { result ≡ self.now.stopped }
+        ensures value { result ≡ self.now.stopped }
+        ensures last { result ≡ is_some self.now.last }
     {
         self.stopped
     }
@@ -165,6 +189,7 @@ impl<S: BlockStore> FileService<S> {
         }
         files_found();
         sound_directory();
+        files_inside();
         match self.directory.find(name) {
             None => Err(FileFault::NotFound),
             Some((place, _)) => match self.store.read(place + k, words) {
@@ -183,6 +208,8 @@ impl<S: BlockStore> FileService<S> {
             return Err(FileFault::Stopped);
         }
         files_found();
+        sound_directory();
+        files_inside();
         match self.directory.find(name) {
             None => Err(FileFault::NotFound),
             Some(_) => {

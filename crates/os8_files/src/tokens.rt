@@ -46,6 +46,13 @@ impl Model for Hold {
 }
 
 impl Hold {
+    /// The name of the file.
+    pub fn name(&self) -> Name
+        ensures { result ≡ self.now }
+    {
+        self.name
+    }
+
     pub(crate) fn new(name: Name) -> Hold
         ensures { result ≡ name }
     {

@@ -33,3 +33,14 @@ pub returns-clause-few : goal.returns-clause-few
 returns-clause-few g c =
     let i = c.loop-k.invariant in
     omega (arith, i.reads, counted_more-few c.loop-k.k (g.S.BlockStore.reads c.args.store.now), c.loop-k.auto, i.size)
+
+pub returns-in-Err-clause-missed : goal.returns-in-Err-clause-missed
+returns-in-Err-clause-missed g c =
+    let i = c.loop-k.invariant in
+    let next : suc c.loop-k.k ≡ c.loop-k.k + 1 = omega arith in
+    record {
+      number = c.loop-k.k + 1;
+      some = omega arith;
+      few = omega (arith, c.loop-k-test.true, i.size);
+      rise = c.in-Err.ensures.reads ∙ ap counted i.reads ∙ ap (λ n. counted_more n (g.S.BlockStore.reads c.args.store.now)) next;
+    }

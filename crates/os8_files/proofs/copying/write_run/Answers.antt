@@ -28,5 +28,5 @@ loop-k-preserved g c =
 
 pub returns-in-Err-clause-err : goal.returns-in-Err-clause-err
 returns-in-Err-clause-err g c =
-    broken-off (g.S.BlockStore.contents c.args.store.now) (g.S.BlockStore.contents c.loop-k.store) (g.S.BlockStore.contents c.write-written.new.self) c.args.place c.loop-k.k c.args.run.now c.in-Err.ensures.err.words
-    c.loop-k-test.true c.loop-k.invariant.contents c.in-Err.ensures.err.rest
+    broken-off (g.S.BlockStore.contents c.args.store.now) (g.S.BlockStore.contents c.loop-k.store) (g.S.BlockStore.contents c.write-written.new.self) c.args.place c.loop-k.k (g.S.BlockStore.writes c.args.store.now) (g.S.BlockStore.writes c.write-written.new.self) c.args.run.now c.in-Err.ensures.err.words
+    c.loop-k-test.true c.loop-k.invariant.contents c.in-Err.ensures.err.rest (c.in-Err.ensures.writes ∙ ap counted c.loop-k.invariant.writes)

@@ -1,3 +1,4 @@
+use Rattle.std.proofs.Common.{refl}
 use Rattle.os8_files.proofs.KeptLemmas.{reads-keep, holds-keep, enters-keep, writes-keep, closes-keep, deletes-keep, squeezes-keep}
 use Rattle.os8_files.proofs.laws.held_files.Goals as goal
 
@@ -10,4 +11,6 @@ returns c = record {
   close = closes-keep;
   delete = deletes-keep;
   squeeze_turn = squeezes-keep;
+  release = λ old hold name held runs. refl;
+  give_up = λ old name held runs. refl;
 }

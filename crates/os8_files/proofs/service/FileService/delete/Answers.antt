@@ -9,9 +9,8 @@ use Rattle.os8_dir.specs.Changes.{removed}
 use Rattle.os8_dir.specs.declared.entries.DirEntry.{DirEntry}
 use Rattle.os8_dir.specs.Entries.{Listed}
 use Rattle.os8_dir.specs.Reading.{directory_of}
-use Rattle.os8_files.specs.Failed.{IsWrittenInPart}
 use Rattle.os8_files.specs.Written.{HasDirectory}
-use Rattle.os8_files.specs.Calls.{IsReady, Deletes}
+use Rattle.os8_files.specs.Calls.{IsReady, StopsInPart, Deletes}
 use Rattle.os8_files.proofs.CallLemmas.{some-of, none-of, held-none, found-some, by-rewrite}
 use Rattle.os8_files.proofs.BoundLemmas.{is-over, removed-made}
 use Rattle.os8_files.proofs.DeleteLemmas.{deleted}
@@ -82,7 +81,7 @@ returns-else-entries-limit g c =
     (λ done has. deleted c.files_found.ensures c.directory_numbers.ensures.limit c.directory_numbers.ensures.capacity c.file_removed.ensures.gone c.file_removed.ensures.others c.file_removed.ensures.covered
     old c.rewrite.new.self d name _ ready kept (c.sound_directory.ensures old.blocks d kept) (c.files_found.ensures old.blocks d name kept ∙ ap (held_of old.blocks d.info) f.1) (sym c.is_held.ensures ∙ c.if-is_held.false)
     fits (subst (λ (x : Listed). HasDirectory old x c.rewrite.new.self) list has))
-    (λ failed keeps part. delete-failed old c.rewrite.new.self d name ready (_, c.files_found.ensures old.blocks d name kept ∙ ap (held_of old.blocks d.info) f.1) (sym c.is_held.ensures ∙ c.if-is_held.false) kept (c.sound_directory.ensures old.blocks d kept) (c.files_made.ensures old.blocks d kept) failed keeps (subst (λ (x : Listed). IsWrittenInPart old.blocks c.rewrite.new.self.blocks x) list part))
+    (λ failed keeps part. delete-failed old c.rewrite.new.self d name ready (_, c.files_found.ensures old.blocks d name kept ∙ ap (held_of old.blocks d.info) f.1) (sym c.is_held.ensures ∙ c.if-is_held.false) kept (c.sound_directory.ensures old.blocks d kept) (c.files_made.ensures old.blocks d kept) failed keeps (subst (λ (x : Listed). StopsInPart old.blocks c.rewrite.new.self.blocks x old.writes c.rewrite.new.self.writes) list part))
 
 pub returns-then-is_held : goal.returns-then-is_held
 returns-then-is_held g c =

@@ -5,8 +5,8 @@ use Rattle.os8_files.specs.Service.{used_of}
 use Rattle.os8_files.proofs.ListingLemmas.{used_of-read}
 use Rattle.os8_files.proofs.service.FileService.free.Goals as goal
 
-pub returns : goal.returns
-returns g c = λ running.
+pub returns-clause-running : goal.returns-clause-running
+returns-clause-running g c = λ running.
     let d = c.self.inside.directory in
     let blocks = g.S.BlockStore.contents c.self.inside.store in
     let kept = c.self.invariant.kept (ap (λ (m : Mounted). m.stopped) c.self.view_is ∙ running) in

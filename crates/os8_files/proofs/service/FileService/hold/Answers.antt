@@ -1,4 +1,4 @@
-use Rattle.std.proofs.Common.{◌≡◌, false, None, refl, ap, sym, subst, ◌∙◌}
+use Rattle.std.proofs.Common.{◌≡◌, false, None, length, refl, ap, sym, subst, arith, ◌∙◌}
 use Rattle.std.specs.FinMap.{get}
 use Rattle.os8_dir.specs.Files.{files_of, held, held_of}
 use Rattle.os8_dir.specs.Found.{files_at, find}
@@ -8,6 +8,7 @@ use Rattle.os8_files.specs.Holds.{with_hold}
 use Rattle.os8_files.specs.Steps.{place_of}
 use Rattle.os8_files.proofs.HoldLemmas.{insert-place}
 use Rattle.os8_files.proofs.CallLemmas.{held-none, found-some}
+use Rattle.os8_files.proofs.LookupLemmas.{blocks-run, whole-run}
 use Rattle.os8_files.proofs.service.FileService.hold.Goals as goal
 use Rattle.os8_files.proofs.service.FileService.hold.Goals.{in-Ok, in-Err}
 
@@ -24,6 +25,8 @@ returns-after-insert g c =
     let d = c.self.inside.directory in
     let name = c.args.name.now in
     let f = found-some (find name (files_at d.first d.entries)) _ _ (sym c.find.ensures ∙ c.in-Some.is) in
+    let here = c.files_inside.ensures.inside (length blocks) name d f.0 (c.sound_directory.ensures blocks d (c.self.invariant.kept c.if-self.false)) f.1 in
+    let few = blocks-run blocks f.0 c.self.invariant.volume.each here.3 in
     elim c.match-insert.branch [
       | in-Ok w ↦
           let at : c.place_of-place.result ≡ place_of name c.self.inside.holds.items = c.place_of-place.ensures.value ∙ rw c.deref.ensures.value refl in
@@ -32,6 +35,9 @@ returns-after-insert g c =
             running = c.if-self.false;
             file = held blocks d.info f.0;
             there = c.files_found.ensures blocks d name (c.self.invariant.kept c.if-self.false) ∙ ap (held_of blocks d.info) f.1;
+            whole = whole-run blocks f.0 c.self.invariant.volume.each here.3;
+            some = omega (arith, few, here.2);
+            most = omega (arith, few, here.3, c.self.invariant.volume.most);
             names = w.new.ensures;
             others = rw e refl;
           })

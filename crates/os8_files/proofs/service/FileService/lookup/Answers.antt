@@ -7,8 +7,8 @@ use Rattle.os8_files.specs.Service.{blocks_of}
 use Rattle.os8_files.proofs.LookupLemmas.{told, blocks_found}
 use Rattle.os8_files.proofs.service.FileService.lookup.Goals as goal
 
-pub returns-in-Some : goal.returns-in-Some
-returns-in-Some g c = λ running.
+pub returns-in-Some-clause-running : goal.returns-in-Some-clause-running
+returns-in-Some-clause-running g c = λ running.
     let d = c.self.inside.directory in
     let blocks = g.S.BlockStore.contents c.self.inside.store in
     let kept = c.self.invariant.kept (ap (λ (m : Mounted). m.stopped) c.self.view_is ∙ running) in
@@ -17,8 +17,8 @@ returns-in-Some g c = λ running.
     ∙ ap blocks_of (sym (c.files_found.ensures blocks d c.args.name.now kept))
     ∙ ap (λ (m : Mounted). blocks_of (get (files_of m.blocks) c.args.name.now)) c.self.view_is
 
-pub returns-in-None : goal.returns-in-None
-returns-in-None g c = λ running.
+pub returns-in-None-clause-running : goal.returns-in-None-clause-running
+returns-in-None-clause-running g c = λ running.
     let d = c.self.inside.directory in
     let blocks = g.S.BlockStore.contents c.self.inside.store in
     let kept = c.self.invariant.kept (ap (λ (m : Mounted). m.stopped) c.self.view_is ∙ running) in

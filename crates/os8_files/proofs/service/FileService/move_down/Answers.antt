@@ -8,8 +8,8 @@ use Rattle.os8_dir.specs.Files.{files_of, limit_of, of_directory}
 use Rattle.os8_dir.specs.Found.{IsDirectory, files_at, extent_of, limit}
 use Rattle.os8_dir.specs.Changes.{lowest_above, moved_down}
 use Rattle.os8_files.specs.Mounted.{Mounted}
-use Rattle.os8_files.specs.Calls.{entries_moved, counted_more}
-use Rattle.os8_files.specs.Failed.{lowest_or, IsWrittenInPart}
+use Rattle.os8_files.specs.Calls.{StopsInPart, entries_moved, counted_more}
+use Rattle.os8_files.specs.Failed.{extent_or, lowest_or}
 use Rattle.os8_files.specs.Written.{HasDirectory, HasBrokenOff, with_run}
 use Rattle.os8_files.proofs.LookupLemmas.{find_within}
 use Rattle.os8_files.proofs.BoundLemmas.{is-over}
@@ -169,8 +169,9 @@ returns-in_err-copy_down-in-Some g c =
     let at = extent-at r.0 c.in-Some.place c.in-Some.size (ap extent_of (sym r.1.0) ∙ sym c.find.ensures ∙ c.in-Some.is) in
     let new = c.copy_down.new.self in
     rw (p.1, p.2) (copy-refused old new c.in-Some.place c.in-Some.size gap c.in_err-copy_down-in-Some.field-0.0 c.requires.ready some
+    (λ rises. record { name = name; gap = gap; lowest = c.requires.lowest; place = c.in-Some.place; size = c.in-Some.size; was = ap (extent_or name) kept ∙ sym c.find.ensures ∙ c.in-Some.is; reads = rises })
     (λ failed counts broken. copy-failed c.directory_blocks.ensures c.files_found.ensures c.rooms.ensures.lie c.rooms.ensures.outside old new d name gap c.requires.ready kept is low r
-    (subst (λ n. HasBrokenOff old.blocks (r.0.place - gap) n new.blocks) (sym at.1) (subst (λ n. HasBrokenOff old.blocks (n - gap) c.in-Some.size new.blocks) (sym at.0) broken))
+    (subst (λ n. HasBrokenOff old.blocks (r.0.place - gap) n new.blocks old.writes new.writes) (sym at.1) (subst (λ n. HasBrokenOff old.blocks (n - gap) c.in-Some.size new.blocks old.writes new.writes) (sym at.0) broken))
     (counts ∙ ap (λ n. counted_more n old.reads) (sym at.1)) failed)
     c.in_err-copy_down-in-Some.ensures)
 
@@ -212,6 +213,6 @@ returns-in_err-rewrite-in-Some g c =
     ∙ ap (λ n. with_run old.blocks (r.0.place - gap) (take n (drop r.0.place old.blocks))) (sym at.1) in
     let p = err_from_is_err_and c.from_residual-in_err-rewrite-in-Some.result c.from_residual-in_err-rewrite-in-Some.ensures.1 in
     rw (p.1, p.2) (rewrite-refused old mid c.rewrite.new.self c.in-Ok.directory c.in_err-rewrite-in-Some.field-0.0
-    (λ failed keeps part. move-failed c.files_found.ensures c.rooms.ensures.lie c.rooms.ensures.outside c.lowest_file.ensures.gap c.file_moved_down.ensures.there c.file_moved_down.ensures.others c.file_moved_down.ensures.directory
-    old mid c.rewrite.new.self d name gap c.requires.ready kept is low r put copied.1 (copied.3 ∙ ap (λ n. counted_more n old.reads) (sym at.1)) failed keeps (subst (λ (x : Listed). IsWrittenInPart mid.blocks c.rewrite.new.self.blocks x) c.in-Ok.ensures.list part))
+    (λ failed keeps part. move-failed c.directory_blocks.ensures c.files_found.ensures c.rooms.ensures.lie c.rooms.ensures.outside c.lowest_file.ensures.gap c.file_moved_down.ensures.there c.file_moved_down.ensures.others c.file_moved_down.ensures.directory
+    old mid c.rewrite.new.self d name gap c.requires.ready kept is low r put copied.1 (copied.3 ∙ ap (λ n. counted_more n old.reads) (sym at.1)) (copied.2 ∙ ap (λ n. counted_more n old.writes) (sym at.1)) failed keeps (subst (λ (x : Listed). StopsInPart mid.blocks c.rewrite.new.self.blocks x mid.writes c.rewrite.new.self.writes) c.in-Ok.ensures.list part))
     c.in_err-rewrite-in-Some.ensures)

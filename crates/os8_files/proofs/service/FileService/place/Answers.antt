@@ -8,8 +8,7 @@ use Rattle.os8_dir.specs.Found.{IsDirectory, rooms_at, limit}
 use Rattle.os8_dir.specs.Files.{files_of, limit_of, of_directory}
 use Rattle.os8_dir.specs.Changes.{placed, relisted, new_file}
 use Rattle.os8_files.specs.Mounted.{Mounted, Begun, IsBegun}
-use Rattle.os8_files.specs.Calls.{IsFree, Places, entries_with, new_held}
-use Rattle.os8_files.specs.Failed.{IsWrittenInPart}
+use Rattle.os8_files.specs.Calls.{IsFree, StopsInPart, Places, entries_with, new_held}
 use Rattle.os8_files.specs.Written.{HasDirectory}
 use Rattle.os8_files.proofs.CallLemmas.{by-rewrite}
 use Rattle.os8_files.proofs.BoundLemmas.{IsMade, is-over, placed-made}
@@ -88,10 +87,10 @@ returns-else-entries-limit g c =
     by-rewrite old c.rewrite.new.self c.in-Ok.directory c.rewrite.result (λ r. Places old name b info r c.rewrite.new.self) c.rewrite.ensures
     (λ done has. placed-file c.files_found.ensures c.rooms.ensures.lie c.directory_numbers.ensures.limit c.directory_numbers.ensures.capacity c.directory_numbers.ensures.above
     c.file_placed.ensures.there c.file_placed.ensures.others c.file_placed.ensures.covered c.file_placed.ensures.tight
-    old c.rewrite.new.self d name b info kept is lies some free fits (subst (λ (x : Listed). HasDirectory old x c.rewrite.new.self) list has))
+    old c.rewrite.new.self d name b info c.requires.begun.ready c.requires.names kept is lies some free fits (subst (λ (x : Listed). HasDirectory old x c.rewrite.new.self) list has))
     (λ failed keeps part. place-failed old c.rewrite.new.self d b info some (subst (IsFree old) (sym c.requires.names) free) fits kept is (c.files_made.ensures old.blocks d kept)
     (c.file_placed.ensures.directory (length old.blocks) b.name b.place b.written info d is lies.named some)
-    (placed-made c.files_found.ensures c.file_placed.ensures.there c.file_placed.ensures.others old d b.name b info kept is some lain) failed keeps (subst (λ n. IsWrittenInPart old.blocks c.rewrite.new.self.blocks (relisted d (placed d.first (new_file d n info b.place b.written) d.entries))) (sym c.requires.names) (subst (λ (x : Listed). IsWrittenInPart old.blocks c.rewrite.new.self.blocks x) list part)))
+    (placed-made c.files_found.ensures c.file_placed.ensures.there c.file_placed.ensures.others old d b.name b info kept is some lain) failed keeps (subst (λ n. StopsInPart old.blocks c.rewrite.new.self.blocks (relisted d (placed d.first (new_file d n info b.place b.written) d.entries)) old.writes c.rewrite.new.self.writes) (sym c.requires.names) (subst (λ (x : Listed). StopsInPart old.blocks c.rewrite.new.self.blocks x old.writes c.rewrite.new.self.writes) list part)))
 
 pub returns-in-Err : goal.returns-in-Err
 returns-in-Err g c = (omega (arith, c.if-begun-eq0.false, ap (λ (x : Begun). x.written) c.begun.view_is), sym c.is_held.ensures ∙ c.if-is_held.false, refl)

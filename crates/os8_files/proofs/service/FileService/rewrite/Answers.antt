@@ -1,5 +1,5 @@
 use Rattle.std.proofs.Math.Seq.{take-append_seam}
-use Rattle.std.proofs.Common.{◌≡◌, ℕ, List, ◌++◌, length, take, drop, refl, ap, sym, subst, ◌∙◌, arith}
+use Rattle.std.proofs.Common.{◌≡◌, false, ℕ, List, ◌++◌, length, take, drop, refl, ap, sym, subst, ◌∙◌, arith}
 use Rattle.os8_dir.specs.Reading.{block}
 use Rattle.os8_dir.specs.Found.{IsDirectory}
 use Rattle.os8_dir.specs.Segments.{segment_count}
@@ -36,6 +36,7 @@ returns-in-Ok g c =
     let few = c.write_segments.ensures.few in
     let size : length new ≡ length old = ap (λ bs. length bs) c.in-Ok.ensures.ok ∙ length-segments (segment_count d) d old in
     let sound : IsDirectory (length new) d = subst (λ n. IsDirectory n d) (ap (λ (m : Mounted). length m.blocks) (sym c.self.view_is) ∙ sym size) c.requires.sound in
+    let running : c.self.inside.stopped ≡ false = ap (λ (m : Mounted). m.stopped) c.self.view_is ∙ c.requires.running in
     rw (← c.self.view_is) (record {
       high = ap (drop 7) c.in-Ok.ensures.ok ∙ drop-segments (segment_count d) d old few;
       first = ap (λ bs. block bs 0) c.in-Ok.ensures.ok ∙ first-segments (segment_count d) d old;
@@ -44,5 +45,5 @@ returns-in-Ok g c =
       segments = holds-segments old new d c.in-Ok.ensures.ok (omega (arith, few, c.self.invariant.volume.least));
       unused = λ k more. ap (λ bs. block bs k) c.in-Ok.ensures.ok ∙ unused-segments (segment_count d) d old k more;
       writes = c.in-Ok.ensures.writes ∙ ap (λ n. counted_more n (g.S.BlockStore.writes c.self.inside.store)) (few-writes (segment_count d) d old new few (omega (arith, few, c.self.invariant.volume.least)) c.in-Ok.ensures.ok);
-      others = rw (c.write_segments.ensures.reads, c.write_segments.ensures.failed_reads, c.in-Ok.ensures.failed_writes) refl;
+      others = rw (c.write_segments.ensures.reads, c.write_segments.ensures.failed_reads, c.in-Ok.ensures.failed_writes, running) refl;
     })

@@ -1,8 +1,10 @@
 use Rattle.std.proofs.Math.ListN.{length-set}
-use Rattle.std.proofs.Common.{get_or-set_other, List, [], ℕ, length, ◌≡◌, ◌+◌, Some, Ok, slice_set, refl, ap, sym, subst, ◌∙◌, arith}
+use Rattle.std.proofs.Common.{get_or-set_other, true, List, [], ℕ, length, ◌≡◌, ◌+◌, Some, Ok, slice_set, refl, ap, sym, subst, ◌∙◌, arith}
 use Rattle.os8_dir.specs.Reading.{directory_of, block}
 use Rattle.os8_dir.specs.Files.{files_of, run}
 use Rattle.os8_files.specs.Mounted.{Mounted, Begun, IsBegun, AreSegments}
+use Rattle.volume_image.specs.Volume.{counted}
+use Rattle.os8_files.specs.Failed.{listed_or}
 use Rattle.os8_files.proofs.SegmentLemmas.{segments-written}
 use Rattle.os8_files.proofs.FailedLemmas.{write-failed}
 use Rattle.os8_files.proofs.KeepLemmas.{text-more, info-of, written-keeps}
@@ -91,9 +93,21 @@ returns-in-Err-clause-call g c =
     let is = c.sound_directory.ensures old.blocks d kept in
     let b : Begun = record { name = c.begun.inside.name; place = c.begun.inside.place; room = c.begun.inside.room; written = c.begun.inside.written } in
     let lies : IsBegun d b = subst (λ (x : Begun). IsBegun d x) (sym c.begun.view_is) (c.self.invariant.begun c.if-self.false c.in-Some.begun c.in-Some.is) in
+    let kept' = c.self.invariant.kept c.if-self.false in
     write-failed c.directory_blocks.ensures c.files_found.ensures c.rooms.ensures.lie c.rooms.ensures.outside old _ d b c.in-Err.ensures.err.words
     (ap (λ (m : Mounted). m.stopped) (sym c.self.view_is) ∙ c.if-self.false)
     (ap (λ (m : Mounted). m.tentative) (sym c.self.view_is) ∙ c.in-Some.is ∙ ap Some (sym c.begun.view_is))
     kept is lies c.if-written-room.false
     (c.in-Err.ensures.err.rest ∙ ap (λ bs. slice_set bs (b.place + b.written) c.in-Err.ensures.err.words) (sym same))
-    (rw (← c.self.view_is, c.write-result.ensures.reads, c.write-result.ensures.failed_reads, c.in-Err.ensures.failed_writes) refl)
+    (c.write-result.ensures.writes ∙ ap (λ (m : Mounted). counted m.writes) c.self.view_is)
+    (rw (← c.self.view_is, c.write-result.ensures.reads, c.write-result.ensures.failed_reads, c.in-Err.ensures.failed_writes) (ap (λ r. record {
+      blocks = g.S.BlockStore.contents c.write-result.new.self;
+      reads = g.S.BlockStore.reads c.self.inside.store;
+      writes = g.S.BlockStore.writes c.write-result.new.self;
+      failed_reads = g.S.BlockStore.failed_reads c.self.inside.store;
+      failed_writes = g.S.BlockStore.failed_writes c.self.inside.store + 1;
+      stopped = true;
+      last = listed_or r;
+      holds = c.self.inside.holds.items;
+      tentative = c.self.inside.tentative;
+    }) (sym kept')))
