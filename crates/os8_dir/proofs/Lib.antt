@@ -17,3 +17,4 @@ pub mod CountLemmas
 pub mod ApartLemmas
 pub mod SteadyLemmas
 pub mod ChosenLemmas
+pub mod NewLemmas

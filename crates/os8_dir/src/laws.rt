@@ -1,6 +1,7 @@
 //! What holds of every volume and its directory. Each function does nothing: its contract is the law.
 ghost use Rattle.std.specs.Prelude.{◌≡◌, ◌≢◌, ◌+◌, ◌-◌, ◌*◌, ◌<◌, ◌≤◌, ◌↔◌, ℕ, ◌⊎◌, List, [], length, take, Option, Some, None, Ok};
 ghost use Rattle.std.specs.FinMap.{get, from_entries};
+ghost use Rattle.volume_image.specs.Image.{IsNewVolume};
 ghost use Rattle.os8_dir.specs.Names.{name_of, padded, IsFourWords, IsBefore};
 ghost use Rattle.os8_dir.specs.Entries.{Listed, capacity, total, IsTidy, IsNamed};
 ghost use Rattle.os8_dir.specs.Reading.{Sound, HasFault, IsOfWords, block, directory_of};
@@ -62,6 +63,13 @@ pub fn directory_numbers()
     ensures capacity { (blocks : List (List ℕ)) (d : Listed) → directory_of blocks ≡ Ok d → capacity_of blocks ≡ capacity d }
     ensures limit { (blocks : List (List ℕ)) (d : Listed) → directory_of blocks ≡ Ok d → limit_of blocks ≡ limit d }
     ensures above { (blocks : List (List ℕ)) (d : Listed) → directory_of blocks ≡ Ok d → above_of blocks ≡ above d.entries }
+{}
+
+/// An empty volume is sound and has no files, and all its blocks but the first seven are covered and free.
+pub fn new_volumes()
+    ensures sound { (count : ℕ) (blocks : List (List ℕ)) → IsNewVolume count blocks → Sound blocks }
+    ensures files { (count : ℕ) (blocks : List (List ℕ)) → IsNewVolume count blocks → files_of blocks ≡ from_entries [] }
+    ensures free { (count : ℕ) (blocks : List (List ℕ)) → IsNewVolume count blocks → capacity_of blocks ≡ count - 7 }
 {}
 
 /// A volume that is not sound has no files, and none has an empty below it.

@@ -1,5 +1,5 @@
 -- Volumes as lists of blocks, and what a failing device leaves of them.
-use Rattle.std.specs.Prelude.{◌≡◌, ℕ, ◌+◌, ◌≤◌, nat_lt, if◌then◌else◌, List, length, All, slice_set}
+use Rattle.std.specs.Prelude.{◌≡◌, ℕ, ◌+◌, ◌<◌, ◌≤◌, nat_lt, if◌then◌else◌, List, [], length, slice_index, slice_index_or, All, slice_set}
 
 -- a block has 256 words
 abbrev pub IsBlock : List ℕ → Type 0
@@ -10,6 +10,10 @@ pub record IsVolume (blocks : List (List ℕ)) : Type 0 where
   pub least : 8 ≤ length blocks
   pub most : length blocks ≤ 4095
   pub each : All IsBlock blocks
+
+-- each word of each block has twelve bits (Small Computer Handbook)
+abbrev pub AreWords : List (List ℕ) → Type 0
+AreWords blocks = (n k : ℕ) → slice_index (slice_index_or blocks n []) k < 4096
 
 -- one block has any words, and the others are as before
 pub record IsDamaged (old new : List (List ℕ)) (number : ℕ) : Type 0 where

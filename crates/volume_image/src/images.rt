@@ -5,6 +5,15 @@ ghost use Rattle.volume_image.specs.Volume.{IsBlock, IsVolume};
 use std::alloc::{AllocError, Global};
 use word12::Word;
 
+// Takes each word as a number, by which it is known to have twelve bits; a compiler leaves this out.
+pub(crate) fn know_words(words: &[Word])
+    ensures { (k : ℕ) → slice_index words.now k < 4096 }
+{
+    for word in words {
+        let _number = word.get();
+    }
+}
+
 // The index of the first word that has more than twelve bits.
 pub(crate) fn first_bad_word(bytes: &[u8]) -> Option<usize>
     requires { length bytes.now % 2 ≡ 0 }

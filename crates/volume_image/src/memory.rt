@@ -2,7 +2,7 @@ ghost use Rattle.std.specs.Prelude.{◌≡◌, ◌<◌, length, slice_get, slice
 ghost use Rattle.volume_image.specs.Volume.{IsBlock, counted};
 ghost use Rattle.volume_image.specs.Image.{IsImageOf, Reads, Creates};
 
-use crate::images::{blocks_of, first_bad_word, image_of, new_blocks};
+use crate::images::{blocks_of, first_bad_word, image_of, know_words, new_blocks};
 use crate::{BlockStore, DeviceFault, ImageFault};
 use std::alloc::Global;
 use std::marker::Model;
@@ -18,13 +18,13 @@ pub struct MemoryVolume {
 
 impl Model for MemoryVolume {
     ghost use Rattle.volume_image.specs.Stores.{InMemory};
-    ghost use Rattle.volume_image.specs.Volume.{IsVolume};
+    ghost use Rattle.volume_image.specs.Volume.{AreWords, IsVolume};
 
     ghost Value = { InMemory };
 
     ghost view = { λ volume. record { blocks = volume.blocks.items; reads = volume.reads; writes = volume.writes } };
 
-    ghost invariant = { λ volume. IsVolume volume.blocks.items };
+    ghost invariant = { λ volume. IsVolume volume.blocks.items × AreWords volume.blocks.items };
 }
 
 impl MemoryVolume {
@@ -130,6 +130,7 @@ impl BlockStore for MemoryVolume {
         ensures done { IsOk result }
         ensures words { self.new ≡ record self.old { blocks = slice_set self.old.blocks number words.now; writes = counted self.old.writes } }
     {
+        know_words(words);
         count_up(&mut self.writes);
         self.blocks[number] = *words;
         Ok(())

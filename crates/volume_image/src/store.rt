@@ -1,5 +1,5 @@
 ghost use Rattle.std.specs.Prelude.{◌≡◌, ℕ, ◌+◌, ◌<◌, List, length, is_ok, if◌then◌else◌, OnOk, OnErr, Some, slice_get, slice_set};
-ghost use Rattle.volume_image.specs.Volume.{IsVolume, IsDamaged, counted};
+ghost use Rattle.volume_image.specs.Volume.{AreWords, IsVolume, IsDamaged, counted};
 
 use thiserror::Error;
 use word12::Word;
@@ -26,10 +26,11 @@ pub trait BlockStore {
     /// How many writes failed.
     ghost failed_writes: { Self → ℕ };
 
-    /// How many blocks there are.
+    /// How many blocks there are. Each has 256 words of twelve bits.
     fn blocks(&self) -> usize
         ensures count { result ≡ length (contents self.now) }
-        ensures volume { IsVolume (contents self.now) };
+        ensures volume { IsVolume (contents self.now) }
+        ensures words { AreWords (contents self.now) };
 
     /// Reads a block. Where that fails, nothing is changed.
     fn read(&mut self, number: usize, words: &mut [Word; 256]) -> Result<(), DeviceFault>
