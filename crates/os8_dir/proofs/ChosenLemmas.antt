@@ -1,5 +1,5 @@
 -- What is chosen among empties and files.
-use Rattle.std.proofs.Common.{◌≡◌, ℕ, zero, suc, ◌+◌, ◌<◌, ◌≤◌, true, false, eqb, if◌then◌else◌, List, [], ◌∷◌, ◌++◌, length, Option, Some, None, refl, ap, sym, subst, arith, inl, inr}
+use Rattle.std.proofs.Common.{◌≡◌, ℕ, zero, suc, ◌+◌, ◌<◌, ◌≤◌, if◌then◌else◌, List, [], ◌∷◌, ◌++◌, length, Option, Some, None, refl, ap, sym, subst, arith, inl, inr}
 use Rattle.std.specs.Prelude.{◌⊎◌}
 use Rattle.std.proofs.lemmas.Bool.Decides.{eqb_tells, leb_tells}
 use Rattle.os8_dir.specs.declared.entries.DirEntry.{DirEntry}
@@ -7,7 +7,7 @@ use Rattle.os8_dir.specs.declared.entries.DirEntry.TheVariants.{File, Empty}
 use Rattle.os8_dir.specs.Entries.{IsTidy}
 use Rattle.os8_dir.specs.Found.{Placed, files_at, largest, larger, above}
 use Rattle.os8_dir.specs.Changes.{fitting, smaller, smallest, lowest_above}
-use Rattle.os8_dir.specs.Chosen.{EachRoom, IsFirstLargest, IsFirstSmallest, IsLowestAbove, IsFreeBlock, HasFreeBelow, EachHas, NoneHas, IsCountAbove}
+use Rattle.os8_dir.specs.Chosen.{EachRoom, IsFirstLargest, IsFirstSmallest, IsLowestAbove, IsFreeBlock, EachHas, NoneHas, IsCountAbove}
 use Rattle.os8_dir.proofs.CountLemmas.{length-files}
 
 abbrev pair_or : Option (ℕ × ℕ) → ℕ × ℕ → ℕ × ℕ

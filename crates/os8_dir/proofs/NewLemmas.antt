@@ -1,14 +1,12 @@
 -- What an empty volume is read as.
-use Rattle.std.proofs.Common.{◌≡◌, ℕ, suc, ◌+◌, ◌-◌, ◌<◌, ◌≤◌, List, [], ◌∷◌, length, drop, get_or, true, Ok, refl, ap, sym, subst, ◌∙◌, arith, drop-cons}
+use Rattle.std.proofs.Common.{◌≡◌, ℕ, ◌+◌, ◌-◌, ◌<◌, ◌≤◌, List, [], ◌∷◌, length, drop, Ok, refl, ap, ◌∙◌, arith, drop-cons}
 use Rattle.std.specs.Prelude.{is_ok}
 use Rattle.std.specs.FinMap.{from_entries}
 use Rattle.std.proofs.lemmas.List.Elements.{All-get_or}
 use Rattle.volume_image.specs.Volume.{IsBlock}
 use Rattle.volume_image.specs.Image.{IsNewVolume, new_word}
-use Rattle.volume_image.specs.Image as image
-use Rattle.os8_dir.specs.declared.entries.DirEntry.{DirEntry}
-use Rattle.os8_dir.specs.declared.entries.DirEntry.TheVariants.{File, Empty}
-use Rattle.os8_dir.specs.Entries.{Listed, minus, tidy}
+use Rattle.os8_dir.specs.declared.entries.DirEntry.TheVariants.{Empty}
+use Rattle.os8_dir.specs.Entries.{Listed, minus}
 use Rattle.os8_dir.specs.Reading.{word, block, entry_at, empty_at, with_entries, with_segment, with_links, head_of, directory_of, Sound}
 use Rattle.os8_dir.specs.Changes.{relisted}
 use Rattle.os8_dir.specs.Files.{files_of, files_in, capacity_of}
@@ -21,7 +19,7 @@ empty-read : (info size : ℕ) (rest : List ℕ) → entry_at info (0 ∷ size �
 unfolding entry_at empty_at
 empty-read info size rest = refl
 
-again : (n : ℕ) → 0 < n → n ≤ 4088 → minus (image.minus n) ≡ n
+again : (n : ℕ) → 0 < n → n ≤ 4088 → minus (minus n) ≡ n
 again n some few = omega (arith, some, few)
 
 -- the directory of an empty volume of so many blocks
@@ -31,13 +29,13 @@ new_listed count = record { first = 7; info = 1; entries = Empty (count - 7) ∷
 abbrev headed : ℕ → ℕ → Listed
 headed first info = record { first = first; info = info; entries = [] }
 
-segment-read : (volume : ℕ) (words : List ℕ) (count : ℕ) → 7 ≤ length words → word words 0 ≡ 4095 → word words 1 ≡ 7 → word words 4 ≡ 4095 → word words 5 ≡ 0 → word words 6 ≡ image.minus (count - 7) → 8 ≤ count → count ≤ 4095 → volume ≡ count
+segment-read : (volume : ℕ) (words : List ℕ) (count : ℕ) → 7 ≤ length words → word words 0 ≡ 4095 → word words 1 ≡ 7 → word words 4 ≡ 4095 → word words 5 ≡ 0 → word words 6 ≡ minus (count - 7) → 8 ≤ count → count ≤ 4095 → volume ≡ count
     → (head_of volume words ≡ Ok (headed 7 1)) × (with_segment volume (headed 7 1) 1 words ≡ Ok (new_listed count))
 segment-read volume words count long zeroth first fourth fifth sixth least most same =
     let one : minus (word words 4) ≡ 1 = ap minus fourth in
-    let entry : drop 5 words ≡ 0 ∷ image.minus (count - 7) ∷ drop 7 words = drop-cons words 5 0 (omega (arith, long)) ∙ ap (λ l. word words 5 ∷ l) (drop-cons words 6 0 (omega (arith, long))) ∙ ap (λ w. w ∷ word words 6 ∷ drop 7 words) fifth ∙ ap (λ w. 0 ∷ w ∷ drop 7 words) sixth in
-    let size : minus (image.minus (count - 7)) ≡ count - 7 = again (count - 7) (omega (arith, least)) (omega (arith, most)) in
-    let read : entry_at 1 (drop 5 words) ≡ Ok (Empty (count - 7), drop 7 words) = ap (entry_at 1) entry ∙ empty-read 1 (image.minus (count - 7)) (drop 7 words) ∙ ap (λ n. Ok (Empty n, drop 7 words)) size in (
+    let entry : drop 5 words ≡ 0 ∷ minus (count - 7) ∷ drop 7 words = drop-cons words 5 0 (omega (arith, long)) ∙ ap (λ l. word words 5 ∷ l) (drop-cons words 6 0 (omega (arith, long))) ∙ ap (λ w. w ∷ word words 6 ∷ drop 7 words) fifth ∙ ap (λ w. 0 ∷ w ∷ drop 7 words) sixth in
+    let size : minus (minus (count - 7)) ≡ count - 7 = again (count - 7) (omega (arith, least)) (omega (arith, most)) in
+    let read : entry_at 1 (drop 5 words) ≡ Ok (Empty (count - 7), drop 7 words) = ap (entry_at 1) entry ∙ empty-read 1 (minus (count - 7)) (drop 7 words) ∙ ap (λ n. Ok (Empty n, drop 7 words)) size in (
       head_of-ok volume words (omega (arith, one)) (omega (arith, first)) (omega (arith, first, least, same)) ∙ ap (λ n. Ok (headed n (minus (word words 4)))) first ∙ ap (λ n. Ok (headed 7 n)) one,
       with_segment-entries volume (headed 7 1) 1 words (omega (arith, one)) one first
           ∙ ap (λ n. with_entries (minus n) volume (headed 7 1) (drop 5 words)) zeroth

@@ -2,7 +2,7 @@
 use Rattle.std.specs.Prelude.{◌≡◌, ◌⊎◌, ℕ, ◌+◌, ◌<◌, ◌≤◌, List, [], ◌∷◌, ◌++◌, length}
 use Rattle.os8_dir.specs.declared.entries.DirEntry.{DirEntry}
 use Rattle.os8_dir.specs.declared.entries.DirEntry.TheVariants.{File, Empty}
-use Rattle.os8_dir.specs.Found.{Placed, files_at, above}
+use Rattle.os8_dir.specs.Found.{Placed, files_at}
 
 -- the number of blocks of each of these rooms is so
 abbrev pub EachRoom : (ℕ → Type 0) → List (ℕ × ℕ) → Type 0

@@ -1,18 +1,15 @@
 -- A directory as a list of entries in order of their blocks (OS/8 Software Support Manual).
-use Rattle.std.specs.Prelude.{◌≡◌, ℕ, zero, suc, ◌+◌, ◌-◌, ◌/◌, ◌%◌, ◌<◌, ◌==◌, Bool, true, false, if◌then◌else◌, List, [], ◌∷◌, take, Option, Some, None}
+use Rattle.std.specs.Prelude.{◌≡◌, ℕ, zero, suc, ◌+◌, ◌/◌, ◌<◌, ◌==◌, Bool, true, false, if◌then◌else◌, List, [], ◌∷◌, take, Option, Some, None}
 use Rattle.os8_dir.specs.declared.entries.DirEntry.{DirEntry}
 use Rattle.os8_dir.specs.declared.entries.DirEntry.TheVariants.{File, Empty}
 use Rattle.os8_dir.specs.Names.{padded}
+pub use Rattle.volume_image.specs.Image.{minus}
 
 -- a directory: its first block, how many information words an entry has, its entries
 pub record Listed : Type 0 where
   pub first : ℕ
   pub info : ℕ
   pub entries : List DirEntry
-
--- minus a number, modulo 4096
-abbrev pub minus : ℕ → ℕ
-minus n = (4096 - n) % 4096
 
 abbrev pub is_zero : ℕ → Bool
 is_zero zero = true

@@ -1,12 +1,11 @@
 -- What each call leaves of the holds, of the places of files and of the count of reads.
-use Rattle.std.proofs.Common.{◌≡◌, ◌≢◌, ◌≤◌, ℕ, true, false, true≢false, List, Result, Ok, Err, refl, ap, sym, ◌∙◌, inl, inr, arith}
+use Rattle.std.proofs.Common.{◌≡◌, ◌≢◌, ◌≤◌, ℕ, true, false, true≢false, List, Result, Ok, Err, ap, sym, ◌∙◌, inl, inr, arith}
 use Rattle.std.specs.Prelude.{◌⊎◌}
 use Rattle.os8_dir.specs.Reading.{directory_of}
 use Rattle.os8_files.specs.Mounted.{Mounted}
 use Rattle.os8_files.specs.Failed.{extent_or}
-use Rattle.os8_files.specs.Calls.{Reads, Holds, Enters, Writes, Closes, Deletes, Squeezes, Spent, counted_more}
-use Rattle.os8_files.specs.Holds.{without_hold}
-use Rattle.os8_files.specs.Laws.{KeepsHeld, KeepsHolds, KeepsPlaces, KeepsOtherPlaces, MovesOne, ReadsOne, ReadsLowest, extent_on}
+use Rattle.os8_files.specs.Calls.{Reads, Holds, Enters, Writes, Closes, Deletes, Squeezes, Spent}
+use Rattle.os8_files.specs.Laws.{KeepsHeld, KeepsHolds, KeepsPlaces, MovesOne, ReadsOne, ReadsLowest, extent_on}
 use Rattle.os8_files.specs.declared.faults.FileFault.{FileFault}
 use Rattle.os8_files.specs.declared.faults.FileFault.TheVariants.{NotFound, NoRoom, DirectoryFull, Busy, BadName, TooLong, TentativeOpen, Device, Stopped, Memory, NothingWritten}
 use Rattle.os8_files.specs.declared.tokens.Squeezed.{Squeezed}
@@ -191,10 +190,10 @@ moves-one old new (Ok (Moved name)) is = (squeezes-leave old new (Ok (Moved name
 moves-one old new (Ok Nothing) is = λ q runs. (squeezes-leave old new (Ok Nothing) is).places q tt runs
 moves-one old new (Err fault) is = λ q runs. (squeezes-leave old new (Err fault) is).places q tt runs
 
--- A hold that is taken changes no place, and reads nothing.
-pub holds-leave : (old new : Mounted) (name : ℕ) (result : Result ℕ FileFault) → Holds old name result new → KeepsPlaces old new × (new.reads ≡ old.reads)
-holds-leave old new name (Ok hold) is = ((λ q runs. ap (λ (m : Mounted). extent_on m q) is.others), ap (λ (m : Mounted). m.reads) is.others)
-holds-leave old new name (Err NotFound) is = ((λ q runs. ap (λ (m : Mounted). extent_on m q) is.2), ap (λ (m : Mounted). m.reads) is.2)
+-- A hold that is taken changes no place, reads nothing and stops nothing.
+pub holds-leave : (old new : Mounted) (name : ℕ) (result : Result ℕ FileFault) → Holds old name result new → KeepsPlaces old new × (new.reads ≡ old.reads) × (new.stopped ≡ old.stopped)
+holds-leave old new name (Ok hold) is = ((λ q runs. ap (λ (m : Mounted). extent_on m q) is.others), ap (λ (m : Mounted). m.reads) is.others, ap (λ (m : Mounted). m.stopped) is.others)
+holds-leave old new name (Err NotFound) is = ((λ q runs. ap (λ (m : Mounted). extent_on m q) is.2), ap (λ (m : Mounted). m.reads) is.2, ap (λ (m : Mounted). m.stopped) is.2)
 holds-leave old new name (Err (NoRoom n)) is = absurd is
 holds-leave old new name (Err DirectoryFull) is = absurd is
 holds-leave old new name (Err (Busy n)) is = absurd is
@@ -202,6 +201,6 @@ holds-leave old new name (Err BadName) is = absurd is
 holds-leave old new name (Err TooLong) is = absurd is
 holds-leave old new name (Err TentativeOpen) is = absurd is
 holds-leave old new name (Err Device) is = absurd is
-holds-leave old new name (Err Stopped) is = ((λ q runs. ap (λ (m : Mounted). extent_on m q) is.1), ap (λ (m : Mounted). m.reads) is.1)
-holds-leave old new name (Err Memory) is = ((λ q runs. ap (λ (m : Mounted). extent_on m q) is.2), ap (λ (m : Mounted). m.reads) is.2)
+holds-leave old new name (Err Stopped) is = ((λ q runs. ap (λ (m : Mounted). extent_on m q) is.1), ap (λ (m : Mounted). m.reads) is.1, ap (λ (m : Mounted). m.stopped) is.1)
+holds-leave old new name (Err Memory) is = ((λ q runs. ap (λ (m : Mounted). extent_on m q) is.2), ap (λ (m : Mounted). m.reads) is.2, ap (λ (m : Mounted). m.stopped) is.2)
 holds-leave old new name (Err NothingWritten) is = absurd is

@@ -40,7 +40,7 @@ pub record AreSegments (blocks kept : List (List ℕ)) : Type 0 where
   pub words : (k : ℕ) → k < 6 → block kept k ≡ block blocks (k + 1)
 
 -- the entries and the words of blocks 1 to 6 that are kept are those of the volume, which is sound, until a write fails
-pub record IsKept (blocks low : List (List ℕ)) (directory : Listed) (stopped : Bool) (tentative : Option Begun) : Type 0 where
+pub record IsMounted (blocks low : List (List ℕ)) (directory : Listed) (stopped : Bool) (tentative : Option Begun) : Type 0 where
   pub segments : stopped ≡ false → AreSegments blocks low
   pub volume : IsVolume blocks
   pub kept : stopped ≡ false → directory_of blocks ≡ Ok directory

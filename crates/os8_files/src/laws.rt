@@ -38,9 +38,10 @@ pub fn held_blocks()
 {}
 
 /// Calls that speak of no hold take and release none, and behind them files that are held have their words; so behind two
-/// such calls. None goes on where a write has failed before.
+/// such calls. None of them, and no hold that is taken, lets a service go on that has stopped.
 pub fn kept_holds()
     ensures read_block { (old new : Mounted) (name k : ℕ) (before after : List ℕ) (result : Result (Unit {0}) FileFault) → Reads old name k before result new after → KeepsHolds old new }
+    ensures hold { (old new : Mounted) (name : ℕ) (result : Result ℕ FileFault) → Holds old name result new → new.stopped ≡ old.stopped }
     ensures enter { (old new : Mounted) (name wish : ℕ) (result : Result ℕ FileFault) → Enters old name wish result new → KeepsHolds old new }
     ensures write { (old new : Mounted) (words : List ℕ) (result : Result (Unit {0}) FileFault) → Writes old words result new → KeepsHolds old new }
     ensures close { (old new : Mounted) (name : ℕ) (info : List ℕ) (result : Result (Unit {0}) FileFault) → Closes old name info result new → KeepsHolds old new }

@@ -11,9 +11,9 @@ mod faults;
 mod holds;
 pub mod laws;
 mod lengths;
+mod segments;
 mod service;
 mod tokens;
-mod writing;
 
 pub use faults::FileFault;
 pub use service::FileService;

@@ -40,7 +40,7 @@ pub struct FileService<S: BlockStore> {
 
 impl<S: BlockStore> Model for FileService<S> {
     ghost use Rattle.std.specs.Prelude.{if◌then◌else◌, Some, None};
-    ghost use Rattle.os8_files.specs.Mounted.{Mounted, IsKept};
+    ghost use Rattle.os8_files.specs.Mounted.{Mounted, IsMounted};
 
     ghost Value = { Mounted };
 
@@ -56,7 +56,7 @@ impl<S: BlockStore> Model for FileService<S> {
       tentative = s.tentative;
     } };
 
-    ghost invariant = { λ s. IsKept (S.contents s.store) s.segments.items s.directory s.stopped s.tentative };
+    ghost invariant = { λ s. IsMounted (S.contents s.store) s.segments.items s.directory s.stopped s.tentative };
 }
 
 impl<S: BlockStore> FileService<S> {

@@ -4,7 +4,7 @@ ghost use Rattle.os8_dir.specs.Found.{IsDirectory, limit};
 ghost use Rattle.os8_files.specs.Calls.{Deletes};
 ghost use Rattle.os8_files.specs.Written.{Rewrites};
 
-use crate::writing::write_segments;
+use crate::segments::write_segments;
 use crate::{FileFault, FileService};
 use os8_dir::laws::{
     directory_numbers, entry_counts, file_removed, files_found, files_made, read_back,

@@ -1,4 +1,4 @@
-//! The writing of a directory.
+//! The writing of a directory's segments.
 ghost use Rattle.std.specs.Prelude.{◌≡◌, ◌+◌, ◌≤◌, ◌<◌, slice_set, nat_eq, length, is_ok, if◌then◌else◌, OnOk, OnErr};
 ghost use lib.Pointwise.{pointwise};
 ghost use Rattle.volume_image.specs.Volume.{IsVolume, IsDamaged, counted};

@@ -2,7 +2,7 @@ use Rattle.std.proofs.Common.{arith, ap, ◌∙◌}
 use Rattle.volume_image.specs.Volume.{counted}
 use Rattle.os8_files.proofs.WrittenLemmas.{keeps-high}
 use Rattle.os8_files.proofs.CountLemmas.{stops-in-part}
-use Rattle.os8_files.proofs.writing.write_segments.Goals as goal
+use Rattle.os8_files.proofs.segments.write_segments.Goals as goal
 
 pub returns-in-Err-clause-err : goal.returns-in-Err-clause-err
 returns-in-Err-clause-err g c =
