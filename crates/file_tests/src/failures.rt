@@ -1,4 +1,5 @@
 //! Stores of which a read or a write fails.
+use crate::blocks::numbered;
 use crate::files::{changed, first_word, held, listed, mounted, moved};
 use os8_dir::DirFault;
 use os8_files::FileService;
@@ -16,9 +17,10 @@ fn four_changes<S: BlockStore>(alloc: Global, files: &mut FileService<S>) -> [us
     ]
 }
 
-/// What four changes of an empty volume of 20 blocks are refused as where a write fails behind so many. Nothing where the
-/// service has not stopped then, or a further listing, hold, delete, squeeze or store is not refused for that.
-fn failing_write(alloc: Global, passes: u32) -> Option<[usize; 4]> {
+/// What four changes of an empty volume of 20 blocks are refused as where a write fails behind so many, and the free blocks, the
+/// number of files and the length of file 2 that are told then. Nothing where the service has not stopped, or a further listing,
+/// hold, delete, squeeze or store is not refused for that.
+fn failing_write(alloc: Global, passes: u32) -> Option<([usize; 4], [usize; 3])> {
     let volume = MemoryVolume::create(alloc, 20).ok()?;
     let mut files = mounted(alloc, FuseVolume::new(volume, None, Some(passes)))?;
     let answers = four_changes(alloc, &mut files);
@@ -32,25 +34,30 @@ fn failing_write(alloc: Global, passes: u32) -> Option<[usize; 4]> {
     if !files.stopped() || behind != [9; 5] {
         return None;
     }
-    Some(answers)
+    let told = [
+        files.free(),
+        files.count(),
+        files.lookup(&numbered(2)).unwrap_or(0),
+    ];
+    Some((answers, told))
 }
 
 #[test]
 fn failing_writes(rt: HostRuntime) {
-    for (passes, answers) in [
-        (0, [8, 9, 9, 9]),
-        (1, [8, 9, 9, 9]),
-        (2, [0, 8, 9, 9]),
-        (3, [0, 8, 9, 9]),
-        (4, [0, 8, 9, 9]),
-        (5, [0, 0, 8, 9]),
-        (6, [0, 0, 0, 8]),
-        (7, [0, 0, 0, 8]),
-        (8, [0, 0, 0, 8]),
+    for (passes, answers, told) in [
+        (0, [8, 9, 9, 9], [13, 0, 0]),
+        (1, [8, 9, 9, 9], [13, 0, 0]),
+        (2, [0, 8, 9, 9], [12, 1, 0]),
+        (3, [0, 8, 9, 9], [12, 1, 0]),
+        (4, [0, 8, 9, 9], [12, 1, 0]),
+        (5, [0, 0, 8, 9], [10, 2, 2]),
+        (6, [0, 0, 0, 8], [11, 1, 2]),
+        (7, [0, 0, 0, 8], [11, 1, 2]),
+        (8, [0, 0, 0, 8], [11, 1, 2]),
     ] {
         assert_eq!(rt;
             failing_write(rt.alloc(), passes),
-            Some(answers),
+            Some((answers, told)),
             "{passes}"
         );
     }

@@ -147,12 +147,13 @@ pub fn first_word<S: BlockStore>(files: &mut FileService<S>, number: u16, k: usi
     }
 }
 
-/// What a hold of a file is refused as; 0 where it is held, and let go.
+/// What a hold of a file is refused as; 0 where it is held under its name, and let go.
 pub fn held<S: BlockStore>(files: &mut FileService<S>, number: u16) -> usize {
     match files.hold(&numbered(number)) {
         Ok(hold) => {
+            let name = hold.name();
             files.release(hold);
-            0
+            if name == numbered(number) { 0 } else { 9999 }
         }
         Err(fault) => number_of(fault),
     }

@@ -1,5 +1,5 @@
 //! Tests of the file service: its calls and refusals, stores that count or fail and what
-//! those leave, refused growths, and the most files.
+//! those leave, refused growths, the most files, and lists that are too long.
 #![tactic(auto)]
 
 #[cfg(test)]
@@ -16,6 +16,8 @@ mod files;
 mod growths;
 #[cfg(test)]
 mod largest;
+#[cfg(test)]
+mod long_lists;
 #[cfg(test)]
 mod refusals;
 #[cfg(test)]
