@@ -7,7 +7,7 @@ ghost use Rattle.os8_dir.specs.declared.faults.DirFault.TheVariants.{Memory};
 
 use crate::appending::{append, append_all};
 use crate::found::gap_place;
-use crate::reading::info_of;
+use crate::reading::information;
 use crate::{DirEntry, DirFault, Directory, Name};
 use std::alloc::Global;
 use word12::Word;
@@ -173,7 +173,7 @@ impl Directory {
         let count = self.information_words();
         let file = DirEntry::File {
             name: *name,
-            info: info_of(info, count.min(info.len())),
+            info: information(info, count.min(info.len())),
             length,
         };
         let entries = with_file(alloc, self.entries(), first, first_block, *name, &file)?;

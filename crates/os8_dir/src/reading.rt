@@ -17,7 +17,7 @@ pub fn minus(word: Word) -> usize
 }
 
 /// So many words, with zeros behind them.
-pub fn info_of(words: &[Word], info: usize) -> [Word; 10]
+pub fn information(words: &[Word], info: usize) -> [Word; 10]
     requires few { info ≤ 10 }
     requires there { info ≤ length words.now }
     ensures { result ≡ padded 10 (take info words.now) }
@@ -55,7 +55,7 @@ fn file_at(words: &[Word], info: usize) -> Result<(DirEntry, &[Word]), DirFault>
     }
     let name = Name::of([words[0], words[1], words[2], words[3]]);
     let (_, rest) = words.split_at(4);
-    let kept = info_of(rest, info);
+    let kept = information(rest, info);
     let length = minus(rest[info]);
     let (_, behind) = rest.split_at(info + 1);
     let entry = DirEntry::File {

@@ -1,7 +1,12 @@
 -- What a write that fails leaves of the files, whatever the call.
-use Rattle.std.proofs.Common.{◌≡◌, ℕ, ◌<◌, List, Result, Ok, Err, ap, arith, inl, inr}
+use Rattle.std.proofs.Common.{◌≡◌, ℕ, ◌<◌, List, Result, Ok, Err, ap, sym, subst, ◌∙◌, arith, inl, inr}
+use Rattle.std.specs.FinMap.{get}
+use Rattle.os8_dir.specs.Entries.{Listed}
+use Rattle.os8_dir.specs.Reading.{directory_of}
+use Rattle.os8_dir.specs.Files.{files_of}
+use Rattle.os8_dir.specs.Changes.{moved_down}
 use Rattle.os8_files.specs.Mounted.{Mounted}
-use Rattle.os8_files.specs.Failed.{Survives}
+use Rattle.os8_files.specs.Failed.{extent_or, with_list, lowest_or, KeepsDirectory, StandInFull, IsWrittenInPart, Survives}
 use Rattle.os8_files.specs.Calls.{Writes, Closes, Deletes, Squeezes}
 use Rattle.os8_files.specs.declared.faults.FileFault.{FileFault}
 use Rattle.os8_files.specs.declared.faults.FileFault.TheVariants.{NotFound, NoRoom, DirectoryFull, Busy, BadName, TooLong, TentativeOpen, Device, Stopped, Memory, NothingWritten}
@@ -76,3 +81,56 @@ squeezes-survive old new (Err Device) is more = elim is [
 squeezes-survive old new (Err Stopped) is more = none-failed old new (ap (λ (m : Mounted). m.failed_writes) is.1) more
 squeezes-survive old new (Err Memory) is more = none-failed old new (ap (λ (m : Mounted). m.failed_writes) is.2) more
 squeezes-survive old new (Err NothingWritten) is more = absurd is
+
+-- What a failed write leaves, where no block of the directory and no file was changed before.
+keeps-trans : (old mid new : List (List ℕ)) → KeepsDirectory old mid → KeepsDirectory mid new → KeepsDirectory old new
+keeps-trans old mid new one two = record {
+  count = two.count ∙ one.count;
+  segments = λ k low high. two.segments k low high ∙ one.segments k low high;
+  directory = two.directory ∙ one.directory;
+}
+
+part-from : (old mid new : List (List ℕ)) (directory : Listed) → KeepsDirectory old mid → IsWrittenInPart mid new directory → IsWrittenInPart old new directory
+part-from old mid new directory kept part = record {
+  number = part.number;
+  taken = part.taken;
+  low = part.low;
+  below = part.below;
+  above = λ k high few. part.above k high few ∙ kept.segments k (omega (arith, high)) few;
+}
+
+pub survives-from : (old mid new : List (List ℕ)) → KeepsDirectory old mid → files_of mid ≡ files_of old → Survives mid new → Survives old new
+survives-from old mid new kept files left = elim left [
+  | inl found ↦ inl (record { kept = keeps-trans old mid new kept found.kept; files = found.files ∙ files })
+  | inr rest ↦ elim rest [
+    | inl part ↦ inr (inl (record {
+      name = part.name;
+      gap = part.gap;
+      lowest = ap lowest_or (sym kept.directory) ∙ part.lowest;
+      place = part.place;
+      size = part.size;
+      was = ap (extent_or part.name) (sym kept.directory) ∙ part.was;
+      found = record {
+        kept = keeps-trans old mid new kept part.found.kept;
+        others = λ other differ. part.found.others other differ ∙ ap (λ fs. get fs other) files;
+        short = λ little. part.found.short little ∙ files;
+      };
+    }))
+    | inr more ↦ elim more [
+      | inl stand ↦ inr (inr (inl (record {
+        files = subst (λ r. StandInFull new r (files_of old)) kept.directory (subst (λ fs. StandInFull new (directory_of mid) fs) files stand.files);
+        directory = stand.directory;
+        part = part-from old mid new stand.directory kept stand.part;
+      })))
+      | inr full ↦ inr (inr (inr (record {
+        name = full.name;
+        gap = full.gap;
+        lowest = ap lowest_or (sym kept.directory) ∙ full.lowest;
+        files = subst (λ r. StandInFull new (with_list (λ d. moved_down full.name d.entries) r) (files_of old)) kept.directory (subst (λ fs. StandInFull new (with_list (λ d. moved_down full.name d.entries) (directory_of mid)) fs) files full.files);
+        directory = full.directory;
+        list = ap (with_list (λ d. moved_down full.name d.entries)) (sym kept.directory) ∙ full.list;
+        part = part-from old mid new full.directory kept full.part;
+      })))
+    ]
+  ]
+]

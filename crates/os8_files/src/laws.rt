@@ -9,7 +9,7 @@ ghost use Rattle.os8_files.specs.Service.{blocks_in, count_of};
 ghost use Rattle.os8_files.specs.Mounted.{Mounted};
 ghost use Rattle.os8_files.specs.Calls.{Reads, Lists, Holds, Deletes, Enters, Writes, Closes, Squeezes, Spent, HasMissed};
 ghost use Rattle.os8_files.specs.Holds.{with_hold, without_hold, times};
-ghost use Rattle.os8_files.specs.Failed.{Survives};
+ghost use Rattle.os8_files.specs.Failed.{KeepsDirectory, Survives};
 ghost use Rattle.os8_files.specs.Laws.{KeepsHeld, KeepsHolds, IsHeldThrough, KeepsPlaces, KeepsOtherPlaces, MovesOne, ReadsOne, ReadsLowest, IsStopped};
 ghost use Rattle.os8_files.specs.declared.faults.FileFault.{FileFault};
 ghost use Rattle.os8_files.specs.declared.tokens.Squeezed.{Squeezed};
@@ -122,12 +122,14 @@ pub fn failed_reads()
 
 /// What a write that fails leaves of the files. Either blocks 1 to 6 are as before, and mounting the store again finds every
 /// file with its words, except perhaps the file that was being moved, where it is longer than the empty below it; or each
-/// file's words stand in full in its old blocks, and those of a moved file in its new ones.
+/// file's words stand in full in its old blocks, and those of a moved file in its new ones. The same is left of the volume as it
+/// was before earlier writes that kept blocks 1 to 6 and all files.
 pub fn failed_writes()
     ensures write { (old new : Mounted) (words : List ℕ) (result : Result (Unit {0}) FileFault) → Writes old words result new → old.failed_writes < new.failed_writes → Survives old.blocks new.blocks }
     ensures close { (old new : Mounted) (name : ℕ) (info : List ℕ) (result : Result (Unit {0}) FileFault) → Closes old name info result new → old.failed_writes < new.failed_writes → Survives old.blocks new.blocks }
     ensures delete { (old new : Mounted) (name : ℕ) (result : Result (Unit {0}) FileFault) → Deletes old name result new → old.failed_writes < new.failed_writes → Survives old.blocks new.blocks }
     ensures squeeze_turn { (old new : Mounted) (result : Result Squeezed FileFault) → Squeezes old result new → old.failed_writes < new.failed_writes → Survives old.blocks new.blocks }
+    ensures later { (old mid new : List (List ℕ)) → KeepsDirectory old mid → files_of mid ≡ files_of old → Survives mid new → Survives old new }
 {}
 
 /// Each call that can answer a `FileFault` answers `Stopped` just where a write has failed before.

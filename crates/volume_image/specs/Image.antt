@@ -42,13 +42,13 @@ pub record IsImageOf (bytes : List ℕ) (blocks : List (List ℕ)) : Type 0 wher
   pub words : (n k : ℕ) → n < length blocks → k < 256 → block_word blocks n k ≡ image_word bytes (256 * n + k)
 
 -- what is answered where bytes are to be read as an image: want of memory is told of an image only
-abbrev pub Reads : List ℕ → Result InMemory ImageFault → Type 0
-Reads bytes (Ok volume) = IsImageOf bytes volume.blocks × (volume.reads ≡ 0) × (volume.writes ≡ 0)
-Reads bytes (Err NotWhole) = length bytes % 512 ≢ 0
-Reads bytes (Err TooSmall) = (length bytes % 512 ≡ 0) × (length bytes / 512 < 8)
-Reads bytes (Err TooLarge) = (length bytes % 512 ≡ 0) × (4095 < length bytes / 512)
-Reads bytes (Err (BadWord number)) = HasImageSize bytes × IsFirstBadWord bytes number
-Reads bytes (Err Memory) = IsImage bytes
+abbrev pub ReadsImage : List ℕ → Result InMemory ImageFault → Type 0
+ReadsImage bytes (Ok volume) = IsImageOf bytes volume.blocks × (volume.reads ≡ 0) × (volume.writes ≡ 0)
+ReadsImage bytes (Err NotWhole) = length bytes % 512 ≢ 0
+ReadsImage bytes (Err TooSmall) = (length bytes % 512 ≡ 0) × (length bytes / 512 < 8)
+ReadsImage bytes (Err TooLarge) = (length bytes % 512 ≡ 0) × (4095 < length bytes / 512)
+ReadsImage bytes (Err (BadWord number)) = HasImageSize bytes × IsFirstBadWord bytes number
+ReadsImage bytes (Err Memory) = IsImage bytes
 
 -- minus a number, as a word
 abbrev pub minus : ℕ → ℕ
@@ -82,9 +82,9 @@ Creates count (Err Memory) = (8 ≤ count) × (count ≤ 4095)
 -- the image of a volume is read back as that volume, where memory is there
 abbrev pub WrittenIsReadBack : Type 0
 WrittenIsReadBack = (bytes : List ℕ) (blocks : List (List ℕ)) (answer : Result InMemory ImageFault)
-    → IsImageOf bytes blocks → Reads bytes answer → MatchResult answer (λ volume. volume.blocks ≡ blocks) (λ fault. fault ≡ Memory)
+    → IsImageOf bytes blocks → ReadsImage bytes answer → MatchResult answer (λ volume. volume.blocks ≡ blocks) (λ fault. fault ≡ Memory)
 
 -- an image that is read and written is the same bytes
 abbrev pub ReadIsWrittenBack : Type 0
 ReadIsWrittenBack = (bytes written : List ℕ) (volume : InMemory)
-    → AreBytes bytes → AreBytes written → Reads bytes (Ok volume) → IsImageOf written volume.blocks → written ≡ bytes
+    → AreBytes bytes → AreBytes written → ReadsImage bytes (Ok volume) → IsImageOf written volume.blocks → written ≡ bytes

@@ -1,6 +1,6 @@
 ghost use Rattle.std.specs.Prelude.{◌≡◌, ◌<◌, length, slice_get, slice_set, Some, IsOk, IfOk, IsOkUnless};
 ghost use Rattle.volume_image.specs.Volume.{IsBlock, counted};
-ghost use Rattle.volume_image.specs.Image.{IsImageOf, Reads, Creates};
+ghost use Rattle.volume_image.specs.Image.{IsImageOf, ReadsImage, Creates};
 
 use crate::images::{blocks_of, first_bad_word, image_of, know_words, new_blocks};
 use crate::{BlockStore, DeviceFault, ImageFault};
@@ -31,7 +31,7 @@ impl MemoryVolume {
     /// The volume of an image: 8 to 4095 blocks of 512 bytes, each word in two bytes, the low one first, its top four
     /// bits 0 (this project's profile). Memory is asked for an image only.
     pub fn from_bytes(alloc: Global, bytes: &[u8]) -> Result<MemoryVolume, ImageFault>
-        ensures { Reads bytes.now result }
+        ensures { ReadsImage bytes.now result }
     {
         if !bytes.len().is_multiple_of(512) {
             return Err(ImageFault::NotWhole);

@@ -24,7 +24,7 @@ fn begins_high(words: &[Word]) -> bool
 }
 
 /// Whether the first word of a name is not 0.
-fn is_named(name: Name) -> bool
+fn has_first_word(name: Name) -> bool
     ensures { result ≡ nat_lt 0 (name / 68719476736) }
 {
     let words = name.words();
@@ -41,7 +41,7 @@ impl<S: BlockStore> FileService<S> {
         if self.stopped {
             return Err(FileFault::Stopped);
         }
-        if !is_named(name) {
+        if !has_first_word(name) {
             return Err(FileFault::BadName);
         }
         if self.tentative.is_some() {

@@ -1,4 +1,4 @@
-use Rattle.os8_files.proofs.SurviveLemmas.{writes-survive, closes-survive, deletes-survive, squeezes-survive}
+use Rattle.os8_files.proofs.SurviveLemmas.{writes-survive, closes-survive, deletes-survive, squeezes-survive, survives-from}
 use Rattle.os8_files.proofs.laws.failed_writes.Goals as goal
 
 pub returns : goal.returns
@@ -7,4 +7,5 @@ returns c = record {
   close = closes-survive;
   delete = deletes-survive;
   squeeze_turn = squeezes-survive;
+  later = survives-from;
 }

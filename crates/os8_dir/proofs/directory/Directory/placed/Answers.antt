@@ -17,7 +17,7 @@ pub with_list-requires : goal.with_list-requires
 with_list-requires c =
     let d = c.args.self.now in
     let kept = c.in_ok-entries.entries.items in
-    let laid = put c.first_block-first.result c.args.first_block (File c.args.name.now c.info_of.result c.args.length) (emptied c.args.name.now d.entries) in
+    let laid = put c.first_block-first.result c.args.first_block (File c.args.name.now c.information.result c.args.length) (emptied c.args.name.now d.entries) in
     let is : kept ≡ tidy laid = rw (← c.entries.ensures.list) c.in_ok-entries.ensures.list in
     record {
       neat = tidied-neat kept laid is;
@@ -28,7 +28,7 @@ pub returns : goal.returns
 returns c =
     let d = c.args.self.now in
     let kept = c.in_ok-entries.entries.items in
-    let words : c.info_of.result ≡ (new_file d c.args.name.now c.args.info.now c.args.first_block c.args.length).info = c.info_of.ensures ∙ rw (c.min.ensures, c.information_words-count.ensures.value, take-min-words d.info c.args.info.now) refl in
+    let words : c.information.result ≡ (new_file d c.args.name.now c.args.info.now c.args.first_block c.args.length).info = c.information.ensures ∙ rw (c.min.ensures, c.information_words-count.ensures.value, take-min-words d.info c.args.info.now) refl in
     let is : kept ≡ placed d.first (new_file d c.args.name.now c.args.info.now c.args.first_block c.args.length) d.entries = c.in_ok-entries.ensures.list ∙ rw (words, c.entries.ensures.list, c.first_block-first.ensures.value) refl in
     record {
       list = c.with_list.ensures ∙ ap (relisted d) is;

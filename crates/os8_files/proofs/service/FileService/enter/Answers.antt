@@ -12,7 +12,7 @@ use Rattle.os8_files.proofs.service.FileService.enter.Goals as goal
 pub returns-then-is_some : goal.returns-then-is_some
 returns-then-is_some g c =
     let s = some-of c.self.inside.tentative (sym c.is_some.ensures ∙ c.if-is_some.true) in
-    let named : IsNamed c.args.name = grind (arith, nat_tests, c.is_named.ensures, c.if-not-is_named.false) in
+    let named : IsNamed c.args.name = grind (arith, nat_tests, c.has_first_word.ensures, c.if-not-has_first_word.false) in
     subst (λ (m : Mounted). (m.stopped ≡ false) × IsNamed c.args.name × (x : Begun) × (m.tentative ≡ Some x) × (m ≡ m)) c.self.view_is (c.if-self.false, named, s.0, s.1, refl)
 
 pub returns-in-None : goal.returns-in-None
@@ -24,7 +24,7 @@ returns-in-None g c =
     let n = c.largest.result in
     let kept = c.self.invariant.kept c.if-self.false in
     let is = c.sound_directory.ensures blocks d kept in
-    let named : IsNamed name = grind (arith, nat_tests, c.is_named.ensures, c.if-not-is_named.false) in
+    let named : IsNamed name = grind (arith, nat_tests, c.has_first_word.ensures, c.if-not-has_first_word.false) in
     let free = ap (λ (m : Mounted). contains m.holds name) c.self.view_is ∙ sym c.is_held.ensures ∙ c.if-is_held.false in
     let none : fitting wish (rooms_at d.first d.entries) ≡ None = sym c.fitting.ensures.room ∙ c.in-None.is in
     let rooms : rooms_of blocks ≡ rooms_at d.first d.entries = ap rooms_or kept in

@@ -1,7 +1,7 @@
 use Rattle.std.proofs.Common.{◌≡◌, ◌<◌, length, get_or, arith, add-one}
 use Rattle.std.proofs.lemmas.List.{get_or_read}
 use Rattle.os8_dir.proofs.ReadingLemmas.{set-padded}
-use Rattle.os8_dir.proofs.reading.info_of.Goals as goal
+use Rattle.os8_dir.proofs.reading.information.Goals as goal
 
 pub loop-k-preserved : goal.loop-k-preserved
 loop-k-preserved c =
