@@ -1,6 +1,6 @@
 //! Each law is called once. A law runs as nothing.
 use os8_dir::laws;
-use os8_files::laws::{failed_reads, failed_writes, held_files, released_hold, stopped_calls};
+use os8_files::laws as files;
 use volume_image::{image_round_trip, one_call_fails};
 
 #[test]
@@ -23,9 +23,18 @@ fn laws_are_called() {
     laws::lowest_file();
     laws::rooms();
     laws::entry_counts();
-    held_files();
-    released_hold();
-    failed_reads();
-    failed_writes();
-    stopped_calls();
+    laws::new_volumes();
+    laws::unsound_volumes();
+    files::held_files();
+    files::held_blocks();
+    files::kept_holds();
+    files::released_hold();
+    files::counted_holds();
+    files::file_places();
+    files::block_reads();
+    files::whole_files();
+    files::files_above();
+    files::failed_reads();
+    files::failed_writes();
+    files::stopped_calls();
 }
