@@ -11,6 +11,7 @@ use crate::{DirEntry, DirFault, Directory};
 use std::alloc::Global;
 use std::collections::BTreeSet;
 use std::marker::Model;
+use volume_image::Block;
 use word12::Word;
 
 /// A directory while its segments are read, with the names of its files.
@@ -36,7 +37,7 @@ impl Model for Draft {
 
 impl Draft {
     /// What the first segment says of the whole directory.
-    pub fn head(alloc: Global, volume: usize, words: &[Word; 256]) -> Result<Draft, DirFault>
+    pub fn head(alloc: Global, volume: usize, words: &Block) -> Result<Draft, DirFault>
         requires { volume ≤ 4095 }
         ensures reading { Shows (λ d. d) result (head_of volume words.now) }
     {
@@ -105,7 +106,7 @@ impl Draft {
         &mut self,
         volume: usize,
         number: usize,
-        words: &[Word; 256],
+        words: &Block,
     ) -> Result<(), DirFault>
         requires { volume ≤ 4095 }
         ensures reading { Leaves result self.new (with_segment volume self.old number words.now) }

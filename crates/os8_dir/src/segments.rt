@@ -5,6 +5,7 @@ ghost use Rattle.os8_dir.specs.Segments.{words_of_entry, words_of_entries, words
 ghost use Rattle.os8_dir.specs.Steps.{written};
 
 use crate::{DirEntry, Directory};
+use volume_image::Block;
 use word12::Word;
 
 /// How many entries a segment takes.
@@ -37,7 +38,7 @@ fn blocks_of(entries: &[DirEntry]) -> usize
 }
 
 /// Writes words into a segment from a place on.
-fn put_words(segment: &mut [Word; 256], at: usize, words: &[Word])
+fn put_words(segment: &mut Block, at: usize, words: &[Word])
     requires { at + length words.now ≤ 256 }
     ensures { segment.new ≡ written segment.old at words.now }
 {
@@ -47,7 +48,7 @@ fn put_words(segment: &mut [Word; 256], at: usize, words: &[Word])
 }
 
 /// Writes an entry into a segment from a place on, and gives the place behind it.
-fn put_entry(segment: &mut [Word; 256], at: usize, entry: &DirEntry, info: usize) -> usize
+fn put_entry(segment: &mut Block, at: usize, entry: &DirEntry, info: usize) -> usize
     requires few { info ≤ 10 }
     requires fits { at + 5 + info ≤ 256 }
     requires small { size_of entry.now < 4096 }
@@ -77,7 +78,7 @@ fn put_entry(segment: &mut [Word; 256], at: usize, entry: &DirEntry, info: usize
 }
 
 /// Writes entries into a segment, behind its first five words.
-fn put_entries(segment: &mut [Word; 256], entries: &[DirEntry], info: usize)
+fn put_entries(segment: &mut Block, entries: &[DirEntry], info: usize)
     requires few { info ≤ 10 }
     requires fits { length entries.now * (5 + info) ≤ 251 }
     requires small { total entries.now ≤ 4095 }
@@ -90,13 +91,7 @@ fn put_entries(segment: &mut [Word; 256], entries: &[DirEntry], info: usize)
 }
 
 /// Writes the words of a segment, of which the first entry begins at a block.
-fn put_segment(
-    segment: &mut [Word; 256],
-    entries: &[DirEntry],
-    first: usize,
-    info: usize,
-    link: u16,
-)
+fn put_segment(segment: &mut Block, entries: &[DirEntry], first: usize, info: usize, link: u16)
     requires few { info ≤ 10 }
     requires fits { length entries.now * (5 + info) ≤ 251 }
     requires inside { first + total entries.now ≤ 4095 }
@@ -140,7 +135,7 @@ impl Directory {
 
     /// The words of a segment, counted from 0: segment `number` stands in block `number + 1`, and links to the block behind
     /// it, or is the last (OS/8 Software Support Manual; flag word and rest are 0 in this project's profile).
-    pub fn segment(&self, number: usize, words: &mut [Word; 256])
+    pub fn segment(&self, number: usize, words: &mut Block)
         requires inside { number < segment_count_of self.now }
         ensures words { words.new ≡ segment_of self.now number }
     {

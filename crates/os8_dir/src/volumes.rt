@@ -7,14 +7,14 @@ ghost use Rattle.os8_dir.specs.declared.faults.DirFault.TheVariants.{Device};
 use crate::drafts::Draft;
 use crate::{DirFault, Directory};
 use std::alloc::Global;
-use volume_image::BlockStore;
+use volume_image::{Block, BlockStore};
 use word12::Word;
 
 /// Reads a block; the only fault is that the device failed.
 fn read_block<S: BlockStore>(
     store: &mut S,
     number: usize,
-    words: &mut [Word; 256],
+    words: &mut Block,
 ) -> Result<(), DirFault>
     requires { number < length (S.contents store.old) }
     ensures ok { OnOk result (words.new ≡ block (S.contents store.old) number) }

@@ -5,11 +5,11 @@ ghost use Rattle.os8_files.specs.Calls.{counted_more, RisesBy};
 ghost use Rattle.os8_files.specs.Written.{with_run, HasBrokenOff};
 
 use std::alloc::{AllocError, Global};
-use volume_image::{BlockStore, DeviceFault};
+use volume_image::{Block, BlockStore, DeviceFault};
 use word12::Word;
 
 /// Room for so many blocks.
-pub(crate) fn blank_run(alloc: Global, size: usize) -> Result<Vec<[Word; 256]>, AllocError>
+pub(crate) fn blank_run(alloc: Global, size: usize) -> Result<Vec<Block>, AllocError>
     ensures { IfOk result (λ run. length run.items ≡ size) }
 {
     vec![in alloc; [Word::ZERO; 256]; size]
@@ -19,7 +19,7 @@ pub(crate) fn blank_run(alloc: Global, size: usize) -> Result<Vec<[Word; 256]>, 
 pub(crate) fn read_run<S: BlockStore>(
     store: &mut S,
     place: usize,
-    run: &mut [[Word; 256]],
+    run: &mut [Block],
 ) -> Result<(), DeviceFault>
     requires { place + length run.old ≤ length (S.contents store.old) }
     ensures ok { OnOk result (run.new ≡ take (length run.old) (drop place (S.contents store.old))) }
@@ -47,7 +47,7 @@ pub(crate) fn read_run<S: BlockStore>(
 pub(crate) fn write_run<S: BlockStore>(
     store: &mut S,
     place: usize,
-    run: &[[Word; 256]],
+    run: &[Block],
 ) -> Result<(), DeviceFault>
     requires { place + length run.now ≤ length (S.contents store.old) }
     ensures ok { OnOk result (S.contents store.new ≡ with_run (S.contents store.old) place run.now) }

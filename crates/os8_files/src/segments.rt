@@ -10,15 +10,15 @@ ghost use Rattle.os8_files.specs.Mounted.{AreSegments};
 ghost use Rattle.os8_files.specs.Written.{changed, with_segments, KeepsHigh};
 
 use os8_dir::Directory;
-use volume_image::{BlockStore, DeviceFault};
+use volume_image::{Block, BlockStore, DeviceFault};
 use word12::Word;
 
 /// Writes a segment, counted from 0, where its words differ from those that are kept, and keeps them.
 fn write_segment<S: BlockStore>(
     store: &mut S,
-    kept: &mut [[Word; 256]],
+    kept: &mut [Block],
     number: usize,
-    words: &[Word; 256],
+    words: &Block,
 ) -> Result<(), DeviceFault>
     requires kept { AreSegments (S.contents store.old) kept.old }
     requires inside { number < 6 }
@@ -51,7 +51,7 @@ fn write_segment<S: BlockStore>(
 /// words that are kept of blocks 1 to 6.
 pub(crate) fn write_segments<S: BlockStore>(
     store: &mut S,
-    kept: &mut [[Word; 256]],
+    kept: &mut [Block],
     directory: &Directory,
 ) -> Result<(), DeviceFault>
     requires fits { length directory.now.entries ≤ limit directory.now }

@@ -20,7 +20,7 @@ use os8_dir::laws::{directory_numbers, files_found, files_inside, files_made, so
 use os8_dir::{DirFault, Directory, Name};
 use std::alloc::Global;
 use std::marker::Model;
-use volume_image::BlockStore;
+use volume_image::{Block, BlockStore};
 use word12::Word;
 
 mod changes;
@@ -32,7 +32,7 @@ mod writing;
 pub struct FileService<S: BlockStore> {
     store: S,
     directory: Directory,
-    segments: Vec<[Word; 256]>,
+    segments: Vec<Block>,
     stopped: bool,
     holds: Vec<Name>,
     tentative: Option<Begun>,
@@ -175,12 +175,7 @@ impl<S: BlockStore> FileService<S> {
 
     /// Reads block `k` of a file, counted from 0, by one read. A file that is there has more than `k` blocks. Where no
     /// file has the name it is `NotFound`, and a read that fails is `Device`.
-    pub fn read_block(
-        &mut self,
-        name: &Name,
-        k: usize,
-        words: &mut [Word; 256],
-    ) -> Result<(), FileFault>
+    pub fn read_block(&mut self, name: &Name, k: usize, words: &mut Block) -> Result<(), FileFault>
         requires { IsLonger self.old name.now k }
         ensures { Reads self.old name.now k words.old result self.new words.new }
     {

@@ -2,9 +2,8 @@ ghost use Rattle.std.specs.Prelude.{◌≡◌, ℕ, ◌+◌, ◌<◌, length, is
 ghost use Rattle.volume_image.specs.Volume.{IsDamaged, counted};
 
 use crate::memory::count_up;
-use crate::{BlockStore, DeviceFault};
+use crate::{Block, BlockStore, DeviceFault};
 use std::marker::Model;
-use word12::Word;
 
 /// A store that passes each call on to the store below, and counts the calls. It fails only where that store does.
 #[derive(Debug, Drop)]
@@ -76,7 +75,7 @@ impl<S: BlockStore> BlockStore for CountVolume<S> {
         self.store.blocks()
     }
 
-    fn read(&mut self, number: usize, words: &mut [Word; 256]) -> Result<(), DeviceFault>
+    fn read(&mut self, number: usize, words: &mut Block) -> Result<(), DeviceFault>
         requires { number < length (S.contents self.old.store) }
         ensures ok { OnOk result (slice_get (S.contents self.old.store) number ≡ Some words.new) }
         ensures err { OnErr result (words.new ≡ words.old) }
@@ -92,7 +91,7 @@ impl<S: BlockStore> BlockStore for CountVolume<S> {
         self.store.read(number, words)
     }
 
-    fn write(&mut self, number: usize, words: &[Word; 256]) -> Result<(), DeviceFault>
+    fn write(&mut self, number: usize, words: &Block) -> Result<(), DeviceFault>
         requires { number < length (S.contents self.old.store) }
         ensures ok { OnOk result (S.contents self.new.store ≡ slice_set (S.contents self.old.store) number words.now) }
         ensures err { OnErr result (IsDamaged (S.contents self.old.store) (S.contents self.new.store) number) }

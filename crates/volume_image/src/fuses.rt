@@ -2,7 +2,7 @@ ghost use Rattle.std.specs.Prelude.{◌≡◌, ◌+◌, ◌<◌, length, All, is
 ghost use Rattle.volume_image.specs.Volume.{counted};
 ghost use Rattle.volume_image.specs.Fuse.{fails_next, left_after, IsSpoilt};
 
-use crate::{BlockStore, DeviceFault, MemoryVolume};
+use crate::{Block, BlockStore, DeviceFault, MemoryVolume};
 use std::marker::Model;
 use word12::Word;
 
@@ -105,7 +105,7 @@ impl BlockStore for FuseVolume {
         self.volume.blocks()
     }
 
-    fn read(&mut self, number: usize, words: &mut [Word; 256]) -> Result<(), DeviceFault>
+    fn read(&mut self, number: usize, words: &mut Block) -> Result<(), DeviceFault>
         requires { number < length self.old.volume.blocks }
         ensures fails { is_err result ≡ fails_next self.old.reads_left }
         ensures ok { OnOk result (slice_get self.old.volume.blocks number ≡ Some words.new) }
@@ -124,7 +124,7 @@ impl BlockStore for FuseVolume {
         self.volume.read(number, words)
     }
 
-    fn write(&mut self, number: usize, words: &[Word; 256]) -> Result<(), DeviceFault>
+    fn write(&mut self, number: usize, words: &Block) -> Result<(), DeviceFault>
         requires { number < length self.old.volume.blocks }
         ensures fails { is_err result ≡ fails_next self.old.writes_left }
         ensures ok { OnOk result (self.new.volume ≡
@@ -146,7 +146,7 @@ impl BlockStore for FuseVolume {
 }
 
 // A block of which each word is 5252.
-fn spoilt_block() -> [Word; 256]
+fn spoilt_block() -> Block
     ensures { All (λ word. word ≡ 2730) result }
 {
     [Word::low(0o5252); 256]

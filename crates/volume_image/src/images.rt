@@ -2,6 +2,7 @@ ghost use Rattle.std.specs.Prelude.{◌≡◌, ℕ, ◌+◌, ◌*◌, ◌%◌, �
 ghost use Rattle.volume_image.specs.Image.{image_word, block_word, IsFirstBadWord, IsImageOf, IsNewVolume, new_word};
 ghost use Rattle.volume_image.specs.Volume.{IsBlock, IsVolume};
 
+use crate::Block;
 use std::alloc::{AllocError, Global};
 use word12::Word;
 
@@ -40,7 +41,7 @@ fn lay_words(bytes: &[u8], first: usize, words: &mut [Word])
 }
 
 // A block of an image; of each word just the low twelve bits.
-fn block_at(bytes: &[u8], number: usize) -> [Word; 256]
+fn block_at(bytes: &[u8], number: usize) -> Block
     requires { 512 * number + 512 ≤ length bytes.now }
     ensures { (k : ℕ) → k < 256 → slice_index result k ≡ image_word bytes.now (256 * number + k) % 4096 }
 {
@@ -50,11 +51,7 @@ fn block_at(bytes: &[u8], number: usize) -> [Word; 256]
 }
 
 // The blocks of an image; of each word just the low twelve bits.
-pub(crate) fn blocks_of(
-    alloc: Global,
-    bytes: &[u8],
-    count: usize,
-) -> Result<Vec<[Word; 256]>, AllocError>
+pub(crate) fn blocks_of(alloc: Global, bytes: &[u8], count: usize) -> Result<Vec<Block>, AllocError>
     requires { length bytes.now ≡ 512 * count }
     ensures count { IfOk result (λ blocks. length blocks.items ≡ count) }
     ensures each { IfOk result (λ blocks. All IsBlock blocks.items) }
@@ -83,7 +80,7 @@ fn put_words(words: &[Word], first: usize, bytes: &mut [u8])
 }
 
 // Puts blocks into an image, from its beginning on.
-fn put_blocks(blocks: &[[Word; 256]], bytes: &mut [u8])
+fn put_blocks(blocks: &[Block], bytes: &mut [u8])
     requires size { length bytes.old ≡ 512 * length blocks.now }
     requires each { All IsBlock blocks.now }
     ensures range { (k : ℕ) → k < 256 * length blocks.now → image_word bytes.new k < 4096 }
@@ -96,7 +93,7 @@ fn put_blocks(blocks: &[[Word; 256]], bytes: &mut [u8])
 }
 
 // The image of blocks.
-pub(crate) fn image_of(alloc: Global, blocks: &[[Word; 256]]) -> Result<Vec<u8>, AllocError>
+pub(crate) fn image_of(alloc: Global, blocks: &[Block]) -> Result<Vec<u8>, AllocError>
     requires { IsVolume blocks.now }
     ensures { IfOk result (λ bytes. IsImageOf bytes.items blocks.now) }
 {
@@ -120,7 +117,7 @@ fn lay_directory(count: usize, words: &mut [Word])
 }
 
 // A block of an empty volume.
-fn new_block(count: usize, number: usize) -> [Word; 256]
+fn new_block(count: usize, number: usize) -> Block
     requires least { 8 ≤ count }
     requires most { count ≤ 4095 }
     ensures { (k : ℕ) → k < 256 → slice_index result k ≡ new_word count number k }
@@ -133,7 +130,7 @@ fn new_block(count: usize, number: usize) -> [Word; 256]
 }
 
 // The blocks of an empty volume.
-pub(crate) fn new_blocks(alloc: Global, count: usize) -> Result<Vec<[Word; 256]>, AllocError>
+pub(crate) fn new_blocks(alloc: Global, count: usize) -> Result<Vec<Block>, AllocError>
     requires least { 8 ≤ count }
     requires most { count ≤ 4095 }
     ensures { IfOk result (λ blocks. IsNewVolume count blocks.items) }

@@ -17,4 +17,4 @@ pub use faults::ImageFault;
 pub use fuses::FuseVolume;
 pub use laws::{image_round_trip, one_call_fails};
 pub use memory::MemoryVolume;
-pub use store::{BlockStore, DeviceFault};
+pub use store::{Block, BlockStore, DeviceFault};

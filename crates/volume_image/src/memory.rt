@@ -3,7 +3,7 @@ ghost use Rattle.volume_image.specs.Volume.{IsBlock, counted};
 ghost use Rattle.volume_image.specs.Image.{IsImageOf, ReadsImage, Creates};
 
 use crate::images::{blocks_of, first_bad_word, image_of, know_words, new_blocks};
-use crate::{BlockStore, DeviceFault, ImageFault};
+use crate::{Block, BlockStore, DeviceFault, ImageFault};
 use std::alloc::Global;
 use std::marker::Model;
 use word12::Word;
@@ -11,7 +11,7 @@ use word12::Word;
 /// A volume of 8 to 4095 blocks whose words stand in memory. As a store it never fails.
 #[derive(Debug, Drop)]
 pub struct MemoryVolume {
-    blocks: Vec<[Word; 256]>,
+    blocks: Vec<Block>,
     reads: u64,
     writes: u64,
 }
@@ -114,7 +114,7 @@ impl BlockStore for MemoryVolume {
         self.blocks.len()
     }
 
-    fn read(&mut self, number: usize, words: &mut [Word; 256]) -> Result<(), DeviceFault>
+    fn read(&mut self, number: usize, words: &mut Block) -> Result<(), DeviceFault>
         requires { number < length self.old.blocks }
         ensures done { IsOk result }
         ensures words { slice_get self.old.blocks number ≡ Some words.new }
@@ -125,7 +125,7 @@ impl BlockStore for MemoryVolume {
         Ok(())
     }
 
-    fn write(&mut self, number: usize, words: &[Word; 256]) -> Result<(), DeviceFault>
+    fn write(&mut self, number: usize, words: &Block) -> Result<(), DeviceFault>
         requires { number < length self.old.blocks }
         ensures done { IsOk result }
         ensures words { self.new ≡ record self.old { blocks = slice_set self.old.blocks number words.now; writes = counted self.old.writes } }

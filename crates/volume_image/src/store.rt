@@ -4,6 +4,9 @@ ghost use Rattle.volume_image.specs.Volume.{AreWords, IsVolume, IsDamaged, count
 use thiserror::Error;
 use word12::Word;
 
+/// The 256 words of a block.
+pub type Block = [Word; 256];
+
 /// A block could not be read or written.
 #[derive(Clone, Copy, PartialEq, Eq, Debug, Error)]
 #[error("the device failed")]
@@ -33,7 +36,7 @@ pub trait BlockStore {
         ensures words { AreWords (contents self.now) };
 
     /// Reads a block. Where that fails, nothing is changed.
-    fn read(&mut self, number: usize, words: &mut [Word; 256]) -> Result<(), DeviceFault>
+    fn read(&mut self, number: usize, words: &mut Block) -> Result<(), DeviceFault>
         requires { number < length (contents self.old) }
         ensures ok { OnOk result (slice_get (contents self.old) number ≡ Some words.new) }
         ensures err { OnErr result (words.new ≡ words.old) }
@@ -44,7 +47,7 @@ pub trait BlockStore {
         ensures failed_writes { failed_writes self.new ≡ failed_writes self.old };
 
     /// Writes a block. Where that fails, the block has any words.
-    fn write(&mut self, number: usize, words: &[Word; 256]) -> Result<(), DeviceFault>
+    fn write(&mut self, number: usize, words: &Block) -> Result<(), DeviceFault>
         requires { number < length (contents self.old) }
         ensures ok { OnOk result (contents self.new ≡ slice_set (contents self.old) number words.now) }
         ensures err { OnErr result (IsDamaged (contents self.old) (contents self.new) number) }

@@ -10,7 +10,7 @@ use os8_dir::laws::{
     sound_directory,
 };
 use std::alloc::Global;
-use volume_image::BlockStore;
+use volume_image::{Block, BlockStore};
 use word12::Word;
 
 /// Whether the first of some words is not 0.
@@ -70,7 +70,7 @@ impl<S: BlockStore> FileService<S> {
     }
 
     /// Writes the next block of the file that is being written. Where its empty has no more blocks it is `TooLong`.
-    pub fn write(&mut self, tentative: &mut Tentative, words: &[Word; 256]) -> Result<(), FileFault>
+    pub fn write(&mut self, tentative: &mut Tentative, words: &Block) -> Result<(), FileFault>
         requires { IsOf self.old tentative.old }
         ensures call { Writes self.old words.now result self.new }
         ensures token { tentative.new ≡ tentative.old }
