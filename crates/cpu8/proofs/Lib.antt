@@ -2,3 +2,4 @@ pub mod RotationLemmas
 pub mod TurnLemmas
 pub mod StepLemmas
 pub mod RunLemmas
+pub mod GoLemmas

@@ -6,4 +6,5 @@ pub mod Rotation
 pub mod Operate
 pub mod Transfer
 pub mod Step
+pub mod Go
 pub mod Laws

@@ -1,5 +1,5 @@
 -- The state of a PDP-8/I with MC8 extended memory and a Teletype (Small Computer Handbook).
-use Rattle.std.specs.Prelude.{ℕ, ◌+◌, ◌*◌, Bool, true, false, ◌&&◌, not, List}
+use Rattle.std.specs.Prelude.{ℕ, ◌+◌, ◌*◌, ◌/◌, ◌%◌, Bool, true, false, ◌&&◌, not, List, slice_set}
 use Rattle.tty8.specs.Teletype.{TeletypeState, idle, cleared, struck, finished, is_requesting}
 
 pub record State : Type 0 where
@@ -33,6 +33,10 @@ pub record State : Type 0 where
 abbrev pub place : ℕ → ℕ → ℕ
 place field address = 4096 * field + address
 
+-- the cell of the next instruction
+abbrev pub next_cell : State → ℕ
+next_cell s = place s.instruction_field s.pc
+
 -- ## What the console and the Teletype do
 
 -- a new machine with this core is stopped, and all its registers and flags are 0
@@ -54,18 +58,26 @@ stopped core = record {
   teletype = idle;
 }
 
--- A start at an address of a field clears all but core, the keyboard's buffer and the switches (this project's
--- profile).
-abbrev pub started : State → ℕ → ℕ → State
-started s field address = record (stopped s.core) {
-  pc = address;
-  instruction_field = field;
-  instruction_buffer = field;
-  data_field = field;
+-- A start at a cell clears all but core, the keyboard's buffer and the switches; PC is the cell's address, and the three
+-- fields are its field (this project's profile).
+abbrev pub started : State → ℕ → State
+started s cell = record (stopped s.core) {
+  pc = cell % 4096;
+  instruction_field = cell / 4096;
+  instruction_buffer = cell / 4096;
+  data_field = cell / 4096;
   switches = s.switches;
   running = true;
   teletype = cleared s.teletype;
 }
+
+-- the switches are set to this word
+abbrev pub switches_set : State → ℕ → State
+switches_set s word = record s { switches = word }
+
+-- a cell is given a word, as by DEP at the console
+abbrev pub deposited : State → ℕ → ℕ → State
+deposited s cell word = record s { core = slice_set s.core cell word }
 
 -- a key of this character is struck
 abbrev pub key_struck : State → ℕ → State

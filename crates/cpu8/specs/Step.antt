@@ -1,6 +1,6 @@
 -- A step of the machine (Small Computer Handbook).
 use Rattle.std.specs.Prelude.{ℕ, ◌+◌, ◌*◌, false, if◌then◌else◌, None, slice_index, slice_set}
-use Rattle.cpu8.specs.State.{State, place, is_asking}
+use Rattle.cpu8.specs.State.{State, next_cell, is_asking}
 use Rattle.cpu8.specs.Decoding.{operation_of}
 use Rattle.cpu8.specs.Reference.{and_row, tad_row, isz_row, dca_row, jms_row, jmp_row}
 use Rattle.cpu8.specs.Operate.{operate_row}
@@ -39,7 +39,7 @@ interrupted s = record s {
 
 -- the word of the next instruction
 abbrev pub fetched : State → ℕ
-fetched s = slice_index s.core (place s.instruction_field s.pc)
+fetched s = slice_index s.core (next_cell s)
 
 -- A step: nothing where the machine is stopped, else an interrupt where one is asked for, else the next instruction.
 unfoldable pub step : State → State × Stepped

@@ -11,4 +11,4 @@ mod outcomes;
 mod rotations;
 
 pub use machines::Machine;
-pub use outcomes::Stepped;
+pub use outcomes::{Gone, Stepped, Why};

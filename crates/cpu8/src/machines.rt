@@ -1,7 +1,7 @@
 ghost use Rattle.std.specs.Prelude.{◌≡◌, ◌<◌, ◌/◌, None};
 ghost use Rattle.cpu8.specs.declared.outcomes.Stepped.TheVariants.{Ran};
 ghost use Rattle.std.specs.Borrow.{sem};
-ghost use Rattle.cpu8.specs.State.{stopped, started, key_struck, printer_done, is_asking};
+ghost use Rattle.cpu8.specs.State.{stopped, started, key_struck, printer_done, switches_set, is_asking};
 ghost use Rattle.cpu8.specs.Step.{executed, interrupted, step};
 
 use crate::Stepped;
@@ -15,6 +15,7 @@ use word12::{Cell, Word};
 mod operates;
 mod references;
 mod registers;
+mod runs;
 mod transfers;
 
 /// A PDP-8/I with 32768 words of core, MC8 extended memory and a Teletype (Small Computer Handbook).
@@ -87,17 +88,17 @@ impl Machine {
         }
     }
 
-    /// Starts the machine at an address of a field: AC, L, the flags, busy, the save field, waiting and holding off
-    /// become 0, interrupts go off, and the three fields are this one. Core, the keyboard's buffer and the switches
+    /// Starts the machine at a cell: AC, L, the flags, busy, the save field, waiting and holding off become 0, interrupts
+    /// go off, PC is the cell's address, and the three fields are its field. Core, the keyboard's buffer and the switches
     /// stay (this project's profile).
-    pub fn start(&mut self, field: u8, address: Word)
-        requires { field < 8 }
-        ensures { self.new ≡ started self.old field address }
+    pub fn start(&mut self, cell: Cell)
+        ensures { self.new ≡ started self.old cell }
     {
+        let field = cell.field();
         self.teletype.clear();
         self.l = 0;
         self.ac = Word::ZERO;
-        self.pc = address;
+        self.pc = cell.address();
         self.instruction_field = field;
         self.instruction_buffer = field;
         self.data_field = field;
@@ -126,7 +127,7 @@ impl Machine {
 
     /// Sets the switch register.
     pub fn switches(&mut self, word: Word)
-        ensures { self.new ≡ record self.old { switches = word } }
+        ensures { self.new ≡ switches_set self.old word }
     {
         self.switches = word;
     }
@@ -162,7 +163,7 @@ impl Machine {
             self.interrupt();
             return Stepped::Interrupted;
         }
-        let word = self.core.get(Cell::at(self.instruction_field, self.pc));
+        let word = self.core.get(self.next_cell());
         self.execute(word)
     }
 

@@ -6,7 +6,7 @@ use core_load::{Core, load};
 use cpu8::{Machine, Stepped};
 use std::io::{Read, Write};
 use std::process::ExitCode;
-use word12::Word;
+use word12::Cell;
 
 fn main(rt: HostRuntime) -> ExitCode {
     let mut tape = Vec::new(rt.alloc());
@@ -21,7 +21,7 @@ fn main(rt: HostRuntime) -> ExitCode {
         return ExitCode::FAILURE;
     }
     let mut machine = Machine::new(core);
-    machine.start(0, Word::low(0o200));
+    machine.start(Cell::of(0o200));
     run(&mut machine);
     let (ac, l, field, pc) = (
         machine.ac(),

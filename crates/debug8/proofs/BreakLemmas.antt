@@ -1,7 +1,8 @@
 -- How many breaks there are.
 use Rattle.std.proofs.Common.{◌≡◌, ℕ, zero, suc, ◌+◌, ◌<◌, Bool, true, false, if◌then◌else◌, List, [], ◌∷◌, length, replicate, slice_index_or, slice_set, ◌-◌, ◌≤◌, length-set, arith, refl, ap, sym, subst, ◌∙◌}
 use Rattle.std.proofs.lemmas.List.{length-replicate, get_or_default}
-use Rattle.debug8.specs.Breaks.{no_breaks, is_break, count_breaks}
+use Rattle.cpu8.specs.Go.{is_break}
+use Rattle.debug8.specs.Breaks.{no_breaks, count_breaks}
 
 abbrev pub bit : Bool → ℕ
 bit b = if b then 1 else 0

@@ -1,4 +1,3 @@
 pub mod BreakLemmas
-pub mod GoLemmas
 pub mod Json
 pub mod Digits

@@ -1,4 +1,3 @@
 pub mod Breaks
-pub mod Go
 pub mod Snapshot
 pub mod Values

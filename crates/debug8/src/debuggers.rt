@@ -1,14 +1,14 @@
-ghost use Rattle.std.specs.Prelude.{◌≡◌, ◌<◌, IfOk, IsOkUnless, slice_index, slice_set, false};
-ghost use Rattle.debug8.specs.Breaks.{Sets, is_break, no_breaks};
+ghost use Rattle.std.specs.Prelude.{◌≡◌, ◌+◌, ◌<◌, ◌≤◌, ◌++◌, [], IfOk, IsOkUnless, slice_index, vec_len, vec_capacity, false};
+ghost use Rattle.cpu8.specs.State.{deposited};
+ghost use Rattle.cpu8.specs.Go.{IsGo, after, printed_by};
+ghost use Rattle.debug8.specs.Breaks.{Sets, break_cleared, no_breaks};
 ghost use Rattle.debug8.specs.declared.faults.DebugFault.TheVariants.{Memory};
 
 use crate::DebugFault;
-use cpu8::Machine;
+use cpu8::{Gone, Machine};
 use std::alloc::{AllocError, Global};
 use std::marker::Model;
 use word12::{Cell, Word};
-
-mod runs;
 
 /// Breaks at cells of core, at most 64 of them (this project's profile).
 #[derive(Drop)]
@@ -60,7 +60,7 @@ impl Debugger {
 
     /// Takes the break of a cell away, if it has one. The others stay. It takes no memory.
     pub fn clear_break(&mut self, cell: Cell)
-        ensures { self.new ≡ slice_set self.old cell false }
+        ensures { self.new ≡ break_cleared self.old cell }
     {
         if self.breaks[cell.index()] {
             self.breaks[cell.index()] = false;
@@ -68,16 +68,33 @@ impl Debugger {
         }
     }
 
-    /// Whether a cell has a break.
-    #[inline(always)]
-    fn has_break(&self, cell: Cell) -> bool
-        ensures { result ≡ is_break self.now cell }
+    /// Lets a machine make steps, each an instruction or an interrupt (Small Computer Handbook), up to a HLT, an
+    /// unassigned word or a break, and at most n of them; none where it stands stopped. A break isn't tested before the
+    /// first step. With `quick` the printer ends its character before each step that finds it busy (this project's
+    /// profile). What is printed is appended, for which the caller made room: a go takes no memory.
+    pub fn go(&self, machine: &mut Machine, n: usize, quick: bool, printed: &mut Vec<u8>) -> Gone
+        requires room { vec_len printed.old + n ≤ vec_capacity printed.old }
+        ensures steps { IsGo quick self.now machine.old n result.steps result.why }
+        ensures state { machine.new ≡ after quick result.steps machine.old }
+        ensures printed { printed.new.items ≡ printed.old.items ++ printed_by quick result.steps machine.old }
+        ensures capacity { vec_capacity printed.new ≡ vec_capacity printed.old }
     {
-        self.breaks[cell.index()]
+        machine.run(n, quick, &self.breaks, printed)
+    }
+
+    /// A go that minds no breaks, and leaves the printer alone.
+    pub fn step(machine: &mut Machine, n: usize, printed: &mut Vec<u8>) -> Gone
+        requires room { vec_len printed.old + n ≤ vec_capacity printed.old }
+        ensures steps { IsGo false [] machine.old n result.steps result.why }
+        ensures state { machine.new ≡ after false result.steps machine.old }
+        ensures printed { printed.new.items ≡ printed.old.items ++ printed_by false result.steps machine.old }
+        ensures capacity { vec_capacity printed.new ≡ vec_capacity printed.old }
+    {
+        machine.run(n, false, &[], printed)
     }
 
     /// The word of a cell of a machine, as EXAM at the console shows it (Small Computer Handbook).
-    pub fn examine(&self, machine: &Machine, cell: Cell) -> Word
+    pub fn examine(machine: &Machine, cell: Cell) -> Word
         ensures word { result ≡ slice_index machine.now.core cell }
         ensures range { result < 4096 }
     {
@@ -86,8 +103,8 @@ impl Debugger {
 
     /// Gives a cell of a machine a word, as DEP at the console does (Small Computer Handbook). Its other cells, its
     /// registers and its flags stay.
-    pub fn deposit(&self, machine: &mut Machine, cell: Cell, word: Word)
-        ensures { machine.new ≡ record machine.old { core = slice_set machine.old.core cell word } }
+    pub fn deposit(machine: &mut Machine, cell: Cell, word: Word)
+        ensures { machine.new ≡ deposited machine.old cell word }
     {
         machine.core_mut().set(cell, word);
     }

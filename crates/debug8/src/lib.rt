@@ -5,9 +5,8 @@
 
 mod debuggers;
 mod faults;
-mod outcomes;
 mod snapshots;
 
+pub use cpu8::{Gone, Why};
 pub use debuggers::Debugger;
 pub use faults::DebugFault;
-pub use outcomes::{Gone, Why};

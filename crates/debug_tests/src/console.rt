@@ -91,7 +91,7 @@ impl Console {
 
     /// The number of the cell of the next instruction.
     pub fn place(&self) -> u16 {
-        4096 * u16::from(self.machine.instruction_field()) + self.machine.pc().get()
+        (self.machine.next_cell().index() % 32768) as u16
     }
 
     /// Changes the machine or the breaks; false where the line is something else.
@@ -99,9 +99,7 @@ impl Console {
         let first = command.numbers[0];
         match command.name {
             b"deposit" => self.deposit(command),
-            b"start" => self
-                .machine
-                .start((first / 4096 % 8) as u8, Word::low(first)),
+            b"start" => self.machine.start(cell(first)),
             b"key" => self.machine.key((first % 256) as u8),
             b"switches" => self.machine.switches(Word::low(first)),
             b"clear" => self.debugger.clear_break(cell(first)),
@@ -118,8 +116,7 @@ impl Console {
         let mut at = command.numbers[0].wrapping_sub(1);
         for (place, number) in command.numbers().iter().enumerate() {
             if place > 0 {
-                self.debugger
-                    .deposit(&mut self.machine, cell(at), Word::low(*number));
+                Debugger::deposit(&mut self.machine, cell(at), Word::low(*number));
             }
             at = at.wrapping_add(1);
         }
@@ -132,7 +129,7 @@ impl Console {
             b"break" => self.debugger.set_break(cell(first)).is_ok(),
             b"refused" => self.debugger.set_break(cell(first)) == Err(DebugFault::TooManyBreaks),
             b"breaks" => self.fill(first, second),
-            b"cell" => self.debugger.examine(&self.machine, cell(first)).get() == second,
+            b"cell" => Debugger::examine(&self.machine, cell(first)).get() == second,
             b"printed" => self.has_printed(command.numbers()),
             b"halts" => self.goes(command, Why::Halt),
             b"unassigned" => self.goes(command, Why::Unassigned),

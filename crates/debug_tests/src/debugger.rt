@@ -1,7 +1,7 @@
 //! The debugger by worked examples.
 
 use crate::console::{Command, Console};
-use debug8::{DebugFault, Gone, Why};
+use debug8::{DebugFault, Debugger, Gone, Why};
 use std::test::Fail;
 use word12::Cell;
 
@@ -122,7 +122,7 @@ fn snapshots(rt: HostRuntime) -> Result<(), Fail> {
             let is_so = console.changes(&command) || console.sees(&command);
             assert!(rt; is_so, "at {line}");
         }
-        let shown = console.debugger.snapshot(rt.alloc(), &console.machine)?;
+        let shown = Debugger::snapshot(rt.alloc(), &console.machine)?;
         assert!(rt; shown.as_str() == wanted, "{shown}");
     }
     Ok(())

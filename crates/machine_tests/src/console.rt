@@ -74,7 +74,7 @@ pub fn change(machine: &mut Machine, plain: &mut Plain, command: &Command) -> bo
     plain.change(command.name, first);
     match command.name {
         b"deposit" => deposit(machine, plain, command),
-        b"start" => machine.start((first / 4096 % 8) as u8, Word::low(first)),
+        b"start" => machine.start(cell(first)),
         b"key" => machine.key((first % 256) as u8),
         b"done" => machine.done(),
         b"" => {}

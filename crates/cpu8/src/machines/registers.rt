@@ -1,9 +1,10 @@
 //! The registers and flags, as a console shows them.
 
 ghost use Rattle.std.specs.Prelude.{◌≡◌, ◌<◌};
+ghost use Rattle.cpu8.specs.State.{next_cell};
 
 use super::Machine;
-use word12::Word;
+use word12::{Cell, Word};
 
 impl Machine {
     /// The accumulator.
@@ -29,6 +30,15 @@ impl Machine {
         ensures { result ≡ self.now.pc }
     {
         self.pc
+    }
+
+    /// The cell of the next instruction: PC in the instruction field.
+    #[inline]
+    pub fn next_cell(&self) -> Cell
+        ensures value { result ≡ next_cell self.now }
+        ensures range { result < 32768 }
+    {
+        Cell::at(self.instruction_field, self.pc)
     }
 
     /// The instruction field, 0 to 7.

@@ -1,11 +1,15 @@
--- Steps of the machine up to a stop (this project's profile).
-use Rattle.std.specs.Prelude.{◌≡◌, ℕ, zero, suc, ◌<◌, ◌≤◌, Bool, ◌&&◌, if◌then◌else◌, List, [], ◌∷◌, ◌++◌, Option, Some, None, IsSome, unwrap_or}
-use Rattle.cpu8.specs.State.{State, place, printer_done}
+-- Steps of the machine up to a stop (this project's profile). Breaks are a list that tells of each cell, by its number,
+-- whether it has one; a cell past its end has none.
+use Rattle.std.specs.Prelude.{◌≡◌, ℕ, zero, suc, ◌<◌, ◌≤◌, Bool, false, ◌&&◌, if◌then◌else◌, List, [], ◌∷◌, ◌++◌, slice_index_or, Option, Some, None, IsSome, unwrap_or}
+use Rattle.cpu8.specs.State.{State, next_cell, printer_done}
 use Rattle.cpu8.specs.Step.{step}
 use Rattle.cpu8.specs.declared.outcomes.Stepped.{Stepped}
 use Rattle.cpu8.specs.declared.outcomes.Stepped.TheVariants.{Stopped, Interrupted, Ran, Halted, Unassigned}
-use Rattle.debug8.specs.declared.outcomes.Why.{Why}
-use Rattle.debug8.specs.Breaks.{is_break}
+use Rattle.cpu8.specs.declared.outcomes.Why.{Why}
+
+-- whether a cell has a break
+abbrev pub is_break : List Bool → ℕ → Bool
+is_break breaks cell = slice_index_or breaks cell false
 
 -- a step, before which a quick printer ends its character where it is busy
 abbrev pub turn : Bool → State → State × Stepped
@@ -22,7 +26,7 @@ answer quick k s = (turn quick (after quick k s)).1
 
 -- whether the next instruction is at a break
 abbrev pub break_ahead : List Bool → State → Option Why
-break_ahead breaks s = if is_break breaks (place s.instruction_field s.pc) then Some Why.Break else None
+break_ahead breaks s = if is_break breaks (next_cell s) then Some Why.Break else None
 
 -- why to stop behind a step that did this and left this state: a HLT and an unassigned word come before a break
 abbrev pub reason : List Bool → Stepped → State → Option Why

@@ -1,8 +1,8 @@
 -- A go, step by step.
 use Rattle.std.proofs.Common.{◌≡◌, ℕ, ◌+◌, ◌<◌, Bool, true, false, if◌then◌else◌, List, [], ◌++◌, Option, Some, None, IsSome, unwrap_or, add-one, append-nil, append_assoc, arith, refl, ap, sym, subst, ◌∙◌, below_more}
 use Rattle.cpu8.specs.State.{State}
-use Rattle.debug8.specs.Go.{turn, after, answer, reason, ending, IsGo, character_of, printed_by}
-use Rattle.debug8.specs.declared.outcomes.Why.{Why}
+use Rattle.cpu8.specs.Go.{turn, after, answer, reason, ending, IsGo, character_of, printed_by}
+use Rattle.cpu8.specs.declared.outcomes.Why.{Why}
 
 pub after-none : (quick : Bool) (s : State) → after quick 0 s ≡ s
 unfolding after

@@ -1,0 +1,98 @@
+//! Runs of several steps.
+
+ghost use Rattle.std.specs.Prelude.{◌≡◌, ◌+◌, ◌≤◌, ◌++◌, vec_len, vec_capacity};
+ghost use Rattle.cpu8.specs.Go.{IsGo, after, break_ahead, character_of, is_break, printed_by, reason, turn};
+
+use super::Machine;
+use crate::{Gone, Stepped, Why};
+use word12::Cell;
+
+impl Machine {
+    /// Makes steps, each an instruction or an interrupt (Small Computer Handbook), up to a HLT, an unassigned word or a
+    /// break, and at most n of them; none where the machine stands stopped. The breaks tell of each cell, by its number,
+    /// whether it has one; a cell past their end has none, and a break isn't tested before the first step. With `quick`
+    /// the printer ends its character before each step that finds it busy (this project's profile). What is printed is
+    /// appended, for which the caller made room: a run takes no memory.
+    pub fn run(&mut self, n: usize, quick: bool, breaks: &[bool], printed: &mut Vec<u8>) -> Gone
+        requires room { vec_len printed.old + n ≤ vec_capacity printed.old }
+        ensures steps { IsGo quick breaks.now self.old n result.steps result.why }
+        ensures state { self.new ≡ after quick result.steps self.old }
+        ensures printed { printed.new.items ≡ printed.old.items ++ printed_by quick result.steps self.old }
+        ensures capacity { vec_capacity printed.new ≡ vec_capacity printed.old }
+    {
+        if !self.running {
+            return Gone {
+                steps: 0,
+                why: Why::Halt,
+            };
+        }
+        for made in 0..n {
+            if let Some(why) = self.advance(quick, breaks, printed) {
+                return Gone {
+                    steps: made + 1,
+                    why,
+                };
+            }
+        }
+        Gone {
+            steps: n,
+            why: Why::Limit,
+        }
+    }
+
+    /// A step: its character is appended, for which there is room, and why to stop behind it, if there is a reason.
+    #[inline(always)]
+    fn advance(&mut self, quick: bool, breaks: &[bool], printed: &mut Vec<u8>) -> Option<Why>
+        requires { vec_len printed.old + 1 ≤ vec_capacity printed.old }
+        ensures state { self.new ≡ (turn quick self.old).0 }
+        ensures reason { result ≡ reason breaks.now (turn quick self.old).1 self.new }
+        ensures printed { printed.new.items ≡ printed.old.items ++ character_of (turn quick self.old).1 }
+        ensures len { vec_len printed.new ≤ vec_len printed.old + 1 }
+        ensures capacity { vec_capacity printed.new ≡ vec_capacity printed.old }
+    {
+        match self.take_turn(quick) {
+            Stepped::Halted => return Some(Why::Halt),
+            Stepped::Unassigned(_) => return Some(Why::Unassigned),
+            Stepped::Ran {
+                printed: Some(character),
+            } => printed.push_reserved(character),
+            _ => {}
+        }
+        self.break_ahead(breaks)
+    }
+
+    /// The reason to stop where the next instruction is at a break.
+    #[inline(always)]
+    fn break_ahead(&self, breaks: &[bool]) -> Option<Why>
+        ensures { result ≡ break_ahead breaks.now self.now }
+    {
+        if is_break(breaks, self.next_cell()) {
+            Some(Why::Break)
+        } else {
+            None
+        }
+    }
+
+    /// A step, before which a quick printer ends its character where it is busy.
+    #[inline(always)]
+    fn take_turn(&mut self, quick: bool) -> Stepped
+        ensures state { self.new ≡ (turn quick self.old).0 }
+        ensures answer { result ≡ (turn quick self.old).1 }
+    {
+        if quick && self.teletype.is_busy() {
+            self.done();
+        }
+        self.step()
+    }
+}
+
+/// Whether a cell has a break.
+#[inline(always)]
+fn is_break(breaks: &[bool], cell: Cell) -> bool
+    ensures { result ≡ is_break breaks.now cell }
+{
+    match breaks.get(cell.index()) {
+        Some(has_one) => *has_one,
+        None => false,
+    }
+}
