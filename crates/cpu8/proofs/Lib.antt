@@ -2,4 +2,8 @@ pub mod RotationLemmas
 pub mod TurnLemmas
 pub mod StepLemmas
 pub mod RunLemmas
+pub mod OutcomeLemmas
+pub mod InterruptLemmas
+pub mod AutoIndexLemmas
 pub mod GoLemmas
+pub mod QuietLemmas

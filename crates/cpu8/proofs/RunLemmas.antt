@@ -2,8 +2,9 @@
 use Rattle.std.proofs.Common.{◌≡◌, ◌≢◌, ℕ, ◌+◌, ◌*◌, ◌/◌, ◌%◌, ◌<◌, Bool, true, false, ◌&&◌, nat_eq, if◌then◌else◌, List, inl, inr, length, slice_index, slice_set, eq-eqb, refl, ap, sym, subst, ◌∙◌, arith}
 use Rattle.std.proofs.lemmas.Bool.Decides.{eqb_tells}
 use Rattle.std.proofs.lemmas.Grind.{get_or-set_at}
-use Rattle.cpu8.specs.State.{State, place, is_asking}
-use Rattle.cpu8.specs.Reference.{indexed, is_indirect, is_auto_index, pointer_place, address, named, operand_place, raised}
+use Rattle.cpu8.specs.State.{State, place, grants_interrupt}
+use Rattle.cpu8.specs.Decoding.{is_indirect}
+use Rattle.cpu8.specs.Reference.{indexed, is_auto_index, pointer_place, effective_address, direct_address, operand_place, raised}
 use Rattle.cpu8.specs.Step.{row, executed, fetched, interrupted, step}
 use Rattle.cpu8.specs.Laws.{IsNext, IsCallAndReturn, IsInterruptAndReturn, Resumes, rmf, jmp_i_0}
 use Rattle.cpu8.specs.declared.decoding.Operation.{Operation}
@@ -12,40 +13,40 @@ use Rattle.cpu8.specs.declared.outcomes.Stepped.TheVariants.{Interrupted}
 use Rattle.cpu8.proofs.StepLemmas.{length-indexed}
 
 -- the row of the next instruction
-step-next : (kind : Operation) (s : State) → IsNext kind s → step s ≡ row kind s (fetched s)
+pub step-next : (kind : Operation) (s : State) → IsNext kind s → step s ≡ row kind s (fetched s)
 unfolding step executed
 step-next kind s next = rw (next.running, next.undisturbed, next.operation) refl
 
-step-interrupt : (s : State) → s.running ≡ true → is_asking s ≡ true → step s ≡ (interrupted s, Interrupted)
+pub step-interrupt : (s : State) → s.running ≡ true → grants_interrupt s ≡ true → step s ≡ (interrupted s, Interrupted)
 unfolding step
-step-interrupt s running asking = rw (running, asking) refl
+step-interrupt s running granted = rw (running, granted) refl
 
 -- an indirect JMP, off the auto-index cells
 jmp-indirect : (s : State) (w : ℕ) → is_indirect w ≡ true → is_auto_index s w ≡ false
-    → address s w ≡ slice_index s.core (pointer_place s w)
+    → effective_address s w ≡ slice_index s.core (pointer_place s w)
 jmp-indirect s w indirect auto =
-    ap (λ b. if b then slice_index (indexed s w) (pointer_place s w) else named s w) indirect
+    ap (λ b. if b then slice_index (indexed s w) (pointer_place s w) else direct_address s w) indirect
     ∙ ap (λ b. slice_index (if b then slice_set s.core (pointer_place s w) ((slice_index s.core (pointer_place s w) + 1) % 4096) else s.core) (pointer_place s w)) auto
 
 -- what stands at a place that was just stored
-stored : (core : List ℕ) (at word place : ℕ) → place ≡ at → at < length core → slice_index (slice_set core at word) place ≡ word
+pub stored : (core : List ℕ) (at word place : ℕ) → place ≡ at → at < length core → slice_index (slice_set core at word) place ≡ word
 stored core at word place same inside = get_or-set_at core at place word 0 same inside
 
 pub subroutine_pc : (call back : State) → IsCallAndReturn call back → (step back).0.pc ≡ (call.pc + 1) % 4096
 subroutine_pc call back r =
     let called : (step call).0.core
-    ≡ slice_set (indexed call (fetched call)) (place call.instruction_buffer (address call (fetched call))) ((call.pc + 1) % 4096) =
+    ≡ slice_set (indexed call (fetched call)) (place call.instruction_buffer (effective_address call (fetched call))) ((call.pc + 1) % 4096) =
     ap (λ r. r.0.core) (step-next Jms call r.calls) in
-    let same : pointer_place back (fetched back) ≡ place call.instruction_buffer (address call (fetched call)) =
-    ap (λ f. place f (named back (fetched back))) r.same_field.0 ∙ ap (place call.instruction_field) r.through_first_word
-    ∙ ap (λ f. place f (address call (fetched call))) (sym r.one_field) in
-    let inside : place call.instruction_buffer (address call (fetched call)) < length (indexed call (fetched call)) =
+    let same : pointer_place back (fetched back) ≡ place call.instruction_buffer (effective_address call (fetched call)) =
+    ap (λ f. place f (direct_address back (fetched back))) r.same_field.0 ∙ ap (place call.instruction_field) r.through_first_word
+    ∙ ap (λ f. place f (effective_address call (fetched call))) (sym r.one_field) in
+    let inside : place call.instruction_buffer (effective_address call (fetched call)) < length (indexed call (fetched call)) =
     rw (length-indexed call (fetched call), r.one_field) r.first_word in
     ap (λ r. r.0.pc) (step-next Jmp back r.returns)
     ∙ jmp-indirect back (fetched back) r.indirect r.no_auto_index
     ∙ r.kept
     ∙ ap (λ core. slice_index core (pointer_place back (fetched back))) called
-    ∙ stored (indexed call (fetched call)) (place call.instruction_buffer (address call (fetched call))) ((call.pc + 1) % 4096) (pointer_place back (fetched back)) same inside
+    ∙ stored (indexed call (fetched call)) (place call.instruction_buffer (effective_address call (fetched call))) ((call.pc + 1) % 4096) (pointer_place back (fetched back)) same inside
 
 pub subroutine_field : (call back : State) → IsCallAndReturn call back → (step back).0.instruction_field ≡ call.instruction_field
 subroutine_field call back r = ap (λ r. r.0.instruction_field) (step-next Jmp back r.returns) ∙ r.same_field.1
@@ -76,7 +77,7 @@ isz_other s next inside other = elim (eqb_tells (raised s (fetched s)) 0) [
 -- Interrupts
 
 -- RMF
-restored : (s : State) → s.running ≡ true → is_asking s ≡ false → fetched s ≡ rmf
+restored : (s : State) → s.running ≡ true → grants_interrupt s ≡ false → fetched s ≡ rmf
     → (step s).0 ≡ record s {
       pc = (s.pc + 1) % 4096;
       waiting = false;
@@ -88,7 +89,7 @@ unfolding step executed
 restored s running undisturbed word = rw (running, undisturbed, word) refl
 
 -- JMP I 0 in field 0
-jumped : (s : State) → s.running ≡ true → is_asking s ≡ false → s.instruction_field ≡ 0 → fetched s ≡ jmp_i_0
+jumped : (s : State) → s.running ≡ true → grants_interrupt s ≡ false → s.instruction_field ≡ 0 → fetched s ≡ jmp_i_0
     → (step s).0 ≡ record s {
       pc = slice_index s.core 0;
       waiting = false;
@@ -98,9 +99,9 @@ jumped : (s : State) → s.running ≡ true → is_asking s ≡ false → s.inst
 unfolding step executed
 jumped s running undisturbed field word = rw (running, undisturbed, word, field) refl
 
-none_asked : (on : Bool) → (on && false) ≡ false
-none_asked true = refl
-none_asked false = refl
+none_granted : (on : Bool) → (on && false) ≡ false
+none_granted true = refl
+none_granted false = refl
 
 in_field_0 : (field pc : ℕ) → field ≡ 0 → place field pc ≡ pc
 in_field_0 field pc e = omega (arith, e)
@@ -132,11 +133,11 @@ returned-is program back r =
       instruction_buffer = back.save_field / 8;
       data_field = back.save_field % 8;
       held_off = true;
-    }) r.back_running (none_asked back.interrupts_on) r.field_0 next
+    }) r.back_running (none_granted back.interrupts_on) r.field_0 next
 
 pub resumed : (program back : State) → IsInterruptAndReturn program back → Resumes program (step (step back).0).0
 resumed program back r =
-    let interrupt = step-interrupt program r.running r.asking in
+    let interrupt = step-interrupt program r.running r.granted in
     let saved : back.save_field ≡ 8 * program.instruction_field + program.data_field = r.saved ∙ ap (λ r. r.0.save_field) interrupt in
     let fields = saved_fields program.instruction_field program.data_field back.save_field r.data_field saved in
     subst (λ (s : State). Resumes program s) (sym (returned-is program back r)) (record {

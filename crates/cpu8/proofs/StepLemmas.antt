@@ -1,9 +1,8 @@
 -- Every step: whether the machine runs on, and the number of its cells.
 use Rattle.std.proofs.Common.{◌≡◌, ℕ, Bool, true, false, nat_eq, if◌then◌else◌, List, length, slice_index, slice_set, length-set, ◌+◌, ◌%◌, None, refl, ap, ◌∙◌}
-use Rattle.tty8.specs.Bits.{has}
-use Rattle.cpu8.specs.State.{State, is_asking}
-use Rattle.cpu8.specs.Decoding.{operation_of, pulses_of, device_of, field_of}
-use Rattle.cpu8.specs.Reference.{indexed, is_auto_index, pointer_place, passed}
+use Rattle.cpu8.specs.State.{State, grants_interrupt}
+use Rattle.cpu8.specs.Decoding.{operation_of, pulses_of, device_of, field_of, is_group_1, is_group_2, has_hlt}
+use Rattle.cpu8.specs.Reference.{indexed, is_auto_index, pointer_place, advanced}
 use Rattle.cpu8.specs.Operate.{is_group1_unassigned, unassigned_row, group1_done, group1_row, group2_done, group2_row, operate_row}
 use Rattle.cpu8.specs.Transfer.{ion_row, iof_row, cdf_row, cif_row, cdf_cif_row, rdf_row, rif_row, rib_row, rmf_row, read_row, device_row}
 use Rattle.cpu8.specs.Step.{row, executed, fetched, interrupted, step}
@@ -38,31 +37,31 @@ length-indexed s w = length-if (is_auto_index s w) s.core (pointer_place s w) ((
 length-stored : (s : State) (w at word : ℕ) → length (slice_set (indexed s w) at word) ≡ length s.core
 length-stored s w at word = length-set (indexed s w) at word ∙ length-indexed s w
 
-passed-keeps : (s : State) → s.running ≡ true → Keeps s (passed s, Ran None)
-passed-keeps s h = record { running = h; size = refl }
+advanced-keeps : (s : State) → s.running ≡ true → Keeps s (advanced s, Ran None)
+advanced-keeps s h = record { running = h; size = refl }
 
 read-keeps : (s : State) (n : ℕ) → s.running ≡ true → Keeps s (read_row s n, Ran None)
 read-keeps s n h =
     either_state s (nat_eq n 1) (rdf_row s) _ _ (record { running = h; size = refl })
     (either_state s (nat_eq n 2) (rif_row s) _ _ (record { running = h; size = refl })
     (either_state s (nat_eq n 3) (rib_row s) _ _ (record { running = h; size = refl })
-    (either_state s (nat_eq n 4) (rmf_row s) (passed s) _ (record { running = h; size = refl }) (passed-keeps s h))))
+    (either_state s (nat_eq n 4) (rmf_row s) (advanced s) _ (record { running = h; size = refl }) (advanced-keeps s h))))
 
 ion-keeps : (s : State) → s.running ≡ true → Keeps s (ion_row s, Ran None)
-ion-keeps s h = either_state s s.interrupts_on (passed s) _ _ (passed-keeps s h) (record { running = h; size = refl })
+ion-keeps s h = either_state s s.interrupts_on (advanced s) _ _ (advanced-keeps s h) (record { running = h; size = refl })
 
 device-keeps : (d : Device) (s : State) (w : ℕ) → s.running ≡ true → Keeps s (device_row d s w)
 device-keeps Interrupts s w h =
     either_state s (nat_eq (pulses_of w) 1) (ion_row s) _ _ (ion-keeps s h)
-    (either_state s (nat_eq (pulses_of w) 2) (iof_row s) (passed s) _ (record { running = h; size = refl }) (passed-keeps s h))
+    (either_state s (nat_eq (pulses_of w) 2) (iof_row s) (advanced s) _ (record { running = h; size = refl }) (advanced-keeps s h))
 device-keeps Keyboard s w h = record { running = h; size = refl }
 device-keeps Printer s w h = record { running = h; size = refl }
 device-keeps Fields s w h =
     either_state s (nat_eq (pulses_of w) 1) (cdf_row s (field_of w)) _ _ (record { running = h; size = refl })
     (either_state s (nat_eq (pulses_of w) 2) (cif_row s (field_of w)) _ _ (record { running = h; size = refl })
     (either_state s (nat_eq (pulses_of w) 3) (cdf_cif_row s (field_of w)) _ _ (record { running = h; size = refl })
-    (either_state s (nat_eq (pulses_of w) 4) (read_row s (field_of w)) (passed s) _ (read-keeps s (field_of w) h) (passed-keeps s h))))
-device-keeps Other s w h = passed-keeps s h
+    (either_state s (nat_eq (pulses_of w) 4) (read_row s (field_of w)) (advanced s) _ (read-keeps s (field_of w) h) (advanced-keeps s h))))
+device-keeps Other s w h = advanced-keeps s h
 
 halting : (s x : State) (halts : Bool) → s.running ≡ true → x.running ≡ (if halts then false else s.running) → x.core ≡ s.core
     → Keeps s (x, if halts then Halted else Ran None)
@@ -71,11 +70,11 @@ halting s x false h running core = record { running = running ∙ h; size = ap l
 
 operate-keeps : (s : State) (w : ℕ) → s.running ≡ true → Keeps s (operate_row s w)
 operate-keeps s w h =
-    either s (has w 256) (if has w 1 then unassigned_row s w else group2_row s w) (group1_row s w)
-    (either s (has w 1) (unassigned_row s w) (group2_row s w)
-    (record { running = refl; size = refl }) (halting s (group2_done s w) (has w 2) h refl refl))
+    either s (is_group_1 w) (group1_row s w) (if is_group_2 w then group2_row s w else unassigned_row s w)
     (either s (is_group1_unassigned w) (unassigned_row s w) (group1_done s w, Ran None)
     (record { running = refl; size = refl }) (record { running = h; size = refl }))
+    (either s (is_group_2 w) (group2_row s w) (unassigned_row s w)
+    (halting s (group2_done s w) (has_hlt w) h refl refl) (record { running = refl; size = refl }))
 
 row-keeps : (op : Operation) (s : State) (w : ℕ) → s.running ≡ true → Keeps s (row op s w)
 row-keeps And s w h = record { running = h; size = length-indexed s w }
@@ -87,13 +86,13 @@ row-keeps Jmp s w h = record { running = h; size = length-indexed s w }
 row-keeps Iot s w h = device-keeps (device_of w) s w h
 row-keeps Opr s w h = operate-keeps s w h
 
-running-keeps : (s : State) → s.running ≡ true → Keeps s (if is_asking s then (interrupted s, Interrupted) else row (operation_of (fetched s)) s (fetched s))
+running-keeps : (s : State) → s.running ≡ true → Keeps s (if grants_interrupt s then (interrupted s, Interrupted) else row (operation_of (fetched s)) s (fetched s))
 running-keeps s h =
-    either s (is_asking s) (interrupted s, Interrupted) (row (operation_of (fetched s)) s (fetched s)) (record { running = h; size = length-set s.core 0 s.pc })
+    either s (grants_interrupt s) (interrupted s, Interrupted) (row (operation_of (fetched s)) s (fetched s)) (record { running = h; size = length-set s.core 0 s.pc })
     (row-keeps (operation_of (fetched s)) s (fetched s) h)
 
 chosen-keeps : (s : State) (b : Bool) → s.running ≡ b
-    → Keeps s (if b then (if is_asking s then (interrupted s, Interrupted) else row (operation_of (fetched s)) s (fetched s)) else (s, Stopped))
+    → Keeps s (if b then (if grants_interrupt s then (interrupted s, Interrupted) else row (operation_of (fetched s)) s (fetched s)) else (s, Stopped))
 chosen-keeps s true h = running-keeps s h
 chosen-keeps s false h = record { running = h; size = refl }
 

@@ -1,15 +1,17 @@
 -- What the laws of the machine say, in the handbook's names.
-use Rattle.std.specs.Prelude.{◌≡◌, ℕ, ◌+◌, ◌*◌, ◌%◌, ◌<◌, Bool, true, false, length, slice_index}
-use Rattle.cpu8.specs.State.{State, place, is_asking}
-use Rattle.cpu8.specs.Decoding.{operation_of}
-use Rattle.cpu8.specs.Reference.{named, is_indirect, is_auto_index, pointer_place, address}
+use Rattle.std.specs.Prelude.{◌≡◌, ◌≢◌, ℕ, ◌+◌, ◌*◌, ◌%◌, ◌<◌, Bool, true, false, length, slice_index}
+use Rattle.tty8.specs.Teletype.{is_requesting}
+use Rattle.cpu8.specs.State.{State, place, grants_interrupt}
+use Rattle.cpu8.specs.Decoding.{operation_of, is_indirect}
+use Rattle.cpu8.specs.Reference.{direct_address, is_auto_index, pointer_place, effective_address, operand_place}
 use Rattle.cpu8.specs.Step.{executed, fetched, step}
+use Rattle.cpu8.specs.Go as Go
 use Rattle.cpu8.specs.declared.decoding.Operation.{Operation}
-use Rattle.cpu8.specs.declared.decoding.Operation.TheVariants.{Jms, Jmp}
+use Rattle.cpu8.specs.declared.decoding.Operation.TheVariants.{And, Tad, Isz, Dca, Jms, Jmp, Iot, Opr}
 use Rattle.cpu8.specs.declared.outcomes.Stepped.{Stepped}
 use Rattle.cpu8.specs.declared.outcomes.Stepped.TheVariants.{Stopped, Interrupted, Ran, Halted, Unassigned}
 
--- ## Words, in octal 7004, 7006, 7010, 7012, 7120, 6244, 5400
+-- ## Words, in octal 7004, 7006, 7010, 7012, 7120, 6001, 62N2, 6244, 5400
 
 abbrev pub ral : ℕ
 ral = 3588
@@ -25,6 +27,12 @@ rtr = 3594
 
 abbrev pub cll_cml : ℕ
 cll_cml = 3664
+
+abbrev pub ion : ℕ
+ion = 3073
+
+abbrev pub cif : ℕ → ℕ
+cif n = 3202 + 8 * n
 
 abbrev pub rmf : ℕ
 rmf = 3236
@@ -52,7 +60,7 @@ pub record HasLinkAndAc (s : State) : Type 0 where
 -- the next step is an instruction of this operation
 pub record IsNext (kind : Operation) (s : State) : Type 0 where
   pub running : s.running ≡ true
-  pub undisturbed : is_asking s ≡ false
+  pub undisturbed : grants_interrupt s ≡ false
   pub operation : operation_of (fetched s) ≡ kind
 
 -- whether a machine runs on after such a step
@@ -68,23 +76,23 @@ runs_on (Unassigned word) = false
 pub record IsCallAndReturn (call back : State) : Type 0 where
   pub calls : IsNext Jms call
   pub one_field : call.instruction_buffer ≡ call.instruction_field
-  pub first_word : place call.instruction_field (address call (fetched call)) < length call.core
+  pub first_word : place call.instruction_field (effective_address call (fetched call)) < length call.core
   pub returns : IsNext Jmp back
   pub same_field : (back.instruction_field ≡ call.instruction_field) × (back.instruction_buffer ≡ call.instruction_field)
   pub indirect : is_indirect (fetched back) ≡ true
-  pub through_first_word : named back (fetched back) ≡ address call (fetched call)
+  pub through_first_word : direct_address back (fetched back) ≡ effective_address call (fetched call)
   pub no_auto_index : is_auto_index back (fetched back) ≡ false
   pub kept : slice_index back.core (pointer_place back (fetched back)) ≡ slice_index (step call).0.core (pointer_place back (fetched back))
 
--- A program is interrupted, and later, in field 0 with no interrupt asked for, RMF and JMP I 0 come next, with cell 0
+-- A program is interrupted, and later, in field 0 with no request granted, RMF and JMP I 0 come next, with cell 0
 -- and the save field still what the interrupt left there.
 pub record IsInterruptAndReturn (program back : State) : Type 0 where
   pub running : program.running ≡ true
-  pub asking : is_asking program ≡ true
+  pub granted : grants_interrupt program ≡ true
   pub data_field : program.data_field < 8
   pub core : 0 < length program.core
   pub back_running : back.running ≡ true
-  pub undisturbed : is_asking back ≡ false
+  pub undisturbed : grants_interrupt back ≡ false
   pub field_0 : back.instruction_field ≡ 0
   pub restores : slice_index back.core back.pc ≡ rmf
   pub jumps : slice_index back.core ((back.pc + 1) % 4096) ≡ jmp_i_0
@@ -99,3 +107,77 @@ pub record Resumes (program s : State) : Type 0 where
   pub instruction_buffer : s.instruction_buffer ≡ program.instruction_field
   pub data_field : s.data_field ≡ program.data_field
   pub held_off : s.held_off ≡ false
+
+-- ## Interrupts after ION, CIF and RMF
+
+-- the next step does ION, with interrupts off
+pub record IsIon (s : State) : Type 0 where
+  pub running : s.running ≡ true
+  pub off : s.interrupts_on ≡ false
+  pub word : fetched s ≡ ion
+
+-- interrupts are on and not held off, and one is requested
+pub record IsRequested (s : State) : Type 0 where
+  pub running : s.running ≡ true
+  pub on : s.interrupts_on ≡ true
+  pub not_held_off : s.held_off ≡ false
+  pub requested : is_requesting s.teletype ≡ true
+
+-- an instruction is done of this word next
+pub record IsNextWord (word : ℕ) (s : State) : Type 0 where
+  pub running : s.running ≡ true
+  pub undisturbed : grants_interrupt s ≡ false
+  pub fetches : fetched s ≡ word
+
+abbrev pub is_jump : Operation → Bool
+is_jump And = false
+is_jump Tad = false
+is_jump Isz = false
+is_jump Dca = false
+is_jump Jms = true
+is_jump Jmp = true
+is_jump Iot = false
+is_jump Opr = false
+
+-- the state after so many steps
+abbrev pub later : ℕ → State → State
+later k s = Go.after false k s
+
+-- none of the next k steps finds a JMP or JMS at PC
+abbrev pub NoJump : State → ℕ → Type 0
+NoJump s k = (m : ℕ) → m < k → is_jump (operation_of (fetched (later m s))) ≡ false
+
+-- ## Auto-indexing
+
+abbrev pub refers : Operation → Bool
+refers And = true
+refers Tad = true
+refers Isz = true
+refers Dca = true
+refers Jms = true
+refers Jmp = true
+refers Iot = false
+refers Opr = false
+
+-- what the instruction stores goes to another cell than its pointer's
+abbrev pub StoresApart : Operation → State → ℕ → Type 0
+StoresApart And s w = Unit {0}
+StoresApart Tad s w = Unit {0}
+StoresApart Isz s w = pointer_place s w ≢ operand_place s w
+StoresApart Dca s w = pointer_place s w ≢ operand_place s w
+StoresApart Jms s w = pointer_place s w ≢ place s.instruction_buffer (effective_address s w)
+StoresApart Jmp s w = Unit {0}
+StoresApart Iot s w = Unit {0}
+StoresApart Opr s w = Unit {0}
+
+-- the next step does a reference to memory through an auto-index
+pub record UsesAutoIndex (kind : Operation) (s : State) : Type 0 where
+  pub next : IsNext kind s
+  pub reference : refers kind ≡ true
+  pub auto_index : is_auto_index s (fetched s) ≡ true
+  pub core : pointer_place s (fetched s) < length s.core
+  pub apart : StoresApart kind s (fetched s)
+
+-- the word of the pointer of the next instruction, made one more
+abbrev pub next_pointer : State → ℕ
+next_pointer s = (slice_index s.core (pointer_place s (fetched s)) + 1) % 4096

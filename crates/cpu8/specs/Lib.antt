@@ -7,4 +7,5 @@ pub mod Operate
 pub mod Transfer
 pub mod Step
 pub mod Go
+pub mod Quiet
 pub mod Laws

@@ -1,26 +1,22 @@
 -- The instructions that refer to memory: AND, TAD, ISZ, DCA, JMS, JMP (Small Computer Handbook). PC is the address of
 -- the instruction, w its word.
 use Rattle.std.specs.Prelude.{ℕ, ◌+◌, ◌*◌, ◌/◌, ◌%◌, Bool, false, ◌&&◌, nat_eq, nat_le, if◌then◌else◌, bit_and, List, slice_index, slice_set}
-use Rattle.tty8.specs.Bits.{has}
 use Rattle.cpu8.specs.State.{State, place}
+use Rattle.cpu8.specs.Decoding.{is_indirect, is_in_current_page, offset_of}
 
 -- ## Addresses
 
--- the address that the instruction names: its offset on its own page where the page bit (0200) is set, else on page 0
-abbrev pub named : State → ℕ → ℕ
-named s w = if has w 128 then s.pc / 128 * 128 + w % 128 else w % 128
+-- the direct address: the offset in the page of the instruction, or in page zero
+abbrev pub direct_address : State → ℕ → ℕ
+direct_address s w = if is_in_current_page w then s.pc / 128 * 128 + offset_of w else offset_of w
 
--- the indirect bit (0400)
-abbrev pub is_indirect : ℕ → Bool
-is_indirect w = has w 256
-
--- where the pointer of an indirect reference stands
+-- where the pointer of an indirect reference stands: at the direct address in the instruction field
 abbrev pub pointer_place : State → ℕ → ℕ
-pointer_place s w = place s.instruction_field (named s w)
+pointer_place s w = place s.instruction_field (direct_address s w)
 
 -- a pointer at 0010 to 0017 is an auto-index
 abbrev pub is_auto_index : State → ℕ → Bool
-is_auto_index s w = is_indirect w && (nat_le 8 (named s w) && nat_le (named s w) 15)
+is_auto_index s w = is_indirect w && (nat_le 8 (direct_address s w) && nat_le (direct_address s w) 15)
 
 -- core once the pointer was read: an auto-index is first made one more, and kept so
 abbrev pub indexed : State → ℕ → List ℕ
@@ -28,27 +24,27 @@ indexed s w =
     if is_auto_index s w then slice_set s.core (pointer_place s w) ((slice_index s.core (pointer_place s w) + 1) % 4096)
     else s.core
 
--- the address of the reference: what the instruction names, or the pointer's word there
-abbrev pub address : State → ℕ → ℕ
-address s w = if is_indirect w then slice_index (indexed s w) (pointer_place s w) else named s w
+-- the effective address: the direct address, or the pointer's word there
+abbrev pub effective_address : State → ℕ → ℕ
+effective_address s w = if is_indirect w then slice_index (indexed s w) (pointer_place s w) else direct_address s w
 
 -- where the operand of AND, TAD, ISZ and DCA stands: in the data field for an indirect reference, else in the
 -- instruction field
 abbrev pub operand_place : State → ℕ → ℕ
-operand_place s w = place (if is_indirect w then s.data_field else s.instruction_field) (address s w)
+operand_place s w = place (if is_indirect w then s.data_field else s.instruction_field) (effective_address s w)
 
 abbrev pub operand : State → ℕ → ℕ
 operand s w = slice_index (indexed s w) (operand_place s w)
 
 -- ## Rows
 
--- what every instruction does: PC goes on by one, and the waiting of ION is over
-abbrev pub passed : State → State
-passed s = record s { pc = (s.pc + 1) % 4096; waiting = false }
+-- what every instruction does: PC is advanced by one, and the waiting of ION is over
+abbrev pub advanced : State → State
+advanced s = record s { pc = (s.pc + 1) % 4096; waiting = false }
 
 -- and what every reference to memory does
 abbrev pub referred : State → ℕ → State
-referred s w = record (passed s) { core = indexed s w }
+referred s w = record (advanced s) { core = indexed s w }
 
 abbrev pub and_row : State → ℕ → State
 and_row s w = record (referred s w) { ac = bit_and s.ac (operand s w) }
@@ -80,14 +76,14 @@ dca_row s w = record (referred s w) {
 -- JMS and JMP go to the field of the instruction buffer, and end the holding off of interrupts
 abbrev pub jmp_row : State → ℕ → State
 jmp_row s w = record (referred s w) {
-  pc = address s w;
+  pc = effective_address s w;
   instruction_field = s.instruction_buffer;
   held_off = false;
 }
 
--- JMS stores PC at the address in the new field, and goes on behind it
+-- JMS stores PC at the effective address in the new field, and goes on behind it
 abbrev pub jms_row : State → ℕ → State
 jms_row s w = record (jmp_row s w) {
-  core = slice_set (indexed s w) (place s.instruction_buffer (address s w)) ((s.pc + 1) % 4096);
-  pc = (address s w + 1) % 4096;
+  core = slice_set (indexed s w) (place s.instruction_buffer (effective_address s w)) ((s.pc + 1) % 4096);
+  pc = (effective_address s w + 1) % 4096;
 }

@@ -37,6 +37,10 @@ place field address = 4096 * field + address
 abbrev pub next_cell : State → ℕ
 next_cell s = place s.instruction_field s.pc
 
+-- the state with another core
+abbrev pub with_core : State → List ℕ → State
+with_core s core = record s { core = core }
+
 -- ## What the console and the Teletype do
 
 -- a new machine with this core is stopped, and all its registers and flags are 0
@@ -87,7 +91,7 @@ key_struck s character = record s { teletype = struck s.teletype character }
 abbrev pub printer_done : State → State
 printer_done s = record s { teletype = finished s.teletype }
 
--- Whether an interrupt comes in place of the next instruction: interrupts are on, the instruction after ION is done,
--- no CIF or RMF waits for its jump, and a flag of the Teletype is set.
-abbrev pub is_asking : State → Bool
-is_asking s = s.interrupts_on && (not s.waiting && (not s.held_off && is_requesting s.teletype))
+-- Whether an interrupt request is granted, so that an interrupt comes in place of the next instruction: interrupts are on,
+-- the instruction after ION is done, no CIF or RMF waits for its jump, and a flag of the Teletype requests one.
+abbrev pub grants_interrupt : State → Bool
+grants_interrupt s = s.interrupts_on && (not s.waiting && (not s.held_off && is_requesting s.teletype))

@@ -1,6 +1,6 @@
 -- A step of the machine (Small Computer Handbook).
 use Rattle.std.specs.Prelude.{ℕ, ◌+◌, ◌*◌, false, if◌then◌else◌, None, slice_index, slice_set}
-use Rattle.cpu8.specs.State.{State, next_cell, is_asking}
+use Rattle.cpu8.specs.State.{State, next_cell, grants_interrupt}
 use Rattle.cpu8.specs.Decoding.{operation_of}
 use Rattle.cpu8.specs.Reference.{and_row, tad_row, isz_row, dca_row, jms_row, jmp_row}
 use Rattle.cpu8.specs.Operate.{operate_row}
@@ -41,8 +41,8 @@ interrupted s = record s {
 abbrev pub fetched : State → ℕ
 fetched s = slice_index s.core (next_cell s)
 
--- A step: nothing where the machine is stopped, else an interrupt where one is asked for, else the next instruction.
+-- A step: nothing where the machine is stopped, else an interrupt where a request is granted, else the next instruction.
 unfoldable pub step : State → State × Stepped
 step s =
-    if s.running then (if is_asking s then (interrupted s, Interrupted) else executed s (fetched s))
+    if s.running then (if grants_interrupt s then (interrupted s, Interrupted) else executed s (fetched s))
     else (s, Stopped)

@@ -1,7 +1,59 @@
-//! What an instruction is told by.
+//! What an instruction is told by (Small Computer Handbook).
 
-ghost use Rattle.std.specs.Prelude.{◌≡◌, ◌<◌};
-ghost use Rattle.cpu8.specs.Decoding.{operation_of, device_of};
+ghost use Rattle.std.specs.Prelude.{◌≡◌, ◌<◌, ◌%◌};
+ghost use Rattle.tty8.specs.Bits.{has};
+ghost use Rattle.cpu8.specs.Decoding.{operation_of, device_of, field_of, pulses_of};
+
+use word12::Word;
+
+// Bits of a reference to memory.
+
+/// The reference is indirect.
+pub(crate) const INDIRECT: u16 = 0o400;
+
+/// The offset is in the current page, else in page zero.
+pub(crate) const CURRENT_PAGE: u16 = 0o200;
+
+/// The number of offsets in a page.
+pub(crate) const PAGE: u16 = 0o200;
+
+// Bits of an operate instruction. Group 1 has `GROUP_2_OR_3` clear; group 3 has `GROUP_3` set too.
+
+pub(crate) const GROUP_2_OR_3: u16 = 0o400;
+
+pub(crate) const GROUP_3: u16 = 0o001;
+
+pub(crate) const CLA: u16 = 0o200;
+
+// Of group 1.
+
+pub(crate) const CLL: u16 = 0o100;
+
+pub(crate) const CMA: u16 = 0o040;
+
+pub(crate) const CML: u16 = 0o020;
+
+pub(crate) const RAR: u16 = 0o010;
+
+pub(crate) const RAL: u16 = 0o004;
+
+/// The rotation is done twice.
+pub(crate) const TWICE: u16 = 0o002;
+
+// Of group 2.
+
+pub(crate) const SMA: u16 = 0o100;
+
+pub(crate) const SZA: u16 = 0o040;
+
+pub(crate) const SNL: u16 = 0o020;
+
+/// The sense of the skip is reversed.
+pub(crate) const REVERSED: u16 = 0o010;
+
+pub(crate) const OSR: u16 = 0o004;
+
+pub(crate) const HLT: u16 = 0o002;
 
 /// The operation of an instruction.
 #[derive(Clone, Copy)]
@@ -26,12 +78,36 @@ pub(crate) enum Device {
     Other,
 }
 
+/// Whether a word has this bit, one of those above.
 #[inline(always)]
-pub(crate) fn operation_of(word: u16) -> Operation
-    requires { word < 4096 }
+pub(crate) fn has(word: Word, bit: u16) -> bool
+    requires { 0 < bit }
+    ensures { result ≡ has word bit }
+{
+    word.get() / bit % 2 == 1
+}
+
+/// The offset of a reference to memory in its page.
+#[inline(always)]
+pub(crate) fn offset_of(word: Word) -> u16
+    ensures { result ≡ word % 128 }
+{
+    word.get() % PAGE
+}
+
+/// What an instruction of group 1 adds: one for IAC, else 0.
+#[inline(always)]
+pub(crate) fn iac_of(word: Word) -> u16
+    ensures { result ≡ word % 2 }
+{
+    word.get() % 2
+}
+
+#[inline(always)]
+pub(crate) fn operation_of(word: Word) -> Operation
     ensures { result ≡ operation_of word }
 {
-    match word / 512 % 8 {
+    match word.get() / 0o1000 {
         0 => Operation::And,
         1 => Operation::Tad,
         2 => Operation::Isz,
@@ -44,14 +120,32 @@ pub(crate) fn operation_of(word: u16) -> Operation
 }
 
 #[inline(always)]
-pub(crate) fn device_of(word: u16) -> Device
+pub(crate) fn device_of(word: Word) -> Device
     ensures { result ≡ device_of word }
 {
-    match word / 8 % 64 {
-        0 => Device::Interrupts,
-        3 => Device::Keyboard,
-        4 => Device::Printer,
-        16..24 => Device::Fields,
+    match word.get() / 0o10 % 0o100 {
+        0o00 => Device::Interrupts,
+        0o03 => Device::Keyboard,
+        0o04 => Device::Printer,
+        0o20..0o30 => Device::Fields,
         _ => Device::Other,
     }
+}
+
+/// The pulses of an IOT: its last octal digit.
+#[inline(always)]
+pub(crate) fn pulses_of(word: Word) -> u8
+    ensures value { result ≡ pulses_of word }
+    ensures range { result < 8 }
+{
+    (word.get() % 0o10) as u8
+}
+
+/// The field that an IOT of the extended memory names.
+#[inline(always)]
+pub(crate) fn field_of(word: Word) -> u8
+    ensures value { result ≡ field_of word }
+    ensures range { result < 8 }
+{
+    (word.get() / 0o10 % 0o10) as u8
 }

@@ -1,11 +1,13 @@
 //! Laws of the machine, above the instruction table.
 
-ghost use Rattle.std.specs.Prelude.{◌≡◌, ◌≢◌, ℕ, ◌+◌, ◌%◌, ◌<◌, length, slice_index};
+ghost use Rattle.std.specs.Prelude.{◌≡◌, ◌≢◌, ℕ, ◌+◌, ◌%◌, ◌<◌, true, false, length, slice_index};
 ghost use Rattle.cpu8.specs.State.{State};
-ghost use Rattle.cpu8.specs.Reference.{operand_place};
+ghost use Rattle.cpu8.specs.Reference.{effective_address, operand_place, pointer_place};
 ghost use Rattle.cpu8.specs.Step.{fetched, step};
-ghost use Rattle.cpu8.specs.declared.decoding.Operation.TheVariants.{Isz};
-ghost use Rattle.cpu8.specs.Laws.{ral, rtl, rar, rtr, cll_cml, after, link_and_ac, HasLinkAndAc, IsNext, runs_on, IsCallAndReturn, IsInterruptAndReturn, Resumes};
+ghost use Rattle.cpu8.specs.declared.decoding.Operation.{Operation};
+ghost use Rattle.cpu8.specs.declared.decoding.Operation.TheVariants.{Isz, Jms, Jmp};
+ghost use Rattle.cpu8.specs.declared.outcomes.Stepped.TheVariants.{Interrupted};
+ghost use Rattle.cpu8.specs.Laws.{cif, rmf, later, next_pointer, IsIon, IsNextWord, IsRequested, NoJump, UsesAutoIndex, ral, rtl, rar, rtr, cll_cml, after, link_and_ac, HasLinkAndAc, IsNext, runs_on, IsCallAndReturn, IsInterruptAndReturn, Resumes};
 
 /// RTL leaves L and AC as two RAL do, and RTR as two RAR do.
 pub fn double_rotation()
@@ -33,6 +35,29 @@ pub fn subroutine()
 /// After an interrupt, RMF and JMP I 0 resume where the program was, with its fields.
 pub fn interrupt_return()
     ensures { (program back : State) → IsInterruptAndReturn program back → Resumes program (step (step back).0).0 }
+{}
+
+/// The step behind an ION that found interrupts off is never an interrupt. The one behind that is one where interrupts are
+/// on then, not held off, and requested.
+pub fn ion_delay()
+    ensures not_at_once { (s : State) → IsIon s → (step (step s).0).1 ≢ Interrupted }
+    ensures then_granted { (s : State) → IsIon s → IsRequested (step (step s).0).0 → (step (step (step s).0).0).1 ≡ Interrupted }
+{}
+
+/// CIF and RMF hold interrupts off: as long as no JMP or JMS is done, no step is an interrupt. JMP and JMS end that.
+pub fn interrupts_held_off()
+    ensures cif { (n : ℕ) (s : State) → n < 8 → IsNextWord (cif n) s → (step s).0.held_off ≡ true }
+    ensures rmf { (s : State) → IsNextWord rmf s → (step s).0.held_off ≡ true }
+    ensures none { (s : State) (k : ℕ) → s.held_off ≡ true → NoJump s k → (m : ℕ) → m < k + 1 → (step (later m s)).1 ≢ Interrupted }
+    ensures jmp { (s : State) → IsNext Jmp s → (step s).0.held_off ≡ false }
+    ensures jms { (s : State) → IsNext Jms s → (step s).0.held_off ≡ false }
+{}
+
+/// The pointer of an auto-index is one more after each use, and the effective address is the pointer then.
+pub fn auto_index()
+    ensures address { (kind : Operation) (s : State) → UsesAutoIndex kind s → effective_address s (fetched s) ≡ next_pointer s }
+    ensures pointer { (kind : Operation) (s : State) → UsesAutoIndex kind s
+        → slice_index (step s).0.core (pointer_place s (fetched s)) ≡ next_pointer s }
 {}
 
 /// ISZ skips exactly where the word that it leaves is 0.

@@ -8,6 +8,7 @@ mod decoding;
 pub mod laws;
 mod machines;
 mod outcomes;
+mod processors;
 mod rotations;
 
 pub use machines::Machine;

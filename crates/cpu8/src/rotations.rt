@@ -4,6 +4,9 @@ ghost use Rattle.std.specs.Prelude.{◌≡◌, ◌<◌};
 ghost use Rattle.cpu8.specs.Rotation.{thirteen_bits, rotated_left, rotated_right};
 ghost use Rattle.cpu8.specs.Operate.{rotated};
 
+use crate::decoding::{RAL, RAR, TWICE, has};
+use word12::Word;
+
 /// One place to the left.
 #[inline(always)]
 fn left(number: u16) -> u16
@@ -24,18 +27,18 @@ fn right(number: u16) -> u16
     number / 2 + number % 2 * 4096
 }
 
-/// The rotation that a word of group 1 names: 0010 to the right, 0004 to the left, with 0002 twice.
+/// The rotation that a word of group 1 names.
 #[inline(always)]
-pub(crate) fn rotate(word: u16, number: u16) -> u16
+pub(crate) fn rotate(word: Word, number: u16) -> u16
     requires { number < 8192 }
     ensures bits { thirteen_bits result ≡ rotated word (thirteen_bits number) }
     ensures range { result < 8192 }
 {
-    let twice = word / 2 % 2 == 1;
-    if word / 8 % 2 == 1 {
+    let twice = has(word, TWICE);
+    if has(word, RAR) {
         let once = right(number);
         if twice { right(once) } else { once }
-    } else if word / 4 % 2 == 1 {
+    } else if has(word, RAL) {
         let once = left(number);
         if twice { left(once) } else { once }
     } else {

@@ -1,9 +1,11 @@
 //! Runs a program on the processor alone, to measure it: the BIN tape on standard input is loaded, started at 00200 and
-//! run until it stops. Then AC, L and PC with its field are printed.
+//! run until it stops. Then AC, L and PC with its field are printed. A tape of three frames, of which none is a program,
+//! strikes a key first: so the compiler can't know that no interrupt is ever requested.
 #![tactic(auto)]
 
 use core_load::{Core, load};
-use cpu8::{Machine, Stepped};
+use cpu8::{Machine, Why};
+use std::alloc::{AllocError, Global};
 use std::io::{Read, Write};
 use std::process::ExitCode;
 use word12::Cell;
@@ -21,8 +23,13 @@ fn main(rt: HostRuntime) -> ExitCode {
         return ExitCode::FAILURE;
     }
     let mut machine = Machine::new(core);
+    if tape.len() == 3 {
+        machine.key(0);
+    }
     machine.start(Cell::of(0o200));
-    run(&mut machine);
+    if run(rt.alloc(), &mut machine).is_err() {
+        return ExitCode::FAILURE;
+    }
     let (ac, l, field, pc) = (
         machine.ac(),
         machine.l(),
@@ -35,13 +42,18 @@ fn main(rt: HostRuntime) -> ExitCode {
     }
 }
 
-/// Steps until the machine stops.
-fn run(machine: &mut Machine) {
+/// Steps until the machine stops, with no break.
+fn run(alloc: Global, machine: &mut Machine) -> Result<(), AllocError> {
+    let mut printed = Vec::with_capacity(alloc, STEPS)?;
     for _ in 0..u64::MAX {
-        match machine.step() {
-            Stepped::Ran { .. } => {}
-            Stepped::Interrupted => {}
-            _ => return,
+        printed.clear();
+        match machine.run(STEPS, false, &[], &mut printed).why {
+            Why::Limit => {}
+            _ => return Ok(()),
         }
     }
+    Ok(())
 }
+
+/// The steps of one run: for so many characters there is room.
+const STEPS: usize = 65536;

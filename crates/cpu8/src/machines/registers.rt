@@ -12,7 +12,7 @@ impl Machine {
     pub fn ac(&self) -> Word
         ensures { result ≡ self.now.ac }
     {
-        self.ac
+        self.processor.ac
     }
 
     /// The link, 0 or 1.
@@ -21,7 +21,7 @@ impl Machine {
         ensures value { result ≡ self.now.l }
         ensures range { result < 2 }
     {
-        self.l
+        self.processor.l
     }
 
     /// The program counter: an address in the instruction field.
@@ -29,7 +29,7 @@ impl Machine {
     pub fn pc(&self) -> Word
         ensures { result ≡ self.now.pc }
     {
-        self.pc
+        self.processor.pc
     }
 
     /// The cell of the next instruction: PC in the instruction field.
@@ -38,7 +38,7 @@ impl Machine {
         ensures value { result ≡ next_cell self.now }
         ensures range { result < 32768 }
     {
-        Cell::at(self.instruction_field, self.pc)
+        self.processor.next_cell()
     }
 
     /// The instruction field, 0 to 7.
@@ -47,7 +47,7 @@ impl Machine {
         ensures value { result ≡ self.now.instruction_field }
         ensures range { result < 8 }
     {
-        self.instruction_field
+        self.processor.instruction_field
     }
 
     /// The instruction buffer, 0 to 7: the instruction field from the next JMP or JMS on.
@@ -56,7 +56,7 @@ impl Machine {
         ensures value { result ≡ self.now.instruction_buffer }
         ensures range { result < 8 }
     {
-        self.instruction_buffer
+        self.processor.instruction_buffer
     }
 
     /// The data field, 0 to 7.
@@ -65,7 +65,7 @@ impl Machine {
         ensures value { result ≡ self.now.data_field }
         ensures range { result < 8 }
     {
-        self.data_field
+        self.processor.data_field
     }
 
     /// The save field, 0 to 63: at the last interrupt, 8 times the instruction field, plus the data field.
@@ -74,7 +74,7 @@ impl Machine {
         ensures value { result ≡ self.now.save_field }
         ensures range { result < 64 }
     {
-        self.save_field
+        self.processor.save_field
     }
 
     /// The switch register.
@@ -82,7 +82,7 @@ impl Machine {
     pub fn switch_register(&self) -> Word
         ensures { result ≡ self.now.switches }
     {
-        self.switches
+        self.processor.switches
     }
 
     /// The keyboard's buffer, eight bits.
@@ -90,7 +90,7 @@ impl Machine {
     pub fn keyboard_buffer(&self) -> u8
         ensures { result ≡ self.now.teletype.buffer }
     {
-        self.teletype.buffer()
+        self.processor.teletype.buffer()
     }
 
     /// Whether the machine runs.
@@ -98,7 +98,7 @@ impl Machine {
     pub fn is_running(&self) -> bool
         ensures { result ≡ self.now.running }
     {
-        self.running
+        self.processor.running
     }
 
     /// Whether interrupts are on.
@@ -106,7 +106,7 @@ impl Machine {
     pub fn interrupts_on(&self) -> bool
         ensures { result ≡ self.now.interrupts_on }
     {
-        self.interrupts_on
+        self.processor.interrupts_on
     }
 
     /// Whether interrupts wait for the instruction after ION.
@@ -114,7 +114,7 @@ impl Machine {
     pub fn is_waiting(&self) -> bool
         ensures { result ≡ self.now.waiting }
     {
-        self.waiting
+        self.processor.waiting
     }
 
     /// Whether a CIF or RMF holds interrupts off until the next JMP or JMS.
@@ -122,7 +122,7 @@ impl Machine {
     pub fn is_held_off(&self) -> bool
         ensures { result ≡ self.now.held_off }
     {
-        self.held_off
+        self.processor.held_off
     }
 
     /// The keyboard flag.
@@ -130,7 +130,7 @@ impl Machine {
     pub fn keyboard_flag(&self) -> bool
         ensures { result ≡ self.now.teletype.keyboard_flag }
     {
-        self.teletype.keyboard_flag()
+        self.processor.teletype.keyboard_flag()
     }
 
     /// The printer flag.
@@ -138,7 +138,7 @@ impl Machine {
     pub fn printer_flag(&self) -> bool
         ensures { result ≡ self.now.teletype.printer_flag }
     {
-        self.teletype.printer_flag()
+        self.processor.teletype.printer_flag()
     }
 
     /// Whether the printer is printing a character.
@@ -146,6 +146,6 @@ impl Machine {
     pub fn is_busy(&self) -> bool
         ensures { result ≡ self.now.teletype.busy }
     {
-        self.teletype.is_busy()
+        self.processor.teletype.is_busy()
     }
 }

@@ -1,11 +1,12 @@
 //! Runs of several steps.
 
 ghost use Rattle.std.specs.Prelude.{◌≡◌, ◌+◌, ◌≤◌, ◌++◌, vec_len, vec_capacity};
-ghost use Rattle.cpu8.specs.Go.{IsGo, after, break_ahead, character_of, is_break, printed_by, reason, turn};
+ghost use Rattle.cpu8.specs.Quiet.{AreQuiet};
+ghost use Rattle.cpu8.specs.Go.{IsGo, after, break_ahead, character_of, printed_by, reason, turn};
 
 use super::Machine;
+use crate::processors::quiet::is_break;
 use crate::{Gone, Stepped, Why};
-use word12::Cell;
 
 impl Machine {
     /// Makes steps, each an instruction or an interrupt (Small Computer Handbook), up to a HLT, an unassigned word or a
@@ -20,24 +21,47 @@ impl Machine {
         ensures printed { printed.new.items ≡ printed.old.items ++ printed_by quick result.steps self.old }
         ensures capacity { vec_capacity printed.new ≡ vec_capacity printed.old }
     {
-        if !self.running {
+        if !self.processor.running {
             return Gone {
                 steps: 0,
                 why: Why::Halt,
             };
         }
-        for made in 0..n {
+        let mut made = 0;
+        while made < n {
             if let Some(why) = self.advance(quick, breaks, printed) {
                 return Gone {
                     steps: made + 1,
                     why,
                 };
             }
+            made += 1;
+            made += self.run_quietly(n - made, quick, breaks);
+            if let Some(why) = self.break_ahead(breaks) {
+                return Gone { steps: made, why };
+            }
         }
         Gone {
             steps: n,
             why: Why::Limit,
         }
+    }
+
+    /// Makes up to n steps as long as they are quiet, and no break is ahead: on a copy of the processor, which so stays
+    /// in registers of the machine that this program runs on.
+    #[inline(never)]
+    fn run_quietly(&mut self, n: usize, quick: bool, breaks: &[bool]) -> usize
+        ensures within { result ≤ n }
+        ensures state { self.new ≡ after quick result self.old }
+        ensures quiet { AreQuiet quick breaks.now self.old result }
+    {
+        if !self.processor.is_quiet(quick) {
+            return 0;
+        }
+        let mut processor = self.processor;
+        let steps = processor.run_quietly(&mut self.core, n, quick, breaks);
+        self.processor = processor;
+        steps
     }
 
     /// A step: its character is appended, for which there is room, and why to stop behind it, if there is a reason.
@@ -79,20 +103,9 @@ impl Machine {
         ensures state { self.new ≡ (turn quick self.old).0 }
         ensures answer { result ≡ (turn quick self.old).1 }
     {
-        if quick && self.teletype.is_busy() {
+        if quick && self.processor.teletype.is_busy() {
             self.done();
         }
         self.step()
-    }
-}
-
-/// Whether a cell has a break.
-#[inline(always)]
-fn is_break(breaks: &[bool], cell: Cell) -> bool
-    ensures { result ≡ is_break breaks.now cell }
-{
-    match breaks.get(cell.index()) {
-        Some(has_one) => *has_one,
-        None => false,
     }
 }

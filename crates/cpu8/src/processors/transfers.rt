@@ -3,25 +3,25 @@
 ghost use Rattle.std.specs.Prelude.{◌≡◌, ◌/◌, ◌%◌, ◌<◌, true, bit_or};
 ghost use Rattle.cpu8.specs.Transfer.{ion_row, interrupts_row, keyboard_row, printer_row, cdf_row, cif_row, cdf_cif_row, read_row, fields_row, transfer_row};
 
-use super::Machine;
+use super::Processor;
 use crate::Stepped;
-use crate::decoding::{Device, device_of};
+use crate::decoding::{Device, device_of, field_of, pulses_of};
 use crate::outcomes::RAN;
 use word12::Word;
 
-impl Machine {
+impl Processor {
     /// An IOT of this word.
     #[inline(always)]
     pub(super) fn transfer(&mut self, word: Word) -> Stepped
         ensures state { self.new ≡ (transfer_row self.old word).0 }
         ensures answer { result ≡ (transfer_row self.old word).1 }
     {
-        match device_of(word.get()) {
+        match device_of(word) {
             Device::Interrupts => self.control_interrupts(word),
             Device::Keyboard => self.read_keyboard(word),
             Device::Printer => return self.print(word),
             Device::Fields => self.control_fields(word),
-            Device::Other => self.pass(),
+            Device::Other => self.advance(),
         }
         RAN
     }
@@ -30,13 +30,13 @@ impl Machine {
     fn control_interrupts(&mut self, word: Word)
         ensures { self.new ≡ interrupts_row self.old word }
     {
-        match word.get() % 8 {
+        match pulses_of(word) {
             1 => self.ion(),
             2 => {
-                self.pass();
+                self.advance();
                 self.interrupts_on = false;
             }
-            _ => self.pass(),
+            _ => self.advance(),
         }
     }
 
@@ -44,7 +44,7 @@ impl Machine {
     fn ion(&mut self)
         ensures { self.new ≡ ion_row self.old }
     {
-        self.pass();
+        self.advance();
         if !self.interrupts_on {
             self.interrupts_on = true;
             self.waiting = true;
@@ -52,10 +52,10 @@ impl Machine {
     }
 
     #[inline(always)]
-    fn read_keyboard(&mut self, word: Word)
+    pub(super) fn read_keyboard(&mut self, word: Word)
         ensures { self.new ≡ keyboard_row self.old word }
     {
-        let answer = self.teletype.keyboard((word.get() % 8) as u8, self.ac);
+        let answer = self.teletype.keyboard(pulses_of(word), self.ac);
         self.skip(answer.skips);
         self.ac = answer.ac;
     }
@@ -65,7 +65,7 @@ impl Machine {
         ensures state { self.new ≡ (printer_row self.old word).0 }
         ensures answer { result ≡ (printer_row self.old word).1 }
     {
-        let pulses = (word.get() % 8) as u8;
+        let pulses = pulses_of(word);
         let skips = self.teletype.printer_skips(pulses);
         self.skip(skips);
         let printed = self.teletype.printer(pulses, self.ac);
@@ -76,8 +76,8 @@ impl Machine {
     fn control_fields(&mut self, word: Word)
         ensures { self.new ≡ fields_row self.old word }
     {
-        let field = (word.get() / 8 % 8) as u8;
-        match word.get() % 8 {
+        let field = field_of(word);
+        match pulses_of(word) {
             1 => self.cdf(field),
             2 => self.cif(field),
             3 => {
@@ -85,16 +85,16 @@ impl Machine {
                 self.data_field = field;
             }
             4 => self.read_fields(field),
-            _ => self.pass(),
+            _ => self.advance(),
         }
     }
 
     #[inline(always)]
-    fn cdf(&mut self, field: u8)
+    pub(super) fn cdf(&mut self, field: u8)
         requires { field < 8 }
         ensures { self.new ≡ cdf_row self.old field }
     {
-        self.pass();
+        self.advance();
         self.data_field = field;
     }
 
@@ -103,7 +103,7 @@ impl Machine {
         requires { field < 8 }
         ensures { self.new ≡ cif_row self.old field }
     {
-        self.pass();
+        self.advance();
         self.instruction_buffer = field;
         self.held_off = true;
     }
@@ -112,7 +112,7 @@ impl Machine {
     fn read_fields(&mut self, number: u8)
         ensures { self.new ≡ read_row self.old number }
     {
-        self.pass();
+        self.advance();
         match number {
             1 => self.or_into_ac(8 * self.data_field),
             2 => self.or_into_ac(8 * self.instruction_field),

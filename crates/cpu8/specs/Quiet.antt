@@ -1,0 +1,42 @@
+-- Steps that a run makes with no look at the Teletype, for private clauses.
+use Rattle.std.specs.Prelude.{◌≡◌, ℕ, ◌<◌, Bool, true, false, ◌&&◌, not, if◌then◌else◌, List, None}
+use Rattle.tty8.specs.Teletype.{is_requesting}
+use Rattle.cpu8.specs.State.{State, next_cell}
+use Rattle.cpu8.specs.Decoding.{is_group_1, is_group_2, has_hlt}
+use Rattle.cpu8.specs.Operate.{is_group1_unassigned}
+use Rattle.cpu8.specs.Step.{executed}
+use Rattle.cpu8.specs.Go.{after, answer, is_break}
+use Rattle.cpu8.specs.declared.outcomes.Stepped.TheVariants.{Ran}
+
+-- the machine runs, no interrupt request can be granted, and a quick printer has no character to end
+abbrev pub is_quiet : Bool → State → Bool
+is_quiet quick s = s.running && (not (s.interrupts_on && is_requesting s.teletype) && not (quick && s.teletype.busy))
+
+-- what decides of that stays
+pub record Stays (old new : State) : Type 0 where
+  pub running : new.running ≡ old.running
+  pub interrupts_on : new.interrupts_on ≡ old.interrupts_on
+  pub teletype : new.teletype ≡ old.teletype
+
+-- an instruction of this word is done, prints nothing and goes on
+pub record Does (old : State) (w : ℕ) (new : State) : Type 0 where
+  pub state : new ≡ (executed old w).0
+  pub answer : Ran None ≡ (executed old w).1
+  pub stays : Stays old new
+
+-- that, or nothing
+abbrev pub DoesOrNot : State → ℕ → Bool → State → Type 0
+DoesOrNot old w true new = Does old w new
+DoesOrNot old w false new = new ≡ old
+
+-- whether an operate instruction goes on
+abbrev pub operates_on : ℕ → Bool
+operates_on w = if is_group_1 w then not (is_group1_unassigned w) else (is_group_2 w && not (has_hlt w))
+
+-- Each of the first k steps does an instruction that prints nothing and goes on, and no break is ahead between them.
+pub record IsQuietStep (quick : Bool) (breaks : List Bool) (s : State) (m : ℕ) : Type 0 where
+  pub answer : answer quick m s ≡ Ran None
+  pub ahead : 0 < m → is_break breaks (next_cell (after quick m s)) ≡ false
+
+abbrev pub AreQuiet : Bool → List Bool → State → ℕ → Type 0
+AreQuiet quick breaks s k = (m : ℕ) → m < k → IsQuietStep quick breaks s m

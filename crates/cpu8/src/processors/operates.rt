@@ -1,0 +1,174 @@
+//! The operate instructions.
+
+ghost use Rattle.std.specs.Prelude.{◌≡◌, ◌-◌, ◌<◌, ◌≤◌, if◌then◌else◌, None};
+ghost use Rattle.cpu8.specs.Decoding.{has_cla, has_cll, has_cma, has_cml};
+ghost use Rattle.cpu8.specs.Operate.{unassigned_row, is_group1_unassigned, group1_sum, group1_number, group1_done, group1_row, group2_skips, group2_ac, group2_row, operate_row};
+ghost use Rattle.cpu8.specs.Transfer.{skipped};
+
+use super::Processor;
+use crate::Stepped;
+use crate::decoding::{
+    CLA, CLL, CMA, CML, GROUP_2_OR_3, GROUP_3, HLT, OSR, RAL, RAR, REVERSED, SMA, SNL, SZA, TWICE,
+    has, iac_of,
+};
+use crate::outcomes::RAN;
+use crate::rotations::rotate;
+use word12::Word;
+
+impl Processor {
+    /// An operate instruction of this word.
+    #[inline(always)]
+    pub(super) fn operate(&mut self, word: Word) -> Stepped
+        ensures state { self.new ≡ (operate_row self.old word).0 }
+        ensures answer { result ≡ (operate_row self.old word).1 }
+    {
+        if !has(word, GROUP_2_OR_3) {
+            return self.group1(word);
+        }
+        if !has(word, GROUP_3) {
+            return self.group2(word);
+        }
+        self.unassigned(word)
+    }
+
+    /// The machine stops at an unassigned word.
+    fn unassigned(&mut self, word: Word) -> Stepped
+        ensures state { self.new ≡ (unassigned_row self.old word).0 }
+        ensures answer { result ≡ (unassigned_row self.old word).1 }
+    {
+        self.running = false;
+        Stepped::Unassigned(word)
+    }
+
+    #[inline(always)]
+    fn group1(&mut self, word: Word) -> Stepped
+        ensures state { self.new ≡ (group1_row self.old word).0 }
+        ensures answer { result ≡ (group1_row self.old word).1 }
+    {
+        if is_group1_unassigned(word) {
+            return self.unassigned(word);
+        }
+        self.operate_on_l_and_ac(word);
+        RAN
+    }
+
+    /// A word of group 1 that is not unassigned.
+    #[inline(always)]
+    pub(super) fn operate_on_l_and_ac(&mut self, word: Word)
+        ensures { self.new ≡ group1_done self.old word }
+    {
+        self.advance();
+        let number = group1_number(word, self.l, self.ac);
+        self.l = (number / 4096) as u8;
+        self.ac = Word::low(number);
+    }
+
+    #[inline(always)]
+    pub(super) fn group2(&mut self, word: Word) -> Stepped
+        ensures state { self.new ≡ (group2_row self.old word).0 }
+        ensures answer { result ≡ (group2_row self.old word).1 }
+    {
+        let skips = group2_skips(word, self.l, self.ac);
+        self.skip(skips);
+        self.ac = group2_ac(word, self.ac, self.switches);
+        if has(word, HLT) {
+            self.running = false;
+            return Stepped::Halted;
+        }
+        RAN
+    }
+
+    /// PC is advanced by one, or by two where the instruction skips, and the waiting of ION is over.
+    #[inline(always)]
+    pub(super) fn skip(&mut self, skips: bool)
+        ensures { self.new ≡ skipped self.old skips }
+    {
+        self.advance();
+        if skips {
+            self.pc = self.pc.plus(Word::ONE);
+        }
+    }
+}
+
+/// Whether a word of group 1 is unassigned.
+#[inline(always)]
+pub(super) fn is_group1_unassigned(word: Word) -> bool
+    ensures { result ≡ is_group1_unassigned word }
+{
+    let rotates = has(word, RAR) || has(word, RAL);
+    has(word, RAR) && has(word, RAL) || has(word, TWICE) && !rotates
+}
+
+/// L and AC, as one number of thirteen bits, after a word of group 1.
+#[tactic(auto, using(crate::proofs::RotationLemmas::number_of_thirteen), unfolding(crate::specs::Operate::group1_number))]
+#[inline(always)]
+fn group1_number(word: Word, l: u8, ac: Word) -> u16
+    requires { l < 2 }
+    ensures number { result ≡ group1_number word l ac }
+    ensures range { result < 8192 }
+{
+    rotate(word, group1_sum(word, l, ac))
+}
+
+/// L and AC, as one number of thirteen bits, before the rotation.
+#[inline(always)]
+fn group1_sum(word: Word, l: u8, ac: Word) -> u16
+    requires { l < 2 }
+    ensures number { result ≡ group1_sum word l ac }
+    ensures range { result < 8192 }
+{
+    let (l, ac) = cleared(word, u16::from(l), ac.get());
+    let (l, ac) = complemented(word, l, ac);
+    (4096 * l + ac + iac_of(word)) % 8192
+}
+
+/// L and AC after CLL and CLA.
+#[inline(always)]
+fn cleared(word: Word, l: u16, ac: u16) -> (u16, u16)
+    requires l { l < 2 }
+    requires ac { ac < 4096 }
+    ensures l { result.0 ≡ (if has_cll word then 0 else l) }
+    ensures ac { result.1 ≡ (if has_cla word then 0 else ac) }
+{
+    let cleared_l = if has(word, CLL) { 0 } else { l };
+    let cleared_ac = if has(word, CLA) { 0 } else { ac };
+    (cleared_l, cleared_ac)
+}
+
+/// L and AC after CML and CMA.
+#[inline(always)]
+fn complemented(word: Word, l: u16, ac: u16) -> (u16, u16)
+    requires l { l < 2 }
+    requires ac { ac < 4096 }
+    ensures l { result.0 ≡ (if has_cml word then 1 - l else l) }
+    ensures ac { result.1 ≡ (if has_cma word then 4095 - ac else ac) }
+{
+    let complemented_l = if has(word, CML) { 1 - l } else { l };
+    let complemented_ac = if has(word, CMA) { 4095 - ac } else { ac };
+    (complemented_l, complemented_ac)
+}
+
+/// Whether a word of group 2 skips.
+#[inline(always)]
+fn group2_skips(word: Word, l: u8, ac: Word) -> bool
+    ensures { result ≡ group2_skips word l ac }
+{
+    let negative = has(word, SMA) && has(ac, 0o4000);
+    let zero = has(word, SZA) && ac == Word::ZERO;
+    let link = has(word, SNL) && l == 1;
+    let is_met = negative || zero || link;
+    if has(word, REVERSED) { !is_met } else { is_met }
+}
+
+/// AC after a word of group 2.
+#[inline(always)]
+fn group2_ac(word: Word, ac: Word, switches: Word) -> Word
+    ensures { result ≡ group2_ac word ac switches }
+{
+    let cleared = if has(word, CLA) { Word::ZERO } else { ac };
+    if has(word, OSR) {
+        cleared.or(switches)
+    } else {
+        cleared
+    }
+}

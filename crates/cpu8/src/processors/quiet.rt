@@ -1,0 +1,210 @@
+//! Steps with no look at the Teletype: what a run mostly makes, on a processor of its own that the compiler keeps in
+//! registers. So every function here is inlined, and what is rare is left to the other steps.
+
+ghost use Rattle.std.specs.Prelude.{◌≡◌, ◌<◌, ◌≤◌, ◌/◌, true};
+ghost use Rattle.cpu8.specs.State.{with_core};
+ghost use Rattle.cpu8.specs.Step.{fetched};
+ghost use Rattle.cpu8.specs.Go.{after, is_break};
+ghost use Rattle.cpu8.specs.Quiet.{AreQuiet, Does, DoesOrNot, is_quiet, operates_on};
+
+use super::Processor;
+use crate::decoding::{
+    Device, GROUP_2_OR_3, Operation, device_of, field_of, has, operation_of, pulses_of,
+};
+use core_load::Core;
+use word12::{Cell, Word};
+
+impl Processor {
+    /// Whether the machine runs, no interrupt request can be granted, and a quick printer has no character to end.
+    #[inline(always)]
+    pub(crate) fn is_quiet(&self, quick: bool) -> bool
+        ensures { result ≡ is_quiet quick self.now }
+    {
+        let interrupts = self.interrupts_on && self.teletype.requests();
+        let ends = quick && self.teletype.is_busy();
+        self.running && !interrupts && !ends
+    }
+
+    /// Makes up to n steps as long as they are quiet, and no break is ahead.
+    #[inline(always)]
+    pub(crate) fn run_quietly(
+        &mut self,
+        core: &mut Core,
+        n: usize,
+        quick: bool,
+        breaks: &[bool],
+    ) -> usize
+        requires { is_quiet quick self.old ≡ true }
+        ensures within { result ≤ n }
+        ensures state { with_core self.new core.new ≡ after quick result (with_core self.old core.old) }
+        ensures quiet { AreQuiet quick breaks.now (with_core self.old core.old) result }
+    {
+        let _quick = quick;
+        for made in 0..n {
+            if !self.step_quietly(core) {
+                return made;
+            }
+            if is_break(breaks, self.next_cell()) {
+                return made + 1;
+            }
+        }
+        n
+    }
+
+    /// The next instruction, if it is one that is done here.
+    #[inline(always)]
+    fn step_quietly(&mut self, core: &mut Core) -> bool
+        ensures { DoesOrNot (with_core self.old core.old) (fetched (with_core self.old core.old)) result (with_core self.new core.new) }
+    {
+        let word = core.get(self.next_cell());
+        match word.get() / 128 {
+            0 => self.refer(core, leading(0, word)),
+            1 => self.refer(core, leading(1, word)),
+            2 => self.refer(core, leading(2, word)),
+            3 => self.refer(core, leading(3, word)),
+            4 => self.refer(core, leading(4, word)),
+            5 => self.refer(core, leading(5, word)),
+            6 => self.refer(core, leading(6, word)),
+            7 => self.refer(core, leading(7, word)),
+            8 => self.refer(core, leading(8, word)),
+            9 => self.refer(core, leading(9, word)),
+            10 => self.refer(core, leading(10, word)),
+            11 => self.refer(core, leading(11, word)),
+            12 => self.refer(core, leading(12, word)),
+            13 => self.refer(core, leading(13, word)),
+            14 => self.refer(core, leading(14, word)),
+            15 => self.refer(core, leading(15, word)),
+            16 => self.refer(core, leading(16, word)),
+            17 => self.refer(core, leading(17, word)),
+            18 => self.refer(core, leading(18, word)),
+            19 => self.refer(core, leading(19, word)),
+            20 => self.refer(core, leading(20, word)),
+            21 => self.refer(core, leading(21, word)),
+            22 => self.refer(core, leading(22, word)),
+            23 => self.refer(core, leading(23, word)),
+            24 | 25 | 26 | 27 => return self.transfer_quietly(core, word),
+            _ => return self.operate_quietly(core, word),
+        }
+        true
+    }
+
+    /// A reference to memory. Each is compiled for its five leading bits.
+    #[tactic(auto, unfolding(crate::specs::Step::executed))]
+    #[inline(always)]
+    fn refer(&mut self, core: &mut Core, word: Word)
+        requires { word < 3072 }
+        ensures { Does (with_core self.old core.old) word (with_core self.new core.new) }
+    {
+        match operation_of(word) {
+            Operation::And => self.and(core, word),
+            Operation::Tad => self.tad(core, word),
+            Operation::Isz => self.isz(core, word),
+            Operation::Dca => self.dca(core, word),
+            Operation::Jms => self.jms(core, word),
+            Operation::Jmp => self.jmp(core, word),
+            Operation::Iot => unreachable!(),
+            Operation::Opr => unreachable!(),
+        }
+    }
+
+    /// KSF, TSF or CDF; the other IOTs are not done here.
+    #[tactic(auto, unfolding(crate::specs::Step::executed))]
+    #[inline(always)]
+    fn transfer_quietly(&mut self, core: &Core, word: Word) -> bool
+        requires { word / 512 ≡ 6 }
+        ensures { DoesOrNot (with_core self.old core.now) word result (with_core self.new core.now) }
+    {
+        if pulses_of(word) != 1 {
+            return false;
+        }
+        let keyboard_flag = self.teletype.keyboard_flag();
+        let printer_flag = self.teletype.printer_flag();
+        match device_of(word) {
+            Device::Keyboard => self.skip(keyboard_flag),
+            Device::Printer => self.skip(printer_flag),
+            Device::Fields => self.cdf(field_of(word)),
+            Device::Interrupts => return false,
+            Device::Other => self.advance(),
+        }
+        true
+    }
+
+    /// An operate instruction that goes on. The words of everyday use are each compiled for themselves.
+    #[inline(always)]
+    fn operate_quietly(&mut self, core: &Core, word: Word) -> bool
+        requires { 7 ≤ word / 512 }
+        ensures { DoesOrNot (with_core self.old core.now) word result (with_core self.new core.now) }
+    {
+        match word.get() {
+            0o7000 => self.operate_on(core, Word::low(0o7000)),
+            0o7001 => self.operate_on(core, Word::low(0o7001)),
+            0o7004 => self.operate_on(core, Word::low(0o7004)),
+            0o7006 => self.operate_on(core, Word::low(0o7006)),
+            0o7010 => self.operate_on(core, Word::low(0o7010)),
+            0o7012 => self.operate_on(core, Word::low(0o7012)),
+            0o7020 => self.operate_on(core, Word::low(0o7020)),
+            0o7024 => self.operate_on(core, Word::low(0o7024)),
+            0o7040 => self.operate_on(core, Word::low(0o7040)),
+            0o7041 => self.operate_on(core, Word::low(0o7041)),
+            0o7100 => self.operate_on(core, Word::low(0o7100)),
+            0o7104 => self.operate_on(core, Word::low(0o7104)),
+            0o7106 => self.operate_on(core, Word::low(0o7106)),
+            0o7110 => self.operate_on(core, Word::low(0o7110)),
+            0o7112 => self.operate_on(core, Word::low(0o7112)),
+            0o7120 => self.operate_on(core, Word::low(0o7120)),
+            0o7200 => self.operate_on(core, Word::low(0o7200)),
+            0o7201 => self.operate_on(core, Word::low(0o7201)),
+            0o7204 => self.operate_on(core, Word::low(0o7204)),
+            0o7240 => self.operate_on(core, Word::low(0o7240)),
+            0o7300 => self.operate_on(core, Word::low(0o7300)),
+            0o7301 => self.operate_on(core, Word::low(0o7301)),
+            0o7410 => self.operate_on(core, Word::low(0o7410)),
+            0o7420 => self.operate_on(core, Word::low(0o7420)),
+            0o7430 => self.operate_on(core, Word::low(0o7430)),
+            0o7440 => self.operate_on(core, Word::low(0o7440)),
+            0o7450 => self.operate_on(core, Word::low(0o7450)),
+            0o7500 => self.operate_on(core, Word::low(0o7500)),
+            0o7510 => self.operate_on(core, Word::low(0o7510)),
+            0o7600 => self.operate_on(core, Word::low(0o7600)),
+            0o7640 => self.operate_on(core, Word::low(0o7640)),
+            0o7650 => self.operate_on(core, Word::low(0o7650)),
+            _ => return false,
+        }
+        true
+    }
+
+    /// An operate instruction that goes on.
+    #[tactic(auto, unfolding(crate::specs::Step::executed))]
+    #[inline(always)]
+    fn operate_on(&mut self, core: &Core, word: Word)
+        requires operates { 7 ≤ word / 512 }
+        requires goes_on { operates_on word ≡ true }
+        ensures { Does (with_core self.old core.now) word (with_core self.new core.now) }
+    {
+        if has(word, GROUP_2_OR_3) {
+            self.group2(word);
+        } else {
+            self.operate_on_l_and_ac(word);
+        }
+    }
+}
+
+/// The word, of which the five leading bits are these.
+#[inline(always)]
+fn leading(bits: u16, word: Word) -> Word
+    requires { word / 128 ≡ bits }
+    ensures { result ≡ word }
+{
+    Word::low(128 * bits + word.get() % 128)
+}
+
+/// Whether a cell has a break.
+#[inline(always)]
+pub(crate) fn is_break(breaks: &[bool], cell: Cell) -> bool
+    ensures { result ≡ is_break breaks.now cell }
+{
+    match breaks.get(cell.index()) {
+        Some(has_one) => *has_one,
+        None => false,
+    }
+}
