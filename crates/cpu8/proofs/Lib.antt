@@ -7,3 +7,4 @@ pub mod InterruptLemmas
 pub mod AutoIndexLemmas
 pub mod GoLemmas
 pub mod QuietLemmas
+pub mod UnsetLemmas

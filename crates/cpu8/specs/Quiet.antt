@@ -1,5 +1,5 @@
 -- Steps that a run makes with no look at the Teletype, for private clauses.
-use Rattle.std.specs.Prelude.{◌≡◌, ℕ, ◌<◌, Bool, true, false, ◌&&◌, not, if◌then◌else◌, List, None}
+use Rattle.std.specs.Prelude.{◌≡◌, ℕ, ◌<◌, ◌≤◌, Bool, true, false, ◌&&◌, not, if◌then◌else◌, List, [], length, None}
 use Rattle.tty8.specs.Teletype.{is_requesting}
 use Rattle.cpu8.specs.State.{State, next_cell}
 use Rattle.cpu8.specs.Decoding.{is_group_1, is_group_2, has_hlt}
@@ -28,6 +28,11 @@ pub record Does (old : State) (w : ℕ) (new : State) : Type 0 where
 abbrev pub DoesOrNot : State → ℕ → Bool → State → Type 0
 DoesOrNot old w true new = Does old w new
 DoesOrNot old w false new = new ≡ old
+
+-- breaks tell of each cell where they are minded, and else of none
+abbrev pub AreMinded : List Bool → Bool → Type 0
+AreMinded breaks true = 32768 ≤ length breaks
+AreMinded breaks false = breaks ≡ []
 
 -- whether an operate instruction goes on
 abbrev pub operates_on : ℕ → Bool

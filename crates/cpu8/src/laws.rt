@@ -1,12 +1,14 @@
 //! Laws of the machine, above the instruction table.
 
-ghost use Rattle.std.specs.Prelude.{◌≡◌, ◌≢◌, ℕ, ◌+◌, ◌%◌, ◌<◌, true, false, length, slice_index};
+ghost use Rattle.std.specs.Prelude.{◌≡◌, ◌≢◌, ℕ, ◌+◌, ◌%◌, ◌<◌, Bool, true, false, List, [], length, slice_index};
 ghost use Rattle.cpu8.specs.State.{State};
 ghost use Rattle.cpu8.specs.Reference.{effective_address, operand_place, pointer_place};
 ghost use Rattle.cpu8.specs.Step.{fetched, step};
 ghost use Rattle.cpu8.specs.declared.decoding.Operation.{Operation};
 ghost use Rattle.cpu8.specs.declared.decoding.Operation.TheVariants.{Isz, Jms, Jmp};
 ghost use Rattle.cpu8.specs.declared.outcomes.Stepped.TheVariants.{Interrupted};
+ghost use Rattle.cpu8.specs.Go.{IsGo, is_break};
+ghost use Rattle.cpu8.specs.declared.outcomes.Why.{Why};
 ghost use Rattle.cpu8.specs.Laws.{cif, rmf, later, next_pointer, IsIon, IsNextWord, IsRequested, NoJump, UsesAutoIndex, ral, rtl, rar, rtr, cll_cml, after, link_and_ac, HasLinkAndAc, IsNext, runs_on, IsCallAndReturn, IsInterruptAndReturn, Resumes};
 
 /// RTL leaves L and AC as two RAL do, and RTR as two RAR do.
@@ -58,6 +60,12 @@ pub fn auto_index()
     ensures address { (kind : Operation) (s : State) → UsesAutoIndex kind s → effective_address s (fetched s) ≡ next_pointer s }
     ensures pointer { (kind : Operation) (s : State) → UsesAutoIndex kind s
         → slice_index (step s).0.core (pointer_place s (fetched s)) ≡ next_pointer s }
+{}
+
+/// A go without breaks is one with breaks of which no cell has one.
+pub fn unset_breaks()
+    ensures { (quick : Bool) (breaks : List Bool) (s : State) (n steps : ℕ) (why : Why) → ((cell : ℕ) → is_break breaks cell ≡ false)
+        → IsGo quick [] s n steps why → IsGo quick breaks s n steps why }
 {}
 
 /// ISZ skips exactly where the word that it leaves is 0.

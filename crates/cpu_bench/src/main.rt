@@ -1,11 +1,16 @@
-//! Runs a program on the processor alone, to measure it: the BIN tape on standard input is loaded, started at 00200 and
-//! run until it stops. Then AC, L and PC with its field are printed. A tape of three frames, of which none is a program,
-//! strikes a key first: so the compiler can't know that no interrupt is ever requested.
+//! Runs a program by the debugger, to measure it: the BIN tape on standard input is loaded, started at 00200 and run until
+//! it stops; with any argument there is a break, at a cell that no program comes to. Then AC, L and PC with its field are
+//! printed.
+//!
+//! A tape of three frames, which is no program, strikes a key first: so the compiler can't know that no interrupt is ever
+//! requested.
 #![tactic(auto)]
 
 use core_load::{Core, load};
-use cpu8::{Machine, Why};
-use std::alloc::{AllocError, Global};
+use cpu8::Machine;
+use debug8::{DebugFault, Debugger, Why};
+use std::alloc::Global;
+use std::env;
 use std::io::{Read, Write};
 use std::process::ExitCode;
 use word12::Cell;
@@ -27,27 +32,30 @@ fn main(rt: HostRuntime) -> ExitCode {
         machine.key(0);
     }
     machine.start(Cell::of(0o200));
-    if run(rt.alloc(), &mut machine).is_err() {
+    let has_break = match env::args(&rt) {
+        Ok(words) => words.count() > 1,
+        Err(_) => return ExitCode::FAILURE,
+    };
+    if run(rt.alloc(), &mut machine, has_break).is_err() {
         return ExitCode::FAILURE;
     }
-    let (ac, l, field, pc) = (
-        machine.ac(),
-        machine.l(),
-        machine.instruction_field(),
-        machine.pc(),
-    );
-    match println!(rt; "{ac} {l} {field}{pc}") {
+    let (ac, l, cell) = (machine.ac(), machine.l(), machine.next_cell());
+    match println!(rt; "{ac} {l} {}{}", cell.field(), cell.address()) {
         Ok(()) => ExitCode::SUCCESS,
         Err(_) => ExitCode::FAILURE,
     }
 }
 
-/// Steps until the machine stops, with no break.
-fn run(alloc: Global, machine: &mut Machine) -> Result<(), AllocError> {
+/// Lets the machine go until it stops.
+fn run(alloc: Global, machine: &mut Machine, has_break: bool) -> Result<(), DebugFault> {
+    let mut debugger = Debugger::new(alloc)?;
+    if has_break {
+        debugger.set_break(Cell::of(0o77777))?;
+    }
     let mut printed = Vec::with_capacity(alloc, STEPS)?;
     for _ in 0..u64::MAX {
         printed.clear();
-        match machine.run(STEPS, false, &[], &mut printed).why {
+        match debugger.go(machine, STEPS, false, &mut printed).why {
             Why::Limit => {}
             _ => return Ok(()),
         }
@@ -55,5 +63,5 @@ fn run(alloc: Global, machine: &mut Machine) -> Result<(), AllocError> {
     Ok(())
 }
 
-/// The steps of one run: for so many characters there is room.
+/// The steps of one go: for so many characters there is room.
 const STEPS: usize = 65536;

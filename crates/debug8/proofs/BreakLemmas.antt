@@ -19,6 +19,13 @@ pub count-none : (cells : ℕ) → count_breaks (no_breaks cells) ≡ 0
 unfolding no_breaks
 count-none cells = count-replicate cells
 
+-- where no break is counted no cell has one
+pub none-set : (breaks : List Bool) → count_breaks breaks ≡ 0 → (cell : ℕ) → is_break breaks cell ≡ false
+none-set [] h cell = refl
+none-set (true ∷ breaks) h cell = absurd (omega (arith, h))
+none-set (false ∷ breaks) h zero = refl
+none-set (false ∷ breaks) h (suc cell) = none-set breaks (omega (arith, h)) cell
+
 -- a flag is counted in the place of the one that it is written over
 pub count-set : (breaks : List Bool) (i : ℕ) (b : Bool) → i < length breaks
     → count_breaks (slice_set breaks i b) + bit (is_break breaks i) ≡ count_breaks breaks + bit b

@@ -5,6 +5,7 @@ ghost use Rattle.debug8.specs.Breaks.{Sets, break_cleared, no_breaks};
 ghost use Rattle.debug8.specs.declared.faults.DebugFault.TheVariants.{Memory};
 
 use crate::DebugFault;
+use cpu8::laws::unset_breaks;
 use cpu8::{Gone, Machine};
 use std::alloc::{AllocError, Global};
 use std::marker::Model;
@@ -79,6 +80,10 @@ impl Debugger {
         ensures printed { printed.new.items ≡ printed.old.items ++ printed_by quick result.steps machine.old }
         ensures capacity { vec_capacity printed.new ≡ vec_capacity printed.old }
     {
+        if self.count == 0 {
+            unset_breaks();
+            return machine.run(n, quick, &[], printed);
+        }
         machine.run(n, quick, &self.breaks, printed)
     }
 

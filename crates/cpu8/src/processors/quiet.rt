@@ -1,11 +1,13 @@
 //! Steps with no look at the Teletype: what a run mostly makes, on a processor of its own that the compiler keeps in
-//! registers. So every function here is inlined, and what is rare is left to the other steps.
+//! registers. So every function here is inlined, and what is rare is left to the other steps. The larger ones have the
+//! parameter MINDS, whether breaks are minded, so that each stands in the program once for each of the two loops, and not
+//! once for both, which would not be inlined.
 
-ghost use Rattle.std.specs.Prelude.{◌≡◌, ◌<◌, ◌≤◌, ◌/◌, true};
+ghost use Rattle.std.specs.Prelude.{◌≡◌, ◌<◌, ◌≤◌, ◌/◌, true, nat_eq};
 ghost use Rattle.cpu8.specs.State.{with_core};
 ghost use Rattle.cpu8.specs.Step.{fetched};
 ghost use Rattle.cpu8.specs.Go.{after, is_break};
-ghost use Rattle.cpu8.specs.Quiet.{AreQuiet, Does, DoesOrNot, is_quiet, operates_on};
+ghost use Rattle.cpu8.specs.Quiet.{AreMinded, AreQuiet, Does, DoesOrNot, is_quiet, operates_on};
 
 use super::Processor;
 use crate::decoding::{
@@ -25,26 +27,35 @@ impl Processor {
         self.running && !interrupts && !ends
     }
 
+    /// Whether a jump stays in the instruction field.
+    #[inline(always)]
+    pub(crate) fn stays_in_field(&self) -> bool
+        ensures { result ≡ nat_eq self.now.instruction_buffer self.now.instruction_field }
+    {
+        self.instruction_buffer == self.instruction_field
+    }
+
     /// Makes up to n steps as long as they are quiet, and no break is ahead.
     #[inline(always)]
-    pub(crate) fn run_quietly(
+    pub(crate) fn run_quietly<const MINDS: bool>(
         &mut self,
         core: &mut Core,
         n: usize,
         quick: bool,
         breaks: &[bool],
     ) -> usize
-        requires { is_quiet quick self.old ≡ true }
+        requires quiet { is_quiet quick self.old ≡ true }
+        requires breaks { AreMinded breaks.now MINDS }
         ensures within { result ≤ n }
         ensures state { with_core self.new core.new ≡ after quick result (with_core self.old core.old) }
         ensures quiet { AreQuiet quick breaks.now (with_core self.old core.old) result }
     {
         let _quick = quick;
         for made in 0..n {
-            if !self.step_quietly(core) {
+            if !self.step_quietly::<MINDS>(core) {
                 return made;
             }
-            if is_break(breaks, self.next_cell()) {
+            if is_break_minded::<MINDS>(breaks, self.next_cell()) {
                 return made + 1;
             }
         }
@@ -53,7 +64,7 @@ impl Processor {
 
     /// The next instruction, if it is one that is done here.
     #[inline(always)]
-    fn step_quietly(&mut self, core: &mut Core) -> bool
+    fn step_quietly<const MINDS: bool>(&mut self, core: &mut Core) -> bool
         ensures { DoesOrNot (with_core self.old core.old) (fetched (with_core self.old core.old)) result (with_core self.new core.new) }
     {
         let word = core.get(self.next_cell());
@@ -83,7 +94,7 @@ impl Processor {
             22 => self.refer(core, leading(22, word)),
             23 => self.refer(core, leading(23, word)),
             24 | 25 | 26 | 27 => return self.transfer_quietly(core, word),
-            _ => return self.operate_quietly(core, word),
+            _ => return self.operate_quietly::<MINDS>(core, word),
         }
         true
     }
@@ -131,7 +142,7 @@ impl Processor {
 
     /// An operate instruction that goes on. The words of everyday use are each compiled for themselves.
     #[inline(always)]
-    fn operate_quietly(&mut self, core: &Core, word: Word) -> bool
+    fn operate_quietly<const MINDS: bool>(&mut self, core: &Core, word: Word) -> bool
         requires { 7 ≤ word / 512 }
         ensures { DoesOrNot (with_core self.old core.now) word result (with_core self.new core.now) }
     {
@@ -196,6 +207,16 @@ fn leading(bits: u16, word: Word) -> Word
     ensures { result ≡ word }
 {
     Word::low(128 * bits + word.get() % 128)
+}
+
+/// Whether a cell has a break, where none has one or each is told of.
+#[inline(always)]
+fn is_break_minded<const MINDS: bool>(breaks: &[bool], cell: Cell) -> bool
+    requires { AreMinded breaks.now MINDS }
+    ensures { result ≡ is_break breaks.now cell }
+{
+    let cell = cell.index();
+    if MINDS { breaks[cell] } else { false }
 }
 
 /// Whether a cell has a break.

@@ -6,27 +6,27 @@ use Rattle.cpu8.proofs.QuietLemmas.{none-quiet, after-quiet, quiet-next, stays-q
 use Rattle.cpu8.proofs.processors.Processor.run_quietly.Goals as goal
 
 pub loop-made-init : goal.loop-made-init
-loop-made-init c =
+loop-made-init g c =
     let s = with_core c.args.self.now c.args.core.now in (
       sym (after-none c.args.quick s),
       none-quiet c.args.quick c.args.breaks.now s,
-      c.requires,
+      c.requires.quiet,
       λ below. absurd (omega (arith, below)),
     )
 
-pub returns-then-is_break-clause-state : goal.returns-then-is_break-clause-state
-returns-then-is_break-clause-state c =
+pub returns-then-is_break_minded-clause-state : goal.returns-then-is_break_minded-clause-state
+returns-then-is_break_minded-clause-state g c =
     after-quiet c.args.quick c.loop-made.made (with_core c.args.self.now c.args.core.now) (with_core c.loop-made.self c.loop-made.core)
     (with_core c.step_quietly.new.self c.step_quietly.new.core) c.loop-made.invariant.0 c.loop-made.invariant.2 c.if-not-step_quietly.ensures
 
-pub returns-then-is_break-clause-quiet : goal.returns-then-is_break-clause-quiet
-returns-then-is_break-clause-quiet c =
+pub returns-then-is_break_minded-clause-quiet : goal.returns-then-is_break_minded-clause-quiet
+returns-then-is_break_minded-clause-quiet g c =
     quiet-next c.args.quick c.args.breaks.now c.loop-made.made (with_core c.args.self.now c.args.core.now) (with_core c.loop-made.self c.loop-made.core)
     (with_core c.step_quietly.new.self c.step_quietly.new.core) c.loop-made.invariant.0 c.loop-made.invariant.2 c.loop-made.invariant.3
     c.if-not-step_quietly.ensures c.loop-made.invariant.1
 
 pub loop-made-preserved : goal.loop-made-preserved
-loop-made-preserved c =
+loop-made-preserved g c =
     let s = with_core c.args.self.now c.args.core.now in
     let old = with_core c.loop-made.self c.loop-made.core in
     let new = with_core c.step_quietly.new.self c.step_quietly.new.core in (
@@ -34,5 +34,5 @@ loop-made-preserved c =
       quiet-next c.args.quick c.args.breaks.now c.loop-made.made s old new c.loop-made.invariant.0 c.loop-made.invariant.2 c.loop-made.invariant.3
           c.if-not-step_quietly.ensures c.loop-made.invariant.1,
       stays-quiet c.args.quick old new c.loop-made.invariant.2 (c.if-not-step_quietly.ensures).stays,
-      λ _. ap (λ cell. is_break c.args.breaks.now cell) (sym c.next_cell.ensures.value) ∙ (sym c.is_break.ensures ∙ c.if-is_break.false),
+      λ _. ap (λ cell. is_break c.args.breaks.now cell) (sym c.next_cell.ensures.value) ∙ (sym c.is_break_minded.ensures ∙ c.if-is_break_minded.false),
     )

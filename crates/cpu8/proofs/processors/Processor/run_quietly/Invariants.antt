@@ -5,7 +5,7 @@ use Rattle.cpu8.specs.Quiet.{AreQuiet, is_quiet}
 use Rattle.cpu8.proofs.processors.Processor.run_quietly.Given as goal
 
 abbrev pub invariant-loop-made : goal.invariant-loop-made
-invariant-loop-made l = (with_core l.self l.core ≡ after l.quick l.made (with_core l.fn.self l.fn.core))
+invariant-loop-made g l = (with_core l.self l.core ≡ after l.quick l.made (with_core l.fn.self l.fn.core))
     × AreQuiet l.quick l.breaks (with_core l.fn.self l.fn.core) l.made
     × (is_quiet l.quick (with_core l.self l.core) ≡ true)
     × (0 < l.made → is_break l.breaks (next_cell (with_core l.self l.core)) ≡ false)
