@@ -1,5 +1,5 @@
 -- Steps that a run makes with no look at the Teletype, for private clauses.
-use Rattle.std.specs.Prelude.{◌≡◌, ℕ, ◌<◌, ◌≤◌, Bool, true, false, ◌&&◌, not, if◌then◌else◌, List, [], length, None}
+use Rattle.std.specs.Prelude.{◌≡◌, ℕ, ◌<◌, ◌≤◌, Bool, true, false, ◌&&◌, not, nat_eq, if◌then◌else◌, List, [], length, None}
 use Rattle.tty8.specs.Teletype.{is_requesting}
 use Rattle.cpu8.specs.State.{State, next_cell}
 use Rattle.cpu8.specs.Decoding.{is_group_1, is_group_2, has_hlt}
@@ -12,7 +12,11 @@ use Rattle.cpu8.specs.declared.outcomes.Stepped.TheVariants.{Ran}
 abbrev pub is_quiet : Bool → State → Bool
 is_quiet quick s = s.running && (not (s.interrupts_on && is_requesting s.teletype) && not (quick && s.teletype.busy))
 
--- what decides of that stays
+-- no field waits for a jump, and no interrupt for an instruction
+abbrev pub is_settled : State → Bool
+is_settled s = nat_eq s.instruction_buffer s.instruction_field && (not s.waiting && not s.held_off)
+
+-- what decides of the quiet stays
 pub record Stays (old new : State) : Type 0 where
   pub running : new.running ≡ old.running
   pub interrupts_on : new.interrupts_on ≡ old.interrupts_on

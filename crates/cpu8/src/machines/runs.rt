@@ -1,7 +1,7 @@
 //! Runs of several steps.
 
 ghost use Rattle.std.specs.Prelude.{◌≡◌, ◌+◌, ◌≤◌, ◌++◌, [], true, length, vec_len, vec_capacity};
-ghost use Rattle.cpu8.specs.Quiet.{AreQuiet, is_quiet};
+ghost use Rattle.cpu8.specs.Quiet.{AreQuiet, is_quiet, is_settled};
 ghost use Rattle.cpu8.specs.Go.{IsGo, after, break_ahead, character_of, printed_by, reason, turn};
 
 use super::Machine;
@@ -48,14 +48,14 @@ impl Machine {
     }
 
     /// Makes up to n steps as long as they are quiet, and no break is ahead; none where breaks tell of some cells alone,
-    /// or the next jump goes to another field.
+    /// or a field or an interrupt waits for an instruction.
     #[inline(always)]
     fn run_quietly(&mut self, n: usize, quick: bool, breaks: &[bool]) -> usize
         ensures within { result ≤ n }
         ensures state { self.new ≡ after quick result self.old }
         ensures quiet { AreQuiet quick breaks.now self.old result }
     {
-        if !self.processor.is_quiet(quick) || !self.processor.stays_in_field() {
+        if !self.processor.is_quiet(quick) || !self.processor.is_settled() {
             return 0;
         }
         if breaks.is_empty() {
@@ -68,18 +68,17 @@ impl Machine {
     }
 
     /// The steps of a quiet machine without breaks: on a copy of the processor, which so stays in registers of the
-    /// machine that this program runs on. The instruction buffer is given the value that it has, to tell the compiler that
-    /// no jump changes the field.
+    /// machine that this program runs on. That it is settled tells the compiler that these steps leave
+    /// the fields and the states of interrupts alone.
     #[inline(never)]
     fn run_without_breaks(&mut self, n: usize, quick: bool) -> usize
         requires quiet { is_quiet quick self.old ≡ true }
-        requires field { self.old.instruction_buffer ≡ self.old.instruction_field }
+        requires settled { is_settled self.old ≡ true }
         ensures within { result ≤ n }
         ensures state { self.new ≡ after quick result self.old }
         ensures quiet { AreQuiet quick [] self.old result }
     {
-        let mut processor = self.processor;
-        processor.instruction_buffer = processor.instruction_field;
+        let mut processor = self.processor.settled();
         let steps = processor.run_quietly::<false>(&mut self.core, n, quick, &[]);
         self.processor = processor;
         steps
@@ -89,14 +88,13 @@ impl Machine {
     #[inline(never)]
     fn run_with_breaks(&mut self, n: usize, quick: bool, breaks: &[bool]) -> usize
         requires quiet { is_quiet quick self.old ≡ true }
-        requires field { self.old.instruction_buffer ≡ self.old.instruction_field }
+        requires settled { is_settled self.old ≡ true }
         requires breaks { 32768 ≤ length breaks.now }
         ensures within { result ≤ n }
         ensures state { self.new ≡ after quick result self.old }
         ensures quiet { AreQuiet quick breaks.now self.old result }
     {
-        let mut processor = self.processor;
-        processor.instruction_buffer = processor.instruction_field;
+        let mut processor = self.processor.settled();
         let steps = processor.run_quietly::<true>(&mut self.core, n, quick, breaks);
         self.processor = processor;
         steps

@@ -3,11 +3,11 @@
 //! parameter MINDS, whether breaks are minded, so that each stands in the program once for each of the two loops, and not
 //! once for both, which would not be inlined.
 
-ghost use Rattle.std.specs.Prelude.{◌≡◌, ◌<◌, ◌≤◌, ◌/◌, true, nat_eq};
+ghost use Rattle.std.specs.Prelude.{◌≡◌, ◌<◌, ◌≤◌, ◌/◌, true};
 ghost use Rattle.cpu8.specs.State.{with_core};
 ghost use Rattle.cpu8.specs.Step.{fetched};
 ghost use Rattle.cpu8.specs.Go.{after, is_break};
-ghost use Rattle.cpu8.specs.Quiet.{AreMinded, AreQuiet, Does, DoesOrNot, is_quiet, operates_on};
+ghost use Rattle.cpu8.specs.Quiet.{AreMinded, AreQuiet, Does, DoesOrNot, is_quiet, is_settled, operates_on};
 
 use super::Processor;
 use crate::decoding::{
@@ -27,12 +27,26 @@ impl Processor {
         self.running && !interrupts && !ends
     }
 
-    /// Whether a jump stays in the instruction field.
+    /// Whether no field and no interrupt waits for an instruction.
     #[inline(always)]
-    pub(crate) fn stays_in_field(&self) -> bool
-        ensures { result ≡ nat_eq self.now.instruction_buffer self.now.instruction_field }
+    pub(crate) fn is_settled(&self) -> bool
+        ensures { result ≡ is_settled self.now }
     {
-        self.instruction_buffer == self.instruction_field
+        self.instruction_buffer == self.instruction_field && !self.waiting && !self.held_off
+    }
+
+    /// The processor as it is, told to the compiler as settled.
+    #[inline(always)]
+    pub(crate) fn settled(self) -> Processor
+        requires { is_settled self ≡ true }
+        ensures { result ≡ self }
+    {
+        Processor {
+            instruction_buffer: self.instruction_field,
+            waiting: false,
+            held_off: false,
+            ..self
+        }
     }
 
     /// Makes up to n steps as long as they are quiet, and no break is ahead.
