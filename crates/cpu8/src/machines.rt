@@ -1,4 +1,4 @@
-ghost use Rattle.std.specs.Prelude.{◌≡◌, ◌<◌};
+ghost use Rattle.std.specs.Prelude.{◌≡◌};
 ghost use Rattle.std.specs.Borrow.{sem};
 ghost use Rattle.cpu8.specs.State.{stopped, started, key_struck, printer_done, switches_set, with_core};
 ghost use Rattle.cpu8.specs.Step.{step};

@@ -1,6 +1,6 @@
 //! The processor without core.
 
-ghost use Rattle.std.specs.Prelude.{◌≡◌, ◌<◌, [], None};
+ghost use Rattle.std.specs.Prelude.{◌≡◌, ◌<◌, []};
 ghost use Rattle.cpu8.specs.State.{started, next_cell, stopped, grants_interrupt, with_core};
 ghost use Rattle.cpu8.specs.Step.{executed, interrupted, step};
 

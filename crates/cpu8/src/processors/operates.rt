@@ -1,6 +1,6 @@
 //! The operate instructions.
 
-ghost use Rattle.std.specs.Prelude.{◌≡◌, ◌-◌, ◌<◌, ◌≤◌, if◌then◌else◌, None};
+ghost use Rattle.std.specs.Prelude.{◌≡◌, ◌-◌, ◌<◌, if◌then◌else◌};
 ghost use Rattle.cpu8.specs.Decoding.{has_cla, has_cll, has_cma, has_cml};
 ghost use Rattle.cpu8.specs.Operate.{unassigned_row, is_group1_unassigned, group1_sum, group1_number, group1_done, group1_row, group2_skips, group2_ac, group2_row, operate_row};
 ghost use Rattle.cpu8.specs.Transfer.{skipped};

@@ -1,7 +1,7 @@
 //! The IOT instructions.
 
 ghost use Rattle.std.specs.Prelude.{◌≡◌, ◌/◌, ◌%◌, ◌<◌, true, bit_or};
-ghost use Rattle.cpu8.specs.Transfer.{ion_row, interrupts_row, keyboard_row, printer_row, cdf_row, cif_row, cdf_cif_row, read_row, fields_row, transfer_row};
+ghost use Rattle.cpu8.specs.Transfer.{ion_row, interrupts_row, keyboard_row, printer_row, cdf_row, cif_row, read_row, fields_row, transfer_row};
 
 use super::Processor;
 use crate::Stepped;
