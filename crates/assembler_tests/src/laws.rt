@@ -12,6 +12,13 @@ fn laws() {
     statements::dollar_ends_source();
     statements::fault_stays();
     statements::faults_are_of_statements();
+    statements::pause_is_bad();
+    statements::pause_joins();
+    statements::join_goes_on();
+    statements::byte_goes_on();
+    statements::source_ends_join();
+    statements::source_spans();
+    statements::whole_source_statement();
     words::fixed_names_keep_their_values();
     words::first_fault_stays();
     words::word_fault_stays();

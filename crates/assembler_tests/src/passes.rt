@@ -8,7 +8,7 @@ use std::alloc::Global;
 
 /// Sources, each with what is answered: `.` to each statement of the first pass that has no fault, `turned` behind them,
 /// then in the second pass the word of a statement with its cell, or `-`. Where the turn is refused, the first pass and
-/// the turn are asked again.
+/// the turn are asked again. `~` stands between sources that are one.
 const PASSES: &str = "\
 *200;TAD ONE|HLT;ONE, 1|$ -> . . . . . turned - 00200:1202 00201:7402 00202:0001 -
 FIELD 3;*377;A=5|TAD A;B, A+B|$ -> . . . . . . turned - - - 30377:1005 30400:0405 -
@@ -17,15 +17,18 @@ A=1|B,|$ -> . . . NW 3 NW 3 NW 3 NW 3 NW 3 NW 3 NW 3 NW 3
 1;TAD 400;2;Q|$ -> . . . . . turned 00200:0001 IR 1 IR 1 IR 1 IR 1
 |Q;1;TAD 400|$ -> . . . . . turned - UA 2 UA 2 UA 2 UA 2
 A;A=1;A=2;A|B, A=7;B|$ -> . . . . . . . turned 00200:0007 - - 00201:0002 - 00202:0202 -
+A;PAUSE;8~A=1|B, A;PAUSE$~B$ -> . . . . . . turned 00200:0001 - - 00201:0001 - 00202:0201
 ";
 
-/// The statements of a source that has no fault of the lexer.
+/// The statements of sources that have no fault of the lexer.
 fn read(alloc: Global, source: &str, statements: &mut Vec<Statement>) {
     let mut bytes = Vec::new(alloc);
     put_source(&mut bytes, source);
-    let mut lexer = Lexer::new(alloc);
+    let mut lexer = Lexer::several(alloc);
     for byte in &bytes {
-        if let Ok(Some(statement)) = lexer.push(*byte) {
+        if *byte == b'~' {
+            let _ = lexer.next_source(false);
+        } else if let Ok(Some(statement)) = lexer.push(*byte) {
             let _ = statements.push(statement);
         }
     }

@@ -2,13 +2,13 @@
 
 use crate::rows::{halves, put_source};
 use crate::shown::{put_between, put_fault, put_pair};
-use pal_asm::{AsmFault, assemble};
-use plain_assembler::plain;
+use pal_asm::{AsmFault, assemble_all};
+use plain_assembler::plain_all;
 use std::alloc::Global;
 use word12::{Cell, Word};
 
 /// Sources, in which a bar stands for CR and LF, each with its words and their cells, or with its first fault and the
-/// line of that.
+/// line of that. `~` stands between sources that are one.
 const SOURCES: &str = "\
 *200;1;*200;2|$ -> 00200:0001 00200:0002
 FIELD 1;*200;5|$ -> 10200:0005
@@ -134,6 +134,56 @@ TAD 400|I|$ -> SY 2
 *200|A, 1|*300|A, 1|9|$ -> DT 4
 FIELD Q+10|$ -> UA 1
 1||||||||||TAD 400|$ -> IR 11
+A=1|PAUSE|THIS IS IGNORED~A|$ -> 00200:0001
+A|$~A=1|PAUSE|THIS IS IGNORED -> UA 1
+A=1|PAUSE|THIS IS IGNORED -> SY 2
+A=1|PAUSE|THIS IS IGNORED~A=1|PAUSE|THIS IS IGNORED -> SY 3
+A=1|PAUSE|THIS IS IGNORED~8|$ -> NU 2
+A=1;PAUSE;8!~A|$ -> 00200:0001
+A=1;PAUSE;8!~|A|$ -> 00200:0001
+A=1;PAUSE$8~A|$ -> 00200:0001
+1;PAUSE$~2$~3$ -> 00200:0001 00201:0002
+1 PAUSE|~2|$ -> SY 1
+A, PAUSE|~2|$ -> SY 1
+A, 1| / and then| PAUSE / 8!|8~A|$ -> 00200:0001 00201:0200
+ PAUSE |~1|$ -> 00200:0001
+|\tPAUSE\t;~;1|$ -> 00200:0001
+PAUSE|~PAUSE|~1$ -> 00200:0001
+PAUSE~1|$ -> NE 1
+1|PAUSE~1|$ -> NE 2
+1~2|$ -> NE 1
+1|~2|$ -> NE 2
+1|2|/ PAUSE|~3|$ -> NE 4
+~1|$ -> NE 1
+PAUSE|~ -> NE 1
+PAUSE;~|| -> NE 3
+1;PAUSE|~2;PAUSE|~3;PAUSE|~4;PAUSE|~5;PAUSE|~6;PAUSE|~7;PAUSE|~8$ -> NU 1
+1;PAUSE|~2;PAUSE|~3;PAUSE|~4;PAUSE|~5;PAUSE|~6;PAUSE|~7;PAUSE|~0$ -> 00200:0001 00201:0002 00202:0003 00203:0004 00204:0005 00205:0006 00206:0007 00207:0000
+1|PAUSE|~2|PAUSE|~3|PAUSE|~4|PAUSE|~5|PAUSE|~6|PAUSE|~7|PAUSE|~8$ -> NU 8
+1$~PAUSE|~8!$ -> 00200:0001
+1$;PAUSE|~8!$ -> 00200:0001
+DECIMAL;PAUSE|~9$ -> 00200:0011
+DECIMAL;PAUSE|~9;OCTAL;PAUSE|~9$ -> NU 1
+FIELD 2;*300;1;PAUSE|~2|$ -> 20300:0001 20301:0002
+TAD B;PAUSE|~B, 5|$ -> 00200:1201 00201:0005
+TAD B;PAUSE|~1|$ -> UA 1
+1|TAD 400|PAUSE|~8|$ -> NU 3
+1|TAD 400|PAUSE|~2|$ -> IR 2
+A, 1|PAUSE|~A, 2|$ -> DT 2
+A, 1|PAUSE|~A=2|$ -> RD 2
+A=1|A;PAUSE|~A=2|A|$ -> 00200:0001 00201:0002
+A;PAUSE|~A=1;PAUSE|~A=2$ -> 00200:0002
+/ PAUSE;|1;PAUSE/;|~2|$ -> 00200:0001 00201:0002
+8;PAUSE|~1|$ -> NU 1
+1;8!;PAUSE|~1|$ -> IC 1
+A=1;A=1 2;PAUSE|~A|$ -> 00200:0003
+PAUSEX=4;PAUSE|~PAUSEX|$ -> 00200:0004
+PAUSE+|~1|$ -> SY 1
+PAUSE!|~1|$ -> IC 1
+PA USE|~1|$ -> NE 2
++PAUSE|~1|$ -> SY 1
+*7777;1;PAUSE|~2|$ -> PF 1
+A=1;PAUSE|~B=2;PAUSE|~;$ -> NW 1
 ";
 
 /// Puts down the words of a source with their cells, or its fault.
@@ -149,15 +199,24 @@ fn put_answer(text: &mut String, answer: &Result<Vec<(Cell, Word)>, AsmFault>) {
     }
 }
 
+/// The parts of a source, between which `~` stands.
+fn put_parts<'a>(parts: &mut Vec<&'a [u8]>, bytes: &'a [u8]) {
+    for part in bytes.split(|byte| *byte == b'~') {
+        let _ = parts.push(part);
+    }
+}
+
 /// Whether both assemblers give what a line says.
 fn is_so(alloc: Global, line: &str) -> bool {
     let (source, wanted) = halves(line);
     let mut bytes = Vec::new(alloc);
     put_source(&mut bytes, source);
+    let mut parts = Vec::new(alloc);
+    put_parts(&mut parts, &bytes);
     let mut text = String::new(alloc);
-    put_answer(&mut text, &assemble(alloc, &bytes));
+    put_answer(&mut text, &assemble_all(alloc, &parts));
     let mut again = String::new(alloc);
-    put_answer(&mut again, &plain(alloc, &bytes));
+    put_answer(&mut again, &plain_all(alloc, &parts));
     text.as_str() == wanted && again.as_str() == wanted
 }
 

@@ -3,7 +3,7 @@
 use crate::rows::{halves, put_source};
 use crate::shown::{put, put_between, put_fault, put_word};
 use pal_asm::AsmFault;
-use pal_lex::{Body, Expression, Joint, Kind, Lexer, Name, Statement, Term, Token};
+use pal_lex::{Body, Expression, Joint, Kind, LexFault, Lexer, Name, Statement, Term, Token};
 use std::alloc::Global;
 
 /// Sources, in which a bar stands for CR and LF, and `^` for LF, each with the lines, tags and bodies of its statements,
@@ -144,6 +144,11 @@ a1$;|$ -> answers; --IC 1IC 1IC 1IC 1IC 1IC 1
 1;I\r8;$ -> answers; -s-SY 1SY 1SY 1SY 1SY 1
 $8;a;$\r -> answers; s------.
 1;2 -> answers; -s-NE 1
+A=1|PAUSE|8!~A|~$ -> several; 1 define A +0001 at 0; x 0-1, = 1-2, x 2-3; 2 pause at 0; x 5-10; next; 2 word +A at 1; x 0-1; NE 3; NE 3; NE 3
+ A;/|B; PAUSE;8~ C ,|TAD\t1;PAUSE$8~$ -> several; 1 word +A at 0; x 1-2; 1 nothing at 0; 2 word +B at 0; x 6-7; 2 pause at 0; x 9-14; next; 2 C, nothing at 1; x 1-2, , 3-4; 3 refer 1000 +0001 at 1; x 6-9, _ 9-10, x 10-11; 3 pause at 1; x 12-17; next; 3 nothing $ at 2
+1$|2~8!$~ -> several; 1 word +0001 $ at 0; x 0-1; next; next
+8;PAUSE|~1$ -> several; NU 1; NU 1; NU 1; NU 1
+1;PAUSE; -> several; 1 word +0001 at 0; x 0-1; 1 pause at 0; x 2-7; NE 1
 ";
 
 /// The character of a sixbit code.
@@ -197,6 +202,7 @@ fn put_body(text: &mut String, body: &Body) {
         }
         Body::Decimal => put(text, "decimal"),
         Body::Octal => put(text, "octal"),
+        Body::Pause => put(text, "pause"),
         Body::Field(number) => put_expression(text, "field ", number),
         Body::Reference {
             operation,
@@ -316,6 +322,48 @@ fn put_answers(text: &mut String, lexer: &mut Lexer, bytes: &[u8]) {
     }
 }
 
+fn put_answer(text: &mut String, answer: Result<(), LexFault>) {
+    put(text, "; ");
+    match answer {
+        Ok(()) => put(text, "next"),
+        Err(fault) => put_fault(text, AsmFault::from(fault)),
+    }
+}
+
+/// Puts down a statement with its source and its tokens.
+fn put_whole(text: &mut String, statement: &Statement) {
+    put_statement(text, statement);
+    let source = statement.source;
+    let _ = write!(text, " at {source}");
+    put_tokens(text, statement.tokens.as_slice());
+}
+
+/// Puts down the statements of several sources, between which `~` stands, each with its source and its tokens, what is
+/// answered where the next source begins, and each fault once in a source.
+fn put_several(text: &mut String, lexer: &mut Lexer, bytes: &[u8]) {
+    put(text, "several");
+    let mut goes_on = true;
+    for (place, byte) in bytes.iter().enumerate() {
+        if *byte == b'~' {
+            let (_, others) = bytes.split_at(place.wrapping_add(1).min(bytes.len()));
+            put_answer(text, lexer.next_source(!others.contains(&b'~')));
+            goes_on = true;
+        } else if goes_on {
+            match lexer.push(*byte) {
+                Ok(Some(statement)) => put_whole(text, &statement),
+                Ok(None) => {}
+                Err(fault) => {
+                    put_answer(text, Err(fault));
+                    goes_on = false;
+                }
+            }
+        }
+    }
+    if let Err(fault) = lexer.end() {
+        put_answer(text, Err(fault));
+    }
+}
+
 /// Whether a source is read as a line says.
 fn is_so(alloc: Global, line: &str) -> bool {
     let (source, wanted) = halves(line);
@@ -326,6 +374,7 @@ fn is_so(alloc: Global, line: &str) -> bool {
     match wanted.as_bytes() {
         [b't', ..] => put_all_tokens(&mut text, &mut lexer, &bytes),
         [b'a', ..] => put_answers(&mut text, &mut lexer, &bytes),
+        [b's', ..] => put_several(&mut text, &mut Lexer::several(alloc), &bytes),
         _ => {
             put_statements(&mut text, &mut lexer, &bytes);
             let mut further = String::new(alloc);

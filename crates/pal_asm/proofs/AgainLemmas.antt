@@ -7,7 +7,7 @@ use Rattle.pal_sym.specs.SymbolTable.{SymbolTable}
 use Rattle.pal_sym.specs.Values.{symbol_value, if_none, set_again, IsSetAgain}
 use Rattle.pal_lex.specs.declared.phrases.Part.{Part}
 use Rattle.pal_lex.specs.declared.phrases.Body.{Body}
-use Rattle.pal_lex.specs.declared.phrases.Body.TheVariants.{Nothing, Origin, Define, Decimal, Octal, Field, Reference, Word}
+use Rattle.pal_lex.specs.declared.phrases.Body.TheVariants.{Nothing, Origin, Define, Decimal, Octal, Pause, Field, Reference, Word}
 use Rattle.pal_asm.specs.declared.faults.Code.TheVariants.{DT, RD}
 use Rattle.pal_asm.specs.Expressions.{Known, value_of}
 use Rattle.pal_asm.specs.Places.{with_tags, with_body, is_among}
@@ -156,6 +156,7 @@ body_set fixed known last place (Define name e) none defined kept n =
     ∙ again_sets (over known last) name value.0 n (value_takes fixed known last place name e value.0 none value.1 there (kept name))
     ∙ chosen_over (nat_eq name n) value.0 (known n) (last n) ∙ ap (λ o. if_none (if nat_eq name n then o else known n) (last n)) (sym value.1)
 body_set fixed known last place Decimal none defined kept n = refl
+body_set fixed known last place Pause none defined kept n = refl
 body_set fixed known last place Octal none defined kept n = refl
 body_set fixed known last place (Field e) none defined kept n = refl
 body_set fixed known last place (Reference operation indirect address) none defined kept n = refl

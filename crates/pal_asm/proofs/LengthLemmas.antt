@@ -2,7 +2,7 @@
 use Rattle.std.proofs.Common.{◌≡◌, ℕ, ◌<◌, Bool, true, false, if◌then◌else◌, Option, Some, None, Ok, Err, length, List, [], ◌∷◌, refl, ap, sym, subst, ◌∙◌, arith, length-append}
 use Rattle.pal_lex.specs.Statements.{statements}
 use Rattle.pal_lex.specs.declared.phrases.Body.{Body}
-use Rattle.pal_lex.specs.declared.phrases.Body.TheVariants.{Nothing, Origin, Define, Decimal, Octal, Field, Reference, Word}
+use Rattle.pal_lex.specs.declared.phrases.Body.TheVariants.{Nothing, Origin, Define, Decimal, Octal, Pause, Field, Reference, Word}
 use Rattle.pal_lex.specs.declared.phrases.Part.{Part}
 use Rattle.pal_asm.specs.Expressions.{Known, address_value}
 use Rattle.pal_asm.specs.Places.{Source, is_word, values, place_at}
@@ -31,6 +31,7 @@ word_is known place Nothing word none = absurd cc
 word_is known place (Origin e) word none = absurd cc
 word_is known place (Define name e) word none = absurd cc
 word_is known place Decimal word none = absurd cc
+word_is known place Pause word none = absurd cc
 word_is known place Octal word none = absurd cc
 word_is known place (Field e) word none = absurd cc
 word_is known place (Reference operation indirect address) word none =

@@ -3,6 +3,7 @@ pub mod LengthLemmas
 pub mod NameLemmas
 pub mod PassLemmas
 pub mod SecondLemmas
+pub mod SourceLemmas
 pub mod TextLemmas
 pub mod WholeLemmas
 pub mod WorkedSources

@@ -4,7 +4,7 @@ use Rattle.std.proofs.Math.Path.{fun_ext}
 use Rattle.pal_sym.specs.SymbolTable.{SymbolTable}
 use Rattle.pal_sym.specs.Values.{symbol_value, is_fixed as fixed_in, HasRoom}
 use Rattle.pal_lex.specs.declared.phrases.Body.{Body}
-use Rattle.pal_lex.specs.declared.phrases.Body.TheVariants.{Nothing, Origin, Define, Decimal, Octal, Field, Reference, Word}
+use Rattle.pal_lex.specs.declared.phrases.Body.TheVariants.{Nothing, Origin, Define, Decimal, Octal, Pause, Field, Reference, Word}
 use Rattle.pal_lex.specs.declared.phrases.Statement.{Statement}
 use Rattle.pal_asm.specs.declared.faults.Code.{Code}
 use Rattle.pal_asm.specs.declared.faults.AsmFault.{AsmFault}
@@ -23,6 +23,7 @@ place_step known Nothing setting words = omega arith
 place_step known (Origin e) setting words = omega arith
 place_step known (Define name e) setting words = omega arith
 place_step known Decimal setting words = omega arith
+place_step known Pause setting words = omega arith
 place_step known Octal setting words = omega arith
 place_step known (Field e) setting words = omega arith
 place_step known (Reference operation indirect address) setting words = omega arith

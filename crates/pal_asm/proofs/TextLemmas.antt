@@ -1,25 +1,27 @@
 -- A byte more of a text, and a whole text.
-use Rattle.std.proofs.Common.{◌≡◌, ℕ, nat_eq, ◌≤◌, Bool, true, false, if◌then◌else◌, Option, Some, None, Result, Ok, Err, zero, suc, take, drop, length, get_or, List, [], ◌∷◌, ◌++◌, refl, ap, sym, subst, ◌∙◌, ◌⊎◌, inl, inr, append_assoc, arith}
-use Rattle.pal_lex.specs.Text.{ends_statement, stretch, line_after, text_from, text_of}
+use Rattle.std.proofs.Common.{◌≡◌, ℕ, nat_eq, Bool, true, false, ◌&&◌, if◌then◌else◌, Option, Some, None, Result, Ok, Err, zero, suc, take, drop, List, [], ◌∷◌, ◌++◌, refl, ap, sym, subst, ◌∙◌, ◌⊎◌, inl, inr, append_assoc}
+use Rattle.pal_lex.specs.Text.{ends_statement, stretch, line_after, text_from}
 use Rattle.pal_lex.specs.Statements.{statements, first_fault, first_of as lex_first_of, with_stretch, judged, radix_after}
-use Rattle.pal_lex.specs.Reading.{Answers, Ends, ReadsOn, tokens_behind, with_tokens}
+use Rattle.pal_lex.specs.Joins.{pauses}
+use Rattle.pal_lex.specs.Laws.{PauseIsBad}
+use Rattle.pal_lex.specs.Reading.{HasRead, Pauses, HandsOut, Tells, Answers, Ends, ReadsOn, tokens_behind, with_tokens}
 use Rattle.pal_lex.specs.Progress as lex
 use Rattle.pal_lex.specs.declared.faults.LexFault.{LexFault}
 use Rattle.pal_lex.specs.declared.faults.LexFault.TheVariants as fault
 use Rattle.pal_lex.specs.declared.phrases.Body.{Body}
-use Rattle.pal_lex.specs.declared.phrases.Body.TheVariants.{Nothing, Origin, Define, Decimal, Octal, Field, Reference, Word}
+use Rattle.pal_lex.specs.declared.phrases.Body.TheVariants.{Nothing, Origin, Define, Decimal, Octal, Pause, Field, Reference, Word}
 use Rattle.pal_lex.specs.declared.phrases.Statement.{Statement}
 use Rattle.pal_asm.specs.declared.faults.AsmFault.{AsmFault}
 use Rattle.pal_asm.specs.declared.faults.AsmFault.TheVariants.{At, Memory}
 use Rattle.pal_asm.specs.declared.faults.Code.TheVariants.{NE, NW}
 use Rattle.pal_asm.specs.Expressions.{Known}
 use Rattle.pal_asm.specs.Places.{Source, is_word, values, place_at}
-use Rattle.pal_asm.specs.Words.{word_values, pairs_by}
+use Rattle.pal_asm.specs.Words.{word_values}
 use Rattle.pal_asm.specs.Faults.{first_of, at_line, lexical, statement_fault, first_order, no_end, word_fault, words_fault, has_word, last_line, no_word}
 use Rattle.pal_asm.specs.Laws.{FixedNamesKeepTheirValues, FirstFaultStays, WordFaultStays, NoWordIsTold, LexicalFaultIsTold, NoLexicalFault, StatementsStay, NoFaultBefore}
 use Rattle.pal_asm.specs.Progress.{Progress}
-use Rattle.pal_asm.specs.Passes.{ReadsTo, PassesByte, EndsText, MakesByte, IsFirst, IsFirstOf, IsFirstFault, IsSecond, AnswersFirst, AnswersSecond, TurnsOver, IsWordsFault, IsFaultOf}
-use Rattle.pal_asm.proofs.NameLemmas.{behind_one, first_one}
+use Rattle.pal_asm.specs.Passes.{IsFirst, AnswersFirst, AnswersSecond, with_handed, TurnsOver}
+use Rattle.pal_asm.specs.Texts.{ReadsTo, PausesAt, ends_source, PassesStatement, PassesByte, Behind, HasMade, MakesStatement, EndsText, MakesByte, IsFirstOf, IsFaultOf}
 use Rattle.pal_asm.proofs.WholeLemmas.{first_none, second_none, some_none, no_fault_before, fixed_keep}
 
 -- ## Statements
@@ -39,10 +41,6 @@ one_more b text = by_test (ends_statement text b)
     by_test true = inr (judged (line_after text) (nat_eq b 36) (stretch text) (radix_after (statements text)), refl)
     by_test false = inl refl
 
--- statements behind others
-abbrev Behind : Source → Source → Type 0
-Behind whole older = (later : Source) × (whole ≡ later ++ older)
-
 one_behind : (b : ℕ) (text : List ℕ) → Behind (statements (b ∷ text)) (statements text)
 one_behind b text = elim (one_more b text) [ inl same ↦ ([], same) | inr added ↦ (added.0 ∷ [], added.1) ]
 
@@ -55,18 +53,6 @@ more : (rest text : List ℕ) → Behind (statements (text_from text rest)) (sta
 more [] text = ([], refl)
 more (b ∷ rest) text = further _ _ _ (more rest (b ∷ text)) (one_behind b text)
 
-first_of_bytes : (rest : List ℕ) → 1 ≤ length rest → rest ≡ get_or rest 0 0 ∷ behind_one rest
-first_of_bytes [] long = absurd (omega arith)
-first_of_bytes (b ∷ rest) long = first_one (b ∷ rest) b long refl
-
--- the bytes behind the first of the rest end further statements
-pub more_behind : (source rest text : List ℕ) → 1 ≤ length rest → text_from text rest ≡ text_of source
-    → (text_from (get_or rest 0 0 ∷ text) (behind_one rest) ≡ text_of source) × Behind (statements (text_of source)) (statements (get_or rest 0 0 ∷ text))
-more_behind source rest text long whole =
-    let here : text_from (get_or rest 0 0 ∷ text) (behind_one rest) ≡ text_of source = ap (text_from text) (sym (first_of_bytes rest long)) ∙ whole in
-    let behind = more (behind_one rest) (get_or rest 0 0 ∷ text) in
-    (here, (behind.0, ap statements (sym here) ∙ behind.1))
-
 -- ## Bytes that end no statement
 
 cut_in_two : (n : ℕ) (bytes : List ℕ) → take n bytes ++ drop n bytes ≡ bytes
@@ -78,19 +64,25 @@ joined : (a b text : List ℕ) → text_from text (a ++ b) ≡ text_from (text_f
 joined [] b text = refl
 joined (x ∷ a) b text = joined a b (x ∷ text)
 
-pub reads_to : (text bytes rest : List ℕ) (count : ℕ) (lexer : lex.Progress) → ReadsOn text bytes count lexer → rest ≡ drop count bytes → ReadsTo text bytes rest lexer
-reads_to text bytes rest count lexer reads behind = record {
-  text_then = text_from text (take count bytes);
-  whole = ap (text_from (text_from text (take count bytes))) behind ∙ sym (joined (take count bytes) (drop count bytes) text)
-      ∙ ap (text_from text) (cut_in_two count bytes);
-  same = reads.1;
-  read = reads.2;
+-- bytes of a source behind others
+pub behind_others : (bytes here before : List ℕ) → text_from (here ++ before) bytes ≡ text_from here bytes ++ before
+behind_others [] here before = refl
+behind_others (b ∷ bytes) here before = behind_others bytes (b ∷ here) before
+
+pub reads_to : (seam : ℕ) (before here bytes rest : List ℕ) (count : ℕ) (lexer : lex.Progress) → ReadsOn seam (here ++ before) bytes count lexer → rest ≡ drop count bytes
+    → ReadsTo seam before here bytes rest lexer
+reads_to seam before here bytes rest count lexer reads behind = record {
+  here_then = text_from here (take count bytes);
+  whole = ap (text_from (text_from here (take count bytes))) behind ∙ sym (joined (take count bytes) (drop count bytes) here)
+      ∙ ap (text_from here) (cut_in_two count bytes);
+  same = ap statements (sym (behind_others (take count bytes) here before)) ∙ reads.1;
+  read = subst (HasRead lexer seam) (behind_others (take count bytes) here before) reads.2;
 }
 
 -- ## Faults of the lexer
 
 -- a source with no fault of the first order has none of the lexer
-no_lex_fault : (source : Source) → first_order source ≡ None → first_fault source ≡ None
+pub no_lex_fault : (source : Source) → first_order source ≡ None → first_fault source ≡ None
 no_lex_fault [] none = refl
 no_lex_fault (Ok s ∷ older) none = rw (no_lex_fault older (first_none _ _ none)) refl
 no_lex_fault (Err f ∷ older) none = some_none (second_none _ _ none)
@@ -117,18 +109,36 @@ lex_told text b f none told = elim (one_more b text) [
   | inr added ↦ ap first_order added.1 ∙ told_by added.0 (statements text) f none (ap first_fault (sym added.1) ∙ told)
 ]
 
+-- no PAUSE ends the source here
+and_false : (may pausing : Bool) → (may ≡ true → pausing ≡ false) → (may && pausing) ≡ false
+and_false true pausing quiet = quiet refl
+and_false false pausing quiet = refl
+
+-- a statement without a fault is no PAUSE
+pub no_pause : (old : lex.Progress) (text : List ℕ) (b : ℕ) → PauseIsBad → first_fault (statements text) ≡ None → first_fault (statements (b ∷ text)) ≡ None → ends_source old text b ≡ false
+no_pause old text b bad before none = and_false old.may_pause (pauses text b) (λ may. by_test (pauses text b) refl)
+  where
+    by_test : (test : Bool) → pauses text b ≡ test → test ≡ false
+    by_test true e = some_none (sym (bad text b e before) ∙ none)
+    by_test false e = refl
+
 -- what the first pass answers for a fault of the lexer
-pub first_lexical : (text : List ℕ) (b : ℕ) (f : LexFault) (answer : AsmFault) (old new : lex.Progress) (assembler : Progress)
-    → answer ≡ lexical f → Answers text b (Err f) old new → first_order (statements text) ≡ None → PassesByte (b ∷ text) (Err answer) new assembler
-first_lexical text b (fault.IC line) answer old new assembler e answers none =
-    subst (λ a. PassesByte (b ∷ text) (Err a) new assembler) (sym e) (lex_told text b (fault.IC line) none answers.0)
-first_lexical text b (fault.SY line) answer old new assembler e answers none =
-    subst (λ a. PassesByte (b ∷ text) (Err a) new assembler) (sym e) (lex_told text b (fault.SY line) none answers.0)
-first_lexical text b (fault.NU line) answer old new assembler e answers none =
-    subst (λ a. PassesByte (b ∷ text) (Err a) new assembler) (sym e) (lex_told text b (fault.NU line) none answers.0)
-first_lexical text b (fault.NE line) answer old new assembler e answers none = absurd answers
-first_lexical text b fault.Memory answer old new assembler e answers none =
-    subst (λ a. PassesByte (b ∷ text) (Err a) new assembler) (sym e) tt
+first_tells : (seam : ℕ) (text : List ℕ) (b : ℕ) (f : LexFault) (old new : lex.Progress) → Tells seam text b f old new → first_order (statements text) ≡ None
+    → (first_order (statements (b ∷ text)) ≡ Some (lexical f)) × (ends_source old text b ≡ false)
+first_tells seam text b f old new tells none =
+    (lex_told text b f none tells.0, and_false old.may_pause (pauses text b) (tells.1 (no_lex_fault (statements text) none)))
+
+pub first_lexical : (seam : ℕ) (text : List ℕ) (b : ℕ) (f : LexFault) (answer : AsmFault) (old new : lex.Progress) (assembler : Progress)
+    → answer ≡ lexical f → Answers seam text b (Err f) old new → first_order (statements text) ≡ None → PassesByte seam text b (Err answer) old new assembler
+first_lexical seam text b (fault.IC line) answer old new assembler e answers none =
+    subst (λ a. PassesByte seam text b (Err a) old new assembler) (sym e) (first_tells seam text b (fault.IC line) old new answers none)
+first_lexical seam text b (fault.SY line) answer old new assembler e answers none =
+    subst (λ a. PassesByte seam text b (Err a) old new assembler) (sym e) (first_tells seam text b (fault.SY line) old new answers none)
+first_lexical seam text b (fault.NU line) answer old new assembler e answers none =
+    subst (λ a. PassesByte seam text b (Err a) old new assembler) (sym e) (first_tells seam text b (fault.NU line) old new answers none)
+first_lexical seam text b (fault.NE line) answer old new assembler e answers none = absurd answers
+first_lexical seam text b fault.Memory answer old new assembler e answers none =
+    subst (λ a. PassesByte seam text b (Err a) old new assembler) (sym e) tt
 
 -- what the end of a text is answered
 pub end_lexical : (text : List ℕ) (f : LexFault) (answer : AsmFault) → answer ≡ lexical f → Ends text (Err f) → first_order (statements text) ≡ None → EndsText text (Err answer)
@@ -141,61 +151,73 @@ end_lexical text (fault.NE line) answer e ends none =
 end_lexical text fault.Memory answer e ends none = absurd ends
 
 -- what the second pass answers for a fault of the lexer, which the first pass didn't meet
-pub second_lexical : (whole later : Source) (text : List ℕ) (b : ℕ) (f : LexFault) (answer : AsmFault) (old new : lex.Progress) (assembler : Progress)
-    → answer ≡ lexical f → Answers text b (Err f) old new → whole ≡ later ++ statements (b ∷ text) → first_order whole ≡ None
-    → MakesByte whole (b ∷ text) text (Err answer) new assembler
-second_lexical whole later text b (fault.IC line) answer old new assembler e answers split none =
-    not_told (statements (b ∷ text)) (fault.IC line) (no_fault_before later (statements (b ∷ text)) (ap first_order (sym split) ∙ none)) answers.0
-second_lexical whole later text b (fault.SY line) answer old new assembler e answers split none =
-    not_told (statements (b ∷ text)) (fault.SY line) (no_fault_before later (statements (b ∷ text)) (ap first_order (sym split) ∙ none)) answers.0
-second_lexical whole later text b (fault.NU line) answer old new assembler e answers split none =
-    not_told (statements (b ∷ text)) (fault.NU line) (no_fault_before later (statements (b ∷ text)) (ap first_order (sym split) ∙ none)) answers.0
-second_lexical whole later text b (fault.NE line) answer old new assembler e answers split none = absurd answers
-second_lexical whole later text b fault.Memory answer old new assembler e answers split none =
-    subst (λ a. MakesByte whole (b ∷ text) text (Err a) new assembler) (sym e) tt
+second_tells : {A : Type 0} (whole : Source) (seam : ℕ) (text : List ℕ) (b : ℕ) (f : LexFault) (old new : lex.Progress) → Tells seam text b f old new
+    → (ends_source old text b ≡ false → Behind whole (statements (b ∷ text))) → first_order whole ≡ None → first_order (statements text) ≡ None → A
+second_tells whole seam text b f old new tells split none before =
+    let behind = split (and_false old.may_pause (pauses text b) (tells.1 (no_lex_fault (statements text) before))) in
+    not_told (statements (b ∷ text)) f (no_fault_before behind.0 (statements (b ∷ text)) (ap first_order (sym behind.1) ∙ none)) tells.0
+
+pub second_lexical : (whole : Source) (seam : ℕ) (text : List ℕ) (b : ℕ) (f : LexFault) (answer : AsmFault) (old new : lex.Progress) (pairs : List (ℕ × ℕ)) (assembler : Progress)
+    → answer ≡ lexical f → Answers seam text b (Err f) old new → (ends_source old text b ≡ false → Behind whole (statements (b ∷ text))) → first_order whole ≡ None
+    → first_order (statements text) ≡ None → MakesByte whole seam text b (Err answer) old new pairs assembler
+second_lexical whole seam text b (fault.IC line) answer old new pairs assembler e answers split none before = second_tells whole seam text b (fault.IC line) old new answers split none before
+second_lexical whole seam text b (fault.SY line) answer old new pairs assembler e answers split none before = second_tells whole seam text b (fault.SY line) old new answers split none before
+second_lexical whole seam text b (fault.NU line) answer old new pairs assembler e answers split none before = second_tells whole seam text b (fault.NU line) old new answers split none before
+second_lexical whole seam text b (fault.NE line) answer old new pairs assembler e answers split none before = absurd answers
+second_lexical whole seam text b fault.Memory answer old new pairs assembler e answers split none before =
+    subst (λ a. MakesByte whole seam text b (Err a) old new pairs assembler) (sym e) tt
+
+pauses_at : (seam : ℕ) (text : List ℕ) (b : ℕ) (s : Statement) (before after : lex.Progress) → Pauses seam text b s before after → PausesAt text b before after
+pauses_at seam text b s before after p = record { may_pause = p.may_pause; pauses = p.pauses; clear = p.clear; same = p.same; paused = p.paused }
 
 -- what the first pass answers for a byte that ends a statement
-pub first_statement : (text : List ℕ) (b : ℕ) (s : Statement) (result : Result (Unit {0}) AsmFault) (before after : lex.Progress) (old new : Progress)
-    → Answers text b (Ok (Some s)) before after → AnswersFirst (statements text) (with_tokens (tokens_behind text) s) result old new → PassesByte (b ∷ text) result after new
-first_statement text b s (Ok done) before after old new read first = (read.3, subst (λ t. IsFirst new t) (sym read.1) first)
-first_statement text b s (Err (At code line)) before after old new read first = ap first_order read.1 ∙ first.0
-first_statement text b s (Err Memory) before after old new read first = tt
+pub first_ended : (pause : Bool) (seam : ℕ) (text : List ℕ) (b : ℕ) (s : Statement) (result : Result Bool AsmFault) (before after : lex.Progress) (old new : Progress)
+    → PauseIsBad → HandsOut pause seam text b s before after → PassesStatement pause (statements text) (with_tokens (tokens_behind text) s) result old new
+    → IsFirst old (statements text) → PassesByte seam text b result before after new
+first_ended true seam text b s result before after old new bad out passes first =
+    subst (λ r. PassesByte seam text b r before after new) (sym passes.0)
+    (pauses_at seam text b s before after out, subst (λ (a : Progress). IsFirst a (statements text)) (sym passes.1) first)
+first_ended false seam text b s (Ok true) before after old new bad out passes first = (out.read, subst (λ t. IsFirst new t) (sym out.newest) passes)
+first_ended false seam text b s (Ok false) before after old new bad out passes first = absurd passes
+first_ended false seam text b s (Err (At code line)) before after old new bad out passes first =
+    (ap first_order out.newest ∙ passes, no_pause before text b bad (no_lex_fault (statements text) first.no_fault) out.no_fault)
+first_ended false seam text b s (Err Memory) before after old new bad out passes first = tt
+
+-- statements of the whole with one more, which a byte ended
+pub split_newest : (pause : Bool) (whole : Source) (seam : ℕ) (text : List ℕ) (b : ℕ) (s : Statement) (before after : lex.Progress) → PauseIsBad → HandsOut pause seam text b s before after
+    → first_order (statements text) ≡ None → (ends_source before text b ≡ false → Behind whole (statements (b ∷ text)))
+    → pause ≡ false → Behind whole (Ok (with_tokens (tokens_behind text) s) ∷ statements text)
+split_newest true whole seam text b s before after bad out none split e = absurd cc
+split_newest false whole seam text b s before after bad out none split e =
+    let behind = split (no_pause before text b bad (no_lex_fault (statements text) none) out.no_fault) in
+    (behind.0, behind.1 ∙ ap (λ l. behind.0 ++ l) out.newest)
 
 -- what the second pass answers for a byte that ends a statement
-pub second_statement : (whole : Source) (text : List ℕ) (b : ℕ) (s : Statement) (result : Result (Option (ℕ × ℕ)) AsmFault) (before after : lex.Progress) (old new : Progress)
-    → Answers text b (Ok (Some s)) before after → AnswersSecond whole (statements text) (with_tokens (tokens_behind text) s) result old new → MakesByte whole (b ∷ text) text result after new
-second_statement whole text b s (Ok handed) before after old new read second =
-    (read.3, subst (λ t. IsSecond new whole t) (sym read.1) second.1, ap (pairs_by (values whole)) read.1 ∙ second.0)
-second_statement whole text b s (Err (At code line)) before after old new read second = ap (words_fault (values whole)) read.1 ∙ second.0
-second_statement whole text b s (Err Memory) before after old new read second = absurd second
+pub second_ended : (pause : Bool) (whole : Source) (seam : ℕ) (text : List ℕ) (b : ℕ) (s : Statement) (result : Result Bool AsmFault) (before after : lex.Progress) (pairs : List (ℕ × ℕ)) (new : Progress)
+    → PauseIsBad → HandsOut pause seam text b s before after → MakesStatement pause whole (statements text) (with_tokens (tokens_behind text) s) result pairs new
+    → first_order (statements text) ≡ None → MakesByte whole seam text b result before after pairs new
+second_ended true whole seam text b s (Ok true) before after pairs new bad out makes none = absurd makes
+second_ended true whole seam text b s (Ok false) before after pairs new bad out makes none = (pauses_at seam text b s before after out, makes)
+second_ended true whole seam text b s (Err f) before after pairs new bad out makes none = absurd makes
+second_ended false whole seam text b s (Ok true) before after pairs new bad out makes none =
+    (out.read, subst (λ t. HasMade whole t pairs new) (sym out.newest) makes)
+second_ended false whole seam text b s (Ok false) before after pairs new bad out makes none = absurd makes
+second_ended false whole seam text b s (Err (At code line)) before after pairs new bad out makes none =
+    (ap (words_fault (values whole)) out.newest ∙ makes, no_pause before text b bad (no_lex_fault (statements text) none) out.no_fault)
+second_ended false whole seam text b s (Err Memory) before after pairs new bad out makes none = tt
 
 -- ## Faults of a whole text
 
-first_stays : (later older : Source) (f : AsmFault) → first_order older ≡ Some f → first_order (later ++ older) ≡ Some f
+pub first_stays : (later older : Source) (f : AsmFault) → first_order older ≡ Some f → first_order (later ++ older) ≡ Some f
 first_stays [] older f told = told
 first_stays (Ok s ∷ later) older f told = ap (λ o. first_of o (at_line s.line (statement_fault s (later ++ older)))) (first_stays later older f told)
 first_stays (Err g ∷ later) older f told = ap (λ o. first_of o (Some (lexical g))) (first_stays later older f told)
 
-words_stay : (known : Known) (later older : Source) (f : AsmFault) → words_fault known older ≡ Some f → words_fault known (later ++ older) ≡ Some f
+pub words_stay : (known : Known) (later older : Source) (f : AsmFault) → words_fault known older ≡ Some f → words_fault known (later ++ older) ≡ Some f
 words_stay known [] older f told = told
 words_stay known (Ok s ∷ later) older f told =
     ap (λ o. first_of o (at_line s.line (word_fault (word_values known s.tags (later ++ older)) (place_at (later ++ older)) s.body))) (words_stay known later older f told)
 words_stay known (Err g ∷ later) older f told = words_stay known later older f told
-
-pub first_told : (source rest text : List ℕ) (f : AsmFault) (lexer : lex.Progress) (assembler : Progress) → 1 ≤ length rest → text_from text rest ≡ text_of source
-    → PassesByte (get_or rest 0 0 ∷ text) (Err f) lexer assembler → IsFirstFault (text_of source) f
-first_told source rest text (At code line) lexer assembler long whole told =
-    let behind = (more_behind source rest text long whole).1 in
-    ap (λ o. first_of o (no_end (text_of source))) (ap first_order behind.1 ∙ first_stays behind.0 (statements (get_or rest 0 0 ∷ text)) (At code line) told)
-first_told source rest text Memory lexer assembler long whole told = tt
-
-pub second_told : (source rest text : List ℕ) (f : AsmFault) (lexer : lex.Progress) (assembler : Progress) → 1 ≤ length rest → text_from text rest ≡ text_of source
-    → MakesByte (statements (text_of source)) (get_or rest 0 0 ∷ text) text (Err f) lexer assembler → IsWordsFault (text_of source) f
-second_told source rest text (At code line) lexer assembler long whole told =
-    let behind = (more_behind source rest text long whole).1 in
-    ap (words_fault (values (statements (text_of source)))) behind.1
-    ∙ words_stay (values (statements (text_of source))) behind.0 (statements (get_or rest 0 0 ∷ text)) (At code line) told
-second_told source rest text Memory lexer assembler long whole told = tt
 
 -- ## A source with no word
 
@@ -204,6 +226,7 @@ quiet known place Nothing e = refl
 quiet known place (Origin p) e = refl
 quiet known place (Define name v) e = refl
 quiet known place Decimal e = refl
+quiet known place Pause e = refl
 quiet known place Octal e = refl
 quiet known place (Field n) e = refl
 quiet known place (Reference operation indirect address) e = absurd cc
@@ -277,3 +300,22 @@ fixed_names_keep_their_values later older name value none kept is = fixed_keep l
 
 pub no_fault_before_all : NoFaultBefore
 no_fault_before_all = no_fault_before
+
+-- ## Answers for a statement
+
+pub passes_err : (older : Source) (s : Statement) (f : AsmFault) (old new : Progress) → AnswersFirst older s (Err f) old new → PassesStatement false older s (Err f) old new
+passes_err older s (At code line) old new answers = answers.0
+passes_err older s Memory old new answers = tt
+
+pub makes_err : (whole older : Source) (s : Statement) (f : AsmFault) (old new : Progress) (pairs : List (ℕ × ℕ)) → AnswersSecond whole older s (Err f) old new
+    → MakesStatement false whole older s (Err f) pairs new
+makes_err whole older s (At code line) old new pairs answers = answers.0
+makes_err whole older s Memory old new pairs answers = absurd answers
+
+pub makes_pair : (whole older : Source) (s : Statement) (handed : Option (ℕ × ℕ)) (old new : Progress) (before after : List (ℕ × ℕ)) → Behind whole (Ok s ∷ older)
+    → HasMade whole older before old → AnswersSecond whole older s (Ok handed) old new → after ≡ with_handed before handed → HasMade whole (Ok s ∷ older) after new
+makes_pair whole older s handed old new before after behind made answers kept = (
+  answers.1,
+  kept ∙ ap (λ pairs. with_handed pairs handed) made.1 ∙ sym answers.0,
+  no_fault_before behind.0 (Ok s ∷ older) (ap first_order (sym behind.1) ∙ made.0.no_fault),
+)

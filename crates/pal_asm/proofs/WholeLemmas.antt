@@ -8,7 +8,7 @@ use Rattle.pal_lex.specs.declared.pieces.Term.{Term}
 use Rattle.pal_lex.specs.declared.pieces.Term.TheVariants.{Name, Number, Here}
 use Rattle.pal_lex.specs.declared.phrases.Part.{Part}
 use Rattle.pal_lex.specs.declared.phrases.Body.{Body}
-use Rattle.pal_lex.specs.declared.phrases.Body.TheVariants.{Nothing, Origin, Define, Decimal, Octal, Field, Reference, Word}
+use Rattle.pal_lex.specs.declared.phrases.Body.TheVariants.{Nothing, Origin, Define, Decimal, Octal, Pause, Field, Reference, Word}
 use Rattle.pal_lex.specs.declared.phrases.Statement.{Statement}
 use Rattle.pal_asm.specs.declared.faults.Code.{Code}
 use Rattle.pal_asm.specs.declared.faults.Code.TheVariants.{DT, RD, PF}
@@ -128,6 +128,7 @@ body_keeps fixed known place (Define name e) n v none kept is = by_test (nat_eq 
         (ap fixed (eqb-true name n same) ∙ kept) (ap known (eqb-true name n same) ∙ is) value.1 (second_none _ _ none))))
     by_test false other = is
 body_keeps fixed known place Decimal n v none kept is = is
+body_keeps fixed known place Pause n v none kept is = is
 body_keeps fixed known place Octal n v none kept is = is
 body_keeps fixed known place (Field e) n v none kept is = is
 body_keeps fixed known place (Reference operation indirect address) n v none kept is = is
@@ -208,6 +209,7 @@ body_known fixed known place (Define name e) n none is = by_test (nat_eq name n)
     by_test true = valued known place e (first_none _ _ none)
     by_test false = is
 body_known fixed known place Decimal n none is = is
+body_known fixed known place Pause n none is = is
 body_known fixed known place Octal n none is = is
 body_known fixed known place (Field e) n none is = is
 body_known fixed known place (Reference operation indirect address) n none is = is
@@ -240,6 +242,7 @@ same_place fixed old new place Nothing grows none = refl
 same_place fixed old new place (Origin e) grows none = ap (λ v. unwrap_or v 0) (same_value old new place e grows none)
 same_place fixed old new place (Define name e) grows none = refl
 same_place fixed old new place Decimal grows none = refl
+same_place fixed old new place Pause grows none = refl
 same_place fixed old new place Octal grows none = refl
 same_place fixed old new place (Field e) grows none = refl
 same_place fixed old new place (Reference operation indirect address) grows none = refl
@@ -250,6 +253,7 @@ same_field fixed old new place Nothing field grows none = refl
 same_field fixed old new place (Origin e) field grows none = refl
 same_field fixed old new place (Define name e) field grows none = refl
 same_field fixed old new place Decimal field grows none = refl
+same_field fixed old new place Pause field grows none = refl
 same_field fixed old new place Octal field grows none = refl
 same_field fixed old new place (Field e) field grows none = ap (λ v. unwrap_or v 0) (same_value old new place e grows (first_none _ _ none))
 same_field fixed old new place (Reference operation indirect address) field grows none = refl
@@ -260,6 +264,7 @@ goes_on fixed old new place Nothing grows none = refl
 goes_on fixed old new place (Origin e) grows none = known_terms old new place e grows none
 goes_on fixed old new place (Define name e) grows none = known_terms old new place e grows (first_none _ _ none)
 goes_on fixed old new place Decimal grows none = refl
+goes_on fixed old new place Pause grows none = refl
 goes_on fixed old new place Octal grows none = refl
 goes_on fixed old new place (Field e) grows none =
     rw (known_terms old new place e grows (first_none _ _ none), same_value old new place e grows (first_none _ _ none)) (second_none _ _ none)
@@ -286,6 +291,7 @@ same_pair known pairs spot Nothing none = refl
 same_pair known pairs spot (Origin e) none = refl
 same_pair known pairs spot (Define name e) none = refl
 same_pair known pairs spot Decimal none = refl
+same_pair known pairs spot Pause none = refl
 same_pair known pairs spot Octal none = refl
 same_pair known pairs spot (Field e) none = refl
 same_pair known pairs spot (Reference operation indirect address) none = put_at pairs spot _ none

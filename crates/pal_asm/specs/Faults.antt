@@ -8,7 +8,7 @@ use Rattle.pal_lex.specs.declared.pieces.Term.{Term}
 use Rattle.pal_lex.specs.declared.pieces.Term.TheVariants.{Name, Number, Here}
 use Rattle.pal_lex.specs.declared.phrases.Part.{Part}
 use Rattle.pal_lex.specs.declared.phrases.Body.{Body}
-use Rattle.pal_lex.specs.declared.phrases.Body.TheVariants.{Nothing, Origin, Define, Decimal, Octal, Field, Reference, Word}
+use Rattle.pal_lex.specs.declared.phrases.Body.TheVariants.{Nothing, Origin, Define, Decimal, Octal, Pause, Field, Reference, Word}
 use Rattle.pal_lex.specs.declared.phrases.Statement.{Statement}
 use Rattle.pal_asm.specs.declared.faults.Code.{Code}
 use Rattle.pal_asm.specs.declared.faults.Code.TheVariants.{IC, SY, NU, UA, DT, RD, IR, FD, PF, NE, NW}
@@ -71,6 +71,7 @@ body_fault fixed known place Nothing = None
 body_fault fixed known place (Origin e) = terms_fault known place e
 body_fault fixed known place (Define name e) = first_of (terms_fault known place e) (definition_fault (fixed name) (value_of known place e) (known name))
 body_fault fixed known place Decimal = None
+body_fault fixed known place Pause = None
 body_fault fixed known place Octal = None
 body_fault fixed known place (Field e) = first_of (terms_fault known place e) (field_fault (value_of known place e))
 body_fault fixed known place (Reference operation indirect address) = past place
@@ -125,6 +126,7 @@ word_fault known place Nothing = None
 word_fault known place (Origin e) = None
 word_fault known place (Define name e) = None
 word_fault known place Decimal = None
+word_fault known place Pause = None
 word_fault known place Octal = None
 word_fault known place (Field e) = None
 word_fault known place (Reference operation indirect address) =

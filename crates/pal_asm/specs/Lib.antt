@@ -4,4 +4,5 @@ pub mod Words
 pub mod Faults
 pub mod Progress
 pub mod Passes
+pub mod Texts
 pub mod Laws

@@ -3,9 +3,8 @@ use Rattle.std.specs.Prelude.{◌≡◌, ℕ, ◌+◌, ◌*◌, ◌%◌, ◌<◌
 use Rattle.pal_sym.specs.SymbolTable.{SymbolTable}
 use Rattle.pal_sym.specs.Permanent.{permanent}
 use Rattle.pal_sym.specs.Values.{symbol_value, is_fixed as fixed_in, set_again, if_none}
-use Rattle.pal_lex.specs.Statements.{statements}
 use Rattle.pal_lex.specs.declared.phrases.Body.{Body}
-use Rattle.pal_lex.specs.declared.phrases.Body.TheVariants.{Nothing, Origin, Define, Decimal, Octal, Field, Reference, Word}
+use Rattle.pal_lex.specs.declared.phrases.Body.TheVariants.{Nothing, Origin, Define, Decimal, Octal, Pause, Field, Reference, Word}
 use Rattle.pal_lex.specs.declared.phrases.Part.{Part}
 use Rattle.pal_lex.specs.declared.phrases.Statement.{Statement}
 use Rattle.pal_asm.specs.declared.faults.Code.{Code}
@@ -14,11 +13,8 @@ use Rattle.pal_asm.specs.declared.faults.AsmFault.TheVariants.{At, Memory}
 use Rattle.pal_asm.specs.declared.spots.Spot.{Spot}
 use Rattle.pal_asm.specs.Expressions.{Known, value_of}
 use Rattle.pal_asm.specs.Places.{Source, is_word, with_tags, with_body, is_among, is_fixed, field_by, place_at, field_at, values}
-use Rattle.pal_asm.specs.Words.{body_word, pairs_by, pairs_of}
-use Rattle.pal_asm.specs.Faults.{first_of, past, terms_fault, tags_fault, field_fault, body_fault, first_order, word_fault, words_fault, has_word, last_line, no_word, no_end, fault_of}
-use Rattle.pal_lex.specs.Text.{text_from}
-use Rattle.pal_lex.specs.Reading.{HasRead}
-use Rattle.pal_lex.specs.Progress as lex
+use Rattle.pal_asm.specs.Words.{body_word, pairs_by}
+use Rattle.pal_asm.specs.Faults.{first_of, past, terms_fault, tags_fault, field_fault, body_fault, first_order, word_fault, words_fault, has_word, last_line, no_word}
 use Rattle.pal_asm.specs.Progress.{Progress}
 
 -- ## One statement
@@ -29,6 +25,7 @@ place_by known place Nothing = place
 place_by known place (Origin e) = unwrap_or (value_of known place e) 0
 place_by known place (Define name e) = place
 place_by known place Decimal = place
+place_by known place Pause = place
 place_by known place Octal = place
 place_by known place (Field e) = 128
 place_by known place (Reference operation indirect address) = place + 1
@@ -57,6 +54,7 @@ definitions Nothing = 0
 definitions (Origin e) = 0
 definitions (Define name e) = 1
 definitions Decimal = 0
+definitions Pause = 0
 definitions Octal = 0
 definitions (Field e) = 0
 definitions (Reference operation indirect address) = 0
@@ -114,6 +112,7 @@ spot_fault known place Nothing = None
 spot_fault known place (Origin e) = terms_fault known place e
 spot_fault known place (Define name e) = terms_fault known place e
 spot_fault known place Decimal = None
+spot_fault known place Pause = None
 spot_fault known place Octal = None
 spot_fault known place (Field e) = first_of (terms_fault known place e) (field_fault (value_of known place e))
 spot_fault known place (Reference operation indirect address) = past place
@@ -135,6 +134,7 @@ with_body_again known place Nothing = known
 with_body_again known place (Origin e) = known
 with_body_again known place (Define name e) = with_again name (value_of known place e) known
 with_body_again known place Decimal = known
+with_body_again known place Pause = known
 with_body_again known place Octal = known
 with_body_again known place (Field e) = known
 with_body_again known place (Reference operation indirect address) = known
@@ -231,59 +231,3 @@ AnswersSecond whole older statement (Err Memory) old new = ⊥
 -- the same fault for good
 abbrev pub StaysFailed : {A : Type 0} → Result A AsmFault → Progress → Progress → Type 0
 StaysFailed {A} result old new = (fault : AsmFault) → HasFailed old fault → (result ≡ Err fault) × (new ≡ old)
-
--- ## A whole text
-
--- Bytes behind a text were taken but for these, and none of them ends a statement.
-pub record ReadsTo (text bytes rest : List ℕ) (lexer : lex.Progress) : Type 0 where
-  pub text_then : List ℕ
-  pub whole : text_from text_then rest ≡ text_from text bytes
-  pub same : statements text_then ≡ statements text
-  pub read : HasRead lexer text_then
-
--- what the first pass answers for a byte behind a text, where this is the text with that byte
-abbrev pub PassesByte : List ℕ → Result (Unit {0}) AsmFault → lex.Progress → Progress → Type 0
-PassesByte text (Ok done) lexer assembler = HasRead lexer text × IsFirst assembler (statements text)
-PassesByte text (Err (At code line)) lexer assembler = first_order (statements text) ≡ Some (At code line)
-PassesByte text (Err Memory) lexer assembler = Unit {0}
-
--- what the end of a text is answered, none of whose statements has a fault
-abbrev pub EndsText : List ℕ → Result (Unit {0}) AsmFault → Type 0
-EndsText text (Ok done) = no_end text ≡ None
-EndsText text (Err (At code line)) = no_end text ≡ Some (At code line)
-EndsText text (Err Memory) = ⊥
-
--- What the second pass of a whole source answers for a byte behind a text, where the first of the two texts has that byte.
-abbrev pub MakesByte : Source → List ℕ → List ℕ → Result (Option (ℕ × ℕ)) AsmFault → lex.Progress → Progress → Type 0
-MakesByte whole text older (Ok handed) lexer assembler =
-    HasRead lexer text × IsSecond assembler whole (statements text)
-    × (pairs_by (values whole) (statements text) ≡ with_handed (pairs_by (values whole) (statements older)) handed)
-MakesByte whole text older (Err (At code line)) lexer assembler = words_fault (values whole) (statements text) ≡ Some (At code line)
-MakesByte whole text older (Err Memory) lexer assembler = Unit {0}
-
--- a text has its `$`, and the first pass stands behind it
-abbrev pub IsFirstOf : List ℕ → Progress → Type 0
-IsFirstOf text assembler = IsFirst assembler (statements text) × (no_end text ≡ None)
-
--- the first fault of a text that the first pass meets, or want of memory
-abbrev pub IsFirstFault : List ℕ → AsmFault → Type 0
-IsFirstFault text (At code line) = first_of (first_order (statements text)) (no_end text) ≡ Some (At code line)
-IsFirstFault text Memory = Unit {0}
-
--- these are the words of a text, none of which has a fault
-abbrev pub AreWordsOf : List ℕ → List (ℕ × ℕ) → Type 0
-AreWordsOf text pairs = (words_fault (values (statements text)) (statements text) ≡ None) × (pairs ≡ pairs_of text)
-
--- the first fault of the words of a text, or want of memory
-abbrev pub IsWordsFault : List ℕ → AsmFault → Type 0
-IsWordsFault text (At code line) = words_fault (values (statements text)) (statements text) ≡ Some (At code line)
-IsWordsFault text Memory = Unit {0}
-
--- the first fault of a text, or want of memory
-abbrev pub IsFaultOf : List ℕ → AsmFault → Type 0
-IsFaultOf text (At code line) = fault_of text ≡ Some (At code line)
-IsFaultOf text Memory = Unit {0}
-
--- these are the words of a text, which has no fault
-abbrev pub ArePairsOf : List ℕ → List (ℕ × ℕ) → Type 0
-ArePairsOf text pairs = (fault_of text ≡ None) × (pairs ≡ pairs_of text)

@@ -4,7 +4,7 @@ use Rattle.std.specs.Prelude.{ℕ, ◌+◌, nat_eq, if◌then◌else◌, Bool, t
 use Rattle.pal_sym.specs.Permanent.{permanent}
 use Rattle.pal_lex.specs.declared.faults.LexFault.{LexFault}
 use Rattle.pal_lex.specs.declared.phrases.Body.{Body}
-use Rattle.pal_lex.specs.declared.phrases.Body.TheVariants.{Nothing, Origin, Define, Decimal, Octal, Field, Reference, Word}
+use Rattle.pal_lex.specs.declared.phrases.Body.TheVariants.{Nothing, Origin, Define, Decimal, Octal, Pause, Field, Reference, Word}
 use Rattle.pal_lex.specs.declared.phrases.Statement.{Statement}
 use Rattle.pal_asm.specs.Expressions.{Known, value_of}
 
@@ -18,6 +18,7 @@ is_word Nothing = false
 is_word (Origin e) = false
 is_word (Define name e) = false
 is_word Decimal = false
+is_word Pause = false
 is_word Octal = false
 is_word (Field e) = false
 is_word (Reference operation indirect address) = true
@@ -29,6 +30,7 @@ sets_location Nothing = false
 sets_location (Origin e) = true
 sets_location (Define name e) = false
 sets_location Decimal = false
+sets_location Pause = false
 sets_location Octal = false
 sets_location (Field e) = true
 sets_location (Reference operation indirect address) = false
@@ -46,6 +48,7 @@ set_by known place Nothing before = before
 set_by known place (Origin e) before = unwrap_or (value_of known place e) 0
 set_by known place (Define name e) before = before
 set_by known place Decimal before = before
+set_by known place Pause before = before
 set_by known place Octal before = before
 set_by known place (Field e) before = 128
 set_by known place (Reference operation indirect address) before = before
@@ -62,6 +65,7 @@ with_body known place Nothing name = known name
 with_body known place (Origin e) name = known name
 with_body known place (Define defined e) name = if nat_eq defined name then value_of known place e else known name
 with_body known place Decimal name = known name
+with_body known place Pause name = known name
 with_body known place Octal name = known name
 with_body known place (Field e) name = known name
 with_body known place (Reference operation indirect address) name = known name
@@ -111,6 +115,7 @@ field_by known place Nothing before = before
 field_by known place (Origin e) before = before
 field_by known place (Define name e) before = before
 field_by known place Decimal before = before
+field_by known place Pause before = before
 field_by known place Octal before = before
 field_by known place (Field e) before = unwrap_or (value_of known place e) 0
 field_by known place (Reference operation indirect address) before = before

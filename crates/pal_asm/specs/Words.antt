@@ -4,7 +4,7 @@ use Rattle.pal_lex.specs.Language.{word_of}
 use Rattle.pal_lex.specs.Statements.{statements}
 use Rattle.pal_lex.specs.declared.phrases.Operation.{Operation}
 use Rattle.pal_lex.specs.declared.phrases.Body.{Body}
-use Rattle.pal_lex.specs.declared.phrases.Body.TheVariants.{Nothing, Origin, Define, Decimal, Octal, Field, Reference, Word}
+use Rattle.pal_lex.specs.declared.phrases.Body.TheVariants.{Nothing, Origin, Define, Decimal, Octal, Pause, Field, Reference, Word}
 use Rattle.pal_asm.specs.Expressions.{Known, value_of, address_value}
 use Rattle.pal_sym.specs.Values.{if_none}
 use Rattle.pal_asm.specs.Places.{Source, place_at, field_at, values, values_at}
@@ -31,6 +31,7 @@ body_word known place Nothing = None
 body_word known place (Origin e) = None
 body_word known place (Define name e) = None
 body_word known place Decimal = None
+body_word known place Pause = None
 body_word known place Octal = None
 body_word known place (Field e) = None
 body_word known place (Reference operation indirect address) = with_offset operation indirect (offset_to place (address_value known place address))

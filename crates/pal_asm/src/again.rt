@@ -40,7 +40,7 @@ fn moved(symbols: &mut Symbols, spot: Spot, body: &Body) -> Result<Spot, Code>
     ensures field { spot.field < 8 → IfOk result (λ s. s.field < 8) }
 {
     match body {
-        Body::Nothing | Body::Decimal | Body::Octal => Ok(spot),
+        Body::Nothing | Body::Decimal | Body::Octal | Body::Pause => Ok(spot),
         Body::Define(name, value) => {
             set_value(symbols, spot.location, *name, value.parts())?;
             Ok(spot)

@@ -1,7 +1,7 @@
-ghost use Rattle.std.specs.Prelude.{◌≡◌, ◌+◌, ◌<◌, ◌≤◌, ℕ, Option, Some, None, IfOk, OnOk, Ok, List, [], ◌∷◌, ◌++◌};
+ghost use Rattle.std.specs.Prelude.{◌≡◌, ◌+◌, ◌<◌, ◌≤◌, ℕ, true, false, Option, Some, None, IfOk, OnOk, Ok, List, [], ◌∷◌, ◌++◌};
 ghost use Rattle.pal_sym.specs.Values.{symbol_value};
 ghost use Rattle.pal_lex.specs.declared.pieces.Token.{Token};
-ghost use Rattle.pal_lex.specs.Reading.{with_tokens};
+ghost use Rattle.pal_lex.specs.Reading.{with_tokens, is_pause_body};
 ghost use Rattle.pal_asm.specs.declared.faults.AsmFault.TheVariants.{At};
 ghost use Rattle.pal_asm.specs.Places.{Source};
 ghost use Rattle.pal_asm.specs.Faults.{past};
@@ -11,11 +11,18 @@ use crate::again::{made, set_tags};
 use crate::names::{definitions, pass};
 use crate::spots::{Spot, first_spot};
 use crate::{AsmFault, Code};
-use pal_lex::Statement;
+use pal_lex::{Body, Statement};
 use pal_sym::Symbols;
 use std::alloc::Global;
 use std::marker::Model;
 use word12::{Cell, Word};
+
+/// Whether a body is PAUSE.
+fn is_pause(body: &Body) -> bool
+    ensures { result ≡ is_pause_body body.now }
+{
+    matches!(body, Body::Pause)
+}
 
 /// Takes the statements of a source twice: in the first pass it learns what names stand for, in the second it hands out
 /// the words, each with its cell. The tokens of a statement say nothing to it, so they need not be there.
@@ -65,13 +72,18 @@ impl Assembler {
     ///
     /// Its fault is the first of the source in the order of its statements. A call that answers want of memory took
     /// nothing, and comes only for a statement that defines names; after another fault each call answers the same
-    /// (PAL III Symbolic Assembler manual, and this project's profile of it).
+    /// (PAL III Symbolic Assembler manual, and this project's profile of it). PAUSE says nothing: of several sources the
+    /// statements come one after the other.
     pub fn first(&mut self, statement: &Statement) -> Result<(), AsmFault>
-        ensures answers { (older : Source) (tokens : List Token) → IsFirst self.old older → AnswersFirst older (with_tokens tokens statement.now) result self.old self.new }
+        ensures answers { (older : Source) (tokens : List Token) → is_pause_body statement.now.body ≡ false → IsFirst self.old older → AnswersFirst older (with_tokens tokens statement.now) result self.old self.new }
+        ensures paused { (older : Source) → is_pause_body statement.now.body ≡ true → IsFirst self.old older → (result ≡ Ok tt) × (self.new ≡ self.old) }
         ensures failed { StaysFailed result self.old self.new }
     {
         if let Some(fault) = self.failed {
             return Err(fault);
+        }
+        if is_pause(&statement.body) {
+            return Ok(());
         }
         let tags = statement.tags.names();
         match self.symbols.room(tags.len() + definitions(&statement.body)) {
@@ -105,13 +117,18 @@ impl Assembler {
 
     /// Takes the next statement of the same source in the second pass, and hands out its word with the cell of that, if it
     /// is one. Its fault is a name in a word that no statement defines, or an address out of reach, the first of these in
-    /// the source (PAL III Symbolic Assembler manual, and this project's profile of it). It takes no memory.
+    /// the source (PAL III Symbolic Assembler manual, and this project's profile of it). It takes no memory, and PAUSE says
+    /// nothing.
     pub fn second(&mut self, statement: &Statement) -> Result<Option<(Cell, Word)>, AsmFault>
-        ensures answers { (whole later older : Source) (tokens : List Token) → whole ≡ later ++ Ok (with_tokens tokens statement.now) ∷ older → IsSecond self.old whole older → AnswersSecond whole older (with_tokens tokens statement.now) result self.old self.new }
+        ensures answers { (whole later older : Source) (tokens : List Token) → is_pause_body statement.now.body ≡ false → whole ≡ later ++ Ok (with_tokens tokens statement.now) ∷ older → IsSecond self.old whole older → AnswersSecond whole older (with_tokens tokens statement.now) result self.old self.new }
+        ensures paused { (whole older : Source) → is_pause_body statement.now.body ≡ true → IsSecond self.old whole older → (result ≡ Ok None) × (self.new ≡ self.old) }
         ensures failed { StaysFailed result self.old self.new }
     {
         if let Some(fault) = self.failed {
             return Err(fault);
+        }
+        if is_pause(&statement.body) {
+            return Ok(None);
         }
         set_tags(
             &mut self.symbols,

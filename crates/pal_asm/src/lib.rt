@@ -18,4 +18,4 @@ mod words;
 
 pub use assemblers::Assembler;
 pub use faults::{AsmFault, Code};
-pub use texts::assemble;
+pub use texts::{assemble, assemble_all};

@@ -53,7 +53,7 @@ fn pass_body(symbols: &mut Symbols, spot: Spot, body: &Body) -> Result<Spot, Cod
     ensures { PassesBody body.now spot symbols.old symbols.new result }
 {
     match body {
-        Body::Nothing | Body::Decimal | Body::Octal => Ok(spot),
+        Body::Nothing | Body::Decimal | Body::Octal | Body::Pause => Ok(spot),
         Body::Origin(place) => origin(symbols, spot, place.parts()),
         Body::Define(name, value) => define(symbols, spot, *name, value.parts()),
         Body::Field(number) => field(symbols, spot, number.parts()),

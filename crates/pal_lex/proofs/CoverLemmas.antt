@@ -10,6 +10,7 @@ use Rattle.pal_lex.specs.declared.pieces.Token.{Token}
 use Rattle.pal_lex.specs.declared.pieces.Term.TheVariants.{Here}
 use Rattle.pal_lex.specs.declared.pieces.Kind.{Kind}
 use Rattle.pal_lex.specs.declared.pieces.Kind.TheVariants.{Term, Blank, Plus, Minus, Equals, Comma, Star}
+use Rattle.pal_lex.specs.declared.runs.Radix.{Radix}
 use Rattle.pal_lex.proofs.SpanLemmas.{between_past, between_longer, Stands, AllStand, alone, all_trimmed, none_left, none_right, not_not, known, has_tokens}
 
 -- what a piece is made of, but for a blank
@@ -169,12 +170,16 @@ joined_tokens later text base (piece ∷ before) a small =
 behind : (later : List ℕ) (b : ℕ) (text : List ℕ) → later ++ b ∷ text ≡ (later ++ b ∷ []) ++ text
 behind later b text = sym (append_assoc later (b ∷ []) text)
 
+-- tokens of a stretch leave nothing of it out but blanks, whatever follows the text
+pub covers_in : (radix : Radix) (text later : List ℕ) (b : ℕ) → length text ≤ 18446744073709551615 → has_illegal (stretch text) ≡ false
+    → joined (later ++ b ∷ text) (tokens radix (stretch text)) ≡ solid (stretch text)
+covers_in radix text later b small legal =
+    let k = known text legal in
+    ap (λ t. joined t (tokens radix (stretch text))) (behind later b text)
+    ∙ joined_tokens (later ++ b ∷ []) text (base radix) (trimmed (pieces (stretch text))) (all_trimmed text (pieces (stretch text)) k.stand) small
+    ∙ trimmed_joined text (pieces (stretch text)) ∙ cover text legal
+
 pub has_all : HasAll
 has_all text later b statement small e =
-    let radix = radix_after (statements text) in
     let g = has_tokens text b statement e in
-    let k = known text g.0 in
-    ap (joined (later ++ b ∷ text)) g.1
-    ∙ ap (λ t. joined t (tokens radix (stretch text))) (behind later b text)
-    ∙ joined_tokens (later ++ b ∷ []) text (base radix) (trimmed (pieces (stretch text))) (all_trimmed text (pieces (stretch text)) k.stand) small
-    ∙ trimmed_joined text (pieces (stretch text)) ∙ cover text g.0
+    ap (joined (later ++ b ∷ text)) g.1 ∙ covers_in (radix_after (statements text)) text later b small g.0

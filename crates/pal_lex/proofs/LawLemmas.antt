@@ -13,11 +13,11 @@ grows_from text (x ∷ bytes) b = grows_from (x ∷ text) bytes b
 pub text_grows : TextGrows
 text_grows bytes b = grows_from [] bytes b
 
-abbrev newest : List ℕ → ℕ → Result Statement LexFault
+abbrev pub newest : List ℕ → ℕ → Result Statement LexFault
 newest text b = judged (line_after text) (nat_eq b 36) (stretch text) (radix_after (statements text))
 
 -- one byte more
-one_more : (b : ℕ) (text : List ℕ) → statements (b ∷ text) ≡ (if ends_statement text b then newest text b ∷ statements text else statements text)
+pub one_more : (b : ℕ) (text : List ℕ) → statements (b ∷ text) ≡ (if ends_statement text b then newest text b ∷ statements text else statements text)
 unfolding statements
 one_more b text = refl
 

@@ -1,9 +1,14 @@
 pub mod CoverLemmas
 pub mod DraftLemmas
+pub mod FinishLemmas
 pub mod GrammarLemmas
 pub mod GrowthLemmas
+pub mod JoinLemmas
 pub mod LawLemmas
+pub mod PauseLemmas
 pub mod ReadingLemmas
 pub mod RunLemmas
+pub mod ShapeLemmas
+pub mod SourceSpanLemmas
 pub mod SpanLemmas
 pub mod WorkedSources

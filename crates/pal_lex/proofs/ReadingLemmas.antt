@@ -1,5 +1,5 @@
 -- What a lexer knows behind one more byte.
-use Rattle.std.proofs.Common.{◌≡◌, ℕ, nat_eq, Bool, true, false, if◌then◌else◌, Option, Some, None, Result, Err, List, [], ◌∷◌, refl, ap, sym, subst, arith}
+use Rattle.std.proofs.Common.{◌≡◌, ℕ, nat_eq, Bool, true, false, if◌then◌else◌, Option, Some, None, Result, Err, List, [], ◌∷◌, refl, ap, sym, subst, ◌∙◌, arith}
 use Rattle.std.proofs.lemmas.Bool.Decides.{nat_tests}
 use Rattle.pal_lex.specs.Text.{ends_statement, stretch, line_after}
 use Rattle.pal_lex.specs.Cutting.{has_illegal}
@@ -9,7 +9,7 @@ use Rattle.pal_lex.specs.Drafting.{Cut, cut}
 use Rattle.pal_lex.specs.Statements.{stated, judged, radix_by, radix_after, statements, fault_of, first_of, first_fault}
 use Rattle.pal_lex.specs.Progress.{Progress}
 use Rattle.pal_lex.specs.Judging.{passed, ended}
-use Rattle.pal_lex.specs.Reading.{StateIs, HasRead, Answers, Ends}
+use Rattle.pal_lex.specs.Reading.{StateIs, HasRead, Tells, Answers, Ends, EndsSource}
 use Rattle.pal_lex.specs.Laws.{IsOfStatement, FaultsAreOfStatements}
 use Rattle.pal_lex.specs.declared.faults.LexFault.{LexFault}
 use Rattle.pal_lex.specs.declared.faults.LexFault.TheVariants.{IC, SY, NU, NE, Memory}
@@ -23,9 +23,9 @@ use Rattle.pal_lex.specs.declared.runs.Radix.{Radix}
 use Rattle.pal_lex.specs.declared.runs.Radix.TheVariants.{Octal}
 use Rattle.pal_lex.proofs.LawLemmas.{fault_stays}
 
-has_read : (l : Progress) (text : List ℕ) (state : State) → l.state ≡ state → StateIs state l text → HasRead l text
+has_read : (l : Progress) (seam : ℕ) (text : List ℕ) (state : State) → l.state ≡ state → StateIs state l seam text → HasRead l seam text
 unfolding HasRead
-has_read l text state e h = subst (λ (s : State). StateIs s l text) (sym e) h
+has_read l seam text state e h = subst (λ (s : State). StateIs s l seam text) (sym e) h
 
 abbrev newest : List ℕ → ℕ → Result Statement LexFault
 newest text b = judged (line_after text) (nat_eq b 36) (stretch text) (radix_after (statements text))
@@ -67,32 +67,47 @@ fault_is (b ∷ text) =
 pub known_fault : FaultsAreOfStatements
 known_fault text fault e = subst IsOfStatements e (fault_is text)
 
-has_failed : (l : Progress) (text : List ℕ) (fault : LexFault) → l.state ≡ Failed fault → HasRead l text → first_fault (statements text) ≡ Some fault
+has_failed : (l : Progress) (seam : ℕ) (text : List ℕ) (fault : LexFault) → l.state ≡ Failed fault → HasRead l seam text → first_fault (statements text) ≡ Some fault
 unfolding HasRead
-has_failed l text fault e h = subst (λ (s : State). StateIs s l text) e h
+has_failed l seam text fault e h = subst (λ (s : State). StateIs s l seam text) e h
 
-pub failed_byte : (l : Progress) (text : List ℕ) (b : ℕ) (fault : LexFault) → l.state ≡ Failed fault → HasRead l text → Answers text b (Err fault) l l
-failed_byte l text b (IC line) e h =
-    let is = fault_stays text (b ∷ []) (IC line) (has_failed l text (IC line) e h) in (is, has_read l (b ∷ text) (Failed (IC line)) e is)
-failed_byte l text b (SY line) e h =
-    let is = fault_stays text (b ∷ []) (SY line) (has_failed l text (SY line) e h) in (is, has_read l (b ∷ text) (Failed (SY line)) e is)
-failed_byte l text b (NU line) e h =
-    let is = fault_stays text (b ∷ []) (NU line) (has_failed l text (NU line) e h) in (is, has_read l (b ∷ text) (Failed (NU line)) e is)
-failed_byte l text b (NE line) e h = absurd (known_fault text (NE line) (has_failed l text (NE line) e h))
-failed_byte l text b Memory e h = absurd (known_fault text Memory (has_failed l text Memory e h))
+not_none : {A : Type 0} (text : List ℕ) (fault : LexFault) → first_fault (statements text) ≡ Some fault → first_fault (statements text) ≡ None → A
+not_none text fault some none = let no : Some fault ≡ None = sym some ∙ none in absurd cc
 
-pub failed_end : (l : Progress) (text : List ℕ) (fault : LexFault) → l.state ≡ Failed fault → HasRead l text → Ends text (Err fault)
-failed_end l text (IC line) e h = has_failed l text (IC line) e h
-failed_end l text (SY line) e h = has_failed l text (SY line) e h
-failed_end l text (NU line) e h = has_failed l text (NU line) e h
-failed_end l text (NE line) e h = absurd (known_fault text (NE line) (has_failed l text (NE line) e h))
-failed_end l text Memory e h = known_fault text Memory (has_failed l text Memory e h)
+failed_tells : (l : Progress) (seam : ℕ) (text : List ℕ) (b : ℕ) (fault : LexFault) → l.state ≡ Failed fault → HasRead l seam text → Tells seam text b fault l l
+failed_tells l seam text b fault e h =
+    let was = has_failed l seam text fault e h in
+    let is = fault_stays text (b ∷ []) fault was in
+    (is, λ none _. not_none text fault was none, has_read l seam (b ∷ text) (Failed fault) e is)
+
+pub failed_byte : (l : Progress) (seam : ℕ) (text : List ℕ) (b : ℕ) (fault : LexFault) → l.state ≡ Failed fault → HasRead l seam text → Answers seam text b (Err fault) l l
+failed_byte l seam text b (IC line) e h = failed_tells l seam text b (IC line) e h
+failed_byte l seam text b (SY line) e h = failed_tells l seam text b (SY line) e h
+failed_byte l seam text b (NU line) e h = failed_tells l seam text b (NU line) e h
+failed_byte l seam text b (NE line) e h = absurd (known_fault text (NE line) (has_failed l seam text (NE line) e h))
+failed_byte l seam text b Memory e h = absurd (known_fault text Memory (has_failed l seam text Memory e h))
+
+pub failed_end : (l : Progress) (seam : ℕ) (text : List ℕ) (fault : LexFault) → l.state ≡ Failed fault → HasRead l seam text → Ends text (Err fault)
+failed_end l seam text (IC line) e h = has_failed l seam text (IC line) e h
+failed_end l seam text (SY line) e h = has_failed l seam text (SY line) e h
+failed_end l seam text (NU line) e h = has_failed l seam text (NU line) e h
+failed_end l seam text (NE line) e h = absurd (known_fault text (NE line) (has_failed l seam text (NE line) e h))
+failed_end l seam text Memory e h = known_fault text Memory (has_failed l seam text Memory e h)
+
+-- a fault of a statement is answered where the source ends, too
+pub failed_next : (l : Progress) (seam : ℕ) (text : List ℕ) (fault : LexFault) → l.state ≡ Failed fault → HasRead l seam text
+    → Ends text (Err fault) × EndsSource (Err fault) l l
+failed_next l seam text (IC line) e h = (has_failed l seam text (IC line) e h, refl)
+failed_next l seam text (SY line) e h = (has_failed l seam text (SY line) e h, refl)
+failed_next l seam text (NU line) e h = (has_failed l seam text (NU line) e h, refl)
+failed_next l seam text (NE line) e h = absurd (known_fault text (NE line) (has_failed l seam text (NE line) e h))
+failed_next l seam text Memory e h = absurd (known_fault text Memory (has_failed l seam text Memory e h))
 
 -- ## The next statement
 
 pub begun_anew : (b : ℕ) (body : Body) (l : Progress) (state : State) (radix : Radix) (draft : Cut)
     → state ≡ (if nat_eq b 36 then Over else l.state) → radix ≡ radix_by body l.radix → draft ≡ cut Octal []
-    → passed b (record { state = state; comment = l.comment; place = l.place; line = l.line; radix = radix; keeps_tokens = l.keeps_tokens; draft = draft }) ≡ ended b body l
+    → passed b (record { state = state; source = l.source; may_pause = l.may_pause; comment = l.comment; place = l.place; line = l.line; radix = radix; keeps_tokens = l.keeps_tokens; draft = draft }) ≡ ended b body l
 begun_anew b body l state radix draft e r d = rw (e, r, d) refl
 
 pub is_dollar : (b : ℕ) (state : State) → b ≡ 36 → Over ≡ (if nat_eq b 36 then Over else state)

@@ -1,7 +1,7 @@
 -- Letters and digits that are taken together.
 use Rattle.std.proofs.Common.{◌≡◌, ℕ, ◌+◌, ◌-◌, ◌/◌, ◌≤◌, ◌<◌, nat_eq, min, Bool, true, false, ◌&&◌, ◌||◌, not, if◌then◌else◌, zero, suc, length, get_or, take, drop, Some, List, [], ◌∷◌, ◌++◌, refl, ap, sym, subst, ◌∙◌, arith, append-nil, append_assoc}
 use Rattle.std.proofs.lemmas.Bool.Decides.{nat_tests}
-use Rattle.pal_lex.specs.Text.{is_ignored, in_comment, is_dead, is_end, is_over, stretch, limit, line_after, cr_count, has_cr, text_from}
+use Rattle.pal_lex.specs.Text.{is_ignored, in_comment, is_dead, is_end, is_over, stretch, since, limit, line_after, cr_count, has_cr, text_from}
 use Rattle.pal_lex.specs.Cutting.{Piece, Run, Mark, is_coded, are_coded, has_illegal, trimmed, with_character, with_characters, pieces}
 use Rattle.pal_lex.specs.Runs.{base, run_kind, token, in_order}
 use Rattle.pal_lex.specs.Growth.{IsRun, grown}
@@ -143,13 +143,13 @@ run_put base illegal before first others at run old new apart is was put = (is.r
 -- ## A run in a text
 
 -- what letters and digits behind a text change
-record Passes (text run : List ℕ) : Type 0 where
+record Passes (seam : ℕ) (text run : List ℕ) : Type 0 where
   same_statements : statements (text_from text run) ≡ statements text
   no_comment : in_comment (text_from text run) ≡ false
   same_line : line_after (text_from text run) ≡ line_after text
   not_over : is_over (text_from text run) ≡ false
-  same_illegal : has_illegal (stretch (text_from text run)) ≡ has_illegal (stretch text)
-  more_pieces : pieces (stretch (text_from text run)) ≡ with_characters run (length text) (pieces (stretch text))
+  same_illegal : has_illegal (since seam (stretch (text_from text run))) ≡ has_illegal (since seam (stretch text))
+  more_pieces : pieces (since seam (stretch (text_from text run))) ≡ with_characters run (length text - seam) (pieces (since seam (stretch text)))
   many : length (text_from text run) ≡ length text + length run
 
 -- a letter or a digit is no other character
@@ -169,12 +169,12 @@ plain b coded = record {
   no_end = grind (arith, nat_tests);
 }
 
-one_statement : (b : ℕ) (text : List ℕ) → is_end b ≡ false → statements (b ∷ text) ≡ statements text
+pub one_statement : (b : ℕ) (text : List ℕ) → is_end b ≡ false → statements (b ∷ text) ≡ statements text
 unfolding statements
 one_statement b text apart = rw apart refl
 
-one_passes : (b : ℕ) (text : List ℕ) → is_coded b ≡ true → in_comment text ≡ false → is_over text ≡ false → Passes text (b ∷ [])
-one_passes b text coded outside running =
+one_passes : (seam b : ℕ) (text : List ℕ) → is_coded b ≡ true → in_comment text ≡ false → is_over text ≡ false → Passes seam text (b ∷ [])
+one_passes seam b text coded outside running =
     let is = plain b coded in
     let quiet : in_comment (b ∷ text) ≡ false = rw (is.no_cr, is.no_slash) outside in
     let live : is_dead text b ≡ false = rw (is.not_ignored) quiet in
@@ -184,13 +184,13 @@ one_passes b text coded outside running =
       no_comment = quiet;
       same_line = ap (λ n. limit (1 + n)) (ap (λ (t : Bool). (if t then 1 else 0) + cr_count text) is.no_cr ∙ omega arith);
       not_over = ap (λ (t : Bool). is_over text || (t && not (is_dead text b))) is.no_dollar ∙ rw running refl;
-      same_illegal = ap has_illegal grows ∙ rw coded refl;
-      more_pieces = ap pieces grows ∙ rw coded refl;
+      same_illegal = ap (λ l. has_illegal (since seam l)) grows ∙ rw coded refl;
+      more_pieces = ap (λ l. pieces (since seam l)) grows ∙ rw coded refl;
       many = omega arith;
     }
 
-all_pass : (run text : List ℕ) → are_coded run ≡ true → in_comment text ≡ false → is_over text ≡ false → Passes text run
-all_pass [] text coded outside running = record {
+all_pass : (seam : ℕ) (run text : List ℕ) → seam ≤ length text → are_coded run ≡ true → in_comment text ≡ false → is_over text ≡ false → Passes seam text run
+all_pass seam [] text begun coded outside running = record {
   same_statements = refl;
   no_comment = outside;
   same_line = refl;
@@ -199,60 +199,62 @@ all_pass [] text coded outside running = record {
   more_pieces = refl;
   many = omega arith;
 }
-all_pass (b ∷ run) text coded outside running =
+all_pass seam (b ∷ run) text begun coded outside running =
     let parts = both (is_coded b) (are_coded run) coded in
-    let one = one_passes b text parts.0 outside running in
-    let rest = all_pass run (b ∷ text) parts.1 one.no_comment one.not_over in
+    let one = one_passes seam b text parts.0 outside running in
+    let rest = all_pass seam run (b ∷ text) (omega (arith, begun)) parts.1 one.no_comment one.not_over in
     record {
       same_statements = rest.same_statements ∙ one.same_statements;
       no_comment = rest.no_comment;
       same_line = rest.same_line ∙ one.same_line;
       not_over = rest.not_over;
       same_illegal = rest.same_illegal ∙ one.same_illegal;
-      more_pieces = rest.more_pieces ∙ ap (with_characters run (length (b ∷ text))) one.more_pieces
-          ∙ ap (λ n. with_characters run n (with_character b (length text) (pieces (stretch text)))) (omega arith);
+      more_pieces = rest.more_pieces ∙ ap (with_characters run (length (b ∷ text) - seam)) one.more_pieces
+          ∙ ap (λ n. with_characters run n (with_character b (length text - seam) (pieces (since seam (stretch text))))) (omega (arith, begun));
       many = rest.many ∙ omega arith;
     }
 
-reading : (l : Progress) (text : List ℕ) → l.state ≡ Reading → HasRead l text → IsReading l text
+pub reading : (l : Progress) (seam : ℕ) (text : List ℕ) → l.state ≡ Reading → HasRead l seam text → IsReading l seam text
 unfolding HasRead
-reading l text e read = subst (λ (s : State). StateIs s l text) e read
+reading l seam text e read = subst (λ (s : State). StateIs s l seam text) e read
 
-has_read : (l : Progress) (text : List ℕ) → l.state ≡ Reading → IsReading l text → HasRead l text
+has_read : (l : Progress) (seam : ℕ) (text : List ℕ) → l.state ≡ Reading → IsReading l seam text → HasRead l seam text
 unfolding HasRead
-has_read l text e read = subst (λ (s : State). StateIs s l text) (sym e) read
+has_read l seam text e read = subst (λ (s : State). StateIs s l seam text) (sym e) read
 
 -- a lexer with this place and draft
 abbrev pub moved : Progress → ℕ → Cut → Progress
-moved l place draft = record { state = l.state; comment = l.comment; place = place; line = l.line; radix = l.radix; keeps_tokens = l.keeps_tokens; draft = draft }
+moved l place draft = record { state = l.state; source = l.source; may_pause = l.may_pause; comment = l.comment; place = place; line = l.line; radix = l.radix; keeps_tokens = l.keeps_tokens; draft = draft }
 
 -- letters and digits that were put behind a stretch
-pub run_read : (old : Progress) (text bytes others : List ℕ) (first more count place : ℕ) (draft : Cut) → old.state ≡ Reading → old.comment ≡ false → is_coded first ≡ true
-    → bytes ≡ first ∷ others → count ≡ length bytes - (length others - more) → HasRead old text
+pub run_read : (old : Progress) (seam : ℕ) (text bytes others : List ℕ) (first more count place : ℕ) (draft : Cut) → old.state ≡ Reading → old.comment ≡ false → is_coded first ≡ true
+    → bytes ≡ first ∷ others → count ≡ length bytes - (length others - more) → HasRead old seam text
     → ((illegal : Bool) (before : List Piece) (at : ℕ) → old.place ≡ limit at → old.draft ≡ cut_of (base old.radix) illegal before
     → PutsRun (base old.radix) illegal before first others at (Some more) old.draft draft)
-    → place ≡ min (old.place + count) 18446744073709551615 → ReadsOn text bytes count (moved old place draft)
-run_read old text bytes others first more count place draft e outside coded whole counted read put there =
-    let now = reading old text e read in
-    let done = put (has_illegal (stretch text)) (pieces (stretch text)) (length text) now.place
-    (now.draft ∙ ap (λ r. cut r (stretch text)) (sym now.radix)) in
+    → place ≡ min (old.place + count) 18446744073709551615 → ReadsOn seam text bytes count (moved old place draft)
+run_read old seam text bytes others first more count place draft e outside coded whole counted read put there =
+    let now = reading old seam text e read in
+    let live = since seam (stretch text) in
+    let done = put (has_illegal live) (pieces live) (length text - seam) now.place
+    (now.draft ∙ ap (λ r. cut r live) (sym now.radix)) in
     let run = first ∷ take more others in
-    let passes = all_pass run text (rw (coded, done.1) refl) (sym now.comment ∙ outside) now.not_over in
+    let passes = all_pass seam run text now.begun (rw (coded, done.1) refl) (sym now.comment ∙ outside) now.not_over in
     let long : length run ≡ suc more = ap suc (length_taken others more done.0) in
     let many : length bytes ≡ suc (length others) = ap (λ l. length l) whole in
     let next : count ≡ suc more = omega (arith, counted, many, done.0) in
     let taken : take count bytes ≡ run = ap (λ n. take n bytes) next ∙ ap (take (suc more)) whole in
-    subst (λ front. (count ≤ length bytes) × (statements (text_from text front) ≡ statements text) × HasRead (moved old place draft) (text_from text front)) (sym taken) (
+    subst (λ front. (count ≤ length bytes) × (statements (text_from text front) ≡ statements text) × HasRead (moved old place draft) seam (text_from text front)) (sym taken) (
       omega (arith, counted),
       passes.same_statements,
-      has_read (moved old place draft) (text_from text run) e record {
+      has_read (moved old place draft) seam (text_from text run) e record {
+        begun = omega (arith, passes.many, now.begun);
         comment = outside ∙ sym passes.no_comment;
-        place = there ∙ omega (arith, now.place, passes.many, long, next);
+        place = there ∙ omega (arith, now.place, now.begun, passes.many, long, next);
         line = now.line ∙ sym passes.same_line;
         radix = now.radix ∙ ap radix_after (sym passes.same_statements);
-        draft = done.2 ∙ ap (λ r. cut_of (base r) (has_illegal (stretch text)) (with_characters run (length text) (pieces (stretch text)))) (now.radix ∙ ap radix_after (sym passes.same_statements))
-            ∙ ap (λ b. cut_of (base (radix_after (statements (text_from text run)))) b (with_characters run (length text) (pieces (stretch text)))) (sym passes.same_illegal)
-            ∙ ap (cut_of (base (radix_after (statements (text_from text run)))) (has_illegal (stretch (text_from text run)))) (sym passes.more_pieces);
+        draft = done.2 ∙ ap (λ r. cut_of (base r) (has_illegal live) (with_characters run (length text - seam) (pieces live))) (now.radix ∙ ap radix_after (sym passes.same_statements))
+            ∙ ap (λ b. cut_of (base (radix_after (statements (text_from text run)))) b (with_characters run (length text - seam) (pieces live))) (sym passes.same_illegal)
+            ∙ ap (cut_of (base (radix_after (statements (text_from text run)))) (has_illegal (since seam (stretch (text_from text run))))) (sym passes.more_pieces);
         no_fault = ap first_fault passes.same_statements ∙ now.no_fault;
         not_over = passes.not_over;
       },
@@ -286,7 +288,7 @@ record Dies (text bytes : List ℕ) : Type 0 where
   same_stretch : stretch (text_from text bytes) ≡ stretch text
   many : length (text_from text bytes) ≡ length text + length bytes
 
-dead_statement : (b : ℕ) (text : List ℕ) → is_dead text b ≡ true → statements (b ∷ text) ≡ statements text
+pub dead_statement : (b : ℕ) (text : List ℕ) → is_dead text b ≡ true → statements (b ∷ text) ≡ statements text
 unfolding statements
 dead_statement b text dead =
     ap (λ (e : Bool). if e then with_stretch (line_after text) (nat_eq b 36) (stretch text) (statements text) else statements text)
@@ -346,29 +348,31 @@ all_die (b ∷ bytes) text none inside =
     }
 
 -- bytes of a comment
-pub comment_read : (old : Progress) (text bytes : List ℕ) (count place : ℕ) → old.state ≡ Reading → old.comment ≡ true → count ≤ length bytes → has_cr (take count bytes) ≡ false
-    → HasRead old text → place ≡ min (old.place + count) 18446744073709551615 → ReadsOn text bytes count (moved old place old.draft)
-comment_read old text bytes count place e inside short none read there =
-    let now = reading old text e read in
+pub comment_read : (old : Progress) (seam : ℕ) (text bytes : List ℕ) (count place : ℕ) → old.state ≡ Reading → old.comment ≡ true → count ≤ length bytes → has_cr (take count bytes) ≡ false
+    → HasRead old seam text → place ≡ min (old.place + count) 18446744073709551615 → ReadsOn seam text bytes count (moved old place old.draft)
+comment_read old seam text bytes count place e inside short none read there =
+    let now = reading old seam text e read in
     let front = take count bytes in
     let dies = all_die front text none (sym now.comment ∙ inside) in
     let long : length front ≡ count = length_taken bytes count short in (
       short,
       dies.same_statements,
-      has_read (moved old place old.draft) (text_from text front) e record {
+      has_read (moved old place old.draft) seam (text_from text front) e record {
+        begun = omega (arith, dies.many, now.begun);
         comment = inside ∙ sym dies.still_comment;
-        place = there ∙ omega (arith, now.place, dies.many, long);
+        place = there ∙ omega (arith, now.place, now.begun, dies.many, long);
         line = now.line ∙ sym dies.same_line;
         radix = now.radix ∙ ap radix_after (sym dies.same_statements);
-        draft = now.draft ∙ ap (λ s. cut (radix_after s) (stretch text)) (sym dies.same_statements) ∙ ap (cut (radix_after (statements (text_from text front)))) (sym dies.same_stretch);
+        draft = now.draft ∙ ap (λ s. cut (radix_after s) (since seam (stretch text))) (sym dies.same_statements)
+            ∙ ap (λ l. cut (radix_after (statements (text_from text front))) (since seam l)) (sym dies.same_stretch);
         no_fault = ap first_fault dies.same_statements ∙ now.no_fault;
         not_over = dies.same_over ∙ now.not_over;
       },
     )
 
 -- nothing was taken
-pub none_read : (old : Progress) (text bytes : List ℕ) → HasRead old text → ReadsOn text bytes 0 old
-none_read old text bytes read = (omega arith, refl, read)
+pub none_read : (old : Progress) (seam : ℕ) (text bytes : List ℕ) → HasRead old seam text → ReadsOn seam text bytes 0 old
+none_read old seam text bytes read = (omega arith, refl, read)
 
 -- ## Some bytes, and then others
 
@@ -389,10 +393,10 @@ left bytes zero = omega arith
 left [] (suc n) = omega arith
 left (b ∷ bytes) (suc n) = left bytes n ∙ omega arith
 
-pub read_further : (text bytes : List ℕ) (taken count : ℕ) (middle new : Progress) → ReadsOn text bytes taken middle
-    → ((t : List ℕ) → HasRead middle t → ReadsOn t (drop taken bytes) count new) → ReadsOn text bytes (taken + count) new
-read_further text bytes taken count middle new first further =
+pub read_further : (seam : ℕ) (text bytes : List ℕ) (taken count : ℕ) (middle new : Progress) → ReadsOn seam text bytes taken middle
+    → ((t : List ℕ) → HasRead middle seam t → ReadsOn seam t (drop taken bytes) count new) → ReadsOn seam text bytes (taken + count) new
+read_further seam text bytes taken count middle new first further =
     let rest = further (text_from text (take taken bytes)) first.2 in
     let whole : text_from text (take (taken + count) bytes) ≡ text_from (text_from text (take taken bytes)) (take count (drop taken bytes)) =
     ap (text_from text) (split bytes taken count first.0) ∙ joined (take taken bytes) (take count (drop taken bytes)) text in
-    (omega (arith, first.0, rest.0, left bytes taken), ap statements whole ∙ rest.1 ∙ first.1, subst (HasRead new) (sym whole) rest.2)
+    (omega (arith, first.0, rest.0, left bytes taken), ap statements whole ∙ rest.1 ∙ first.1, subst (HasRead new seam) (sym whole) rest.2)

@@ -15,6 +15,7 @@ use Rattle.pal_lex.specs.declared.pieces.Kind.{Kind}
 use Rattle.pal_lex.specs.declared.pieces.Kind.TheVariants.{Term, Blank}
 use Rattle.pal_lex.specs.declared.phrases.Said.{Said}
 use Rattle.pal_lex.specs.declared.phrases.Statement.{Statement}
+use Rattle.pal_lex.specs.declared.runs.Radix.{Radix}
 
 -- ## What stands between two places
 
@@ -336,12 +337,16 @@ pub has_tokens : (text : List ℕ) (b : ℕ) (statement : Statement) → stateme
     → (has_illegal (stretch text) ≡ false) × (statement.tokens ≡ tokens (radix_after (statements text)) (stretch text))
 has_tokens text b statement e = has_tokens_by text b statement (ends_statement text b) refl e
 
+-- tokens of a stretch stand in the text whatever follows it
+pub spells_in : (radix : Radix) (text later : List ℕ) (b : ℕ) → has_illegal (stretch text) ≡ false → AllSpell (later ++ b ∷ text) (base radix) (tokens radix (stretch text))
+spells_in radix text later b legal =
+    let k = known text legal in
+    all_spell (later ++ b ∷ text) (base radix) (trimmed (pieces (stretch text)))
+    (all_longer later (b ∷ text) (trimmed (pieces (stretch text)))
+    (all_longer (b ∷ []) text (trimmed (pieces (stretch text))) (all_trimmed text (pieces (stretch text)) k.stand)))
+
 pub spans : HasSpans
 spans text later b statement e =
     let radix = radix_after (statements text) in
     let g = has_tokens text b statement e in
-    let k = known text g.0 in
-    subst (λ (found : List Token). AllSpell (later ++ b ∷ text) (base radix) found) (sym g.1)
-    (all_spell (later ++ b ∷ text) (base radix) (trimmed (pieces (stretch text)))
-    (all_longer later (b ∷ text) (trimmed (pieces (stretch text)))
-    (all_longer (b ∷ []) text (trimmed (pieces (stretch text))) (all_trimmed text (pieces (stretch text)) k.stand))))
+    subst (λ (found : List Token). AllSpell (later ++ b ∷ text) (base radix) found) (sym g.1) (spells_in radix text later b g.0)

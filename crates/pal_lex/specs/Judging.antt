@@ -8,8 +8,9 @@ use Rattle.pal_lex.specs.Text.{is_ignored, limit}
 use Rattle.pal_lex.specs.Drafting.{cut}
 use Rattle.pal_lex.specs.Statements.{radix_by}
 use Rattle.pal_lex.specs.Progress.{Progress}
-use Rattle.pal_lex.specs.declared.lexing.State.TheVariants.{Over, Failed}
+use Rattle.pal_lex.specs.declared.lexing.State.TheVariants.{Reading, Paused, Over, Failed}
 use Rattle.pal_lex.specs.declared.phrases.Body.{Body}
+use Rattle.pal_lex.specs.declared.phrases.Body.TheVariants.{Pause}
 use Rattle.pal_lex.specs.declared.phrases.Said.{Said}
 use Rattle.pal_lex.specs.declared.phrases.Statement.{Statement}
 use Rattle.pal_lex.specs.declared.runs.Radix.TheVariants.{Octal}
@@ -34,6 +35,8 @@ dies comment b = is_ignored b || comment_after comment b
 abbrev pub passed : ℕ → Progress → Progress
 passed b l = record {
   state = l.state;
+  source = l.source;
+  may_pause = l.may_pause;
   comment = comment_after l.comment b;
   place = limit (l.place + 1);
   line = if nat_eq b 13 then limit (l.line + 1) else l.line;
@@ -46,6 +49,8 @@ passed b l = record {
 abbrev pub ended : ℕ → Body → Progress → Progress
 ended b body l = passed b (record {
   state = if nat_eq b 36 then Over else l.state;
+  source = l.source;
+  may_pause = l.may_pause;
   comment = l.comment;
   place = l.place;
   line = l.line;
@@ -56,7 +61,39 @@ ended b body l = passed b (record {
 
 -- the statement that a byte ended
 abbrev pub ended_statement : ℕ → Said → Progress → Statement
-ended_statement b s l = record { line = l.line; tags = s.tags; body = s.body; last = nat_eq b 36; tokens = if l.keeps_tokens then l.draft.tokens else [] }
+ended_statement b s l = record { line = l.line; tags = s.tags; body = s.body; last = nat_eq b 36; source = l.source; tokens = if l.keeps_tokens then l.draft.tokens else [] }
+
+-- PAUSE ended the source
+abbrev pub paused : Progress → Progress
+paused l = record {
+  state = Paused;
+  source = l.source;
+  may_pause = l.may_pause;
+  comment = l.comment;
+  place = l.place;
+  line = l.line;
+  radix = l.radix;
+  keeps_tokens = l.keeps_tokens;
+  draft = cut Octal [];
+}
+
+-- the statement that is PAUSE
+abbrev pub pause_statement : Progress → Statement
+pause_statement l = record { line = l.line; tags = []; body = Pause; last = false; source = l.source; tokens = if l.keeps_tokens then l.draft.tokens else [] }
+
+-- the next source begins
+abbrev pub next : Bool → Progress → Progress
+next last l = record {
+  state = Reading;
+  source = limit (l.source + 1);
+  may_pause = if last then false else true;
+  comment = false;
+  place = 0;
+  line = l.line;
+  radix = l.radix;
+  keeps_tokens = l.keeps_tokens;
+  draft = l.draft;
+}
 
 -- a fault was met: want of memory leaves all as it was
 abbrev pub failed : LexFault → Progress → Progress

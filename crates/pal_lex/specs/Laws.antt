@@ -1,7 +1,8 @@
 -- Laws about the statements of a text.
-use Rattle.std.specs.Prelude.{◌≡◌, ℕ, true, Some, Result, List, [], ◌∷◌, ◌++◌}
-use Rattle.pal_lex.specs.Text.{is_over, text_of}
+use Rattle.std.specs.Prelude.{◌≡◌, ℕ, Bool, true, false, ◌&&◌, Some, None, Result, List, [], ◌∷◌, ◌++◌}
+use Rattle.pal_lex.specs.Text.{is_over, up_to_end, line_after, text_of}
 use Rattle.pal_lex.specs.Statements.{statements, first_fault}
+use Rattle.pal_lex.specs.Joins.{pauses, IsClear, join_of}
 use Rattle.pal_lex.specs.declared.faults.LexFault.{LexFault}
 use Rattle.pal_lex.specs.declared.faults.LexFault.TheVariants.{IC, SY, NU, NE, Memory}
 use Rattle.pal_lex.specs.declared.phrases.Statement.{Statement}
@@ -33,3 +34,38 @@ IsOfStatement Memory = ⊥
 -- The first fault of a text is that of a statement.
 abbrev pub FaultsAreOfStatements : Type 0
 FaultsAreOfStatements = (text : List ℕ) (fault : LexFault) → first_fault (statements text) ≡ Some fault → IsOfStatement fault
+
+-- ## Several sources. In each of these laws a source follows a text that ends behind a statement, and others follow it.
+
+-- PAUSE is a bad statement of a text that nothing follows.
+abbrev pub PauseIsBad : Type 0
+PauseIsBad =
+    (text : List ℕ) (b : ℕ) → pauses text b ≡ true → first_fault (statements text) ≡ None → first_fault (statements (b ∷ text)) ≡ Some (SY (line_after text))
+
+abbrev pub has_next : List (List ℕ) → Bool
+has_next [] = false
+has_next (text ∷ others) = true
+
+-- Where a byte ends PAUSE, the join goes on with the next source behind the last end before it.
+abbrev pub PauseJoins : Type 0
+PauseJoins =
+    (before here later : List ℕ) (b : ℕ) (next : List ℕ) (others : List (List ℕ)) → IsClear before → first_fault (statements (here ++ before)) ≡ None
+    → pauses (here ++ before) b ≡ true → join_of ((later ++ b ∷ here) ∷ next ∷ others) ++ before ≡ join_of (next ∷ others) ++ up_to_end (here ++ before)
+
+-- The statements of a source so far, where none has a fault, are the first of the join.
+abbrev pub JoinGoesOn : Type 0
+JoinGoesOn =
+    (before here later : List ℕ) (others : List (List ℕ)) → IsClear before → first_fault (statements (here ++ before)) ≡ None
+    → (more : List (Result Statement LexFault)) × (statements (join_of ((later ++ here) ∷ others) ++ before) ≡ more ++ statements (here ++ before))
+
+-- So are those with one byte more, whether or not this ends a statement with a fault, unless it ends PAUSE.
+abbrev pub ByteGoesOn : Type 0
+ByteGoesOn =
+    (before here later : List ℕ) (b : ℕ) (others : List (List ℕ)) → IsClear before → first_fault (statements (here ++ before)) ≡ None
+    → (has_next others && pauses (here ++ before) b) ≡ false
+    → (more : List (Result Statement LexFault)) × (statements (join_of ((later ++ b ∷ here) ∷ others) ++ before) ≡ more ++ statements (b ∷ here ++ before))
+
+-- A source with neither PAUSE nor a fault of a statement is the last that counts.
+abbrev pub EndsJoin : Type 0
+EndsJoin =
+    (before here : List ℕ) (others : List (List ℕ)) → IsClear before → first_fault (statements (here ++ before)) ≡ None → join_of (here ∷ others) ≡ here

@@ -3,6 +3,7 @@ pub mod Cutting
 pub mod Drafting
 pub mod Grammar
 pub mod Growth
+pub mod Joins
 pub mod Judging
 pub mod Language
 pub mod Laws

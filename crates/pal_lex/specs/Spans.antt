@@ -4,6 +4,8 @@ use Rattle.pal_lex.specs.Text.{is_ignored, stretch}
 use Rattle.pal_lex.specs.Cutting.{is_coded, are_coded, is_space, sign_of, is_blank}
 use Rattle.pal_lex.specs.Runs.{base, run_kind}
 use Rattle.pal_lex.specs.Statements.{radix_after, statements}
+use Rattle.pal_lex.specs.Joins.{IsClear}
+use Rattle.pal_lex.specs.Reading.{tokens_since}
 use Rattle.pal_lex.specs.declared.pieces.Token.{Token}
 use Rattle.pal_lex.specs.declared.pieces.Term.TheVariants.{Here}
 use Rattle.pal_lex.specs.declared.pieces.Kind.{Kind}
@@ -56,3 +58,15 @@ abbrev pub HasAll : Type 0
 HasAll =
     (text later : List ℕ) (b : ℕ) (statement : Statement) → length text ≤ 18446744073709551615
     → statements (b ∷ text) ≡ Ok statement ∷ statements text → joined (later ++ b ∷ text) statement.tokens ≡ solid (stretch text)
+
+-- So it is in one of several sources, with the places in that source alone, which stands behind the join of those before it.
+abbrev pub HasSourceSpans : Type 0
+HasSourceSpans =
+    (before here later : List ℕ) (b : ℕ) (statement : Statement) → IsClear before → statements (b ∷ here ++ before) ≡ Ok statement ∷ statements (here ++ before)
+    → AllSpell (later ++ b ∷ here) (base (radix_after (statements (here ++ before)))) (tokens_since (length before) (here ++ before))
+
+abbrev pub HasAllOfSource : Type 0
+HasAllOfSource =
+    (before here later : List ℕ) (b : ℕ) (statement : Statement) → IsClear before → length here ≤ 18446744073709551615
+    → statements (b ∷ here ++ before) ≡ Ok statement ∷ statements (here ++ before)
+    → joined (later ++ b ∷ here) (tokens_since (length before) (here ++ before)) ≡ solid (stretch here)

@@ -9,7 +9,7 @@ use Rattle.pal_lex.specs.declared.faults.LexFault.{LexFault}
 use Rattle.pal_lex.specs.declared.faults.LexFault.TheVariants.{IC, SY, NU}
 use Rattle.pal_lex.specs.declared.pieces.Token.{Token}
 use Rattle.pal_lex.specs.declared.phrases.Body as body
-use Rattle.pal_lex.specs.declared.phrases.Body.TheVariants.{Nothing, Origin, Define, Decimal, Octal, Field, Reference, Word}
+use Rattle.pal_lex.specs.declared.phrases.Body.TheVariants.{Nothing, Origin, Define, Decimal, Octal, Pause, Field, Reference, Word}
 use Rattle.pal_lex.specs.declared.phrases.Said.{Said}
 use Rattle.pal_lex.specs.declared.phrases.Statement.{Statement}
 use Rattle.pal_lex.specs.declared.runs.Radix.{Radix}
@@ -17,7 +17,7 @@ use Rattle.pal_lex.specs.declared.runs.Radix.TheVariants as radix
 
 abbrev pub stated : ℕ → Bool → List Token → Option Said → Result Statement LexFault
 stated line last tokens None = Err (SY line)
-stated line last tokens (Some said) = Ok record { line = line; tags = said.tags; body = said.body; last = last; tokens = tokens }
+stated line last tokens (Some said) = Ok record { line = line; tags = said.tags; body = said.body; last = last; source = 0; tokens = tokens }
 
 -- An illegal character is told before a bad number, and that before a bad statement.
 abbrev pub judged : ℕ → Bool → List (ℕ × ℕ) → Radix → Result Statement LexFault
@@ -33,6 +33,7 @@ radix_by (Origin e) before = before
 radix_by (Define name e) before = before
 radix_by Decimal before = radix.Decimal
 radix_by Octal before = radix.Octal
+radix_by Pause before = before
 radix_by (Field e) before = before
 radix_by (Reference op indirect e) before = before
 radix_by (Word e) before = before

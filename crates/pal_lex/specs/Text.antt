@@ -1,6 +1,6 @@
 -- A text, its comments, ends and lines (PAL III Symbolic Assembler manual, and this project's profile of it). A text has
 -- the newest byte first, and so has whatever is cut from it.
-use Rattle.std.specs.Prelude.{ℕ, ◌+◌, nat_eq, Bool, true, false, ◌&&◌, ◌||◌, not, if◌then◌else◌, min, length, List, [], ◌∷◌}
+use Rattle.std.specs.Prelude.{ℕ, ◌+◌, ◌-◌, nat_eq, Bool, true, false, ◌&&◌, ◌||◌, not, if◌then◌else◌, min, length, List, [], ◌∷◌}
 
 -- line feed, form feed, NUL and rubout are as if they weren't there
 abbrev pub is_ignored : ℕ → Bool
@@ -37,6 +37,16 @@ ends_statement older b = is_end b && not (is_dead older b) && not (is_over older
 abbrev pub stretch : List ℕ → List (ℕ × ℕ)
 stretch [] = []
 stretch (b ∷ older) = if is_dead older b then stretch older else (if is_end b then [] else (b, length older) ∷ stretch older)
+
+-- live bytes with places that count from a place on
+abbrev pub since : ℕ → List (ℕ × ℕ) → List (ℕ × ℕ)
+since seam [] = []
+since seam (live ∷ older) = (live.0, live.1 - seam) ∷ since seam older
+
+-- a text without what stands behind its last live `;`, CR or `$`
+abbrev pub up_to_end : List ℕ → List ℕ
+up_to_end [] = []
+up_to_end (b ∷ older) = if is_dead older b then up_to_end older else (if is_end b then b ∷ older else up_to_end older)
 
 abbrev pub cr_count : List ℕ → ℕ
 cr_count [] = 0

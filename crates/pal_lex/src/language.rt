@@ -22,7 +22,8 @@ pub const OCTAL: u64 = name!(b'O' b'C' b'T' b'A' b'L' 0);
 
 pub const FIELD: u64 = name!(b'F' b'I' b'E' b'L' b'D' 0);
 
-const PAUSE: u64 = name!(b'P' b'A' b'U' b'S' b'E' 0);
+/// Ends a source that goes on in the next one.
+pub const PAUSE: u64 = name!(b'P' b'A' b'U' b'S' b'E' 0);
 /// Stands before the address of a memory reference that is indirect.
 pub const INDIRECT: u64 = name!(b'I' 0 0 0 0 0);
 /// Stands before an address, and means nothing.

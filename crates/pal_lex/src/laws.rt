@@ -1,7 +1,7 @@
 //! Laws about the statements of a text, which hold whatever reads it. A call of one does nothing, and lets its caller use it.
 
-ghost use Rattle.pal_lex.specs.Laws.{TextGrows, StatementsStay, EndsSource, FaultStays, FaultsAreOfStatements};
-ghost use Rattle.pal_lex.specs.Spans.{HasSpans, HasAll};
+ghost use Rattle.pal_lex.specs.Laws.{TextGrows, StatementsStay, EndsSource, FaultStays, FaultsAreOfStatements, PauseIsBad, PauseJoins, JoinGoesOn, ByteGoesOn, EndsJoin};
+ghost use Rattle.pal_lex.specs.Spans.{HasSpans, HasAll, HasSourceSpans, HasAllOfSource};
 
 /// The bytes between the places of a token are its text, apart from those that are as if they weren't there.
 pub fn spans()
@@ -36,4 +36,39 @@ pub fn fault_stays()
 /// The first fault of a text is an illegal character, a bad number or a bad statement.
 pub fn faults_are_of_statements()
     ensures { FaultsAreOfStatements }
+{}
+
+/// In a single source PAUSE alone is a bad statement.
+pub fn pause_is_bad()
+    ensures { PauseIsBad }
+{}
+
+/// At PAUSE the join goes on with the next source.
+pub fn pause_joins()
+    ensures { PauseJoins }
+{}
+
+/// The statements of a source so far are the first of the join, as long as none has a fault.
+pub fn join_goes_on()
+    ensures { JoinGoesOn }
+{}
+
+/// The statements of a source with one byte more are the first of the join, unless it ends PAUSE.
+pub fn byte_goes_on()
+    ensures { ByteGoesOn }
+{}
+
+/// Behind a source with neither PAUSE nor a fault no further source counts.
+pub fn source_ends_join()
+    ensures { EndsJoin }
+{}
+
+/// In one of several sources the bytes between the places of a token are its text, too.
+pub fn source_spans()
+    ensures { HasSourceSpans }
+{}
+
+/// In one of several sources the tokens of a statement leave nothing of it out but blanks.
+pub fn whole_source_statement()
+    ensures { HasAllOfSource }
 {}

@@ -1,21 +1,26 @@
-ghost use Rattle.std.specs.Prelude.{◌≡◌, ℕ, ◌≤◌, true, false, length, take, List, [], ◌∷◌};
-ghost use Rattle.pal_lex.specs.Text.{is_ignored, is_end, has_cr};
-ghost use Rattle.pal_lex.specs.Statements.{radix_by};
+ghost use Rattle.std.specs.Prelude.{◌≡◌, ℕ, ◌≤◌, ◌&&◌, not, true, false, length, take, None, Ok, Err, List, [], ◌∷◌};
+ghost use Rattle.pal_lex.specs.Text.{is_ignored, is_end, is_over, has_cr, line_after};
+ghost use Rattle.pal_lex.specs.Statements.{radix_by, statements, first_fault};
+ghost use Rattle.pal_lex.specs.Joins.{is_lone_pause};
 ghost use Rattle.pal_lex.specs.Cutting.{is_coded};
-ghost use Rattle.pal_lex.specs.Reading.{HasRead, Answers, TakesByte, ReadsOn, Ends};
-ghost use Rattle.pal_lex.specs.Judging.{Judges, comment_after, dies, passed, ended, ended_statement, failed};
+ghost use Rattle.pal_lex.specs.Progress.{setting};
+ghost use Rattle.pal_lex.specs.Reading.{HasRead, HasPaused, HasFailed, Answers, Pauses, TakesByte, ReadsOn, Ends, EndsSource, BeginsNext};
+ghost use Rattle.pal_lex.specs.Judging.{Judges, comment_after, dies, passed, ended, ended_statement, paused, pause_statement, next, failed};
 
 use crate::drafts::Draft;
 use crate::grammar::{has_bad_number, said};
+use crate::language::{PAUSE, is_named};
 use crate::phrases::Said;
 use crate::runs::Radix;
-use crate::{Body, LexFault, Statement};
+use crate::{Body, LexFault, Statement, Tags, Token};
 use std::alloc::Global;
 use std::marker::Model;
 
 #[derive(Clone, Copy)]
 enum State {
     Reading,
+    /// Behind the PAUSE that ends the present source.
+    Paused,
     /// Behind the `$` that ends the source.
     Over,
     Failed(LexFault),
@@ -87,6 +92,23 @@ fn radix_by(body: &Body, before: Radix) -> Radix
     }
 }
 
+/// Whether tokens are the word PAUSE alone.
+fn is_lone_pause(tokens: &[Token]) -> bool
+    ensures { result ≡ is_lone_pause tokens.now }
+{
+    match tokens {
+        [token] => is_named(PAUSE, token.kind),
+        _ => false,
+    }
+}
+
+/// Whether a whole stretch is the word PAUSE alone.
+fn is_pause(draft: &Draft) -> bool
+    ensures { result ≡ (not draft.now.illegal && is_lone_pause draft.now.tokens) }
+{
+    !draft.is_illegal() && is_lone_pause(draft.tokens())
+}
+
 /// What a whole stretch says, or its fault.
 fn judge(alloc: Global, draft: &Draft, line: u64) -> Result<Said, LexFault>
     ensures { Judges line draft.now.illegal draft.now.tokens result }
@@ -105,10 +127,15 @@ fn judge(alloc: Global, draft: &Draft, line: u64) -> Result<Said, LexFault>
 }
 
 /// Reads a source byte by byte, and hands out its statements. It keeps the tokens of the present statement alone.
+///
+/// The source may be several, one after the other: PAUSE ends each but the last, and the next one goes on where it stood.
+/// In each contract a text is the join of the sources so far, of which the present one begins behind so many bytes.
 #[derive(Drop)]
 pub struct Lexer {
     alloc: Global,
     state: State,
+    source: u64,
+    may_pause: bool,
     comment: bool,
     place: u64,
     line: u64,
@@ -124,6 +151,8 @@ impl Model for Lexer {
 
     ghost view = { λ l. record {
       state = l.state;
+      source = l.source;
+      may_pause = l.may_pause;
       comment = l.comment;
       place = l.place;
       line = l.line;
@@ -134,74 +163,130 @@ impl Model for Lexer {
 }
 
 impl Lexer {
-    /// A lexer of no byte. It hands out each statement with its tokens.
+    /// A lexer of no byte of a single source. It hands out each statement with its tokens.
     pub fn new(alloc: Global) -> Lexer
-        ensures read { HasRead result [] }
-        ensures tokens { result.keeps_tokens ≡ true }
+        ensures read { HasRead result 0 [] }
+        ensures setting { setting result ≡ record { keeps_tokens = true; source = 0; may_pause = false } }
     {
-        Lexer::begun(alloc, true)
+        Lexer::begun(alloc, true, false)
     }
 
-    /// A lexer of no byte that hands out each statement without its tokens. It takes less time and memory.
+    /// A lexer of no byte of a single source that hands out each statement without its tokens. It takes less time and memory.
     pub fn without_tokens(alloc: Global) -> Lexer
-        ensures read { HasRead result [] }
-        ensures tokens { result.keeps_tokens ≡ false }
+        ensures read { HasRead result 0 [] }
+        ensures setting { setting result ≡ record { keeps_tokens = false; source = 0; may_pause = false } }
     {
-        Lexer::begun(alloc, false)
+        Lexer::begun(alloc, false, false)
+    }
+
+    /// A lexer of no byte of several sources, of which the first may pause. It hands out each statement with its tokens.
+    pub fn several(alloc: Global) -> Lexer
+        ensures read { HasRead result 0 [] }
+        ensures setting { setting result ≡ record { keeps_tokens = true; source = 0; may_pause = true } }
+    {
+        Lexer::begun(alloc, true, true)
+    }
+
+    /// The same without tokens.
+    pub fn several_without_tokens(alloc: Global) -> Lexer
+        ensures read { HasRead result 0 [] }
+        ensures setting { setting result ≡ record { keeps_tokens = false; source = 0; may_pause = true } }
+    {
+        Lexer::begun(alloc, false, true)
     }
 
     /// Takes the next byte, and hands out the statement that it ends, if it ends one.
     ///
     /// The byte that ends a statement with a fault is answered that fault, and each later byte the same; behind the `$`
-    /// that ends the source each byte is answered nothing. Where memory ran out the byte was not taken, and may be
-    /// pushed again.
-    #[tactic(auto, unfolding(crate::specs::Statements::statements, crate::specs::Reading::HasRead))]
+    /// that ends the source, and behind the PAUSE that ends one of several, each byte is answered nothing. Where memory ran
+    /// out the byte was not taken, and may be pushed again.
+    #[tactic(auto, unfolding(crate::specs::Statements::statements, crate::specs::Reading::HasRead, crate::specs::Reading::HasPaused, crate::specs::Reading::HasFailed))]
     #[inline(always)]
     pub fn push(&mut self, byte: u8) -> Result<Option<Statement>, LexFault>
-        ensures answers { (text : List ℕ) → HasRead self.old text → Answers text byte result self.old self.new }
-        ensures tokens { self.new.keeps_tokens ≡ self.old.keeps_tokens }
+        ensures answers { (seam : ℕ) (text : List ℕ) → HasRead self.old seam text → Answers seam text byte result self.old self.new }
+        ensures over { (seam : ℕ) (text : List ℕ) → HasRead self.old seam text → first_fault (statements text) ≡ None → is_over text ≡ true → self.new ≡ self.old }
+        ensures paused { (text : List ℕ) → HasPaused self.old text → (result ≡ Ok None) × (self.new ≡ self.old) }
+        ensures failed { (fault : LexFault) → HasFailed self.old fault → (result ≡ Err fault) × (self.new ≡ self.old) }
+        ensures setting { setting self.new ≡ setting self.old }
     {
         match self.state {
             State::Failed(fault) => Err(fault),
             State::Over => Ok(None),
+            State::Paused => Ok(None),
             State::Reading => self.read(byte),
         }
     }
 
     /// Takes bytes from the front of these that end no statement, as many as it likes, and answers how many. It stops before
-    /// a byte that ends a statement, and where memory runs out, which [`Lexer::push`] tells.
+    /// a byte that ends a statement, and where memory runs out, which [`Lexer::push`] tells. What [`Lexer::push`] answers
+    /// nothing behind the end of a source is taken whole.
+    #[tactic(auto, unfolding(crate::specs::Reading::HasRead, crate::specs::Reading::HasPaused, crate::specs::Reading::HasFailed))]
     pub fn read_on(&mut self, bytes: &[u8]) -> usize
         ensures range { result ≤ length bytes.now }
-        ensures read { (text : List ℕ) → HasRead self.old text → ReadsOn text bytes.now result self.new }
-        ensures tokens { self.new.keeps_tokens ≡ self.old.keeps_tokens }
+        ensures read { (seam : ℕ) (text : List ℕ) → HasRead self.old seam text → ReadsOn seam text bytes.now result self.new }
+        ensures over { (seam : ℕ) (text : List ℕ) → HasRead self.old seam text → first_fault (statements text) ≡ None → is_over text ≡ true → self.new ≡ self.old }
+        ensures paused { (text : List ℕ) → HasPaused self.old text → (result ≡ length bytes.now) × (self.new ≡ self.old) }
+        ensures failed { (fault : LexFault) → HasFailed self.old fault → (result ≡ 0) × (self.new ≡ self.old) }
+        ensures setting { setting self.new ≡ setting self.old }
     {
         match self.state {
             State::Failed(_) => 0,
-            State::Over => 0,
+            State::Over => bytes.len(),
+            State::Paused => bytes.len(),
             State::Reading => self.take(bytes),
         }
     }
 
+    /// Goes on with the next source, where PAUSE ended the one before; it may pause unless it is the last.
+    ///
+    /// A source with neither PAUSE nor `$` is answered NE, with its last line, as is each later call; one with a fault is
+    /// answered that. Behind the `$` that ends them all nothing comes.
+    #[tactic(auto, unfolding(crate::specs::Statements::statements, crate::specs::Reading::HasRead, crate::specs::Reading::HasPaused, crate::specs::Reading::HasFailed))]
+    pub fn next_source(&mut self, last: bool) -> Result<(), LexFault>
+        ensures read { (seam : ℕ) (text : List ℕ) → HasRead self.old seam text → Ends text result × EndsSource result self.old self.new }
+        ensures paused { (text : List ℕ) → HasPaused self.old text → BeginsNext text last result self.old self.new }
+        ensures failed { (fault : LexFault) → HasFailed self.old fault → (result ≡ Err fault) × (self.new ≡ self.old) }
+        ensures tokens { self.new.keeps_tokens ≡ self.old.keeps_tokens }
+    {
+        match self.state {
+            State::Failed(fault) => Err(fault),
+            State::Over => Ok(()),
+            State::Paused => {
+                self.begin(last);
+                Ok(())
+            }
+            State::Reading => {
+                self.state = State::Failed(LexFault::NE(self.line));
+                Err(LexFault::NE(self.line))
+            }
+        }
+    }
+
     /// Whether the source has its `$`, and no fault before it.
-    #[tactic(auto, unfolding(crate::specs::Statements::statements, crate::specs::Reading::HasRead))]
+    #[tactic(auto, unfolding(crate::specs::Statements::statements, crate::specs::Reading::HasRead, crate::specs::Reading::HasPaused, crate::specs::Reading::HasFailed))]
     pub fn end(&self) -> Result<(), LexFault>
-        ensures { (text : List ℕ) → HasRead self.now text → Ends text result }
+        ensures read { (seam : ℕ) (text : List ℕ) → HasRead self.now seam text → Ends text result }
+        ensures paused { (text : List ℕ) → HasPaused self.now text → result ≡ Err (LexFault.NE (line_after text)) }
+        ensures failed { (fault : LexFault) → HasFailed self.now fault → result ≡ Err fault }
     {
         match self.state {
             State::Reading => Err(LexFault::NE(self.line)),
+            State::Paused => Err(LexFault::NE(self.line)),
             State::Over => Ok(()),
             State::Failed(fault) => Err(fault),
         }
     }
 
     #[tactic(auto, unfolding(crate::specs::Statements::statements, crate::specs::Reading::HasRead))]
-    fn begun(alloc: Global, keeps_tokens: bool) -> Lexer
-        ensures read { HasRead result [] }
-        ensures tokens { result.keeps_tokens ≡ keeps_tokens }
+    fn begun(alloc: Global, keeps_tokens: bool, may_pause: bool) -> Lexer
+        ensures read { HasRead result 0 [] }
+        ensures setting { setting result ≡ record { keeps_tokens = keeps_tokens; source = 0; may_pause = may_pause } }
     {
         Lexer {
             alloc,
             state: State::Reading,
+            source: 0,
+            may_pause,
             comment: false,
             place: 0,
             line: 1,
@@ -211,13 +296,24 @@ impl Lexer {
         }
     }
 
+    /// Begins the next source.
+    fn begin(&mut self, last: bool)
+        ensures { self.new ≡ next last self.old }
+    {
+        self.state = State::Reading;
+        self.source = self.source.saturating_add(1);
+        self.may_pause = !last;
+        self.comment = false;
+        self.place = 0;
+    }
+
     /// Takes a byte of a source that goes on.
     #[tactic(auto, unfolding(crate::specs::Statements::statements, crate::specs::Reading::HasRead))]
     #[inline(always)]
     fn read(&mut self, byte: u8) -> Result<Option<Statement>, LexFault>
         requires { self.old.state ≡ State.Reading }
-        ensures answers { (text : List ℕ) → HasRead self.old text → Answers text byte result self.old self.new }
-        ensures tokens { self.new.keeps_tokens ≡ self.old.keeps_tokens }
+        ensures answers { (seam : ℕ) (text : List ℕ) → HasRead self.old seam text → Answers seam text byte result self.old self.new }
+        ensures setting { setting self.new ≡ setting self.old }
     {
         if dies(self.comment, byte) {
             self.pass(byte);
@@ -235,8 +331,8 @@ impl Lexer {
     fn take(&mut self, bytes: &[u8]) -> usize
         requires { self.old.state ≡ State.Reading }
         ensures range { result ≤ length bytes.now }
-        ensures read { (text : List ℕ) → HasRead self.old text → ReadsOn text bytes.now result self.new }
-        ensures tokens { self.new.keeps_tokens ≡ self.old.keeps_tokens }
+        ensures read { (seam : ℕ) (text : List ℕ) → HasRead self.old seam text → ReadsOn seam text bytes.now result self.new }
+        ensures setting { setting self.new ≡ setting self.old }
     {
         let mut taken = 0;
         loop {
@@ -254,9 +350,9 @@ impl Lexer {
     fn take_some(&mut self, bytes: &[u8]) -> usize
         requires { self.old.state ≡ State.Reading }
         ensures range { result ≤ length bytes.now }
-        ensures read { (text : List ℕ) → HasRead self.old text → ReadsOn text bytes.now result self.new }
+        ensures read { (seam : ℕ) (text : List ℕ) → HasRead self.old seam text → ReadsOn seam text bytes.now result self.new }
         ensures state { self.new.state ≡ State.Reading }
-        ensures tokens { self.new.keeps_tokens ≡ self.old.keeps_tokens }
+        ensures setting { setting self.new ≡ setting self.old }
     {
         if self.comment {
             return self.take_comment(bytes);
@@ -275,9 +371,9 @@ impl Lexer {
     #[inline(always)]
     fn take_byte(&mut self, byte: u8) -> bool
         requires { self.old.state ≡ State.Reading }
-        ensures read { (text : List ℕ) → HasRead self.old text → TakesByte text byte result self.old self.new }
+        ensures read { (seam : ℕ) (text : List ℕ) → HasRead self.old seam text → TakesByte seam text byte result self.old self.new }
         ensures state { self.new.state ≡ State.Reading }
-        ensures tokens { self.new.keeps_tokens ≡ self.old.keeps_tokens }
+        ensures setting { setting self.new ≡ setting self.old }
     {
         if dies(self.comment, byte) {
             self.pass(byte);
@@ -301,9 +397,9 @@ impl Lexer {
         requires reading { self.old.state ≡ State.Reading }
         requires comment { self.old.comment ≡ true }
         ensures range { result ≤ length bytes.now }
-        ensures read { (text : List ℕ) → HasRead self.old text → ReadsOn text bytes.now result self.new }
+        ensures read { (seam : ℕ) (text : List ℕ) → HasRead self.old seam text → ReadsOn seam text bytes.now result self.new }
         ensures state { self.new.state ≡ State.Reading }
-        ensures tokens { self.new.keeps_tokens ≡ self.old.keeps_tokens }
+        ensures setting { setting self.new ≡ setting self.old }
     {
         let count = before_cr(bytes);
         self.place = self.place.saturating_add(count as u64);
@@ -318,9 +414,9 @@ impl Lexer {
         requires live { self.old.comment ≡ false }
         requires coded { is_coded first ≡ true }
         ensures range { result ≤ length bytes.now }
-        ensures read { (text : List ℕ) → HasRead self.old text → ReadsOn text bytes.now result self.new }
+        ensures read { (seam : ℕ) (text : List ℕ) → HasRead self.old seam text → ReadsOn seam text bytes.now result self.new }
         ensures state { self.new.state ≡ State.Reading }
-        ensures tokens { self.new.keeps_tokens ≡ self.old.keeps_tokens }
+        ensures setting { setting self.new ≡ setting self.old }
     {
         match self.draft.put_run(self.radix, first, others, self.place) {
             Some(more) => {
@@ -339,9 +435,12 @@ impl Lexer {
         requires reading { self.old.state ≡ State.Reading }
         requires live { dies self.old.comment byte ≡ false }
         requires end { is_end byte ≡ true }
-        ensures answers { (text : List ℕ) → HasRead self.old text → Answers text byte result self.old self.new }
-        ensures tokens { self.new.keeps_tokens ≡ self.old.keeps_tokens }
+        ensures answers { (seam : ℕ) (text : List ℕ) → HasRead self.old seam text → Answers seam text byte result self.old self.new }
+        ensures setting { setting self.new ≡ setting self.old }
     {
+        if self.may_pause && is_pause(&self.draft) {
+            return Ok(Some(self.pause()));
+        }
         match judge(self.alloc, &self.draft, self.line) {
             Ok(said) => Ok(Some(self.hand_out(said, byte))),
             Err(fault) => {
@@ -370,6 +469,24 @@ impl Lexer {
             tags: said.tags,
             body: said.body,
             last,
+            source: self.source,
+            tokens,
+        }
+    }
+
+    /// Hands out PAUSE, which ends the source.
+    fn pause(&mut self) -> Statement
+        ensures statement { result ≡ pause_statement self.old }
+        ensures paused { self.new ≡ paused self.old }
+    {
+        let tokens = self.draft.take(self.alloc, self.keeps_tokens);
+        self.state = State::Paused;
+        Statement {
+            line: self.line,
+            tags: Tags::new(Vec::new(self.alloc)),
+            body: Body::Pause,
+            last: false,
+            source: self.source,
             tokens,
         }
     }

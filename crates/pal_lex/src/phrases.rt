@@ -93,6 +93,8 @@ pub enum Body {
     Decimal,
     /// The radix is 8 from the next statement on.
     Octal,
+    /// The source goes on in the next text.
+    Pause,
     Field(Expression),
     /// A memory reference word; an address that is missing is 0.
     Reference {
@@ -141,6 +143,9 @@ pub struct Statement {
     pub body: Body,
     /// Whether `$` ended the statement, and with it the source.
     pub last: bool,
+    /// Which of several sources the statement stands in, and with it the places of its tokens: from 0, or 2^64 - 1 where it
+    /// would be more.
+    pub source: u64,
     pub tokens: Tokens,
 }
 

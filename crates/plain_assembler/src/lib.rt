@@ -1,11 +1,12 @@
 //! A plain, slow assembler, to compare the assembler with: it keeps what each statement sets, and looks through the statements before
-//! for all else.
+//! for all else. Several sources it first writes down as one.
 #![tactic(auto)]
 
 use pal_asm::{AsmFault, Code};
 use pal_lex::{Body, Expression, Joint, Lexer, Part, Statement, Term};
 use pal_sym::{SymbolName, Symbols};
 use std::alloc::Global;
+use std::str;
 use word12::{Cell, Word};
 
 /// What a statement sets the location and the field to, and how many words it is.
@@ -320,4 +321,62 @@ pub fn plain(alloc: Global, bytes: &[u8]) -> Result<Vec<(Cell, Word)>, AsmFault>
         return Err(AsmFault::At(Code::NW, last));
     }
     Ok(pairs)
+}
+
+/// Whether live bytes are PAUSE, with or without blanks beside it.
+fn is_pause(bytes: &[u8]) -> bool {
+    match str::from_utf8(bytes) {
+        Ok(text) => text.trim_matches([' ', '\t']) == "PAUSE",
+        Err(_) => false,
+    }
+}
+
+/// Where a text that goes on in the next one is cut: behind the last end before its first PAUSE.
+fn cut_of(alloc: Global, text: &[u8]) -> Option<usize> {
+    let mut stretch = Vec::new(alloc);
+    let mut is_comment = false;
+    let mut cut = 0usize;
+    for (place, byte) in text.iter().enumerate() {
+        is_comment = *byte != b'\r' && (is_comment || *byte == b'/');
+        if is_comment || matches!(*byte, 0 | b'\n' | 12 | 127) {
+            continue;
+        }
+        if !matches!(*byte, b';' | b'\r' | b'$') {
+            let _ = stretch.push(*byte);
+            continue;
+        }
+        if is_pause(&stretch) {
+            return Some(cut);
+        }
+        if *byte == b'$' {
+            return None;
+        }
+        cut = place.wrapping_add(1);
+        stretch.clear();
+    }
+    None
+}
+
+/// Sources as one.
+fn joined(alloc: Global, sources: &[&[u8]]) -> Vec<u8> {
+    let mut join = Vec::new(alloc);
+    for (number, text) in sources.iter().enumerate() {
+        let is_last = number.wrapping_add(1) == sources.len();
+        match cut_of(alloc, text) {
+            Some(cut) if !is_last => {
+                let (front, _) = text.split_at(cut.min(text.len()));
+                let _ = join.extend_from_slice(front);
+            }
+            _ => {
+                let _ = join.extend_from_slice(text);
+                break;
+            }
+        }
+    }
+    join
+}
+
+/// The words of sources that are one, with their cells, or their first fault.
+pub fn plain_all(alloc: Global, sources: &[&[u8]]) -> Result<Vec<(Cell, Word)>, AsmFault> {
+    plain(alloc, &joined(alloc, sources))
 }

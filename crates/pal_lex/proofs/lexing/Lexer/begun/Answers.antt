@@ -1,4 +1,4 @@
-use Rattle.std.proofs.Common.{refl}
+use Rattle.std.proofs.Common.{refl, arith}
 use Rattle.pal_lex.specs.Statements.{statements}
 use Rattle.pal_lex.specs.Reading.{HasRead}
 use Rattle.pal_lex.specs.declared.runs.Radix.TheVariants.{Octal}
@@ -7,6 +7,7 @@ use Rattle.pal_lex.proofs.lexing.Lexer.begun.Goals as goal
 pub returns-clause-read : goal.returns-clause-read
 unfolding HasRead statements
 returns-clause-read c = record {
+  begun = omega arith;
   comment = refl;
   place = refl;
   line = refl;

@@ -7,9 +7,11 @@ use Rattle.pal_lex.proofs.ReadingLemmas.{begun_anew, is_dollar, is_no_dollar}
 use Rattle.pal_lex.proofs.lexing.Lexer.hand_out.Goals as goal
 use Rattle.pal_lex.proofs.lexing.Lexer.hand_out.Goals.{then-last, else-last}
 
-old : (c : goal.After-pass) → Progress
+old : (c : goal.After-self-2) → Progress
 old c = record {
   state = c.self.inside.state;
+  source = c.self.inside.source;
+  may_pause = c.self.inside.may_pause;
   comment = c.self.inside.comment;
   place = c.self.inside.place;
   line = c.self.inside.line;

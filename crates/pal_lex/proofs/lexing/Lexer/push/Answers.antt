@@ -4,5 +4,5 @@ use Rattle.pal_lex.proofs.ReadingLemmas.{failed_byte}
 use Rattle.pal_lex.proofs.lexing.Lexer.push.Goals as goal
 
 pub returns-in-Failed-clause-answers : goal.returns-in-Failed-clause-answers
-returns-in-Failed-clause-answers c = λ text h.
-    failed_byte c.args.self.now text c.args.byte c.in-Failed.fault (sym (ap (λ (l : Progress). l.state) c.self.view_is) ∙ c.in-Failed.is) h
+returns-in-Failed-clause-answers c = λ seam text h.
+    failed_byte c.args.self.now seam text c.args.byte c.in-Failed.fault (sym (ap (λ (l : Progress). l.state) c.self.view_is) ∙ c.in-Failed.is) h

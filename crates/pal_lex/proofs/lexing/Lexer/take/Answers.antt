@@ -7,8 +7,8 @@ pub loop-taken-preserved : goal.loop-taken-preserved
 loop-taken-preserved c = record {
   range = omega (arith, c.loop-taken.invariant.range, c.take_some-count.ensures.range, ap (λ l. length l) c.split_at.ensures.back, left c.args.bytes.now c.loop-taken.taken);
   state = c.take_some-count.ensures.state;
-  tokens = c.take_some-count.ensures.tokens ∙ c.loop-taken.invariant.tokens;
-  read = λ text read.
-      read_further text c.args.bytes.now c.loop-taken.taken c.take_some-count.result c.loop-taken.self c.take_some-count.new.self (c.loop-taken.invariant.read text read)
-      (λ t is. subst (λ rest. ReadsOn t rest c.take_some-count.result c.take_some-count.new.self) c.split_at.ensures.back (c.take_some-count.ensures.read t is));
+  setting = c.take_some-count.ensures.setting ∙ c.loop-taken.invariant.setting;
+  read = λ seam text read.
+      read_further seam text c.args.bytes.now c.loop-taken.taken c.take_some-count.result c.loop-taken.self c.take_some-count.new.self (c.loop-taken.invariant.read seam text read)
+      (λ t is. subst (λ rest. ReadsOn seam t rest c.take_some-count.result c.take_some-count.new.self) c.split_at.ensures.back (c.take_some-count.ensures.read seam t is));
 }

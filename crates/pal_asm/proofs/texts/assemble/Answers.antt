@@ -1,9 +1,0 @@
-use Rattle.pal_lex.specs.Text.{text_of}
-use Rattle.pal_lex.specs.Statements.{statements}
-use Rattle.pal_asm.proofs.TextLemmas.{turned}
-use Rattle.pal_asm.proofs.texts.assemble.Goals as goal
-
-pub returns-in-Ok-clause-fault : goal.returns-in-Ok-clause-fault
-returns-in-Ok-clause-fault c =
-    turned (text_of c.args.source.now) c.in-Err-turn_over.fault c.first_pass.new.assembler c.turn_over.new.self
-    (c.in-Err-turn_over.ensures.turns (statements (text_of c.args.source.now)) c.in-Ok.ensures.passed.0) c.in-Ok.ensures.passed
