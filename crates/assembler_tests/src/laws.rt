@@ -19,6 +19,8 @@ fn laws() {
     statements::source_ends_join();
     statements::source_spans();
     statements::whole_source_statement();
+    statements::runs_are_maximal();
+    statements::runs_end();
     words::fixed_names_keep_their_values();
     words::first_fault_stays();
     words::word_fault_stays();

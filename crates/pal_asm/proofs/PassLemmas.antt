@@ -64,14 +64,14 @@ same_fault s older place old names fixed there =
     ∙ ap (λ p. fault_by_table s.tags s.body p old) (sym there)
 
 -- an assembler of these parts
-abbrev pub progress : SymbolTable → Spot → ℕ → Option AsmFault → Progress
-progress symbols spot line failed = record { symbols = symbols; spot = spot; line = line; failed = failed }
+abbrev pub progress : Bool → SymbolTable → Spot → ℕ → Option AsmFault → Progress
+progress again symbols spot line failed = record { symbols = symbols; spot = spot; has_turned = again; line = line; failed = failed }
 
 -- a statement more, which has no fault
-pub first_more : (s : Statement) (older : Source) (old : Progress) (n line : ℕ) (symbols roomed new : SymbolTable) (spot next : Spot) (failed : Option AsmFault) (tags : List ℕ)
-    → progress symbols spot line failed ≡ old → tags ≡ s.tags → HasRoom n symbols roomed → IsRead tags s.body spot roomed new next → IsFirst old older
-    → IsFirst (progress new next s.line failed) (Ok s ∷ older)
-first_more s older old n line symbols roomed new spot next failed tags is same room read first =
+pub first_more : (s : Statement) (older : Source) (old : Progress) (n line : ℕ) (again : Bool) (symbols roomed new : SymbolTable) (spot next : Spot) (failed : Option AsmFault) (tags : List ℕ)
+    → progress again symbols spot line failed ≡ old → tags ≡ s.tags → HasRoom n symbols roomed → IsRead tags s.body spot roomed new next → IsFirst old older
+    → IsFirst (progress again new next s.line failed) (Ok s ∷ older)
+first_more s older old n line again symbols roomed new spot next failed tags is same room read first =
     let names : symbol_value roomed ≡ values older = fun_ext room.values ∙ ap (λ p. symbol_value p.symbols) is ∙ first.symbols in
     let fixed : fixed_in roomed ≡ is_fixed older = fun_ext room.fixed ∙ ap (λ p. fixed_in p.symbols) is ∙ first.fixed in
     let there : spot.location ≡ place_at older = ap (λ (p : Progress). p.spot.location) is ∙ first.location in
@@ -89,14 +89,15 @@ first_more s older old n line symbols roomed new spot next failed tags is same r
       line = refl;
       no_fault = ap (λ f. first_of f (at_line s.line (statement_fault s older))) first.no_fault
           ∙ ap (at_line s.line) (same_fault s older spot.location roomed names fixed there ∙ ap (λ t. fault_by_table t s.body spot.location roomed) (sym same) ∙ read.no_fault);
+      pass = ap (λ (p : Progress). p.has_turned) is ∙ first.pass;
       goes_on = ap (λ (p : Progress). p.failed) is ∙ first.goes_on;
     }
 
 -- a statement more, which has a fault
-pub first_fault_more : (s : Statement) (older : Source) (old after : Progress) (n line : ℕ) (symbols roomed : SymbolTable) (spot : Spot) (failed : Option AsmFault) (tags : List ℕ) (code : Code) (fault : AsmFault)
-    → progress symbols spot line failed ≡ old → tags ≡ s.tags → HasRoom n symbols roomed → fault_by_table tags s.body spot.location roomed ≡ Some code
+pub first_fault_more : (s : Statement) (older : Source) (old after : Progress) (n line : ℕ) (again : Bool) (symbols roomed : SymbolTable) (spot : Spot) (failed : Option AsmFault) (tags : List ℕ) (code : Code) (fault : AsmFault)
+    → progress again symbols spot line failed ≡ old → tags ≡ s.tags → HasRoom n symbols roomed → fault_by_table tags s.body spot.location roomed ≡ Some code
     → fault ≡ At code s.line → after.failed ≡ Some (At code s.line) → IsFirst old older → AnswersFirst older s (Err fault) old after
-first_fault_more s older old after n line symbols roomed spot failed tags code fault is same room told named kept first =
+first_fault_more s older old after n line again symbols roomed spot failed tags code fault is same room told named kept first =
     let names : symbol_value roomed ≡ values older = fun_ext room.values ∙ ap (λ p. symbol_value p.symbols) is ∙ first.symbols in
     let fixed : fixed_in roomed ≡ is_fixed older = fun_ext room.fixed ∙ ap (λ p. fixed_in p.symbols) is ∙ first.fixed in
     let there : spot.location ≡ place_at older = ap (λ (p : Progress). p.spot.location) is ∙ first.location in

@@ -1,5 +1,5 @@
 -- A statement more in the second pass.
-use Rattle.std.proofs.Common.{◌≡◌, ℕ, ◌+◌, ◌*◌, ◌%◌, true, false, if◌then◌else◌, Option, Some, None, Ok, Err, List, [], ◌∷◌, ◌++◌, refl, ap, sym, subst, ◌∙◌}
+use Rattle.std.proofs.Common.{Bool, ◌≡◌, ℕ, ◌+◌, ◌*◌, ◌%◌, true, false, if◌then◌else◌, Option, Some, None, Ok, Err, List, [], ◌∷◌, ◌++◌, refl, ap, sym, subst, ◌∙◌}
 use Rattle.std.proofs.Math.Path.{fun_ext}
 use Rattle.pal_sym.specs.Permanent.{permanent}
 use Rattle.pal_sym.specs.SymbolTable.{SymbolTable}
@@ -29,16 +29,17 @@ all_last whole none = fun_ext (λ n. by_permanent n (permanent n) refl)
     by_permanent n None e = ap (λ o. if_none o (values whole n)) (sym e)
     by_permanent n (Some v) e = (permanent_kept whole n v none e).1 ∙ ap (λ o. if_none o (values whole n)) (sym e)
 
-pub turned : (whole : Source) (old : Progress) (symbols : SymbolTable) (spot first : Spot) (line : ℕ) (failed : Option AsmFault)
-    → progress symbols spot line failed ≡ old → spot.word ≡ true → first ≡ record { location = 128; field = 0; word = false } → IsFirst old whole
-    → IsSecond (progress symbols first line failed) whole []
-turned whole old symbols spot first line failed is word begins passed = record {
+pub turned : (whole : Source) (old : Progress) (again : Bool) (symbols : SymbolTable) (spot first : Spot) (line : ℕ) (failed : Option AsmFault)
+    → progress again symbols spot line failed ≡ old → spot.word ≡ true → first ≡ record { location = 128; field = 0; word = false } → IsFirst old whole
+    → IsSecond (progress true symbols first line failed) whole []
+turned whole old again symbols spot first line failed is word begins passed = record {
   symbols = ap (λ p. symbol_value p.symbols) is ∙ passed.symbols ∙ all_last whole passed.no_fault;
   location = ap (λ (p : Spot). p.location) begins;
   field = ap (λ (p : Spot). p.field) begins;
   no_fault = passed.no_fault;
   has_word = ap (λ b. if b then None else Some (At NW (last_line whole))) (sym passed.word ∙ ap (λ (p : Progress). p.spot.word) (sym is) ∙ word);
   words = refl;
+  pass = refl;
   goes_on = ap (λ (p : Progress). p.failed) is ∙ passed.goes_on;
 }
 
@@ -78,22 +79,22 @@ module _ (whole later older : Source) (s : Statement) (split : whole ≡ later +
       (λ n is. subst (λ w. IsKnown (values w) n) (sym split) (body_to_whole later s older n here is)) kept_at_body
 
 -- what names stand for at a body
-at_body : (whole later older : Source) (s : Statement) (old : Progress) (symbols middle : SymbolTable) (spot : Spot) (line : ℕ) (failed : Option AsmFault) (tags : List ℕ)
-    → progress symbols spot line failed ≡ old → tags ≡ s.tags → ((n : ℕ) → symbol_value middle n ≡ with_tags_again tags (spot.location % 4096) (symbol_value symbols) n)
+at_body : (whole later older : Source) (s : Statement) (old : Progress) (again : Bool) (symbols middle : SymbolTable) (spot : Spot) (line : ℕ) (failed : Option AsmFault) (tags : List ℕ)
+    → progress again symbols spot line failed ≡ old → tags ≡ s.tags → ((n : ℕ) → symbol_value middle n ≡ with_tags_again tags (spot.location % 4096) (symbol_value symbols) n)
     → whole ≡ later ++ Ok s ∷ older → IsSecond old whole older → symbol_value middle ≡ word_values (values whole) s.tags older
-at_body whole later older s old symbols middle spot line failed tags is same set split second =
+at_body whole later older s old again symbols middle spot line failed tags is same set split second =
     let names : symbol_value symbols ≡ second_values whole older = ap (λ p. symbol_value p.symbols) is ∙ second.symbols in
     let there : spot.location ≡ place_at older = ap (λ (p : Progress). p.spot.location) is ∙ second.location in
     fun_ext (λ n. set n ∙ ap (λ t. with_tags_again t (spot.location % 4096) (symbol_value symbols) n) same
     ∙ ap (λ k. with_tags_again s.tags (spot.location % 4096) k n) names ∙ ap (λ p. with_tags_again s.tags (p % 4096) (second_values whole older) n) there
     ∙ tags_passed whole later older s split second.no_fault n)
 
-pub second_more : (whole later older : Source) (s : Statement) (old : Progress) (symbols middle new : SymbolTable) (spot next : Spot) (line : ℕ) (failed : Option AsmFault) (tags : List ℕ) (pair : Option (ℕ × ℕ))
-    → progress symbols spot line failed ≡ old → tags ≡ s.tags → ((n : ℕ) → symbol_value middle n ≡ with_tags_again tags (spot.location % 4096) (symbol_value symbols) n)
+pub second_more : (whole later older : Source) (s : Statement) (old : Progress) (again : Bool) (symbols middle new : SymbolTable) (spot next : Spot) (line : ℕ) (failed : Option AsmFault) (tags : List ℕ) (pair : Option (ℕ × ℕ))
+    → progress again symbols spot line failed ≡ old → tags ≡ s.tags → ((n : ℕ) → symbol_value middle n ≡ with_tags_again tags (spot.location % 4096) (symbol_value symbols) n)
     → IsMade (symbol_value middle) new spot next s.body pair → whole ≡ later ++ Ok s ∷ older → IsSecond old whole older
-    → (pairs_by (values whole) (Ok s ∷ older) ≡ with_handed (pairs_by (values whole) older) pair) × IsSecond (progress new next line failed) whole (Ok s ∷ older)
-second_more whole later older s old symbols middle new spot next line failed tags pair is same set made split second =
-    let names : symbol_value middle ≡ word_values (values whole) s.tags older = at_body whole later older s old symbols middle spot line failed tags is same set split second in
+    → (pairs_by (values whole) (Ok s ∷ older) ≡ with_handed (pairs_by (values whole) older) pair) × IsSecond (progress again new next line failed) whole (Ok s ∷ older)
+second_more whole later older s old again symbols middle new spot next line failed tags pair is same set made split second =
+    let names : symbol_value middle ≡ word_values (values whole) s.tags older = at_body whole later older s old again symbols middle spot line failed tags is same set split second in
     let there : spot.location ≡ place_at older = ap (λ (p : Progress). p.spot.location) is ∙ second.location in
     let in_field : spot.field ≡ field_at older = ap (λ (p : Progress). p.spot.field) is ∙ second.field in
     let fine = body_fine whole later older s split second.no_fault in
@@ -117,6 +118,7 @@ second_more whole later older s old symbols middle new spot next line failed tag
         has_word = second.has_word;
         words = ap (λ f. first_of f (at_line s.line (word_fault known (place_at older) s.body))) second.words
             ∙ ap (at_line s.line) (ap (λ p. word_fault known p s.body) (sym there) ∙ ap (λ k. word_fault k spot.location s.body) (sym names) ∙ made.no_word_fault);
+        pass = ap (λ (p : Progress). p.has_turned) is ∙ second.pass;
         goes_on = ap (λ (p : Progress). p.failed) is ∙ second.goes_on;
       },
     )
@@ -125,13 +127,13 @@ without_second : (a b : Option Code) (code : Code) → b ≡ None → first_of a
 without_second None b code none e = sym none ∙ e
 without_second (Some a) b code none e = e
 
-pub second_fault_more : (whole later older : Source) (s : Statement) (old after : Progress) (symbols middle : SymbolTable) (spot : Spot) (line : ℕ) (failed : Option AsmFault) (tags : List ℕ) (code : Code) (fault : AsmFault)
-    → progress symbols spot line failed ≡ old → tags ≡ s.tags → ((n : ℕ) → symbol_value middle n ≡ with_tags_again tags (spot.location % 4096) (symbol_value symbols) n)
+pub second_fault_more : (whole later older : Source) (s : Statement) (old after : Progress) (again : Bool) (symbols middle : SymbolTable) (spot : Spot) (line : ℕ) (failed : Option AsmFault) (tags : List ℕ) (code : Code) (fault : AsmFault)
+    → progress again symbols spot line failed ≡ old → tags ≡ s.tags → ((n : ℕ) → symbol_value middle n ≡ with_tags_again tags (spot.location % 4096) (symbol_value symbols) n)
     → first_of (word_fault (symbol_value middle) spot.location s.body) (spot_fault (symbol_value middle) spot.location s.body) ≡ Some code
     → fault ≡ At code s.line → after.failed ≡ Some (At code s.line) → whole ≡ later ++ Ok s ∷ older → IsSecond old whole older
     → AnswersSecond whole older s (Err fault) old after
-second_fault_more whole later older s old after symbols middle spot line failed tags code fault is same set told named kept split second =
-    let names : symbol_value middle ≡ word_values (values whole) s.tags older = at_body whole later older s old symbols middle spot line failed tags is same set split second in
+second_fault_more whole later older s old after again symbols middle spot line failed tags code fault is same set told named kept split second =
+    let names : symbol_value middle ≡ word_values (values whole) s.tags older = at_body whole later older s old again symbols middle spot line failed tags is same set split second in
     let there : spot.location ≡ place_at older = ap (λ (p : Progress). p.spot.location) is ∙ second.location in
     let fine = body_fine whole later older s split second.no_fault in
     let grows = grows_over (values_at s.tags older) (values whole) in

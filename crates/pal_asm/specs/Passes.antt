@@ -1,5 +1,5 @@
 -- What an assembler was handed, and what it answers.
-use Rattle.std.specs.Prelude.{◌≡◌, ℕ, ◌+◌, ◌*◌, ◌%◌, ◌<◌, ◌≤◌, nat_eq, Bool, true, ◌||◌, if◌then◌else◌, Option, Some, None, unwrap_or, Result, Ok, Err, List, [], ◌∷◌, ◌++◌, length}
+use Rattle.std.specs.Prelude.{◌≡◌, ℕ, ◌+◌, ◌*◌, ◌%◌, ◌<◌, ◌≤◌, nat_eq, Bool, true, false, ◌||◌, if◌then◌else◌, Option, Some, None, unwrap_or, Result, Ok, Err, List, [], ◌∷◌, ◌++◌, length}
 use Rattle.pal_sym.specs.SymbolTable.{SymbolTable}
 use Rattle.pal_sym.specs.Permanent.{permanent}
 use Rattle.pal_sym.specs.Values.{symbol_value, is_fixed as fixed_in, set_again, if_none}
@@ -178,6 +178,7 @@ pub record IsFirst (assembler : Progress) (source : Source) : Type 0 where
   pub word : assembler.spot.word ≡ has_word source
   pub line : assembler.line ≡ last_line source
   pub no_fault : first_order source ≡ None
+  pub pass : assembler.has_turned ≡ false
   pub goes_on : assembler.failed ≡ None
 
 -- A fault was answered, and is answered for good.
@@ -207,6 +208,7 @@ pub record IsSecond (assembler : Progress) (whole older : Source) : Type 0 where
   pub no_fault : first_order whole ≡ None
   pub has_word : no_word whole ≡ None
   pub words : words_fault (values whole) older ≡ None
+  pub pass : assembler.has_turned ≡ true
   pub goes_on : assembler.failed ≡ None
 
 -- what the turn to the second pass answers
@@ -227,6 +229,14 @@ AnswersSecond whole older statement (Ok handed) old new =
 AnswersSecond whole older statement (Err (At code line)) old new =
     (words_fault (values whole) (Ok statement ∷ older) ≡ Some (At code line)) × HasFailed new (At code line)
 AnswersSecond whole older statement (Err Memory) old new = ⊥
+
+-- the passes have turned, and go on
+abbrev pub HasTurned : Progress → Type 0
+HasTurned assembler = (assembler.failed ≡ None) × (assembler.has_turned ≡ true)
+
+-- the first pass goes on
+abbrev pub HasNotTurned : Progress → Type 0
+HasNotTurned assembler = (assembler.failed ≡ None) × (assembler.has_turned ≡ false)
 
 -- the same fault for good
 abbrev pub StaysFailed : {A : Type 0} → Result A AsmFault → Progress → Progress → Type 0

@@ -1,5 +1,5 @@
 -- How far an assembler is.
-use Rattle.std.specs.Prelude.{ℕ, Option}
+use Rattle.std.specs.Prelude.{ℕ, Bool, Option}
 use Rattle.pal_sym.specs.SymbolTable.{SymbolTable}
 use Rattle.pal_asm.specs.declared.faults.AsmFault.{AsmFault}
 use Rattle.pal_asm.specs.declared.spots.Spot.{Spot}
@@ -7,6 +7,8 @@ use Rattle.pal_asm.specs.declared.spots.Spot.{Spot}
 pub record Progress : Type 0 where
   pub symbols : SymbolTable
   pub spot : Spot
+  -- whether the passes have turned
+  pub has_turned : Bool
   -- the line of the last statement
   pub line : ℕ
   -- the fault that was answered, which is answered for good

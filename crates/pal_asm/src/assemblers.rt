@@ -5,7 +5,7 @@ ghost use Rattle.pal_lex.specs.Reading.{with_tokens, is_pause_body};
 ghost use Rattle.pal_asm.specs.declared.faults.AsmFault.TheVariants.{At};
 ghost use Rattle.pal_asm.specs.Places.{Source};
 ghost use Rattle.pal_asm.specs.Faults.{past};
-ghost use Rattle.pal_asm.specs.Passes.{Moves, Makes, spot_by, spot_fault, with_tags_again, with_body_again, SetsValue, IsFirst, IsSecond, AnswersFirst, AnswersSecond, TurnsOver, StaysFailed};
+ghost use Rattle.pal_asm.specs.Passes.{Moves, Makes, spot_by, spot_fault, with_tags_again, with_body_again, SetsValue, IsFirst, IsSecond, AnswersFirst, AnswersSecond, TurnsOver, HasTurned, HasNotTurned, StaysFailed};
 
 use crate::again::{made, set_tags};
 use crate::names::{definitions, pass};
@@ -30,6 +30,7 @@ fn is_pause(body: &Body) -> bool
 pub struct Assembler {
     symbols: Symbols,
     spot: Spot,
+    has_turned: bool,
     line: u64,
     failed: Option<AsmFault>,
 }
@@ -47,6 +48,7 @@ impl Model for Assembler {
     ghost view = { λ a. record {
       symbols = a.symbols;
       spot = a.spot;
+      has_turned = a.has_turned;
       line = a.line;
       failed = a.failed;
     } };
@@ -62,6 +64,7 @@ impl Assembler {
         Assembler {
             symbols: Symbols::new(alloc),
             spot: first_spot(),
+            has_turned: false,
             line: 1,
             failed: None,
         }
@@ -73,14 +76,18 @@ impl Assembler {
     /// Its fault is the first of the source in the order of its statements. A call that answers want of memory took
     /// nothing, and comes only for a statement that defines names; after another fault each call answers the same
     /// (PAL III Symbolic Assembler manual, and this project's profile of it). PAUSE says nothing: of several sources the
-    /// statements come one after the other.
+    /// statements come one after the other. Behind the turn nothing is taken.
     pub fn first(&mut self, statement: &Statement) -> Result<(), AsmFault>
         ensures answers { (older : Source) (tokens : List Token) → is_pause_body statement.now.body ≡ false → IsFirst self.old older → AnswersFirst older (with_tokens tokens statement.now) result self.old self.new }
         ensures paused { (older : Source) → is_pause_body statement.now.body ≡ true → IsFirst self.old older → (result ≡ Ok tt) × (self.new ≡ self.old) }
+        ensures turned { HasTurned self.old → (result ≡ Ok tt) × (self.new ≡ self.old) }
         ensures failed { StaysFailed result self.old self.new }
     {
         if let Some(fault) = self.failed {
             return Err(fault);
+        }
+        if self.has_turned {
+            return Ok(());
         }
         if is_pause(&statement.body) {
             return Ok(());
@@ -100,32 +107,41 @@ impl Assembler {
     }
 
     /// Turns from the first pass to the second, where `$` ended the last statement; a source with no word is answered NW
-    /// with the line of that `$` (this project's profile of PAL III). It takes no memory.
+    /// with the line of that `$` (this project's profile of PAL III). It takes no memory, and a second turn changes nothing.
     pub fn turn_over(&mut self) -> Result<(), AsmFault>
         ensures turns { (whole : Source) → IsFirst self.old whole → TurnsOver whole result self.old self.new }
+        ensures turned { HasTurned self.old → (result ≡ Ok tt) × (self.new ≡ self.old) }
         ensures failed { StaysFailed result self.old self.new }
     {
         if let Some(fault) = self.failed {
             return Err(fault);
+        }
+        if self.has_turned {
+            return Ok(());
         }
         if !self.spot.word {
             return Err(self.fail(Code::NW, self.line));
         }
         self.spot = first_spot();
+        self.has_turned = true;
         Ok(())
     }
 
     /// Takes the next statement of the same source in the second pass, and hands out its word with the cell of that, if it
     /// is one. Its fault is a name in a word that no statement defines, or an address out of reach, the first of these in
-    /// the source (PAL III Symbolic Assembler manual, and this project's profile of it). It takes no memory, and PAUSE says
-    /// nothing.
+    /// the source (PAL III Symbolic Assembler manual, and this project's profile of it). It takes no memory, PAUSE says nothing,
+    /// and before the turn nothing is handed out.
     pub fn second(&mut self, statement: &Statement) -> Result<Option<(Cell, Word)>, AsmFault>
         ensures answers { (whole later older : Source) (tokens : List Token) → is_pause_body statement.now.body ≡ false → whole ≡ later ++ Ok (with_tokens tokens statement.now) ∷ older → IsSecond self.old whole older → AnswersSecond whole older (with_tokens tokens statement.now) result self.old self.new }
         ensures paused { (whole older : Source) → is_pause_body statement.now.body ≡ true → IsSecond self.old whole older → (result ≡ Ok None) × (self.new ≡ self.old) }
+        ensures unturned { HasNotTurned self.old → (result ≡ Ok None) × (self.new ≡ self.old) }
         ensures failed { StaysFailed result self.old self.new }
     {
         if let Some(fault) = self.failed {
             return Err(fault);
+        }
+        if !self.has_turned {
+            return Ok(None);
         }
         if is_pause(&statement.body) {
             return Ok(None);

@@ -15,7 +15,8 @@ pub fn definitions(body: &Body) -> usize
 {
     match body {
         Body::Define(..) => 1,
-        _ => 0,
+        Body::Nothing | Body::Decimal | Body::Octal | Body::Pause => 0,
+        Body::Origin(_) | Body::Field(_) | Body::Reference { .. } | Body::Word(_) => 0,
     }
 }
 

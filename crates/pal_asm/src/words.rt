@@ -70,6 +70,7 @@ pub fn word_of(symbols: &Symbols, location: u16, body: &Body) -> Result<Option<W
             let word = value_of(symbols, location, value.parts())?;
             Ok(Some(word))
         }
-        _ => Ok(None),
+        Body::Nothing | Body::Decimal | Body::Octal | Body::Pause => Ok(None),
+        Body::Origin(_) | Body::Define(..) | Body::Field(_) => Ok(None),
     }
 }

@@ -5,6 +5,7 @@ pub mod GrammarLemmas
 pub mod GrowthLemmas
 pub mod JoinLemmas
 pub mod LawLemmas
+pub mod MaximalLemmas
 pub mod PauseLemmas
 pub mod ReadingLemmas
 pub mod RunLemmas

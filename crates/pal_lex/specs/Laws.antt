@@ -1,10 +1,12 @@
 -- Laws about the statements of a text.
-use Rattle.std.specs.Prelude.{◌≡◌, ℕ, Bool, true, false, ◌&&◌, Some, None, Result, List, [], ◌∷◌, ◌++◌}
+use Rattle.std.specs.Prelude.{◌≡◌, ℕ, ◌+◌, Bool, true, false, ◌&&◌, Some, None, Result, List, [], ◌∷◌, ◌++◌}
 use Rattle.pal_lex.specs.Text.{is_over, up_to_end, line_after, text_of}
 use Rattle.pal_lex.specs.Statements.{statements, first_fault}
+use Rattle.pal_lex.specs.Cutting.{Piece, Run, Mark, is_coded, is_legal, has_illegal, pieces}
 use Rattle.pal_lex.specs.Joins.{pauses, IsClear, join_of}
 use Rattle.pal_lex.specs.declared.faults.LexFault.{LexFault}
 use Rattle.pal_lex.specs.declared.faults.LexFault.TheVariants.{IC, SY, NU, NE, Memory}
+use Rattle.pal_lex.specs.declared.pieces.Kind.{Kind}
 use Rattle.pal_lex.specs.declared.phrases.Statement.{Statement}
 
 -- Bytes in their order, with one behind them, are a text with that byte as its newest.
@@ -69,3 +71,40 @@ ByteGoesOn =
 abbrev pub EndsJoin : Type 0
 EndsJoin =
     (before here : List ℕ) (others : List (List ℕ)) → IsClear before → first_fault (statements (here ++ before)) ≡ None → join_of (here ∷ others) ≡ here
+
+-- ## Letters and digits of a stretch
+
+-- live bytes that are all letters and digits
+abbrev pub all_coded : List (ℕ × ℕ) → Bool
+all_coded [] = true
+all_coded (live ∷ older) = is_coded live.0 && all_coded older
+
+-- the newest of live bytes is a letter or a digit
+abbrev pub ends_coded : List (ℕ × ℕ) → Bool
+ends_coded [] = false
+ends_coded (live ∷ older) = is_coded live.0
+
+-- live bytes in the order of the source
+abbrev pub spelt : List (ℕ × ℕ) → List ℕ
+spelt [] = []
+spelt (live ∷ older) = spelt older ++ live.0 ∷ []
+
+-- the place of the oldest of live bytes, or this one
+abbrev pub first_place : ℕ → List (ℕ × ℕ) → ℕ
+first_place place [] = place
+first_place place (live ∷ older) = first_place live.1 older
+
+-- Letters and digits that stand together, with none before them, are one piece with all of them, from the place of the first
+-- to behind that of the last.
+abbrev pub RunsAreMaximal : Type 0
+RunsAreMaximal =
+    (b place : ℕ) (run before : List (ℕ × ℕ)) → all_coded ((b, place) ∷ run) ≡ true → ends_coded before ≡ false → has_illegal before ≡ false
+    → (first : ℕ) × ((others : List ℕ) × ((pieces ((b, place) ∷ run ++ before) ≡ Run first others (first_place place run) (place + 1) ∷ pieces before)
+    × (first ∷ others ≡ spelt ((b, place) ∷ run))))
+
+-- Any other character of the language stands behind them as a piece by itself, and changes none.
+abbrev pub RunsEnd : Type 0
+RunsEnd =
+    (b place : ℕ) (live : List (ℕ × ℕ)) (first : ℕ) (others : List ℕ) (start end : ℕ) (before : List Piece) → is_coded b ≡ false → is_legal b ≡ true
+    → pieces live ≡ Run first others start end ∷ before
+    → (kind : Kind) × (pieces ((b, place) ∷ live) ≡ Mark kind place ∷ Run first others start end ∷ before)

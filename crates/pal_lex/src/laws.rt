@@ -1,6 +1,6 @@
 //! Laws about the statements of a text, which hold whatever reads it. A call of one does nothing, and lets its caller use it.
 
-ghost use Rattle.pal_lex.specs.Laws.{TextGrows, StatementsStay, EndsSource, FaultStays, FaultsAreOfStatements, PauseIsBad, PauseJoins, JoinGoesOn, ByteGoesOn, EndsJoin};
+ghost use Rattle.pal_lex.specs.Laws.{TextGrows, StatementsStay, EndsSource, FaultStays, FaultsAreOfStatements, PauseIsBad, PauseJoins, JoinGoesOn, ByteGoesOn, EndsJoin, RunsAreMaximal, RunsEnd};
 ghost use Rattle.pal_lex.specs.Spans.{HasSpans, HasAll, HasSourceSpans, HasAllOfSource};
 
 /// The bytes between the places of a token are its text, apart from those that are as if they weren't there.
@@ -71,4 +71,14 @@ pub fn source_spans()
 /// In one of several sources the tokens of a statement leave nothing of it out but blanks.
 pub fn whole_source_statement()
     ensures { HasAllOfSource }
+{}
+
+/// Letters and digits that stand together are one name or number, however many.
+pub fn runs_are_maximal()
+    ensures { RunsAreMaximal }
+{}
+
+/// Any other character ends a name or a number, and changes nothing of it.
+pub fn runs_end()
+    ensures { RunsEnd }
 {}

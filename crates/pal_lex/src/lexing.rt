@@ -88,7 +88,8 @@ fn radix_by(body: &Body, before: Radix) -> Radix
     match body {
         Body::Decimal => Radix::Decimal,
         Body::Octal => Radix::Octal,
-        _ => before,
+        Body::Nothing | Body::Pause | Body::Origin(_) | Body::Define(..) => before,
+        Body::Field(_) | Body::Reference { .. } | Body::Word(_) => before,
     }
 }
 
@@ -497,7 +498,9 @@ impl Lexer {
     {
         match fault {
             LexFault::Memory => {}
-            _ => self.state = State::Failed(fault),
+            LexFault::IC(_) | LexFault::SY(_) | LexFault::NU(_) | LexFault::NE(_) => {
+                self.state = State::Failed(fault);
+            }
         }
     }
 
