@@ -30,4 +30,7 @@ fn laws() {
     words::no_lexical_fault();
     words::statements_stay();
     words::no_fault_before();
+    words::first_statements_tell();
+    words::first_words_tell();
+    words::no_end_is_told();
 }

@@ -18,7 +18,7 @@ use Rattle.pal_asm.specs.Expressions.{Known}
 use Rattle.pal_asm.specs.Places.{Source, is_word, values, place_at}
 use Rattle.pal_asm.specs.Words.{word_values}
 use Rattle.pal_asm.specs.Faults.{first_of, at_line, lexical, statement_fault, first_order, no_end, word_fault, words_fault, has_word, last_line, no_word}
-use Rattle.pal_asm.specs.Laws.{FixedNamesKeepTheirValues, FirstFaultStays, WordFaultStays, NoWordIsTold, LexicalFaultIsTold, NoLexicalFault, StatementsStay, NoFaultBefore}
+use Rattle.pal_asm.specs.Laws.{FixedNamesKeepTheirValues, FirstFaultStays, WordFaultStays, NoWordIsTold, LexicalFaultIsTold, NoLexicalFault, StatementsStay, NoFaultBefore, FirstStatementsTell, FirstWordsTell, NoEndIsTold}
 use Rattle.pal_asm.specs.Progress.{Progress}
 use Rattle.pal_asm.specs.Passes.{IsFirst, AnswersFirst, AnswersSecond, with_handed, TurnsOver}
 use Rattle.pal_asm.specs.Texts.{ReadsTo, PausesAt, ends_source, PassesStatement, PassesByte, Behind, HasMade, MakesStatement, EndsText, MakesByte, IsFirstOf, IsFaultOf}
@@ -288,6 +288,22 @@ no_word_is_told text f none end told =
     ∙ ap (λ o. first_of o (first_of (words_fault (values (statements text)) (statements text)) (no_word (statements text)))) end
     ∙ ap (λ o. first_of o (no_word (statements text))) (no_words (values (statements text)) (statements text) (wordless (statements text) f told))
     ∙ told
+
+pub first_statements_tell : FirstStatementsTell
+first_statements_tell text later older f split told =
+    ap (λ o. first_of o (first_of (no_end text) (first_of (words_fault (values (statements text)) (statements text)) (no_word (statements text)))))
+    (ap first_order split ∙ first_stays later older f told)
+
+pub first_words_tell : FirstWordsTell
+first_words_tell text later older f split none end told =
+    ap (λ o. first_of o (first_of (no_end text) (first_of (words_fault (values (statements text)) (statements text)) (no_word (statements text))))) none
+    ∙ ap (λ o. first_of o (first_of (words_fault (values (statements text)) (statements text)) (no_word (statements text)))) end
+    ∙ ap (λ o. first_of o (no_word (statements text))) (ap (words_fault (values (statements text))) split ∙ words_stay (values (statements text)) later older f told)
+
+pub no_end_is_told : NoEndIsTold
+no_end_is_told text f none told =
+    ap (λ o. first_of o (first_of (no_end text) (first_of (words_fault (values (statements text)) (statements text)) (no_word (statements text))))) none
+    ∙ ap (λ o. first_of o (first_of (words_fault (values (statements text)) (statements text)) (no_word (statements text)))) told
 
 pub lexical_fault_is_told : LexicalFaultIsTold
 lexical_fault_is_told = lex_told

@@ -51,3 +51,21 @@ StatementsStay = (later text : List ℕ) → (further : Source) × (statements (
 -- a source with no fault of the first order has none in its beginning
 abbrev pub NoFaultBefore : Type 0
 NoFaultBefore = (later older : Source) → first_order (later ++ older) ≡ None → first_order older ≡ None
+
+-- ## Of a text whose statements are known, whatever sources it is the join of
+
+-- a fault of the first order among the first statements of a text is the fault of the text
+abbrev pub FirstStatementsTell : Type 0
+FirstStatementsTell =
+    (text : List ℕ) (later older : Source) (fault : AsmFault) → statements text ≡ later ++ older → first_order older ≡ Some fault → fault_of text ≡ Some fault
+
+-- the first fault of a word among the first statements of a text is the fault of the text, if it has none of the first order
+-- and a `$`
+abbrev pub FirstWordsTell : Type 0
+FirstWordsTell =
+    (text : List ℕ) (later older : Source) (fault : AsmFault) → statements text ≡ later ++ older → first_order (statements text) ≡ None → no_end text ≡ None
+    → words_fault (values (statements text)) older ≡ Some fault → fault_of text ≡ Some fault
+
+-- a text with no fault of the first order and no `$` has that fault
+abbrev pub NoEndIsTold : Type 0
+NoEndIsTold = (text : List ℕ) (fault : AsmFault) → first_order (statements text) ≡ None → no_end text ≡ Some fault → fault_of text ≡ Some fault

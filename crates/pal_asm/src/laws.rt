@@ -1,7 +1,7 @@
 //! Laws about the faults and names of a source, which hold whatever assembles it. A call of one does nothing, and lets its
 //! caller use it.
 
-ghost use Rattle.pal_asm.specs.Laws.{FixedNamesKeepTheirValues, FirstFaultStays, WordFaultStays, NoWordIsTold, HasWords, LexicalFaultIsTold, NoLexicalFault, StatementsStay, NoFaultBefore};
+ghost use Rattle.pal_asm.specs.Laws.{FixedNamesKeepTheirValues, FirstFaultStays, WordFaultStays, NoWordIsTold, HasWords, LexicalFaultIsTold, NoLexicalFault, StatementsStay, NoFaultBefore, FirstStatementsTell, FirstWordsTell, NoEndIsTold};
 
 /// A permanent name and a tag keep their values, in a source with no fault before its words are made.
 pub fn fixed_names_keep_their_values()
@@ -46,4 +46,19 @@ pub fn statements_stay()
 /// A source with no fault of the first pass has none in its beginning.
 pub fn no_fault_before()
     ensures { NoFaultBefore }
+{}
+
+/// The fault that the first pass meets among the first statements of a join of sources is the fault of the join.
+pub fn first_statements_tell()
+    ensures { FirstStatementsTell }
+{}
+
+/// The fault that the second pass meets among the first statements of a join of sources is the fault of the join.
+pub fn first_words_tell()
+    ensures { FirstWordsTell }
+{}
+
+/// A text that is without fault but for its want of a `$` has that fault.
+pub fn no_end_is_told()
+    ensures { NoEndIsTold }
 {}

@@ -30,7 +30,7 @@ pub fn assemble(alloc: Global, source: &[u8]) -> Result<Vec<(Cell, Word)>, AsmFa
 
 /// The words of sources that are one, each with its cell, in their order; or the first fault with its line, 1 and up. Each
 /// source but the last goes on in the next one at its first PAUSE that stands alone; lines count over them all (PAL III
-/// Symbolic Assembler manual, and this project's profile of it).
+/// Symbolic Assembler manual, and this project's profile of it). No source at all is an empty one.
 pub fn assemble_all(alloc: Global, sources: &[&[u8]]) -> Result<Vec<(Cell, Word)>, AsmFault>
     ensures pairs { IfOk result (λ pairs. ArePairsOf (join_of (texts sources.now)) pairs.items) }
     ensures fault { IfErr result (λ fault. IsFaultOf (join_of (texts sources.now)) fault) }
@@ -67,10 +67,8 @@ fn lexer_of(alloc: Global, sources: &[&[u8]]) -> Lexer
 fn begin(lexer: &mut Lexer, sources: &[&[u8]]) -> Result<(), AsmFault>
     ensures { (text : List ℕ) → HasPaused lexer.old text → BeginsNext text (texts sources.now) result lexer.new }
 {
-    match lexer.next_source(!are_several(sources)) {
-        Ok(()) => Ok(()),
-        Err(fault) => Err(AsmFault::from(fault)),
-    }
+    lexer.next_source(!are_several(sources))?;
+    Ok(())
 }
 
 /// Takes bytes that end no statement, and answers those behind them.
