@@ -1,13 +1,5 @@
-pub mod ByteLemmas
-pub mod JobLemmas
 pub mod LineLemmas
 pub mod MarkLemmas
-pub mod QuietLemmas
-pub mod StoreLemmas
-pub mod SessionLemmas
-pub mod ToldLemmas
-pub mod EntryLemmas
-pub mod TextLemmas
 pub mod WalkLemmas
 pub mod NumberLemmas
 pub mod TaskLemmas

@@ -1,10 +1,4 @@
-pub mod Reading
 pub mod Listing
 pub mod Lists
-pub mod Jobs
-pub mod System
-pub mod Steps
-pub mod Session
-pub mod Script
 pub mod Program
 pub mod Tasks

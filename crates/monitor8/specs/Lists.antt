@@ -4,7 +4,7 @@ use Rattle.std.specs.Io.KnownBytes.{Appends, Keeps}
 use Rattle.bin_tape.specs.Items.{Item}
 use Rattle.bin_tape.specs.Tape.{IsTape}
 use Rattle.bin_tape.specs.Fault.{IsFault}
-use Rattle.monitor8.specs.Reading.{IsRead}
+use Rattle.session8.specs.Reading.{IsRead}
 use Rattle.monitor8.specs.Listing.{lines_below}
 use Rattle.script8.specs.declared.faults.SessionFault.{SessionFault}
 use Rattle.script8.specs.declared.faults.SessionFault.TheVariants.{Tape, Reader, Writer, Memory}

@@ -1,10 +1,10 @@
 //! The program over the files and the streams of a host. What it does with bytes is in the functions that it calls; here
 //! files are read and written, and exit statuses are given.
 
-use crate::readings::MOST;
-use crate::{ProgramLine, Session, Task, TaskFault, put_program, tape_text, task};
+use crate::{ProgramLine, Task, TaskFault, put_program, tape_text, task};
 use os8_dir::DirFault;
 use script8::{SessionFault, put_reply};
+use session8::{MOST, Session};
 use std::alloc::{AllocError, Global};
 use std::env::{self, Env};
 use std::fs::{self, Files};

@@ -1,18 +1,18 @@
-ghost use Rattle.std.specs.Prelude.{◌≡◌, ℕ, ◌<◌, ◌≤◌, [], ◌∷◌, ◌++◌, List, Bool, false, length, is_some, replicate, vec_len, slice_index_or, IfOk, OnOk, IfErr, MatchResult};
+ghost use Rattle.std.specs.Prelude.{◌≡◌, ℕ, ◌<◌, ◌≤◌, [], ◌∷◌, ◌++◌, List, false, length, replicate, vec_len, IfOk, OnOk, IfErr, MatchResult};
 ghost use Rattle.std.specs.Io.KnownBytes.{Appends};
-ghost use Rattle.bin_tape.specs.Items.{Item, tape_map};
+ghost use Rattle.bin_tape.specs.Items.{Item};
 ghost use Rattle.bin_tape.specs.Tape.{IsTape};
 ghost use Rattle.core_load.specs.Load.{IsOverlaid};
-ghost use Rattle.monitor8.specs.Reading.{Takes};
+ghost use Rattle.session8.specs.Reading.{Takes};
 ghost use Rattle.monitor8.specs.Listing.{cell_line, lines_below, Marks, IsMarked};
 ghost use Rattle.monitor8.specs.Lists.{IsListed, IsListingFault, ListsTape};
 ghost use Rattle.script8.specs.declared.faults.SessionFault.TheVariants as fault;
 
-use crate::readings::read_all;
 use bin_tape::TapeReader;
 use bin_tape::laws::handed_words;
 use core_load::{Core, load};
 use script8::SessionFault;
+use session8::read_all;
 use std::alloc::{AllocError, Global};
 use std::io::{Read, Write};
 use word12::{Cell, Word};

@@ -1,11 +1,11 @@
-ghost use Rattle.std.specs.Prelude.{◌≡◌, ◌+◌, ◌≤◌, ◌++◌, decimal, length, OnOk, OnErr, IsOk, IsOkUnless, vec_len, vec_capacity};
+ghost use Rattle.std.specs.Prelude.{◌≡◌, ◌+◌, ◌≤◌, ◌++◌, OnOk, OnErr, IsOk, IsOkUnless, vec_len, vec_capacity};
 ghost use Rattle.arrayvec.specs.ArrayVec.{array_vec_len};
 ghost use Rattle.monitor8.specs.Program.{program_line, program_text, image_text, directory_text};
 ghost use Rattle.script8.specs.declared.faults.SessionFault.TheVariants.{Memory};
 
-use arrayvec::ArrayVec;
 use os8_dir::DirFault;
 use script8::SessionFault;
+use script8::text_lines::{TextLine, put, put_number};
 use volume_image::ImageFault;
 
 /// What the program prints beside the lines of a session.
@@ -34,7 +34,7 @@ pub fn put_program(line: &ProgramLine, out: &mut Vec<u8>) -> Result<(), SessionF
     ensures room { vec_len out.old + 80 ≤ vec_capacity out.old → IsOk result }
     ensures memory { IsOkUnless result Memory }
 {
-    let mut text = ArrayVec::new();
+    let mut text = TextLine::new();
     put_line(&mut text, *line);
     put(&mut text, b"\n");
     out.extend_from_slice(text.as_slice())?;
@@ -42,7 +42,7 @@ pub fn put_program(line: &ProgramLine, out: &mut Vec<u8>) -> Result<(), SessionF
 }
 
 /// Puts the text of a line into an empty one.
-fn put_line(text: &mut ArrayVec<u8, 80>, line: ProgramLine)
+fn put_line(text: &mut TextLine, line: ProgramLine)
     requires { array_vec_len text.old ≡ 0 }
     ensures text { text.new.items ≡ text.old.items ++ program_text line }
     ensures short { array_vec_len text.new ≤ 60 }
@@ -50,7 +50,7 @@ fn put_line(text: &mut ArrayVec<u8, 80>, line: ProgramLine)
     match line {
         ProgramLine::Created(blocks) => {
             put(text, b"CREATED ");
-            put_number(text, blocks);
+            put_number(text, blocks as u64);
         }
         ProgramLine::HostRead => put(text, b"? HOST READ"),
         ProgramLine::HostWrite => put(text, b"? HOST WRITE"),
@@ -60,7 +60,7 @@ fn put_line(text: &mut ArrayVec<u8, 80>, line: ProgramLine)
 }
 
 /// Puts the text of a fault of an image into an empty line.
-fn put_image(text: &mut ArrayVec<u8, 80>, fault: ImageFault)
+fn put_image(text: &mut TextLine, fault: ImageFault)
     requires { array_vec_len text.old ≡ 0 }
     ensures text { text.new.items ≡ text.old.items ++ image_text fault }
     ensures short { array_vec_len text.new ≤ 60 }
@@ -71,14 +71,14 @@ fn put_image(text: &mut ArrayVec<u8, 80>, fault: ImageFault)
         ImageFault::TooLarge => put(text, b"? IMAGE 3 TOO LARGE"),
         ImageFault::BadWord(index) => {
             put(text, b"? IMAGE 4 BAD WORD ");
-            put_number(text, index);
+            put_number(text, index as u64);
         }
         ImageFault::Memory => put(text, b"? 10 MEMORY"),
     }
 }
 
 /// Puts the text of a fault of a directory into an empty line.
-fn put_directory(text: &mut ArrayVec<u8, 80>, fault: DirFault)
+fn put_directory(text: &mut TextLine, fault: DirFault)
     requires { array_vec_len text.old ≡ 0 }
     ensures text { text.new.items ≡ text.old.items ++ directory_text fault }
     ensures short { array_vec_len text.new ≤ 60 }
@@ -86,11 +86,11 @@ fn put_directory(text: &mut ArrayVec<u8, 80>, fault: DirFault)
     match fault {
         DirFault::BadLink(segment) => {
             put(text, b"? DIRECTORY 1 BAD LINK ");
-            put_number(text, segment);
+            put_number(text, segment as u64);
         }
         DirFault::BadCount(segment) => {
             put(text, b"? DIRECTORY 2 BAD COUNT ");
-            put_number(text, segment);
+            put_number(text, segment as u64);
         }
         DirFault::EntryPastSegment => put(text, b"? DIRECTORY 3 ENTRY PAST SEGMENT"),
         DirFault::PastVolume => put(text, b"? DIRECTORY 4 PAST VOLUME"),
@@ -100,23 +100,4 @@ fn put_directory(text: &mut ArrayVec<u8, 80>, fault: DirFault)
         DirFault::Device => put(text, b"? DIRECTORY 8 DEVICE"),
         DirFault::Memory => put(text, b"? 10 MEMORY"),
     }
-}
-
-/// Puts a number in decimal.
-fn put_number(text: &mut ArrayVec<u8, 80>, number: usize)
-    requires { array_vec_len text.old ≤ 40 }
-    ensures text { text.new.items ≡ text.old.items ++ decimal number }
-    ensures short { array_vec_len text.new ≤ array_vec_len text.old + 20 }
-{
-    let mut digits = itoa::Buffer::new();
-    put(text, digits.format(number as u64).as_bytes());
-}
-
-/// Puts bytes that there is room for behind a line.
-fn put(text: &mut ArrayVec<u8, 80>, bytes: &[u8])
-    requires { array_vec_len text.old + length bytes.now ≤ 80 }
-    ensures items { text.new.items ≡ text.old.items ++ bytes.now }
-    ensures len { array_vec_len text.new ≡ array_vec_len text.old + length bytes.now }
-{
-    text.try_extend_from_slice(bytes).unwrap();
 }

@@ -72,7 +72,8 @@ impl Directory {
 
     /// How many files there are (OS/8 Software Support Manual).
     pub fn count(&self) -> usize
-        ensures { result ≡ count_of self.now.entries }
+        ensures value { result ≡ count_of self.now.entries }
+        ensures range { result < 18446744073709551615 }
     {
         count_files(self.entries.as_slice())
     }

@@ -81,7 +81,8 @@ pub fn free_blocks(entries: &[DirEntry]) -> usize
 
 /// How many of the entries are files.
 pub fn count_files(entries: &[DirEntry]) -> usize
-    ensures { result ≡ count_of entries.now }
+    ensures value { result ≡ count_of entries.now }
+    ensures range { result < 18446744073709551615 }
 {
     let mut count = 0;
     for entry in entries {

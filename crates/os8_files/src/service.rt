@@ -144,6 +144,7 @@ impl<S: BlockStore> FileService<S> {
         ensures running { self.now.stopped ≡ false → result ≡ count_of (files_of self.now.blocks) }
         ensures above { self.now.stopped ≡ false → above_of self.now.blocks ≤ result }
         ensures stopped { (d : Listed) → self.now.last ≡ Some d → result ≡ count_files d.entries }
+        ensures range { result < 18446744073709551615 }
     {
         sound_directory();
         files_made();

@@ -1,20 +1,21 @@
 -- The items of a text and those of what stands behind them.
-use Rattle.std.proofs.Common.{◌≡◌, ◌<◌, ◌≤◌, ◌+◌, zero, suc, arith, true≢false, ℕ, refl, sym, ◌∙◌, ap, inl, inr, Bool, true, false, List, [], ◌∷◌, ◌++◌, length, take, drop, Result, Ok, Err, ◌⊎◌}
+use Rattle.std.proofs.Common.{◌≡◌, ◌≢◌, subst, ◌<◌, ◌≤◌, ◌+◌, zero, suc, arith, true≢false, ℕ, refl, sym, ◌∙◌, ap, inl, inr, Bool, true, false, List, [], ◌∷◌, ◌++◌, length, take, drop, Result, Ok, Err}
 use Rattle.std.specs.Prelude.{nat_lt}
 use Rattle.std.proofs.lemmas.Bool.Decides.{leb_tells}
 use Rattle.std.proofs.lemmas.List.{append_cancel_right, drop-drop, drop_all}
-use Rattle.script8.specs.Lines.{says}
-use Rattle.script8.specs.Items.{lines_of, ended_lines, text_of, items_of_line, lines_taken, items_of, script_of, whole_of, Gives, IsOut, Begins}
-use Rattle.script8.specs.declared.kinds.Next.{Next}
-use Rattle.script8.specs.declared.kinds.Next.TheVariants as next
+use Rattle.script8.specs.Lines.{says, HasName, Parses}
+use Rattle.script8.proofs.LineLemmas.{says_err}
+use Rattle.script8.specs.Items.{lines_of, ended_lines, text_of, items_of_line, lines_taken, items_of, script_of, whole_of, Gives, IsOut, Begins, BeginsWithName}
+use Rattle.script8.specs.declared.items.Next.{Next}
+use Rattle.script8.specs.declared.items.Next.TheVariants as next
 use Rattle.script8.specs.Cuts.{ended, Cuts, Opens, TooFew}
 use Rattle.script8.specs.declared.entries.Entry.TheVariants as entry
 use Rattle.script8.specs.declared.faults.SessionFault.{SessionFault}
 use Rattle.script8.specs.declared.faults.SessionFault.TheVariants.{BadLine, Memory}
-use Rattle.script8.specs.declared.kinds.Line.{Line}
-use Rattle.script8.specs.declared.kinds.Line.TheVariants as line
-use Rattle.script8.specs.declared.kinds.Item.{Item}
-use Rattle.script8.specs.declared.kinds.Item.TheVariants.{Do, Refused}
+use Rattle.script8.specs.declared.lines.Line.{Line}
+use Rattle.script8.specs.declared.lines.Line.TheVariants as line
+use Rattle.script8.specs.declared.items.Item.{Item}
+use Rattle.script8.specs.declared.items.Item.TheVariants.{Do, Refused}
 
 -- a text with no line has no item
 pub is_out : (text : List ℕ) (is_end : Bool) → TooFew text is_end 1 → IsOut text is_end
@@ -236,10 +237,19 @@ err_err : ◌≡◌ {A = Said} (Err BadLine) (Err Memory) → ⊥
 err_err same = cc
 
 -- what a line says that was read
-pub said_ok : (read said : Line) (command : List ℕ) → ◌≡◌ {A = Said} (Ok read) (says command) ⊎ ◌≡◌ {A = Said} (Ok read) (Err Memory) → read ≡ said → Ok said ≡ says command
+pub said_ok : (read said : Line) (command : List ℕ) → Parses (says command) (Ok read) → read ≡ said → Ok said ≡ says command
 said_ok read said command (inl is) same = sym (ap Ok same) ∙ is
-said_ok read said command (inr is) same = absurd (ok_err read is)
+said_ok read said command (inr is) same = absurd (ok_err read is.0)
 
-pub said_bad : (why : SessionFault) (command : List ℕ) → ◌≡◌ {A = Said} (Err why) (says command) ⊎ ◌≡◌ {A = Said} (Err why) (Err Memory) → why ≡ BadLine → Err BadLine ≡ says command
+pub said_bad : (why : SessionFault) (command : List ℕ) → Parses (says command) (Err why) → why ≡ BadLine → Err BadLine ≡ says command
 said_bad why command (inl is) same = sym (ap Err same) ∙ is
-said_bad why command (inr is) same = absurd (err_err (sym (ap Err same) ∙ is))
+said_bad why command (inr is) same = absurd (err_err (sym (ap Err same) ∙ is.0))
+
+-- a fault that is no bad line is that of a line with a name
+pub said_name : (why : SessionFault) (command : List ℕ) → Parses (says command) (Err why) → why ≢ BadLine → HasName (says command)
+said_name why command (inl is) other = absurd (other (says_err command why (sym is)))
+said_name why command (inr is) other = is.1
+
+-- a text whose first line says a name begins with one
+pub begins_name : (text : List ℕ) (is_end : Bool) (said : Result Line SessionFault) (bytes : ℕ) → Opens text is_end said bytes → HasName said → BeginsWithName text
+begins_name text is_end said bytes o has = (o.line, lines_of (drop bytes text), o.script, subst HasName (sym o.said_is) has)

@@ -1,5 +1,6 @@
 pub mod CutLemmas
 pub mod ItemLemmas
+pub mod LawLemmas
 pub mod LineLemmas
 pub mod NumberLemmas
 pub mod ReplyLemmas

@@ -1,8 +1,9 @@
--- Lines that are appended one by one.
-use Rattle.std.proofs.Common.{ℕ, ◌+◌, ◌<◌, ◌≡◌, sym, append_assoc, append-nil, add-one, get_or, [], ◌∷◌, ◌≤◌, take, take_all, length, ◌∙◌, ap, List, ◌++◌, Result, Ok, Err}
+-- What is appended piece by piece.
+use Rattle.std.proofs.Common.{ℕ, ◌+◌, ◌<◌, ◌≡◌, sym, add-one, get_or, [], ◌∷◌, ◌≤◌, take, take_all, length, ◌∙◌, ap, List, ◌++◌, Result, Ok, Err}
 use Rattle.std.proofs.Math.Seq.{take-suc}
 use Rattle.std.specs.Result.{OnErr, OnOk}
-use Rattle.script8.specs.Replies.{file_line, file_lines}
+use Rattle.std.specs.List.{flat_map}
+use Rattle.std.proofs.lemmas.List.{flat_map_more}
 
 -- what holds, holds on a fault
 pub on_err : {A E : Type 0} (r : Result A E) (P : Type 0) → P → OnErr r P
@@ -18,19 +19,19 @@ more_err (Err e) old mid new lines same is = (lines, same ∙ is)
 pub line_err : {A E : Type 0} (r : Result A E) (old mid new lines : List ℕ) → new ≡ mid → mid ≡ old ++ lines → OnErr r ((more : List ℕ) × new ≡ old ++ more)
 line_err r old mid new lines same is = on_err r _ (lines, same ∙ is)
 
--- behind all lines of files comes the last
-pub all_lines : {A E : Type 0} (r : Result A E) (old mid new tail : List ℕ) (files : List (ℕ × ℕ)) (count : ℕ) → length files ≤ count → OnOk r (new ≡ mid ++ tail) → mid ≡ old ++ file_lines (take count files) → OnOk r (new ≡ old ++ file_lines files ++ tail)
-all_lines (Ok x) old mid new tail files count all is lines = is ∙ ap (λ l. l ++ tail) (lines ∙ ap (λ l. old ++ file_lines l) (take_all count files all))
-all_lines (Err e) old mid new tail files count all is lines = tt
+-- behind the pieces of all elements comes the last
+pub all_pieces : {X A E : Type 0} (f : X → List ℕ) (r : Result A E) (old mid new tail : List ℕ) (xs : List X) (count : ℕ) → length xs ≤ count → OnOk r (new ≡ mid ++ tail) → mid ≡ old ++ flat_map f (take count xs) → OnOk r (new ≡ old ++ flat_map f xs ++ tail)
+all_pieces f (Ok x) old mid new tail xs count all is pieces = is ∙ ap (λ l. l ++ tail) (pieces ∙ ap (λ l. old ++ flat_map f l) (take_all count xs all))
+all_pieces f (Err e) old mid new tail xs count all is pieces = tt
 
--- the lines of one more file
-pub more_lines : (old mid new : List ℕ) (files : List (ℕ × ℕ)) (count : ℕ) (file : ℕ × ℕ) → count < length files → file ≡ get_or files count file → mid ≡ old ++ file_lines (take count files) → new ≡ mid ++ file_line file → new ≡ old ++ file_lines (take (count + 1) files)
-more_lines old mid new files count file inside there lines is =
-    is ∙ ap (λ l. l ++ file_line file) lines ∙ append_assoc old (file_lines (take count files)) (file_line file) ∙ ap (λ l. old ++ l) (sym (behind (take count files) file) ∙ ap file_lines one_more)
+-- the piece of one more element
+pub more_pieces : {X : Type 0} (f : X → List ℕ) (old mid new : List ℕ) (xs : List X) (count : ℕ) (x other : X) → count < length xs → x ≡ get_or xs count other → mid ≡ old ++ flat_map f (take count xs) → new ≡ mid ++ f x → new ≡ old ++ flat_map f (take (count + 1) xs)
+more_pieces f old mid new xs count x other inside there pieces is =
+    is ∙ ap (λ l. l ++ f x) pieces ∙ flat_map_more f old (take count xs) x ∙ ap (λ l. old ++ flat_map f l) one_more
   where
-    behind : (files : List (ℕ × ℕ)) (file : ℕ × ℕ) → file_lines (files ++ file ∷ []) ≡ file_lines files ++ file_line file
-    behind [] file = append-nil _
-    behind (f ∷ fs) file = ap (λ l. file_line f ++ l) (behind fs file) ∙ sym (append_assoc (file_line f) (file_lines fs) (file_line file))
+    one_more : take count xs ++ x ∷ [] ≡ take (count + 1) xs
+    one_more = ap (λ y. take count xs ++ y ∷ []) there ∙ sym (take-suc xs count other inside) ∙ ap (λ n. take n xs) (sym (add-one count))
 
-    one_more : take count files ++ file ∷ [] ≡ take (count + 1) files
-    one_more = ap (λ f. take count files ++ f ∷ []) there ∙ sym (take-suc files count file inside) ∙ ap (λ n. take n files) (sym (add-one count))
+-- the pieces of all elements
+pub every_piece : {X : Type 0} (f : X → List ℕ) (old new : List ℕ) (xs : List X) (count : ℕ) → length xs ≤ count → new ≡ old ++ flat_map f (take count xs) → new ≡ old ++ flat_map f xs
+every_piece f old new xs count all pieces = pieces ∙ ap (λ l. old ++ flat_map f l) (take_all count xs all)

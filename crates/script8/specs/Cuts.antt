@@ -2,8 +2,12 @@
 use Rattle.std.specs.Prelude.{◌≡◌, ℕ, ◌<◌, ◌≤◌, ◌==◌, Bool, true, false, if◌then◌else◌, Option, Some, None, List, [], ◌∷◌, ◌++◌, length, take, drop, Result}
 use Rattle.script8.specs.Lines.{says}
 use Rattle.script8.specs.declared.faults.SessionFault.{SessionFault}
-use Rattle.script8.specs.declared.kinds.Line.{Line}
+use Rattle.script8.specs.declared.lines.Line.{Line}
 use Rattle.script8.specs.Items.{lines_of, ended_lines, text_of}
+
+-- what stands between words
+abbrev pub is_blank : ℕ → Bool
+is_blank b = b == 32
 
 -- the first of the words of a command
 abbrev pub word_of : List ℕ → List ℕ

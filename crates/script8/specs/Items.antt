@@ -1,15 +1,15 @@
 -- The items of a script (this project's profile).
 use Rattle.std.specs.Prelude.{◌≡◌, ℕ, zero, suc, ◌<◌, ◌≤◌, ◌==◌, nat_lt, Bool, true, false, if◌then◌else◌, List, [], ◌∷◌, ◌++◌, length, take, drop, Result, Ok, Err}
-use Rattle.script8.specs.Lines.{says, onto_first}
+use Rattle.script8.specs.Lines.{says, HasName, onto_first}
 use Rattle.script8.specs.declared.entries.Entry.TheVariants as entry
 use Rattle.script8.specs.declared.faults.SessionFault.{SessionFault}
 use Rattle.script8.specs.declared.faults.SessionFault.TheVariants.{BadLine, Memory}
-use Rattle.script8.specs.declared.kinds.Line.{Line}
-use Rattle.script8.specs.declared.kinds.Line.TheVariants as line
-use Rattle.script8.specs.declared.kinds.Item.{Item}
-use Rattle.script8.specs.declared.kinds.Item.TheVariants.{Do, Finish, Refused}
-use Rattle.script8.specs.declared.kinds.Next.{Next}
-use Rattle.script8.specs.declared.kinds.Next.TheVariants as next
+use Rattle.script8.specs.declared.lines.Line.{Line}
+use Rattle.script8.specs.declared.lines.Line.TheVariants as line
+use Rattle.script8.specs.declared.items.Item.{Item}
+use Rattle.script8.specs.declared.items.Item.TheVariants.{Do, Finish, Refused}
+use Rattle.script8.specs.declared.items.Next.{Next}
+use Rattle.script8.specs.declared.items.Next.TheVariants as next
 
 -- the lines of a text: each is ended by LF, but that the last may lack it, and then isn't empty
 abbrev pub lines_of : List ℕ → List (List ℕ)
@@ -73,9 +73,13 @@ abbrev pub IsOut : List ℕ → Bool → Type 0
 IsOut text true = script_of text ≡ []
 IsOut text false = whole_of text ≡ []
 
+-- the first line of a text has a name, which is kept
+abbrev pub BeginsWithName : List ℕ → Type 0
+BeginsWithName text = (line : List ℕ) × (lines : List (List ℕ)) × (lines_of text ≡ line ∷ lines) × HasName (says line)
+
 -- What a text begins with, where it is a script's end or goes on.
 abbrev pub Begins : List ℕ → Bool → Result Next SessionFault → Type 0
 Begins text is_end (Ok next.End) = IsOut text is_end
 Begins text is_end (Ok (next.Blank bytes)) = Gives text is_end [] bytes
 Begins text is_end (Ok (next.Item item bytes)) = Gives text is_end (item ∷ []) bytes
-Begins text is_end (Err fault) = fault ≡ Memory
+Begins text is_end (Err fault) = (fault ≡ Memory) × BeginsWithName text

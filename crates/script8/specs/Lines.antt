@@ -1,11 +1,12 @@
 -- What the lines of a script say (this project's profile).
-use Rattle.std.specs.Prelude.{ℕ, ◌+◌, ◌-◌, ◌*◌, codes, ◌==◌, ◌&&◌, nat_le, nat_lt, if◌then◌else◌, Option, Some, None, List, [], ◌∷◌, length, Result, Ok, Err}
+use Rattle.std.specs.Prelude.{◌≡◌, ◌⊎◌, ℕ, zero, suc, ◌+◌, ◌-◌, ◌*◌, codes, ◌==◌, ◌&&◌, nat_eq, nat_le, nat_lt, if◌then◌else◌, Bool, true, false, Option, Some, None, List, [], ◌∷◌, length, Result, Ok, Err}
 use Rattle.std.specs.Str.{bytes_eq}
-use Rattle.script8.specs.declared.entries.Entry.TheVariants.{Delete, Direct, Squeeze, Turn}
+use Rattle.script8.specs.declared.entries.Entry.{Entry}
+use Rattle.script8.specs.declared.entries.Entry.TheVariants as entry
 use Rattle.script8.specs.declared.faults.SessionFault.{SessionFault}
-use Rattle.script8.specs.declared.faults.SessionFault.TheVariants.{BadLine}
-use Rattle.script8.specs.declared.kinds.Line.{Line}
-use Rattle.script8.specs.declared.kinds.Line.TheVariants.{Empty, Finish, Store, Whole}
+use Rattle.script8.specs.declared.faults.SessionFault.TheVariants.{BadLine, Memory}
+use Rattle.script8.specs.declared.lines.Line.{Line}
+use Rattle.script8.specs.declared.lines.Line.TheVariants.{Empty, Finish, Store, Whole}
 
 -- a line without the one CR that may stand at its end
 abbrev pub command_of : List ℕ → List ℕ
@@ -33,36 +34,113 @@ abbrev pub number_of : List ℕ → Option ℕ
 number_of [] = None
 number_of (b ∷ bs) = if nat_le (length bs) 6 then digits_from 0 (b ∷ bs) else None
 
--- `STORE` of so many lines, at most 999,999
-abbrev pub store_of : List ℕ → Option ℕ → Result Line SessionFault
-store_of [] lines = Err BadLine
-store_of (b ∷ bs) None = Err BadLine
-store_of (b ∷ bs) (Some lines) = if nat_lt lines 1000000 then Ok (Store (b ∷ bs) lines) else Err BadLine
+-- a number, where it is within limits
+abbrev pub within : ℕ → ℕ → Option ℕ → Option ℕ
+within least most None = None
+within least most (Some n) = if nat_le least n && nat_le n most then Some n else None
 
-abbrev pub delete_of : List ℕ → Result Line SessionFault
-delete_of [] = Err BadLine
-delete_of (b ∷ bs) = Ok (Whole (Delete (b ∷ bs)))
+-- a number of steps: 1 to 1,000,000
+abbrev pub steps_of : List ℕ → Option ℕ
+steps_of word = within 1 1000000 (number_of word)
 
-abbrev pub turn_of : Option ℕ → Result Line SessionFault
-turn_of None = Err BadLine
-turn_of (Some job) = Ok (Whole (Turn job))
+-- the number that octal digits go on to
+abbrev pub octal_from : ℕ → List ℕ → Option ℕ
+octal_from n [] = Some n
+octal_from n (b ∷ bs) = if nat_le 48 b && nat_lt b 56 then octal_from (8 * n + (b - 48)) bs else None
+
+-- an octal number of just so many digits
+abbrev pub octal_of : ℕ → List ℕ → Option ℕ
+octal_of count digits = if nat_eq (length digits) count then octal_from 0 digits else None
+
+-- the octal numbers of so many digits are below
+abbrev pub octal_limit : ℕ → ℕ
+octal_limit zero = 1
+octal_limit (suc n) = 8 * octal_limit n
+
+-- a cell: one octal digit of field, and four of address
+abbrev pub cell_of : List ℕ → Option ℕ
+cell_of word = octal_of 5 word
+
+-- a character: three octal digits, up to 377
+abbrev pub character_of : List ℕ → Option ℕ
+character_of word = within 0 255 (octal_of 3 word)
+
+-- whether a break is set: ON or OFF
+abbrev pub setting_of : List ℕ → Option Bool
+setting_of word =
+    if bytes_eq word (codes "ON") then Some true else
+    (if bytes_eq word (codes "OFF") then Some false else None)
+
+-- an entry of one operand, or of two, where they are there
+abbrev pub of_one : {A : Type 0} → (A → Entry) → Option A → Option Entry
+of_one entry None = None
+of_one entry (Some a) = Some (entry a)
+
+abbrev pub of_two : {A B : Type 0} → (A → B → Entry) → Option A → Option B → Option Entry
+of_two entry None b = None
+of_two entry (Some a) None = None
+of_two entry (Some a) (Some b) = Some (entry a b)
+
+-- the entries of one word
+abbrev pub bare_entry : List ℕ → Option Entry
+bare_entry verb =
+    if bytes_eq verb (codes "DIRECT") then Some entry.Direct else
+    (if bytes_eq verb (codes "SQUEEZE") then Some entry.Squeeze else
+    (if bytes_eq verb (codes "DONE") then Some entry.Done else
+    (if bytes_eq verb (codes "REGISTERS") then Some entry.Registers else
+    (if bytes_eq verb (codes "PRINTED") then Some entry.Printed else None))))
+
+-- the entries of two words, but those with a name
+abbrev pub entry_with_word : List ℕ → List ℕ → Option Entry
+entry_with_word verb word =
+    if bytes_eq verb (codes "TURN") then of_one entry.Turn (number_of word) else
+    (if bytes_eq verb (codes "START") then of_one entry.Start (cell_of word) else
+    (if bytes_eq verb (codes "STEP") then of_one entry.Step (steps_of word) else
+    (if bytes_eq verb (codes "GO") then of_one entry.Go (steps_of word) else
+    (if bytes_eq verb (codes "KEY") then of_one entry.Key (character_of word) else
+    (if bytes_eq verb (codes "SWITCHES") then of_one entry.Switches (octal_of 4 word) else
+    (if bytes_eq verb (codes "EXAMINE") then of_one entry.Examine (cell_of word) else None))))))
+
+-- the entries of three words
+abbrev pub entry_with_words : List ℕ → List ℕ → List ℕ → Option Entry
+entry_with_words verb first second =
+    if bytes_eq verb (codes "RUN") then of_two entry.Run (cell_of first) (steps_of second) else
+    (if bytes_eq verb (codes "DEPOSIT") then of_two entry.Deposit (cell_of first) (octal_of 4 second) else
+    (if bytes_eq verb (codes "BREAK") then of_two entry.Break (cell_of first) (setting_of second) else None))
+
+-- what an entry of one line says
+abbrev pub whole : Option Entry → Result Line SessionFault
+whole None = Err BadLine
+whole (Some entry) = Ok (Whole entry)
+
+-- the bytes of a name: one or more
+abbrev pub name_bytes : List ℕ → Result (List ℕ) SessionFault
+name_bytes [] = Err BadLine
+name_bytes (b ∷ bs) = Ok (b ∷ bs)
+
+-- `DELETE` of a name
+abbrev pub delete_of : Result (List ℕ) SessionFault → Result Line SessionFault
+delete_of (Err fault) = Err fault
+delete_of (Ok name) = Ok (Whole (entry.Delete name))
+
+-- `STORE` of a name and of so many lines, at most 999,999
+abbrev pub store_of : Result (List ℕ) SessionFault → Option ℕ → Result Line SessionFault
+store_of name None = Err BadLine
+store_of (Err fault) (Some lines) = Err fault
+store_of (Ok name) (Some lines) = Ok (Store name lines)
 
 -- what a command of one word says
 abbrev pub bare : List ℕ → Result Line SessionFault
-bare verb =
-    if bytes_eq verb (codes "DIRECT") then Ok (Whole Direct) else
-    (if bytes_eq verb (codes "SQUEEZE") then Ok (Whole Squeeze) else
-    (if bytes_eq verb (codes "FINISH") then Ok Finish else Err BadLine))
+bare verb = if bytes_eq verb (codes "FINISH") then Ok Finish else whole (bare_entry verb)
 
 -- what a command of two words says
 abbrev pub with_word : List ℕ → List ℕ → Result Line SessionFault
-with_word verb word =
-    if bytes_eq verb (codes "DELETE") then delete_of word else
-    (if bytes_eq verb (codes "TURN") then turn_of (number_of word) else Err BadLine)
+with_word verb word = if bytes_eq verb (codes "DELETE") then delete_of (name_bytes word) else whole (entry_with_word verb word)
 
 -- what a command of three words says
 abbrev pub with_words : List ℕ → List ℕ → List ℕ → Result Line SessionFault
-with_words verb first second = if bytes_eq verb (codes "STORE") then store_of first (number_of second) else Err BadLine
+with_words verb first second =
+    if bytes_eq verb (codes "STORE") then store_of (name_bytes first) (within 0 999999 (number_of second)) else whole (entry_with_words verb first second)
 
 -- what the words of a command say, or that they have none of the forms
 abbrev pub form_of : List (List ℕ) → Result Line SessionFault
@@ -80,3 +158,15 @@ command_says (b ∷ bs) = form_of (words_of (b ∷ bs))
 -- what a line says
 unfoldable pub says : List ℕ → Result Line SessionFault
 says line = command_says (command_of line)
+
+-- a line of a STORE or a DELETE: its name is kept
+abbrev pub HasName : Result Line SessionFault → Type 0
+HasName (Ok Empty) = ⊥
+HasName (Ok Finish) = ⊥
+HasName (Ok (Store name lines)) = Unit {0}
+HasName (Ok (Whole said)) = (name : List ℕ) × said ≡ entry.Delete name
+HasName (Err fault) = ⊥
+
+-- What a line says is told; where it has a name, memory for it may be refused.
+abbrev pub Parses : Result Line SessionFault → Result Line SessionFault → Type 0
+Parses said result = (result ≡ said) ⊎ ((result ≡ Err Memory) × HasName said)

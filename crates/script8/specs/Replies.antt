@@ -1,6 +1,8 @@
 -- The lines of replies and refusals (this project's profile).
 use denote.Ref.{Bor}
-use Rattle.std.specs.Prelude.{ℕ, codes, decimal, Option, Some, None, List, [], ◌∷◌, ◌++◌, Result, Ok, Err}
+use Rattle.std.specs.Prelude.{ℕ, ◌/◌, ◌%◌, codes, decimal, Bool, true, false, Option, Some, None, List, [], ◌∷◌, ◌++◌, Result, Ok, Err}
+use Rattle.std.specs.List.{flat_map}
+use Rattle.word12.specs.Octal.{octal_digit, octal4}
 use Rattle.script8.specs.Faults.{fault_text}
 use Rattle.script8.specs.Shown.{shown}
 use Rattle.script8.specs.declared.entries.Entry.{Entry}
@@ -8,7 +10,15 @@ use Rattle.script8.specs.declared.entries.Entry.TheVariants as entry
 use Rattle.script8.specs.declared.faults.SessionFault.{SessionFault}
 use Rattle.script8.specs.declared.faults.SessionFault.TheVariants.{BadLine, NoJob, TooManyJobs, File, Tape, BadText, Reader, Writer, Memory, TooManyBreaks}
 use Rattle.script8.specs.declared.replies.Reply.{Reply}
-use Rattle.script8.specs.declared.replies.Reply.TheVariants.{Stored, Deleted, Direct, Job, Working, Squeezed, Finished}
+use Rattle.script8.specs.declared.replies.Reply.TheVariants.{Line}
+use Rattle.script8.specs.declared.replies.Reply.TheVariants as reply
+use Rattle.script8.specs.declared.replies.Report.{Report}
+use Rattle.script8.specs.declared.replies.Report.TheVariants.{Direct, Registers, Printed}
+use Rattle.script8.specs.declared.replies.Said.{Said}
+use Rattle.script8.specs.declared.replies.Said.TheVariants.{Stored, Deleted, Job, Working, Squeezed, Finished, Started, Steps, Key, Done, Switches, Core, Break}
+use Rattle.script8.specs.declared.replies.Why.{Why}
+use Rattle.script8.specs.declared.replies.Why.TheVariants.{Halt, Unassigned, Limit}
+use Rattle.script8.specs.declared.replies.Why.TheVariants as why
 
 -- the line of a file with its blocks
 abbrev pub file_line : ℕ × ℕ → List ℕ
@@ -16,8 +26,7 @@ file_line (name, blocks) = shown name ++ 32 ∷ decimal blocks ++ 10 ∷ []
 
 -- the lines of some files
 abbrev pub file_lines : List (ℕ × ℕ) → List ℕ
-file_lines [] = []
-file_lines (file ∷ files) = file_line file ++ file_lines files
+file_lines files = flat_map file_line files
 
 -- the line of the free blocks
 abbrev pub free_line : ℕ → List ℕ
@@ -35,15 +44,83 @@ line_of text = text ++ 10 ∷ []
 abbrev pub job_text : ℕ → List ℕ → List ℕ
 job_text job text = codes "JOB " ++ decimal job ++ text
 
+-- the five octal digits of a cell: its field, and its address
+abbrev pub cell_text : ℕ → List ℕ
+cell_text cell = octal_digit (cell / 4096) ∷ octal4 (cell % 4096)
+
+-- the three octal digits of a character
+abbrev pub character_text : ℕ → List ℕ
+character_text character = octal_digit (character / 64) ∷ octal_digit (character / 8) ∷ octal_digit character ∷ []
+
+abbrev pub why_text : Why → List ℕ
+why_text Halt = codes "HALT"
+why_text Unassigned = codes "UNASSIGNED"
+why_text why.Break = codes "BREAK"
+why_text Limit = codes "LIMIT"
+
+abbrev pub setting_text : Bool → List ℕ
+setting_text true = codes "ON"
+setting_text false = codes "OFF"
+
+-- what is said in one line
+abbrev pub said_text : Said → List ℕ
+said_text (Stored name blocks) = codes "STORED " ++ shown name ++ 32 ∷ decimal blocks
+said_text (Deleted name) = codes "DELETED " ++ shown name
+said_text (Job job) = job_text job []
+said_text (Working job) = codes "WORKING " ++ decimal job
+said_text (Squeezed job) = job_text job (codes " SQUEEZED")
+said_text Finished = codes "FINISHED"
+said_text (Started cell) = codes "STARTED " ++ cell_text cell
+said_text (Steps steps why cell) = codes "STEPS " ++ decimal steps ++ 32 ∷ why_text why ++ 32 ∷ cell_text cell
+said_text (Key character) = codes "KEY " ++ character_text character
+said_text Done = codes "DONE"
+said_text (Switches word) = codes "SWITCHES " ++ octal4 word
+said_text (Core cell word) = cell_text cell ++ 32 ∷ octal4 word
+said_text (Break cell is_on) = codes "BREAK " ++ cell_text cell ++ 32 ∷ setting_text is_on
+
+-- a blank, and the octal digits of a character
+abbrev pub printed_character : ℕ → List ℕ
+printed_character character = 32 ∷ character_text character
+
+-- the same of each character
+abbrev pub printed_text : List ℕ → List ℕ
+printed_text characters = flat_map printed_character characters
+
+-- the lines of a report
+abbrev pub report_lines : Report → List ℕ
+report_lines (Direct files free) = file_lines files ++ free_line free
+report_lines (Registers text) = line_of text
+report_lines (Printed characters) = line_of (codes "PRINTED" ++ printed_text characters)
+
 -- the lines of a reply
 abbrev pub reply_lines : Reply → List ℕ
-reply_lines (Stored name blocks) = line_of (codes "STORED " ++ shown name ++ 32 ∷ decimal blocks)
-reply_lines (Deleted name) = line_of (codes "DELETED " ++ shown name)
-reply_lines (Direct files free) = file_lines files ++ free_line free
-reply_lines (Job job) = line_of (job_text job [])
-reply_lines (Working job) = line_of (codes "WORKING " ++ decimal job)
-reply_lines (Squeezed job) = line_of (job_text job (codes " SQUEEZED"))
-reply_lines Finished = line_of (codes "FINISHED")
+reply_lines (Line said) = line_of (said_text said)
+reply_lines (reply.Report report) = report_lines report
+
+-- the job to which an entry gives a turn
+abbrev pub job_of_entry : Entry → Option ℕ
+job_of_entry (entry.Store name text) = None
+job_of_entry (entry.Delete name) = None
+job_of_entry entry.Direct = None
+job_of_entry entry.Squeeze = None
+job_of_entry (entry.Turn job) = Some job
+job_of_entry (entry.Start cell) = None
+job_of_entry (entry.Step steps) = None
+job_of_entry (entry.Go steps) = None
+job_of_entry (entry.Run cell steps) = None
+job_of_entry (entry.Key character) = None
+job_of_entry entry.Done = None
+job_of_entry (entry.Switches word) = None
+job_of_entry (entry.Examine cell) = None
+job_of_entry (entry.Deposit cell word) = None
+job_of_entry (entry.Break cell is_on) = None
+job_of_entry entry.Registers = None
+job_of_entry entry.Printed = None
+
+-- the job of an entry, where there is an entry
+abbrev pub job_of : Option Entry → Option ℕ
+job_of None = None
+job_of (Some entry) = job_of_entry entry
 
 -- the fault of a job's end begins with the job
 abbrev pub end_text : ℕ → SessionFault → List ℕ
@@ -58,14 +135,10 @@ end_text job Writer = []
 end_text job Memory = []
 end_text job TooManyBreaks = []
 
--- what stands before a fault of an entry
-abbrev pub begin_text : Option Entry → SessionFault → List ℕ
+-- what stands before a fault of a job's turn, or of no job's
+abbrev pub begin_text : Option ℕ → SessionFault → List ℕ
 begin_text None fault = []
-begin_text (Some (entry.Store name text)) fault = []
-begin_text (Some (entry.Delete name)) fault = []
-begin_text (Some entry.Direct) fault = []
-begin_text (Some entry.Squeeze) fault = []
-begin_text (Some (entry.Turn job)) fault = end_text job fault
+begin_text (Some job) fault = end_text job fault
 
 -- the entry that is lent, where one is
 abbrev pub lent : Option (Bor Entry) → Option Entry
@@ -75,15 +148,10 @@ lent (Some entry) = Some entry.now
 -- the lines of an answer to an entry, or to none
 abbrev pub answer_lines : Option Entry → Result Reply SessionFault → List ℕ
 answer_lines entry (Ok reply) = reply_lines reply
-answer_lines entry (Err fault) = begin_text entry fault ++ fault_line fault
+answer_lines entry (Err fault) = begin_text (job_of entry) fault ++ fault_line fault
 
 -- an answer of one line
 abbrev pub IsShort : Result Reply SessionFault → Type 0
-IsShort (Ok (Stored name blocks)) = Unit {0}
-IsShort (Ok (Deleted name)) = Unit {0}
-IsShort (Ok (Direct files free)) = ⊥
-IsShort (Ok (Job job)) = Unit {0}
-IsShort (Ok (Working job)) = Unit {0}
-IsShort (Ok (Squeezed job)) = Unit {0}
-IsShort (Ok Finished) = Unit {0}
+IsShort (Ok (Line said)) = Unit {0}
+IsShort (Ok (reply.Report report)) = ⊥
 IsShort (Err fault) = Unit {0}

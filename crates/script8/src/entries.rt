@@ -1,4 +1,5 @@
 use crate::Bytes;
+use word12::{Cell, Word};
 
 /// What a session is asked to do. Names are the bytes of the line; whether they name a file is judged where the entry is done.
 #[derive(Drop, Debug)]
@@ -17,4 +18,40 @@ pub enum Entry {
 
     /// `TURN`: lets the job of a number take a turn.
     Turn(u32),
+
+    /// `START`: clears the accumulator, link and input/output, and makes the processor run from a cell on.
+    Start(Cell),
+
+    /// `STEP`: up to so many steps of the processor, 1 to 1,000,000; breaks are not minded.
+    Step(u32),
+
+    /// `GO`: up to so many steps of the processor, 1 to 1,000,000, as far as a break.
+    Go(u32),
+
+    /// `RUN`: `START`, and then `GO` with a printer that is always quick.
+    Run { cell: Cell, steps: u32 },
+
+    /// `KEY`: strikes the key of a character of eight bits.
+    Key(u8),
+
+    /// `DONE`: the printer ends its character.
+    Done,
+
+    /// `SWITCHES`: sets the switch register.
+    Switches(Word),
+
+    /// `EXAMINE`: shows the word of a cell.
+    Examine(Cell),
+
+    /// `DEPOSIT`: gives a cell a word.
+    Deposit { cell: Cell, word: Word },
+
+    /// `BREAK`: sets a break at a cell, or takes it away.
+    Break { cell: Cell, is_on: bool },
+
+    /// `REGISTERS`: shows the registers of the processor.
+    Registers,
+
+    /// `PRINTED`: shows the characters that were printed.
+    Printed,
 }

@@ -3,12 +3,38 @@ ghost use Rattle.std.specs.Prelude.{◌≡◌, if◌then◌else◌, ◌∷◌, �
 ghost use Rattle.script8.specs.Cuts.{Cuts, Cut, Opens, ended};
 ghost use Rattle.script8.specs.Items.{Begins};
 ghost use Rattle.script8.specs.declared.faults.SessionFault.TheVariants.{BadLine};
-ghost use Rattle.script8.specs.declared.kinds.Item.TheVariants.{Refused};
-ghost use Rattle.script8.specs.declared.kinds.Line.TheVariants.{Store};
-ghost use Rattle.script8.specs.declared.kinds.Next.TheVariants as next;
+ghost use Rattle.script8.specs.declared.items.Item.TheVariants.{Refused};
+ghost use Rattle.script8.specs.declared.lines.Line.TheVariants.{Store};
+ghost use Rattle.script8.specs.declared.items.Next.TheVariants as next;
 
-use crate::{Bytes, Entry, Item, Line, Next, SessionFault, parse_line};
+use crate::{Bytes, Entry, Line, SessionFault, parse_line};
 use std::alloc::{AllocError, Global};
+
+/// An item of a script.
+#[derive(Drop, Debug)]
+pub enum Item {
+    /// An entry is done.
+    Do(Entry),
+
+    /// Turns of the lowest job are taken until no job is left.
+    Finish,
+
+    /// A line is refused.
+    Refused(SessionFault),
+}
+
+/// What a text begins with.
+#[derive(Drop, Debug)]
+pub enum Next {
+    /// No item.
+    End,
+
+    /// An empty line of so many bytes, its LF with them.
+    Blank(usize),
+
+    /// An item of so many bytes, the LF of its last line with them.
+    Item { item: Item, bytes: usize },
+}
 
 /// What a text begins with, where it is the end of a script, or goes on. The lines of a STORE are taken with it; where they are
 /// not all there, it is refused as `BadLine` at a script's end, and is no whole item otherwise (this project's profile).
@@ -38,11 +64,13 @@ fn line_item(alloc: Global, text: &[u8], bytes: usize, is_end: bool) -> Result<N
             bytes,
         }),
         Ok(Line::Store { name, lines }) => store_item(alloc, text, bytes, name, lines, is_end),
-        Err(SessionFault::BadLine) => Ok(Next::Item {
-            item: Item::Refused(SessionFault::BadLine),
-            bytes,
-        }),
-        Err(_) => Err(SessionFault::Memory),
+        Err(fault) => match fault {
+            SessionFault::BadLine => Ok(Next::Item {
+                item: Item::Refused(SessionFault::BadLine),
+                bytes,
+            }),
+            _ => Err(SessionFault::Memory),
+        },
     }
 }
 
@@ -63,11 +91,13 @@ fn store_item(
         return Ok(cut_off(text, is_end));
     };
     let (lines, _) = behind.split_at(more);
-    let text = ended_text(alloc, lines)?;
-    Ok(Next::Item {
-        item: Item::Do(Entry::Store { name, text }),
-        bytes: bytes + more,
-    })
+    match ended_text(alloc, lines) {
+        Ok(text) => Ok(Next::Item {
+            item: Item::Do(Entry::Store { name, text }),
+            bytes: bytes + more,
+        }),
+        Err(_) => Err(SessionFault::Memory),
+    }
 }
 
 /// What a text begins with that is a STORE without all its lines.

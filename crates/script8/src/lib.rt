@@ -3,22 +3,28 @@
 //! In each contract a line is the list of its bytes, without the LF that ends it.
 #![tactic(auto)]
 
+mod answers;
 mod bytes;
 mod entries;
 mod faults;
+mod file_lengths;
 mod items;
-mod kinds;
-mod listings;
+pub mod laws;
+mod lines;
+mod operands;
 mod parsing;
+mod refusals;
 mod replies;
-mod shown;
+mod reports;
+mod said;
+pub mod text_lines;
 
+pub use answers::put_reply;
 pub use bytes::Bytes;
 pub use entries::Entry;
 pub use faults::SessionFault;
-pub use items::next_item;
-pub use kinds::{Item, Line, Next};
-pub use listings::Listing;
+pub use file_lengths::FileLengths;
+pub use items::{Item, Next, next_item};
+pub use lines::Line;
 pub use parsing::parse_line;
-pub use replies::{Reply, Why};
-pub use shown::put_reply;
+pub use replies::{Reply, Report, Said, Why};

@@ -1,19 +1,17 @@
-ghost use Rattle.std.specs.Prelude.{◌≡◌, ◌≤◌, ◌⊎◌, if◌then◌else◌, List, [], ◌∷◌, Err, length, IfOk};
-ghost use Rattle.script8.specs.Cuts.{word_of};
-ghost use Rattle.script8.specs.Lines.{says, form_of, command_of, words_of, bare, with_word, with_words, number_of, digits_from};
-ghost use Rattle.script8.specs.declared.faults.SessionFault.TheVariants.{Memory};
+ghost use Rattle.std.specs.Prelude.{◌≡◌, ◌≤◌, ◌<◌, IfSome, if◌then◌else◌, [], ◌∷◌, length};
+ghost use Rattle.std.specs.List.{position};
+ghost use Rattle.script8.specs.Cuts.{word_of, is_blank};
+ghost use Rattle.script8.specs.Lines.{says, Parses, form_of, command_of, words_of, bare, with_word, with_words, whole as whole_of, bare_entry, entry_with_word, entry_with_words};
 
-use crate::{Bytes, Entry, Line, SessionFault};
-use std::alloc::{AllocError, Global};
-
-/// The lines of a STORE are fewer.
-const STORE_LINES: u32 = 1_000_000;
+use crate::operands::{cell, character, name, number, octal_word, setting, steps, within};
+use crate::{Entry, Line, SessionFault};
+use std::alloc::Global;
 
 /// What a line of a script says: one CR at its end is dropped, an empty line is nothing, and a line of none of the forms, or
 /// with a number out of its limits, is `BadLine` (this project's profile).
 #[tactic(auto, unfolding(crate::specs::Lines::says))]
 pub fn parse_line(alloc: Global, line: &[u8]) -> Result<Line, SessionFault>
-    ensures { (result ≡ says line.now) ⊎ (result ≡ Err Memory) }
+    ensures { Parses (says line.now) result }
 {
     let command = without_return(line);
     if command.is_empty() {
@@ -24,7 +22,7 @@ pub fn parse_line(alloc: Global, line: &[u8]) -> Result<Line, SessionFault>
 
 /// What a command says by the number of its words.
 fn parse_words(alloc: Global, command: &[u8]) -> Result<Line, SessionFault>
-    ensures { (result ≡ form_of (words_of command.now)) ⊎ (result ≡ Err Memory) }
+    ensures { Parses (form_of (words_of command.now)) result }
 {
     let (verb, is_last, rest) = first_word(command);
     if is_last {
@@ -45,36 +43,21 @@ fn parse_words(alloc: Global, command: &[u8]) -> Result<Line, SessionFault>
 fn parse_bare(verb: &[u8]) -> Result<Line, SessionFault>
     ensures { result ≡ bare verb.now }
 {
-    if verb == b"DIRECT".as_slice() {
-        return Ok(Line::Whole(Entry::Direct));
-    }
-    if verb == b"SQUEEZE".as_slice() {
-        return Ok(Line::Whole(Entry::Squeeze));
-    }
     if verb == b"FINISH".as_slice() {
         return Ok(Line::Finish);
     }
-    Err(SessionFault::BadLine)
+    whole(parse_bare_entry(verb))
 }
 
 /// What a command of two words says.
 fn parse_with_word(alloc: Global, verb: &[u8], word: &[u8]) -> Result<Line, SessionFault>
-    ensures { (result ≡ with_word verb.now word.now) ⊎ (result ≡ Err Memory) }
+    ensures { Parses (with_word verb.now word.now) result }
 {
     if verb == b"DELETE".as_slice() {
-        if word.is_empty() {
-            return Err(SessionFault::BadLine);
-        }
-        let name = copied(alloc, word)?;
+        let name = name(alloc, word)?;
         return Ok(Line::Whole(Entry::Delete { name }));
     }
-    if verb == b"TURN".as_slice() {
-        return match number(word) {
-            Some(job) => Ok(Line::Whole(Entry::Turn(job))),
-            None => Err(SessionFault::BadLine),
-        };
-    }
-    Err(SessionFault::BadLine)
+    whole(parse_entry_with_word(verb, word))
 }
 
 /// What a command of three words says.
@@ -84,18 +67,98 @@ fn parse_with_words(
     first: &[u8],
     second: &[u8],
 ) -> Result<Line, SessionFault>
-    ensures { (result ≡ with_words verb.now first.now second.now) ⊎ (result ≡ Err Memory) }
+    ensures { Parses (with_words verb.now first.now second.now) result }
 {
-    if verb != b"STORE".as_slice() {
-        return Err(SessionFault::BadLine);
+    if verb == b"STORE".as_slice() {
+        let Some(lines) = within(number(second), 0, 999_999) else {
+            return Err(SessionFault::BadLine);
+        };
+        let name = name(alloc, first)?;
+        return Ok(Line::Store { name, lines });
     }
-    match (first, number(second)) {
-        ([_, ..], Some(lines)) if lines < STORE_LINES => {
-            let name = copied(alloc, first)?;
-            Ok(Line::Store { name, lines })
-        }
-        _ => Err(SessionFault::BadLine),
+    whole(parse_entry_with_words(verb, first, second))
+}
+
+/// What a line of one entry says.
+fn whole(entry: Option<Entry>) -> Result<Line, SessionFault>
+    ensures { result ≡ whole_of entry }
+{
+    match entry {
+        Some(entry) => Ok(Line::Whole(entry)),
+        None => Err(SessionFault::BadLine),
     }
+}
+
+/// The entries of one word.
+fn parse_bare_entry(verb: &[u8]) -> Option<Entry>
+    ensures { result ≡ bare_entry verb.now }
+{
+    if verb == b"DIRECT".as_slice() {
+        return Some(Entry::Direct);
+    }
+    if verb == b"SQUEEZE".as_slice() {
+        return Some(Entry::Squeeze);
+    }
+    if verb == b"DONE".as_slice() {
+        return Some(Entry::Done);
+    }
+    if verb == b"REGISTERS".as_slice() {
+        return Some(Entry::Registers);
+    }
+    if verb == b"PRINTED".as_slice() {
+        return Some(Entry::Printed);
+    }
+    None
+}
+
+/// The entries of two words, but those with a name.
+fn parse_entry_with_word(verb: &[u8], word: &[u8]) -> Option<Entry>
+    ensures { result ≡ entry_with_word verb.now word.now }
+{
+    if verb == b"TURN".as_slice() {
+        return Some(Entry::Turn(number(word)?));
+    }
+    if verb == b"START".as_slice() {
+        return Some(Entry::Start(cell(word)?));
+    }
+    if verb == b"STEP".as_slice() {
+        return Some(Entry::Step(steps(word)?));
+    }
+    if verb == b"GO".as_slice() {
+        return Some(Entry::Go(steps(word)?));
+    }
+    if verb == b"KEY".as_slice() {
+        return Some(Entry::Key(character(word)?));
+    }
+    if verb == b"SWITCHES".as_slice() {
+        return Some(Entry::Switches(octal_word(word)?));
+    }
+    if verb == b"EXAMINE".as_slice() {
+        return Some(Entry::Examine(cell(word)?));
+    }
+    None
+}
+
+/// The entries of three words.
+fn parse_entry_with_words(verb: &[u8], first: &[u8], second: &[u8]) -> Option<Entry>
+    ensures { result ≡ entry_with_words verb.now first.now second.now }
+{
+    if verb == b"RUN".as_slice() {
+        let cell = cell(first)?;
+        let steps = steps(second)?;
+        return Some(Entry::Run { cell, steps });
+    }
+    if verb == b"DEPOSIT".as_slice() {
+        let cell = cell(first)?;
+        let word = octal_word(second)?;
+        return Some(Entry::Deposit { cell, word });
+    }
+    if verb == b"BREAK".as_slice() {
+        let cell = cell(first)?;
+        let is_on = setting(second)?;
+        return Some(Entry::Break { cell, is_on });
+    }
+    None
 }
 
 /// The first word of a command, whether it is the last, and what stands behind its blank.
@@ -110,50 +173,20 @@ fn first_word(command: &[u8]) -> (&[u8], bool, &[u8])
 }
 
 /// How many bytes stand before the first blank of a command.
+#[tactic(auto, using(crate::proofs::LineLemmas::before_blank))]
 fn word_length(command: &[u8]) -> usize
     ensures place { result ≡ length (word_of command.now) }
     ensures range { result ≤ length command.now }
 {
-    for (place, byte) in command.iter().enumerate() {
-        if *byte == b' ' {
-            return place;
-        }
-    }
-    command.len()
+    blank_in(command).unwrap_or(command.len())
 }
 
-/// A decimal number of 1 to 7 digits.
-fn number(digits: &[u8]) -> Option<u32>
-    ensures { result ≡ number_of digits.now }
+/// The place of the first blank of a command.
+fn blank_in(command: &[u8]) -> Option<usize>
+    ensures place { result ≡ position is_blank command.now }
+    ensures range { IfSome result (λ place. place < length command.now) }
 {
-    if digits.is_empty() || digits.len() > 7 {
-        return None;
-    }
-    digits_value(digits)
-}
-
-/// The number of decimal digits.
-fn digits_value(digits: &[u8]) -> Option<u32>
-    requires { length digits.now ≤ 7 }
-    ensures { result ≡ digits_from 0 digits.now }
-{
-    let mut value = 0;
-    for digit in digits {
-        match digit {
-            b'0'..=b'9' => value = 10 * value + u32::from(digit - b'0'),
-            _ => return None,
-        }
-    }
-    Some(value)
-}
-
-/// Bytes of one's own.
-fn copied(alloc: Global, bytes: &[u8]) -> Result<Bytes, AllocError>
-    ensures { IfOk result (λ own. own ≡ bytes.now) }
-{
-    let mut items = Vec::with_capacity(alloc, bytes.len())?;
-    items.extend_from_slice(bytes)?;
-    Ok(Bytes::new(items))
+    command.iter().position(|byte| *byte == b' ')
 }
 
 /// A line without the one CR that may stand at its end.

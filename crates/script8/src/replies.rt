@@ -1,17 +1,25 @@
-use crate::Listing;
+use crate::{Bytes, FileLengths};
 use os8_dir::Name;
+use word12::{Cell, Word};
 
-/// What a session answers to an entry that it does. Jobs are shown by their numbers.
+/// What a session answers to an entry that it does.
 #[derive(Drop, Debug)]
 pub enum Reply {
+    /// What is said in one line of at most 80 bytes.
+    Line(Said),
+
+    /// What may take more.
+    Report(Report),
+}
+
+/// What is said in one line. Jobs are shown by their numbers.
+#[derive(Clone, Copy, PartialEq, Eq, Debug)]
+pub enum Said {
     /// A text was stored in a file of so many blocks.
     Stored { name: Name, blocks: usize },
 
     /// A file was taken out.
-    Deleted { name: Name },
-
-    /// The files in name order with their lengths in blocks, and the blocks of no file.
-    Direct { files: Listing, free: usize },
+    Deleted(Name),
 
     /// A job was begun.
     Job(u32),
@@ -24,6 +32,40 @@ pub enum Reply {
 
     /// No job is left: the last line of FINISH, which stands for turns and is no entry.
     Finished,
+
+    /// The processor runs from a cell on.
+    Started(Cell),
+
+    /// So many steps were made, why they ended, and the cell of the instruction field and the program counter then.
+    Steps { steps: u32, why: Why, cell: Cell },
+
+    /// The key of a character was struck.
+    Key(u8),
+
+    /// The printer ended its character.
+    Done,
+
+    /// The switch register was set.
+    Switches(Word),
+
+    /// A cell and its word.
+    Core { cell: Cell, word: Word },
+
+    /// A break was set at a cell, or taken away.
+    Break { cell: Cell, is_on: bool },
+}
+
+/// What is shown in more than 80 bytes, or in more than one line.
+#[derive(Drop, Debug)]
+pub enum Report {
+    /// The files in name order with their lengths in blocks, and the blocks of no file.
+    Direct { files: FileLengths, free: usize },
+
+    /// The text of the registers, one line of JSON without its LF.
+    Registers(Bytes),
+
+    /// The characters that were printed, of eight bits each, the first of them first.
+    Printed(Bytes),
 }
 
 /// Why the processor's steps of an entry ended, the first of these that holds.

@@ -4,11 +4,11 @@ use bin_tape::TapeFault;
 use monitor8::{ProgramLine, put_program};
 use os8_dir::{DirFault, Name};
 use os8_files::FileFault;
-use script8::{Entry, Listing, Reply, SessionFault, put_reply};
+use script8::{Entry, FileLengths, Reply, Report, Said, SessionFault, Why, laws, put_reply};
 use std::alloc::{AllocError, Global};
 use std::test::Fail;
 use volume_image::ImageFault;
-use word12::Word;
+use word12::{Cell, Word};
 
 /// A name that no text gives: its words have a code that is no letter, a blank, and zeros between codes.
 fn odd_name() -> Name {
@@ -74,23 +74,44 @@ fn lines_of_faults(rt: HostRuntime) {
     assert!(rt; is_put && out.as_slice() == want, "{out:?}");
 }
 
+/// Whether the lines of what is said were appended.
+fn put_said(said: &[Said], out: &mut Vec<u8>) -> bool {
+    let mut all = true;
+    for one in said {
+        all = put(None, Ok(Reply::Line(*one)), out) && all;
+    }
+    all
+}
+
 /// So many files of one name, each of as many blocks as a volume has at most.
-fn like_files(alloc: Global, count: usize) -> Result<Listing, AllocError> {
-    Ok(Listing::new(vec![in alloc; (odd_name(), 4095); count]?))
+fn like_files(alloc: Global, count: usize) -> Result<FileLengths, AllocError> {
+    Ok(FileLengths::new(vec![in alloc; (odd_name(), 4095); count]?))
 }
 
 #[test]
 fn lines_of_replies(rt: HostRuntime) -> Result<(), Fail> {
+    laws::name_as_typed();
+    laws::number_as_shown();
+    laws::octal_as_shown();
     let name = odd_name();
+    let said = [
+        Said::Stored { name, blocks: 4088 },
+        Said::Deleted(name),
+        Said::Working(u32::MAX),
+        Said::Squeezed(u32::MAX),
+        Said::Steps {
+            steps: u32::MAX,
+            why: Why::Unassigned,
+            cell: Cell::of(0o77777),
+        },
+    ];
     let files = like_files(rt.alloc(), 300)?;
     let mut out = Vec::new(rt.alloc());
-    let is_put = put(None, Ok(Reply::Stored { name, blocks: 4088 }), &mut out)
-        && put(None, Ok(Reply::Deleted { name }), &mut out)
-        && put(None, Ok(Reply::Working(u32::MAX)), &mut out)
-        && put(None, Ok(Reply::Squeezed(u32::MAX)), &mut out)
-        && put(None, Ok(Reply::Direct { files, free: 4088 }), &mut out);
+    let direct = Reply::Report(Report::Direct { files, free: 4088 });
+    let is_put = put_said(&said, &mut out) && put(None, Ok(direct), &mut out);
     let front: &[u8] =
-        b"STORED A_ ?.! 4088\nDELETED A_ ?.!\nWORKING 4294967295\nJOB 4294967295 SQUEEZED\nA_ ?.! 4095\n";
+        b"STORED A_ ?.! 4088\nDELETED A_ ?.!\nWORKING 4294967295\nJOB 4294967295 SQUEEZED\n\
+        STEPS 4294967295 UNASSIGNED 77777\nA_ ?.! 4095\n";
     let is_framed = out.starts_with(front) && out.ends_with(b"A_ ?.! 4095\nFREE 4088\n");
     assert_eq!(rt;
         (is_put, is_framed, out.len()),

@@ -5,7 +5,7 @@ use script8::{Entry, Item, Line, Next, next_item, parse_line};
 use std::alloc::Global;
 use std::test::Fail;
 
-/// A letter for the kind of an item: `F`, `?` for a refused line, or that of its entry.
+/// A letter for the kind of an item: `F`, `?` for a refused line, that of its entry of files and jobs, or `C` for the console's.
 fn kind_of(item: &Item) -> u8 {
     match item {
         Item::Finish => b'F',
@@ -15,6 +15,7 @@ fn kind_of(item: &Item) -> u8 {
         Item::Do(Entry::Delete { .. }) => b'X',
         Item::Do(Entry::Turn(_)) => b'T',
         Item::Do(Entry::Store { .. }) => b'S',
+        Item::Do(_) => b'C',
     }
 }
 

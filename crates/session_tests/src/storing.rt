@@ -1,9 +1,9 @@
 //! Sessions over stores that count or fail, and the largest file and run.
 
 use crate::making::long_text;
-use monitor8::Session;
+use session8::Session;
 use os8_dir::DirFault;
-use script8::{Entry, Reply};
+use script8::{Entry, Reply, Said};
 use std::alloc::{AllocError, Global};
 use std::test::Fail;
 use volume_image::{BlockStore, CountVolume, FuseVolume, ImageFault, MemoryVolume};
@@ -105,7 +105,7 @@ fn failing_stores(rt: HostRuntime) {
 /// Whether the job 1 of a session comes to its end at a turn.
 fn squeezes(alloc: Global, session: &mut Session<MemoryVolume>) -> bool {
     match session.enter(alloc, Entry::Turn(1)) {
-        Ok(Reply::Squeezed(job)) => job == 1,
+        Ok(Reply::Line(Said::Squeezed(job))) => job == 1,
         _ => false,
     }
 }

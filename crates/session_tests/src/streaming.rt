@@ -1,7 +1,9 @@
 //! Readers and writers that fail, that are slow, or that have no end.
 
 use crate::making::long_text;
-use monitor8::{Session, SessionFault, tape_text};
+use monitor8::tape_text;
+use script8::SessionFault;
+use session8::Session;
 use std::alloc::{AllocError, Global};
 use std::io::{self, ErrorKind, Read, Write};
 use std::test::Fail;

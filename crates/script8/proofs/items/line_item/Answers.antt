@@ -1,6 +1,6 @@
 use Rattle.std.proofs.Common.{refl}
 use Rattle.script8.proofs.CutLemmas.{some_line}
-use Rattle.script8.proofs.ItemLemmas.{opens, gives, said_ok, said_bad}
+use Rattle.script8.proofs.ItemLemmas.{opens, gives, said_ok, said_bad, said_name, begins_name}
 use Rattle.script8.proofs.items.line_item.Goals as goal
 
 pub without_end-requires : goal.without_end-requires
@@ -18,5 +18,8 @@ returns-in-Ok-Finish c = gives _ _ _ _ _ refl (λ short lines. refl) (opens _ _ 
 pub returns-in-Ok-Whole : goal.returns-in-Ok-Whole
 returns-in-Ok-Whole c = gives _ _ _ _ _ refl (λ short lines. refl) (opens _ _ _ _ _ _ c.requires c.split_at.ensures.front c.without_end.ensures (said_ok _ _ _ c.in-Ok-Whole.ensures c.in-Ok-Whole.field-0-is))
 
-pub returns-in-Err-BadLine : goal.returns-in-Err-BadLine
-returns-in-Err-BadLine c = gives _ _ _ _ _ refl (λ short lines. refl) (opens _ _ _ _ _ _ c.requires c.split_at.ensures.front c.without_end.ensures (said_bad _ _ c.in-Err-BadLine.ensures c.in-Err-BadLine.field-0-is))
+pub returns-in-BadLine : goal.returns-in-BadLine
+returns-in-BadLine c = gives _ _ _ _ _ refl (λ short lines. refl) (opens _ _ _ _ _ _ c.requires c.split_at.ensures.front c.without_end.ensures (said_bad _ _ c.in-Err.ensures c.in-BadLine.is))
+
+pub returns-in_default : goal.returns-in_default
+returns-in_default c = (refl, begins_name _ _ _ _ (opens _ _ _ _ _ _ c.requires c.split_at.ensures.front c.without_end.ensures refl) (said_name _ _ c.in-Err.ensures c.in_default.not-BadLine))

@@ -11,7 +11,7 @@ returns-clause-running g c = λ running.
     let blocks = g.S.BlockStore.contents c.self.inside.store in
     let kept = c.self.invariant.kept (ap (λ (m : Mounted). m.stopped) c.self.view_is ∙ running) in
     subst (λ (m : Mounted). c.count.result ≡ count_of (files_of m.blocks)) c.self.view_is
-    (c.count.ensures ∙ sym (count_of-read blocks d (files_of blocks) c.self.invariant.volume.each (c.files_made.ensures blocks d kept) (c.sound_directory.ensures blocks d kept)))
+    (c.count.ensures.value ∙ sym (count_of-read blocks d (files_of blocks) c.self.invariant.volume.each (c.files_made.ensures blocks d kept) (c.sound_directory.ensures blocks d kept)))
 
 pub returns-clause-above : goal.returns-clause-above
 returns-clause-above g c = λ running.
@@ -19,4 +19,4 @@ returns-clause-above g c = λ running.
     let blocks = g.S.BlockStore.contents c.self.inside.store in
     let kept = c.self.invariant.kept (ap (λ (m : Mounted). m.stopped) c.self.view_is ∙ running) in
     subst (λ (m : Mounted). above_of m.blocks ≤ c.count.result) c.self.view_is
-    (omega (arith, c.count.ensures, c.directory_numbers.ensures.above blocks d kept, above-few d.entries))
+    (omega (arith, c.count.ensures.value, c.directory_numbers.ensures.above blocks d kept, above-few d.entries))

@@ -1,0 +1,27 @@
+//! What holds of names and numbers in lines. Each function does nothing: its contract is the law.
+ghost use Rattle.std.specs.Prelude.{◌≡◌, ◌<◌, ℕ, List, Option, Some, decimal};
+ghost use Rattle.word12.specs.Octal.{octal4};
+ghost use Rattle.os8_dir.specs.Names.{parsed_name};
+ghost use Rattle.script8.specs.Lines.{number_of, cell_of, octal_of, character_of};
+ghost use Rattle.script8.specs.Replies.{cell_text, character_text};
+ghost use Rattle.script8.specs.Shown.{shown};
+
+/// A name is shown as it was typed.
+#[tactic(auto, using(crate::proofs::LawLemmas::name_as_typed))]
+pub fn name_as_typed()
+    ensures { (text : List ℕ) (name : ℕ) → parsed_name text ≡ Some name → shown name ≡ text }
+{}
+
+/// A number of at most seven digits that is shown is read as that number.
+#[tactic(auto, using(crate::proofs::LawLemmas::number_as_shown))]
+pub fn number_as_shown()
+    ensures { (number : ℕ) → number < 10000000 → number_of (decimal number) ≡ Some number }
+{}
+
+/// A cell, a word and a character that are shown are read as they are.
+#[tactic(auto, using(crate::proofs::LawLemmas::cell_as_shown, crate::proofs::LawLemmas::word_as_shown, crate::proofs::LawLemmas::character_as_shown))]
+pub fn octal_as_shown()
+    ensures cell { (cell : ℕ) → cell < 32768 → cell_of (cell_text cell) ≡ Some cell }
+    ensures word { (word : ℕ) → word < 4096 → octal_of 4 (octal4 word) ≡ Some word }
+    ensures character { (character : ℕ) → character < 256 → character_of (character_text character) ≡ Some character }
+{}

@@ -1,0 +1,140 @@
+//! The texts of refusals.
+ghost use Rattle.std.specs.Prelude.{◌≡◌, ◌≤◌, ◌++◌};
+ghost use Rattle.arrayvec.specs.ArrayVec.{array_vec_len};
+ghost use Rattle.script8.specs.Faults.{fault_text, tape_fault_text, file_fault_text};
+ghost use Rattle.script8.specs.Replies.{lent, begin_text, end_text, job_of as the_job, job_of_entry as the_job_of};
+
+use crate::said::put_job;
+use crate::text_lines::{put, put_name, put_number};
+use crate::{Entry, SessionFault};
+use arrayvec::ArrayVec;
+use bin_tape::TapeFault;
+use os8_files::FileFault;
+
+/// Puts the text of a fault into an empty line.
+pub(crate) fn put_text(line: &mut ArrayVec<u8, 80>, fault: SessionFault)
+    requires { array_vec_len line.old ≡ 0 }
+    ensures text { line.new.items ≡ line.old.items ++ fault_text fault }
+    ensures short { array_vec_len line.new ≤ 50 }
+{
+    match fault {
+        SessionFault::BadLine => put(line, b"? 1 BAD LINE"),
+        SessionFault::NoJob => put(line, b"? 2 NO JOB"),
+        SessionFault::TooManyJobs => put(line, b"? 3 TOO MANY JOBS"),
+        SessionFault::File(file) => put_file_fault(line, file),
+        SessionFault::Tape(tape) => put_tape_fault(line, tape),
+        SessionFault::BadText => put(line, b"? 7 BAD TEXT"),
+        SessionFault::Reader => put(line, b"? 8 READER"),
+        SessionFault::Writer => put(line, b"? 9 WRITER"),
+        SessionFault::Memory => put(line, b"? 10 MEMORY"),
+        SessionFault::TooManyBreaks => put(line, b"? 11 TOO MANY BREAKS"),
+    }
+}
+
+/// Puts the text of a refusal of the file service into an empty line.
+fn put_file_fault(line: &mut ArrayVec<u8, 80>, fault: FileFault)
+    requires { array_vec_len line.old ≡ 0 }
+    ensures text { line.new.items ≡ line.old.items ++ file_fault_text fault }
+    ensures short { array_vec_len line.new ≤ 50 }
+{
+    match fault {
+        FileFault::NotFound => put(line, b"? 4.1 NOT FOUND"),
+        FileFault::NoRoom(blocks) => {
+            put(line, b"? 4.2 NO ROOM ");
+            put_number(line, blocks as u64);
+        }
+        FileFault::DirectoryFull => put(line, b"? 4.3 DIRECTORY FULL"),
+        FileFault::Busy(name) => {
+            put(line, b"? 4.4 BUSY ");
+            put_name(line, name);
+        }
+        FileFault::BadName => put(line, b"? 4.5 BAD NAME"),
+        FileFault::TooLong => put(line, b"? 4.6 TOO LONG"),
+        FileFault::TentativeOpen => put(line, b"? 4.7 TENTATIVE OPEN"),
+        FileFault::Device => put(line, b"? 4.8 DEVICE"),
+        FileFault::Stopped => put(line, b"? 4.9 STOPPED"),
+        FileFault::Memory => put(line, b"? 10 MEMORY"),
+        FileFault::NothingWritten => put(line, b"? 4.11 NOTHING WRITTEN"),
+    }
+}
+
+/// Puts the text of a fault of a tape into an empty line.
+fn put_tape_fault(line: &mut ArrayVec<u8, 80>, fault: TapeFault)
+    requires { array_vec_len line.old ≡ 0 }
+    ensures text { line.new.items ≡ line.old.items ++ tape_fault_text fault }
+    ensures short { array_vec_len line.new ≤ 50 }
+{
+    match fault {
+        TapeFault::BadFrame(place) => {
+            put(line, b"? 6.1 BAD FRAME ");
+            put_number(line, place);
+        }
+        TapeFault::NoOrigin => put(line, b"? 6.2 NO ORIGIN"),
+        TapeFault::CheckSum { found, computed } => {
+            put(line, b"? 6.3 CHECK SUM ");
+            put(line, &found.octal4());
+            put(line, b" ");
+            put(line, &computed.octal4());
+        }
+        TapeFault::NoTrailer => put(line, b"? 6.4 NO TRAILER"),
+        TapeFault::Memory => put(line, b"? 10 MEMORY"),
+    }
+}
+
+/// The job to which an entry gives a turn, where there is an entry.
+pub(crate) fn job_of(entry: Option<&Entry>) -> Option<u32>
+    ensures { result ≡ the_job (lent entry.entry) }
+{
+    match entry {
+        Some(entry) => job_of_entry(entry),
+        None => None,
+    }
+}
+
+/// The job to which an entry gives a turn.
+fn job_of_entry(entry: &Entry) -> Option<u32>
+    ensures { result ≡ the_job_of entry.now }
+{
+    match entry {
+        Entry::Turn(job) => Some(*job),
+        Entry::Store { .. }
+        | Entry::Delete { .. }
+        | Entry::Direct
+        | Entry::Squeeze
+        | Entry::Start(_)
+        | Entry::Step(_)
+        | Entry::Go(_)
+        | Entry::Run { .. }
+        | Entry::Key(_)
+        | Entry::Done
+        | Entry::Switches(_)
+        | Entry::Examine(_)
+        | Entry::Deposit { .. }
+        | Entry::Break { .. }
+        | Entry::Registers
+        | Entry::Printed => None,
+    }
+}
+
+/// Puts what stands before a fault of a job's turn, or of no job's, into an empty line.
+pub(crate) fn put_begin(line: &mut ArrayVec<u8, 80>, job: Option<u32>, fault: SessionFault)
+    requires { array_vec_len line.old ≡ 0 }
+    ensures text { line.new.items ≡ line.old.items ++ begin_text job fault }
+    ensures short { array_vec_len line.new ≤ 25 }
+{
+    if let Some(job) = job {
+        put_end(line, job, fault);
+    }
+}
+
+/// Puts the job of a fault that is its end into an empty line.
+fn put_end(line: &mut ArrayVec<u8, 80>, job: u32, fault: SessionFault)
+    requires { array_vec_len line.old ≡ 0 }
+    ensures text { line.new.items ≡ line.old.items ++ end_text job fault }
+    ensures short { array_vec_len line.new ≤ 25 }
+{
+    if let SessionFault::File(_) | SessionFault::Tape(_) = fault {
+        put_job(line, job);
+        put(line, b" ");
+    }
+}

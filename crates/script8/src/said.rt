@@ -1,0 +1,126 @@
+//! The text of what is said in one line.
+ghost use Rattle.std.specs.Prelude.{◌≡◌, ◌+◌, ◌≤◌, ◌++◌, [], ◌∷◌};
+ghost use Rattle.arrayvec.specs.ArrayVec.{array_vec_len};
+ghost use Rattle.script8.specs.Replies.{said_text, why_text, setting_text, cell_text, character_text, job_text};
+
+use crate::text_lines::{put, put_name, put_number};
+use crate::{Said, Why};
+use arrayvec::ArrayVec;
+use word12::Cell;
+
+/// Puts what is said in one line into an empty line.
+pub(crate) fn put_said(line: &mut ArrayVec<u8, 80>, said: &Said)
+    requires { array_vec_len line.old ≡ 0 }
+    ensures text { line.new.items ≡ line.old.items ++ said_text said.now }
+    ensures short { array_vec_len line.new ≤ 60 }
+{
+    match said {
+        Said::Stored { name, blocks } => {
+            put(line, b"STORED ");
+            put_name(line, *name);
+            put(line, b" ");
+            put_number(line, *blocks as u64);
+        }
+        Said::Deleted(name) => {
+            put(line, b"DELETED ");
+            put_name(line, *name);
+        }
+        Said::Job(job) => put_job(line, *job),
+        Said::Working(job) => {
+            put(line, b"WORKING ");
+            put_number(line, u64::from(*job));
+        }
+        Said::Squeezed(job) => {
+            put_job(line, *job);
+            put(line, b" SQUEEZED");
+        }
+        Said::Finished => put(line, b"FINISHED"),
+        Said::Started(cell) => {
+            put(line, b"STARTED ");
+            put_cell(line, *cell);
+        }
+        Said::Steps { steps, why, cell } => {
+            put(line, b"STEPS ");
+            put_number(line, u64::from(*steps));
+            put_why(line, *why);
+            put_cell(line, *cell);
+        }
+        Said::Key(character) => {
+            put(line, b"KEY ");
+            put(line, &octal3(*character));
+        }
+        Said::Done => put(line, b"DONE"),
+        Said::Switches(word) => {
+            put(line, b"SWITCHES ");
+            put(line, &word.octal4());
+        }
+        Said::Core { cell, word } => {
+            put_cell(line, *cell);
+            put(line, b" ");
+            put(line, &word.octal4());
+        }
+        Said::Break { cell, is_on } => {
+            put(line, b"BREAK ");
+            put_cell(line, *cell);
+            put_setting(line, *is_on);
+        }
+    }
+}
+
+/// Puts why steps ended, between blanks.
+fn put_why(line: &mut ArrayVec<u8, 80>, why: Why)
+    requires { array_vec_len line.old ≤ 40 }
+    ensures text { line.new.items ≡ line.old.items ++ 32 ∷ why_text why ++ 32 ∷ [] }
+    ensures short { array_vec_len line.new ≤ array_vec_len line.old + 12 }
+{
+    match why {
+        Why::Halt => put(line, b" HALT "),
+        Why::Unassigned => put(line, b" UNASSIGNED "),
+        Why::Break => put(line, b" BREAK "),
+        Why::Limit => put(line, b" LIMIT "),
+    }
+}
+
+/// Puts whether a break is set, behind a blank.
+fn put_setting(line: &mut ArrayVec<u8, 80>, is_on: bool)
+    requires { array_vec_len line.old ≤ 40 }
+    ensures text { line.new.items ≡ line.old.items ++ 32 ∷ setting_text is_on }
+    ensures short { array_vec_len line.new ≤ array_vec_len line.old + 4 }
+{
+    if is_on {
+        put(line, b" ON");
+    } else {
+        put(line, b" OFF");
+    }
+}
+
+/// Puts the number of a job into an empty line.
+pub(crate) fn put_job(line: &mut ArrayVec<u8, 80>, job: u32)
+    requires { array_vec_len line.old ≡ 0 }
+    ensures text { line.new.items ≡ line.old.items ++ job_text job [] }
+    ensures short { array_vec_len line.new ≤ 24 }
+{
+    put(line, b"JOB ");
+    put_number(line, u64::from(job));
+}
+
+/// Puts the octal digits of a cell.
+fn put_cell(line: &mut ArrayVec<u8, 80>, cell: Cell)
+    requires { array_vec_len line.old ≤ 60 }
+    ensures text { line.new.items ≡ line.old.items ++ cell_text cell }
+    ensures len { array_vec_len line.new ≡ array_vec_len line.old + 5 }
+{
+    put(line, &[48 + cell.field()]);
+    put(line, &cell.address().octal4());
+}
+
+/// The three octal digits of a character.
+pub(crate) fn octal3(character: u8) -> [u8; 3]
+    ensures { result ≡ character_text character }
+{
+    [
+        48 + character / 64,
+        48 + character / 8 % 8,
+        48 + character % 8,
+    ]
+}

@@ -1,0 +1,120 @@
+-- What doing an entry comes to, by what happened to the volume: a lemma for each kind of answer, whatever the entry is.
+use Rattle.std.proofs.Common.{◌≡◌, ◌≢◌, ℕ, ◌<◌, ◌⊎◌, false, true, true≢false, List, Ok, Err, ap, sym, ◌∙◌, arith, inl, inr}
+use Rattle.os8_files.specs.Mounted.{Mounted}
+use Rattle.os8_files.specs.declared.faults.FileFault.{FileFault}
+use Rattle.script8.specs.declared.entries.Entry.{Entry}
+use Rattle.script8.specs.declared.faults.SessionFault.{SessionFault}
+use Rattle.script8.specs.declared.faults.SessionFault.TheVariants as fault
+use Rattle.script8.specs.declared.replies.Reply.{Reply}
+use Rattle.session8.specs.Console.{is_console}
+use Rattle.session8.specs.Refusals.{May, MayLack, after_refusal}
+use Rattle.session8.specs.Session.{Seen, state_of, IsQuiet, Does}
+use Rattle.session8.specs.Steps.{HasFailed, HasStopped}
+use Rattle.session8.specs.System.{Answer, Done}
+
+-- an answer that is a refusal, and one that is a reply
+abbrev refusal : SessionFault → Answer
+refusal why = Err why
+
+abbrev reply_of : Reply → Answer
+reply_of reply = Ok reply
+
+pub not_memory : (why : FileFault) → refusal (fault.File why) ≢ Err fault.Memory
+not_memory why is = cc
+
+ok_not_memory : (reply : Reply) → reply_of reply ≢ Err fault.Memory
+ok_not_memory reply is = cc
+
+-- whether writes are stopped, and how many block calls failed, is as before
+pub record IsSteady (old new : Mounted) : Type 0 where
+  pub stopped : new.stopped ≡ old.stopped
+  pub reads : new.failed_reads ≡ old.failed_reads
+  pub writes : new.failed_writes ≡ old.failed_writes
+
+pub steady : (v v' : Mounted) (blocks : List (List ℕ)) (reads writes : ℕ) → v' ≡ record v { blocks = blocks; reads = reads; writes = writes } → IsSteady v v'
+steady v v' blocks reads writes is = record {
+  stopped = ap (λ (m : Mounted). m.stopped) is;
+  reads = ap (λ (m : Mounted). m.failed_reads) is;
+  writes = ap (λ (m : Mounted). m.failed_writes) is;
+}
+
+pub steady_same : (v v' : Mounted) → v' ≡ v → IsSteady v v'
+steady_same v v' is = steady v v' v.blocks v.reads v.writes is
+
+-- a reply
+pub replied : (e : Entry) (old new : Seen) (reply : Reply) → old.volume.stopped ≡ false → IsSteady old.volume new.volume → Done (state_of old) e reply (state_of new) → Does e old (Ok reply) new
+replied e old new reply running still done = record {
+  step = λ quiet. done;
+  later = record { reads = omega (arith, still.reads); writes = omega (arith, still.writes) };
+  files = λ running more. absurd (omega (arith, more, still.writes));
+  running = λ quiet. still.stopped ∙ running;
+  memory = λ is. absurd (ok_not_memory _ is);
+  reply = tt;
+  done = (done, inr (record { running = running; reads = still.reads; writes = still.writes }));
+}
+
+-- a reply of the console, which leaves the volume alone, whatever failed before
+pub shown : (e : Entry) (old new : Seen) (reply : Reply) → is_console e ≡ true → new.volume ≡ old.volume → Done (state_of old) e reply (state_of new) → Does e old (Ok reply) new
+shown e old new reply is same done = record {
+  step = λ quiet. done;
+  later = record { reads = omega (arith, still.reads); writes = omega (arith, still.writes) };
+  files = λ running more. absurd (omega (arith, more, still.writes));
+  running = λ quiet. still.stopped ∙ quiet.running;
+  memory = λ is. absurd (ok_not_memory _ is);
+  reply = tt;
+  done = (done, inl is);
+}
+  where
+    still : IsSteady old.volume new.volume
+    still = steady_same old.volume new.volume same
+
+-- a refusal of the file service
+pub refused : (e : Entry) (old new : Seen) (why : FileFault) → IsSteady old.volume new.volume → May (state_of old) e (fault.File why) → state_of new ≡ after_refusal (state_of old) e → Does e old (Err (fault.File why)) new
+refused e old new why still may after = record {
+  step = λ quiet. (may, after);
+  later = record { reads = omega (arith, still.reads); writes = omega (arith, still.writes) };
+  files = λ running more. absurd (omega (arith, more, still.writes));
+  running = λ quiet. still.stopped ∙ quiet.running;
+  memory = λ is. absurd (not_memory why is);
+  reply = tt;
+  done = tt;
+}
+
+-- what want of memory left undone
+pub undone : (e : Entry) (old new : Seen) → MayLack (state_of old) e → IsSteady old.volume new.volume → state_of new ≡ state_of old → Does e old (Err fault.Memory) new
+undone e old new may still same = record {
+  step = λ quiet. (may, same);
+  later = record { reads = omega (arith, still.reads); writes = omega (arith, still.writes) };
+  files = λ running more. absurd (omega (arith, more, still.writes));
+  running = λ quiet. still.stopped ∙ quiet.running;
+  memory = λ is. record { state = same; stopped = still.stopped; reads = still.reads; writes = still.writes };
+  reply = tt;
+  done = tt;
+}
+
+-- a block call failed
+pub failed : (e : Entry) (old new : Seen) (why : FileFault) → HasFailed old.volume new.volume → Does e old (Err (fault.File why)) new
+failed e old new why has = record {
+  step = λ quiet. absurd (loud quiet has.more);
+  later = record { reads = has.behind.reads; writes = has.behind.writes };
+  files = has.files;
+  running = λ quiet. absurd (loud quiet has.more);
+  memory = λ is. absurd (not_memory why is);
+  reply = tt;
+  done = tt;
+}
+  where
+    loud : IsQuiet old new → (old.volume.failed_reads < new.volume.failed_reads) ⊎ (old.volume.failed_writes < new.volume.failed_writes) → ⊥
+    loud quiet more = elim more [ inl h ↦ omega (arith, h, quiet.reads) | inr h ↦ omega (arith, h, quiet.writes) ]
+
+-- a write had failed before
+pub stopped : (e : Entry) (old new : Seen) (why : FileFault) → HasStopped old.volume new.volume → Does e old (Err (fault.File why)) new
+stopped e old new why has = record {
+  step = λ quiet. absurd (true≢false (sym has.0 ∙ quiet.running));
+  later = record { reads = has.1.reads; writes = has.1.writes };
+  files = λ running more. absurd (true≢false (sym has.0 ∙ running));
+  running = λ quiet. absurd (true≢false (sym has.0 ∙ quiet.running));
+  memory = λ is. absurd (not_memory why is);
+  reply = tt;
+  done = tt;
+}

@@ -1,0 +1,50 @@
+-- Runs of entries.
+use Rattle.std.proofs.Common.{ℕ, arith, IsErrOf, OnOk, true≢false, ◌≡◌, ◌≢◌, ◌+◌, refl, sym, ◌∙◌, ap, subst, true, false, List, [], ◌∷◌, ◌++◌, Result, Ok, Err}
+use Rattle.script8.specs.declared.entries.Entry.{Entry}
+use Rattle.script8.specs.declared.faults.SessionFault.TheVariants as fault
+use Rattle.session8.specs.State.{State}
+use Rattle.session8.specs.System.{Answer, is_memory, Step, Run}
+
+pub memory_is : (a : Answer) → is_memory a ≡ true → a ≡ Err fault.Memory
+memory_is (Ok reply) is = absurd (true≢false (sym is))
+memory_is (Err fault.Memory) is = refl
+memory_is (Err fault.BadLine) is = absurd (true≢false (sym is))
+memory_is (Err fault.NoJob) is = absurd (true≢false (sym is))
+memory_is (Err fault.TooManyJobs) is = absurd (true≢false (sym is))
+memory_is (Err (fault.File why)) is = absurd (true≢false (sym is))
+memory_is (Err (fault.Tape why)) is = absurd (true≢false (sym is))
+memory_is (Err fault.BadText) is = absurd (true≢false (sym is))
+memory_is (Err fault.Reader) is = absurd (true≢false (sym is))
+memory_is (Err fault.Writer) is = absurd (true≢false (sym is))
+memory_is (Err fault.TooManyBreaks) is = absurd (true≢false (sym is))
+
+pub no_memory : (a : Answer) → is_memory a ≡ false → a ≢ Err fault.Memory
+no_memory a other is = true≢false (sym (ap is_memory is) ∙ other)
+
+-- one more entry of a run
+pub run_more : (front : List Entry) (answers : List Answer) (old mid new : State) (entry : Entry) (answer : Answer) → Run old front answers false mid → Step mid entry answer new → answer ≢ Err fault.Memory → Run old (front ++ entry ∷ []) (answers ++ answer ∷ []) false new
+run_more [] [] old mid new entry answer run step other = (new, subst (λ (s : State). Step s entry answer new) run.1 step, other, (refl, refl))
+run_more [] (a ∷ answers) old mid new entry answer run step other = absurd run
+run_more (e ∷ front) [] old mid new entry answer run step other = absurd (true≢false (sym run.0))
+run_more (e ∷ front) (a ∷ answers) old mid new entry answer run step other = (run.0, run.1, run.2, run_more front answers run.0 mid new entry answer run.3 step other)
+
+-- a run that want of memory ends before an entry
+pub run_stopped : (front rest : List Entry) (answers : List Answer) (old mid : State) (entry : Entry) → Run old front answers false mid → Run old (front ++ entry ∷ rest) answers true mid
+run_stopped [] rest [] old mid entry run = (refl, run.1)
+run_stopped [] rest (a ∷ answers) old mid entry run = absurd run
+run_stopped (e ∷ front) rest [] old mid entry run = absurd (true≢false (sym run.0))
+run_stopped (e ∷ front) rest (a ∷ answers) old mid entry run = (run.0, run.1, run.2, run_stopped front rest answers run.0 mid entry run.3)
+
+pub memory_err : (a : Answer) → is_memory a ≡ true → IsErrOf a fault.Memory
+memory_err a is = subst (λ (x : Answer). IsErrOf x fault.Memory) (sym (memory_is a is)) refl
+
+pub not_first : (n : ℕ) → n + 1 ≡ 0 → ⊥
+not_first n is = omega (arith, is)
+
+-- an answer that is not want of memory
+pub not_err : (a : Answer) → is_memory a ≡ false → IsErrOf a fault.Memory → ⊥
+not_err a other is = true≢false (sym (ap is_memory is) ∙ other)
+
+pub on_ok : {A E : Type 0} {P : Type 0} (r : Result A E) → P → OnOk r P
+on_ok (Ok x) p = p
+on_ok (Err e) p = tt

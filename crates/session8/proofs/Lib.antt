@@ -1,0 +1,10 @@
+pub mod ByteLemmas
+pub mod JobLemmas
+pub mod QuietLemmas
+pub mod StoreLemmas
+pub mod DoesLemmas
+pub mod SessionLemmas
+pub mod ToldLemmas
+pub mod EntryLemmas
+pub mod TextLemmas
+pub mod RefusalLemmas

@@ -1,0 +1,74 @@
+-- What is seen of a session, and the state of the system machine in it.
+use Rattle.std.specs.Prelude.{◌≡◌, ◌≤◌, ◌<◌, ◌⊎◌, true, false, nat_eq, OnOk, Option, List, [], None, Err}
+use Rattle.os8_dir.specs.Files.{files_of, capacity_of, limit_of, above_of}
+use Rattle.os8_files.specs.Calls.{info_of}
+use Rattle.os8_files.specs.Mounted.{Mounted}
+use Rattle.script8.specs.declared.entries.Entry.{Entry}
+use Rattle.script8.specs.declared.faults.SessionFault.TheVariants.{Reader, Writer, Memory}
+use Rattle.session8.specs.Console.{is_console}
+use Rattle.session8.specs.State.{State, Console}
+use Rattle.session8.specs.Steps.{Outlives}
+use Rattle.session8.specs.System.{Answer, Step}
+use Rattle.session8.specs.declared.jobs.Job.{Job}
+
+pub record Seen : Type 0 where
+  pub volume : Mounted
+  -- the jobs by their numbers
+  pub jobs : List (Option Job)
+  pub console : Console
+
+-- the state of the system machine: the files are those of the store's blocks
+abbrev pub state_of : Seen → State
+state_of s = record {
+  files = files_of s.volume.blocks;
+  capacity = capacity_of s.volume.blocks;
+  limit = limit_of s.volume.blocks;
+  info = info_of s.volume.blocks;
+  tight = nat_eq (above_of s.volume.blocks) 0;
+  jobs = s.jobs;
+  console = s.console;
+}
+
+-- no block call failed between, and no write before
+pub record IsQuiet (old new : Seen) : Type 0 where
+  pub running : old.volume.stopped ≡ false
+  pub reads : new.volume.failed_reads ≡ old.volume.failed_reads
+  pub writes : new.volume.failed_writes ≡ old.volume.failed_writes
+
+-- failures are never forgotten
+pub record IsLater (old new : Seen) : Type 0 where
+  pub reads : old.volume.failed_reads ≤ new.volume.failed_reads
+  pub writes : old.volume.failed_writes ≤ new.volume.failed_writes
+
+-- nothing that the system machine has is changed, and no block call failed
+pub record IsSame (old new : Seen) : Type 0 where
+  pub state : state_of new ≡ state_of old
+  pub stopped : new.volume.stopped ≡ old.volume.stopped
+  pub reads : new.volume.failed_reads ≡ old.volume.failed_reads
+  pub writes : new.volume.failed_writes ≡ old.volume.failed_writes
+
+-- an answer to an entry is neither the reader's nor the writer's fault
+abbrev pub IsReply : Answer → Type 0
+IsReply (Err Reader) = ⊥
+IsReply (Err Writer) = ⊥
+IsReply answer = Unit {0}
+
+-- an entry of the console needs no block; of another that was replied to, no block call failed
+abbrev pub IsSteadied : Entry → Seen → Seen → Type 0
+IsSteadied entry old new = (is_console entry ≡ true) ⊎ IsQuiet old new
+
+-- What doing an entry comes to: a step of the system machine where no block call fails, or where there is a reply, and nothing
+-- for want of memory.
+pub record Does (entry : Entry) (old : Seen) (answer : Answer) (new : Seen) : Type 0 where
+  pub step : IsQuiet old new → Step (state_of old) entry answer (state_of new)
+  pub later : IsLater old new
+  pub files : old.volume.stopped ≡ false → old.volume.failed_writes < new.volume.failed_writes → Outlives old.volume.blocks new.volume.blocks
+  pub running : IsQuiet old new → new.volume.stopped ≡ false
+  pub memory : answer ≡ Err Memory → IsSame old new
+  pub reply : IsReply answer
+  pub done : OnOk answer (Step (state_of old) entry answer (state_of new) × IsSteadied entry old new)
+
+-- between entries no file is being written, and no file is held
+pub record IsSettled (volume : Mounted) : Type 0 where
+  pub none : volume.tentative ≡ None
+  pub free : volume.holds ≡ []

@@ -1,0 +1,201 @@
+//! The operator's console.
+ghost use Rattle.std.specs.Prelude.{◌≡◌, ◌≤◌, [], true, false, IfOk};
+ghost use Rattle.core_load.specs.Core.{zeros};
+ghost use Rattle.cpu8.specs.State.{stopped, next_cell};
+ghost use Rattle.debug8.specs.Breaks.{no_breaks};
+ghost use Rattle.session8.specs.Console.{is_console, ConsoleDoes, Shows, why_of};
+ghost use Rattle.script8.specs.declared.entries.Entry.TheVariants as entry;
+ghost use Rattle.script8.specs.declared.replies.Reply.TheVariants.{Line};
+ghost use Rattle.script8.specs.declared.replies.Said.TheVariants as said;
+
+use core_load::Core;
+use cpu8::{Gone, Machine};
+use debug8::{DebugFault, Debugger};
+use script8::{Bytes, Entry, Reply, Report, Said, Why};
+use std::alloc::Global;
+use std::marker::Model;
+use word12::{Cell, Word};
+
+/// The processor with its core and Teletype, the breaks, and what was printed.
+#[derive(Drop)]
+pub(crate) struct Console {
+    machine: Machine,
+    debugger: Debugger,
+    printed: Vec<u8>,
+}
+
+impl Model for Console {
+    ghost use Rattle.session8.specs.State as spec;
+
+    ghost Value = { spec.Console };
+
+    ghost view = { λ c. record { machine = c.machine; breaks = c.debugger; printed = c.printed.items } };
+}
+
+impl Console {
+    /// A console with a stopped processor whose core is 0, no breaks, and nothing printed.
+    pub(crate) fn new(alloc: Global) -> Result<Console, DebugFault>
+        ensures { IfOk result (λ c. c ≡ record { machine = stopped (zeros 32768); breaks = no_breaks 32768; printed = [] }) }
+    {
+        let core = match Core::new(alloc) {
+            Ok(core) => core,
+            Err(_) => return Err(DebugFault::Memory),
+        };
+        let debugger = Debugger::new(alloc)?;
+        Ok(Console {
+            machine: Machine::new(core),
+            debugger,
+            printed: Vec::new(alloc),
+        })
+    }
+
+    /// Does an entry of the console (Small Computer Handbook).
+    pub(crate) fn enter(&mut self, alloc: Global, entry: &Entry) -> Result<Reply, DebugFault>
+        requires { is_console entry.now ≡ true }
+        ensures { ConsoleDoes entry.now self.old result self.new }
+    {
+        match entry {
+            Entry::Start(cell) => Ok(self.start(*cell)),
+            Entry::Step(steps) => self.step(*steps),
+            Entry::Go(steps) => self.go(*steps),
+            Entry::Run { cell, steps } => self.run(*cell, *steps),
+            Entry::Key(character) => Ok(self.key(*character)),
+            Entry::Done => Ok(self.done()),
+            Entry::Switches(word) => Ok(self.switches(*word)),
+            Entry::Examine(cell) => Ok(self.examine(*cell)),
+            Entry::Deposit { cell, word } => Ok(self.deposit(*cell, *word)),
+            Entry::Break { cell, is_on: true } => self.set_break(*cell),
+            Entry::Break { cell, is_on: false } => Ok(self.clear_break(*cell)),
+            Entry::Registers => self.registers(alloc),
+            Entry::Printed => self.printed(alloc),
+            Entry::Store { .. }
+            | Entry::Delete { .. }
+            | Entry::Direct
+            | Entry::Squeeze
+            | Entry::Turn(_) => unreachable!(),
+        }
+    }
+
+    fn start(&mut self, cell: Cell) -> Reply
+        ensures { Shows self.old (entry.Start cell) result self.new }
+    {
+        self.machine.start(cell);
+        Reply::Line(Said::Started(cell))
+    }
+
+    /// So many steps, whatever breaks are set.
+    fn step(&mut self, steps: u32) -> Result<Reply, DebugFault>
+        ensures { ConsoleDoes (entry.Step steps) self.old result self.new }
+    {
+        self.printed.reserve(steps as usize)?;
+        let gone = Debugger::step(&mut self.machine, steps as usize, &mut self.printed);
+        Ok(self.gone(gone))
+    }
+
+    fn go(&mut self, steps: u32) -> Result<Reply, DebugFault>
+        ensures { ConsoleDoes (entry.Go steps) self.old result self.new }
+    {
+        self.printed.reserve(steps as usize)?;
+        let gone = self.debugger.go(&mut self.machine, steps as usize, false, &mut self.printed);
+        Ok(self.gone(gone))
+    }
+
+    /// A start, and then a go with a printer that is always quick.
+    fn run(&mut self, cell: Cell, steps: u32) -> Result<Reply, DebugFault>
+        ensures { ConsoleDoes (entry.Run cell steps) self.old result self.new }
+    {
+        self.printed.reserve(steps as usize)?;
+        self.machine.start(cell);
+        let gone = self
+            .debugger
+            .go(&mut self.machine, steps as usize, true, &mut self.printed);
+        Ok(self.gone(gone))
+    }
+
+    /// What is said of steps that were made.
+    fn gone(&self, gone: Gone) -> Reply
+        requires { gone.steps ≤ 4294967295 }
+        ensures { result ≡ Line (said.Steps gone.steps (why_of gone.why) (next_cell self.now.machine)) }
+    {
+        Reply::Line(Said::Steps {
+            steps: gone.steps as u32,
+            why: why_of(gone.why),
+            cell: self.machine.next_cell(),
+        })
+    }
+
+    fn key(&mut self, character: u8) -> Reply
+        ensures { Shows self.old (entry.Key character) result self.new }
+    {
+        self.machine.key(character);
+        Reply::Line(Said::Key(character))
+    }
+
+    fn done(&mut self) -> Reply
+        ensures { Shows self.old entry.Done result self.new }
+    {
+        self.machine.done();
+        Reply::Line(Said::Done)
+    }
+
+    fn switches(&mut self, word: Word) -> Reply
+        ensures { Shows self.old (entry.Switches word) result self.new }
+    {
+        self.machine.switches(word);
+        Reply::Line(Said::Switches(word))
+    }
+
+    fn examine(&self, cell: Cell) -> Reply
+        ensures { Shows self.now (entry.Examine cell) result self.now }
+    {
+        let word = Debugger::examine(&self.machine, cell);
+        Reply::Line(Said::Core { cell, word })
+    }
+
+    fn deposit(&mut self, cell: Cell, word: Word) -> Reply
+        ensures { Shows self.old (entry.Deposit cell word) result self.new }
+    {
+        Debugger::deposit(&mut self.machine, cell, word);
+        Reply::Line(Said::Core { cell, word })
+    }
+
+    fn set_break(&mut self, cell: Cell) -> Result<Reply, DebugFault>
+        ensures { ConsoleDoes (entry.Break cell true) self.old result self.new }
+    {
+        self.debugger.set_break(cell)?;
+        Ok(Reply::Line(Said::Break { cell, is_on: true }))
+    }
+
+    fn clear_break(&mut self, cell: Cell) -> Reply
+        ensures { Shows self.old (entry.Break cell false) result self.new }
+    {
+        self.debugger.clear_break(cell);
+        Reply::Line(Said::Break { cell, is_on: false })
+    }
+
+    fn registers(&self, alloc: Global) -> Result<Reply, DebugFault>
+        ensures { ConsoleDoes entry.Registers self.now result self.now }
+    {
+        let text = Debugger::snapshot(alloc, &self.machine)?;
+        Ok(Reply::Report(Report::Registers(Bytes::new(text.into_bytes()))))
+    }
+
+    fn printed(&self, alloc: Global) -> Result<Reply, DebugFault>
+        ensures { ConsoleDoes entry.Printed self.now result self.now }
+    {
+        let characters = self.printed.to_vec(alloc)?;
+        Ok(Reply::Report(Report::Printed(Bytes::new(characters))))
+    }
+}
+
+/// Why steps ended, as a reply says it.
+fn why_of(why: cpu8::Why) -> Why
+    ensures { result ≡ why_of why }
+{
+    match why {
+        cpu8::Why::Halt => Why::Halt,
+        cpu8::Why::Unassigned => Why::Unassigned,
+        cpu8::Why::Break => Why::Break,
+        cpu8::Why::Limit => Why::Limit,
+    }
+}

@@ -1,0 +1,13 @@
+//! A session over a volume: the system machine as a program, its jobs, and the running of scripts.
+#![tactic(auto)]
+
+mod consoles;
+mod endings;
+mod jobs;
+pub mod laws;
+mod readings;
+mod sessions;
+
+pub use jobs::{Job, Work};
+pub use readings::{MOST, read_all};
+pub use sessions::{Ran, Session};

@@ -1,0 +1,216 @@
+ghost use Rattle.std.specs.Prelude.{◌≡◌, ◌+◌, ◌<◌, ◌≤◌, ◌↔◌, [], false, true, None, OnOk, IfOk, IfErr, IsErrOf, ◌++◌, ◌∷◌, vec_len, vec_capacity, Err};
+ghost use Rattle.os8_dir.specs.Reading.{Sound, Meets, directory_of};
+ghost use Rattle.os8_dir.specs.declared.faults.DirFault.TheVariants.{Device};
+ghost use Rattle.session8.specs.Jobs.{no_jobs};
+ghost use Rattle.session8.specs.Console.{is_console};
+ghost use Rattle.session8.specs.System.{Step, Run, is_memory};
+ghost use Rattle.session8.specs.Steps.{Outlives};
+ghost use Rattle.session8.specs.Session.{state_of, IsQuiet, IsLater, IsSame, IsReply, IsSteadied, Does};
+ghost use Rattle.core_load.specs.Core.{zeros};
+ghost use Rattle.cpu8.specs.State.{stopped};
+ghost use Rattle.debug8.specs.Breaks.{no_breaks};
+ghost use Rattle.script8.specs.declared.entries.Entry.TheVariants as entry;
+ghost use Rattle.script8.specs.declared.faults.SessionFault.TheVariants.{Memory};
+
+use crate::consoles::Console;
+use crate::jobs::{JOBS, Job};
+use debug8::DebugFault;
+use os8_dir::DirFault;
+use os8_files::FileService;
+use script8::{Entry, Reply, SessionFault};
+use std::alloc::Global;
+use std::marker::Model;
+use volume_image::BlockStore;
+
+mod files;
+mod scripts;
+mod storing;
+mod turns;
+
+/// How many bytes a line that takes no memory may have.
+const LINE: usize = 80;
+
+/// A session over the volume of a store. Its files are those of the store's blocks. It is ended by `into_store` alone, since its
+/// jobs hold files.
+pub struct Session<S: BlockStore> {
+    files: FileService<S>,
+    jobs: [Option<Job>; JOBS],
+    console: Console,
+    line: Vec<u8>,
+}
+
+impl<S: BlockStore> Model for Session<S> {
+    ghost use Rattle.std.specs.Prelude.{◌≤◌, vec_capacity};
+    ghost use Rattle.session8.specs.Session.{Seen, IsSettled};
+
+    ghost Value = { Seen };
+
+    ghost view = { λ s. record { volume = s.files; jobs = s.jobs; console = s.console } };
+
+    ghost invariant = { λ s. IsSettled s.files × (80 ≤ vec_capacity s.line) };
+}
+
+/// The answers to the entries of a run that were done, and whether want of memory ended it.
+#[derive(Drop, Debug)]
+pub struct Ran {
+    pub replies: Vec<Result<Reply, SessionFault>>,
+    pub stopped: bool,
+}
+
+impl<S: BlockStore> Session<S> {
+    /// A session over a sound volume, after at most twelve reads. Another store is handed back with the first fault of its
+    /// directory; so is any store with `Device` where a read failed, and with `Memory`.
+    pub fn mount(alloc: Global, store: S) -> Result<Session<S>, (S, DirFault)>
+        ensures blocks { IfOk result (λ s. s.volume.blocks ≡ S.contents store) }
+        ensures sound { IfOk result (λ s. Sound (S.contents store)) }
+        ensures fresh { IfOk result (λ s. (s.volume.stopped ≡ false) × (s.volume.holds ≡ []) × (s.volume.tentative ≡ None) × (s.jobs ≡ no_jobs)) }
+        ensures console { IfOk result (λ s. s.console ≡ record { machine = stopped (zeros 32768); breaks = no_breaks 32768; printed = [] }) }
+        ensures reads { IfOk result (λ s. (s.volume.reads ≤ S.reads store + 12) × (s.volume.failed_reads ≡ S.failed_reads store) × (s.volume.failed_writes ≡ S.failed_writes store)) }
+        ensures handed_back { IfErr result (λ e. (S.contents e.0 ≡ S.contents store) × (S.reads e.0 ≤ S.reads store + 12) × (S.failed_writes e.0 ≡ S.failed_writes store)) }
+        ensures fault { IfErr result (λ e. Meets e.1 (directory_of (S.contents store))) }
+        ensures device { IfErr result (λ e. (e.1 ≡ Device) ↔ (S.failed_reads store < S.failed_reads e.0)) }
+    {
+        let (line, console) = match parts(alloc) {
+            Ok(parts) => parts,
+            Err(_) => return Err((store, DirFault::Memory)),
+        };
+        match FileService::mount(alloc, store) {
+            Ok(files) => Ok(Session {
+                files,
+                jobs: [None; JOBS],
+                console,
+                line,
+            }),
+            Err(refused) => Err(refused),
+        }
+    }
+
+    /// The store, whose blocks hold the files.
+    pub fn into_store(self) -> S
+        ensures blocks { S.contents result ≡ self.volume.blocks }
+        ensures counts { (S.reads result ≡ self.volume.reads) × (S.failed_reads result ≡ self.volume.failed_reads) × (S.failed_writes result ≡ self.volume.failed_writes) }
+    {
+        let Session {
+            files,
+            jobs: _,
+            console,
+            line,
+        } = self;
+        drop(line);
+        drop(console);
+        files.into_store()
+    }
+
+    /// Does an entry: one step of the system machine, where no block call fails. After `Memory` all is as before; `Reader` and
+    /// `Writer` are never answered, and the refusals `Device` and `Stopped` only where a block call failed.
+    pub fn enter(&mut self, alloc: Global, entry: Entry) -> Result<Reply, SessionFault>
+        ensures step { IsQuiet self.old self.new → Step (state_of self.old) entry result (state_of self.new) }
+        ensures later { IsLater self.old self.new }
+        ensures files { self.old.volume.stopped ≡ false → self.old.volume.failed_writes < self.new.volume.failed_writes → Outlives self.old.volume.blocks self.new.volume.blocks }
+        ensures running { IsQuiet self.old self.new → self.new.volume.stopped ≡ false }
+        ensures memory { IsErrOf result Memory → IsSame self.old self.new }
+        ensures reply { IsReply result }
+        ensures done { OnOk result (Step (state_of self.old) entry result (state_of self.new) × IsSteadied entry self.old self.new) }
+    {
+        self.step(alloc, &entry)
+    }
+
+    /// Does entries in order: a run of the system machine, where no block call fails. Want of memory ends it; where no entry
+    /// was done by then, it is answered.
+    pub fn run(&mut self, alloc: Global, entries: &[Entry]) -> Result<Ran, SessionFault>
+        ensures run { IsQuiet self.old self.new → IfOk result (λ ran. Run (state_of self.old) entries.now ran.replies.items ran.stopped (state_of self.new)) }
+        ensures later { IsLater self.old self.new }
+        ensures running { IsQuiet self.old self.new → self.new.volume.stopped ≡ false }
+        ensures stopped { IfOk result (λ ran. ran.stopped ≡ true → 0 < vec_len ran.replies) }
+        ensures err { IfErr result (λ fault. (fault ≡ Memory) × IsSame self.old self.new) }
+    {
+        let mut replies = Vec::with_capacity(alloc, entries.len())?;
+        for entry in entries {
+            let answer = self.step(alloc, entry);
+            if is_memory(&answer) {
+                if replies.is_empty() {
+                    return Err(SessionFault::Memory);
+                }
+                return Ok(Ran {
+                    replies,
+                    stopped: true,
+                });
+            }
+            push_reserved(&mut replies, answer);
+        }
+        Ok(Ran {
+            replies,
+            stopped: false,
+        })
+    }
+
+    /// Does an entry that is lent.
+    fn step(&mut self, alloc: Global, entry: &Entry) -> Result<Reply, SessionFault>
+        ensures { Does entry.now self.old result self.new }
+    {
+        match entry {
+            Entry::Store { name, text } => self.store(alloc, name.as_slice(), text.as_slice()),
+            Entry::Delete { name } => self.delete(alloc, name.as_slice()),
+            Entry::Direct => self.direct(alloc),
+            Entry::Squeeze => self.squeeze(),
+            Entry::Turn(number) => self.turn(alloc, *number),
+            Entry::Start(_)
+            | Entry::Step(_)
+            | Entry::Go(_)
+            | Entry::Run { .. }
+            | Entry::Key(_)
+            | Entry::Done
+            | Entry::Switches(_)
+            | Entry::Examine(_)
+            | Entry::Deposit { .. }
+            | Entry::Break { .. }
+            | Entry::Registers
+            | Entry::Printed => self.console(alloc, entry),
+        }
+    }
+
+    /// Does an entry of the console.
+    fn console(&mut self, alloc: Global, entry: &Entry) -> Result<Reply, SessionFault>
+        requires { is_console entry.now ≡ true }
+        ensures { Does entry.now self.old result self.new }
+    {
+        match self.console.enter(alloc, entry) {
+            Ok(reply) => Ok(reply),
+            Err(DebugFault::TooManyBreaks) => Err(SessionFault::TooManyBreaks),
+            Err(DebugFault::Memory) => Err(SessionFault::Memory),
+        }
+    }
+}
+
+/// What a session has beside its files: a line with room for 80 bytes, and a console.
+fn parts(alloc: Global) -> Result<(Vec<u8>, Console), DebugFault>
+    ensures line { IfOk result (λ parts. 80 ≤ vec_capacity parts.0) }
+    ensures console { IfOk result (λ parts. parts.1 ≡ record { machine = stopped (zeros 32768); breaks = no_breaks 32768; printed = [] }) }
+{
+    let line = Vec::with_capacity(alloc, LINE)?;
+    let console = Console::new(alloc)?;
+    Ok((line, console))
+}
+
+/// Whether an answer is want of memory.
+fn is_memory(answer: &Result<Reply, SessionFault>) -> bool
+    ensures { result ≡ is_memory answer.now }
+{
+    match answer {
+        Err(SessionFault::Memory) => true,
+        _ => false,
+    }
+}
+
+/// Adds an item for which there is room.
+fn push_reserved<T>(items: &mut Vec<T>, item: T)
+    requires { vec_len items.old < vec_capacity items.old }
+    ensures items { items.new.items ≡ items.old.items ++ item ∷ [] }
+    ensures len { vec_len items.new ≡ vec_len items.old + 1 }
+    ensures capacity { vec_capacity items.old ≤ vec_capacity items.new }
+{
+    match items.push(item) {
+        Ok(()) => {}
+        Err(_) => unreachable!(),
+    }
+}

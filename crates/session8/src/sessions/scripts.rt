@@ -1,0 +1,339 @@
+//! Scripts: the lines of a reader, whose answers a writer gets.
+
+ghost use Rattle.std.specs.Prelude.{◌≡◌, ◌≢◌, ℕ, ◌<◌, ◌≤◌, ◌∷◌, [], length, vec_capacity, OnOk, IfOk, IfSome, IfErr, ◌⊎◌, true, false, Ok, Err, None, Some};
+ghost use Rattle.std.specs.Io.KnownBytes.{Appends};
+ghost use Rattle.script8.specs.Items.{script_of};
+ghost use Rattle.script8.specs.Replies.{answer_lines, lent, fault_line, IsShort};
+ghost use Rattle.script8.specs.declared.faults.SessionFault.TheVariants as fault;
+ghost use Rattle.script8.specs.declared.items.Item.TheVariants.{Do, Finish};
+ghost use Rattle.session8.specs.Jobs.{job_count};
+ghost use Rattle.session8.specs.Jobs as jobs;
+ghost use Rattle.session8.specs.Reading.{Takes};
+ghost use Rattle.session8.specs.RunSteps.{RunsItems, RunsTurn, RunsNext, RunsFront, RunsRead, RunsFull, RunsCut, IsEnded, fault_of};
+ghost use Rattle.session8.specs.Script.{RunsText};
+ghost use Rattle.session8.specs.declared.endings.Ending.TheVariants as ending;
+ghost use Rattle.session8.specs.Session.{state_of, IsQuiet, IsLater};
+
+use super::{Session, is_memory};
+use crate::endings::Ending;
+use crate::jobs::lowest_place;
+use crate::readings::{ends, read_within};
+use script8::{Entry, Item, Next, Reply, Said, SessionFault, next_item, put_reply};
+use std::alloc::Global;
+use std::io::{Read, Write};
+use volume_image::BlockStore;
+
+impl<S: BlockStore> Session<S> {
+    /// Runs the script that a reader gives, and writes the lines of its answers, each line after the entry before it was
+    /// answered (this project's profile).
+    ///
+    /// At most 16,777,217 bytes are taken. Where the last of these comes, or the reader fails, the answer is `Reader` after
+    /// the whole lines before; `Memory` and `Writer` end the run too. The line of `Reader` and of `Memory` is written last.
+    pub fn run_text<R: Read, W: Write>(
+        &mut self,
+        alloc: Global,
+        reader: &mut R,
+        writer: &mut W,
+    ) -> Result<(), SessionFault>
+        ensures told { IsQuiet self.old self.new → RunsText 16777216 (state_of self.old) (state_of self.new)
+            (R.remaining reader.old) (R.remaining reader.new) (W.contents writer.old) (W.contents writer.new) result }
+        ensures later { IsLater self.old self.new }
+        ensures running { IsQuiet self.old self.new → self.new.volume.stopped ≡ false }
+        ensures taken { (count : ℕ) × Takes (R.remaining reader.old) (R.remaining reader.new) count × (count ≤ 16777217)
+            × (count ≡ 16777217 → (result ≡ Err fault.Reader) ⊎ (result ≡ Err fault.Writer)) }
+        ensures kind { IfErr result (λ e. (e ≡ fault.Reader) ⊎ (e ≡ fault.Memory) ⊎ (e ≡ fault.Writer)) }
+    {
+        let run = self.run_read(alloc, reader, writer);
+        self.end_run(run, writer)
+    }
+
+    /// Reads the script of a reader, and runs it.
+    fn run_read<R: Read, W: Write>(
+        &mut self,
+        alloc: Global,
+        reader: &mut R,
+        writer: &mut W,
+    ) -> Result<(), Ending>
+        ensures told { IsQuiet self.old self.new → RunsRead 16777216 (state_of self.old) (state_of self.new)
+            (R.remaining reader.old) (R.remaining reader.new) (W.contents writer.old) (W.contents writer.new) result }
+        ensures later { IsLater self.old self.new }
+        ensures running { IsQuiet self.old self.new → self.new.volume.stopped ≡ false }
+        ensures taken { (count : ℕ) × Takes (R.remaining reader.old) (R.remaining reader.new) count × (count ≤ 16777217)
+            × (count ≡ 16777217 → result ≡ Err ending.Reader) }
+    {
+        let mut text = Vec::new(alloc);
+        match read_within(alloc, reader, &mut text) {
+            Ok(at_end) => {
+                if at_end {
+                    return self.run_end(alloc, &text, writer);
+                }
+                self.run_full(alloc, &text, reader, writer)
+            }
+            Err(SessionFault::Reader) => self.run_cut(alloc, &text, writer),
+            Err(_) => Err(Ending::Memory),
+        }
+    }
+
+    /// Runs a script that is as long as one may be, where the reader has no more.
+    fn run_full<R: Read, W: Write>(
+        &mut self,
+        alloc: Global,
+        text: &[u8],
+        reader: &mut R,
+        writer: &mut W,
+    ) -> Result<(), Ending>
+        ensures told { IsQuiet self.old self.new → RunsFull text.now (state_of self.old) (state_of self.new)
+            (R.remaining reader.old) (R.remaining reader.new) (W.contents writer.old) (W.contents writer.new) result }
+        ensures later { IsLater self.old self.new }
+        ensures running { IsQuiet self.old self.new → self.new.volume.stopped ≡ false }
+        ensures taken { (count : ℕ) × Takes (R.remaining reader.old) (R.remaining reader.new) count × (count ≤ 1)
+            × (count ≡ 1 → result ≡ Err ending.Reader) }
+    {
+        let bytes = self.run_items(alloc, text, false, writer)?;
+        if ends(reader) {
+            let (_, rest) = text.split_at(bytes);
+            return self.run_end(alloc, rest, writer);
+        }
+        Err(Ending::Reader)
+    }
+
+    /// Runs the whole items of a script that a failed reader cut short.
+    fn run_cut<W: Write>(
+        &mut self,
+        alloc: Global,
+        text: &[u8],
+        writer: &mut W,
+    ) -> Result<(), Ending>
+        ensures told { IsQuiet self.old self.new → RunsCut text.now (state_of self.old) (state_of self.new) (W.contents writer.old) (W.contents writer.new) result }
+        ensures later { IsLater self.old self.new }
+        ensures running { IsQuiet self.old self.new → self.new.volume.stopped ≡ false }
+    {
+        let _bytes = self.run_items(alloc, text, false, writer)?;
+        Err(Ending::Reader)
+    }
+
+    /// Runs a text that is the end of a script.
+    fn run_end<W: Write>(
+        &mut self,
+        alloc: Global,
+        text: &[u8],
+        writer: &mut W,
+    ) -> Result<(), Ending>
+        ensures told { IsQuiet self.old self.new → RunsItems (script_of text.now) (state_of self.old) (state_of self.new) (W.contents writer.old) (W.contents writer.new) result }
+        ensures later { IsLater self.old self.new }
+        ensures running { IsQuiet self.old self.new → self.new.volume.stopped ≡ false }
+    {
+        let _bytes = self.run_items(alloc, text, true, writer)?;
+        Ok(())
+    }
+
+    /// Runs the items of a text that is the end of a script, or goes on; and answers how many bytes they have.
+    fn run_items<W: Write>(
+        &mut self,
+        alloc: Global,
+        text: &[u8],
+        is_end: bool,
+        writer: &mut W,
+    ) -> Result<usize, Ending>
+        ensures told { IsQuiet self.old self.new → RunsFront text.now is_end (state_of self.old) (state_of self.new) (W.contents writer.old) (W.contents writer.new) result }
+        ensures within { IfOk result (λ bytes. bytes ≤ length text.now) }
+        ensures later { IsLater self.old self.new }
+        ensures running { IsQuiet self.old self.new → self.new.volume.stopped ≡ false }
+    {
+        let mut done = 0;
+        loop {
+            let (_, rest) = text.split_at(done);
+            match self.run_next(alloc, rest, is_end, writer)? {
+                None => return Ok(done),
+                Some(bytes) => done += bytes,
+            }
+        }
+    }
+
+    /// Runs what a text begins with, and answers how many bytes that has; nothing where there is no item.
+    fn run_next<W: Write>(
+        &mut self,
+        alloc: Global,
+        text: &[u8],
+        is_end: bool,
+        writer: &mut W,
+    ) -> Result<Option<usize>, Ending>
+        ensures told { IsQuiet self.old self.new → RunsNext text.now is_end (state_of self.old) (state_of self.new) (W.contents writer.old) (W.contents writer.new) result }
+        ensures within { IfOk result (λ found. IfSome found (λ bytes. (0 < bytes) × (bytes ≤ length text.now))) }
+        ensures later { IsLater self.old self.new }
+        ensures running { IsQuiet self.old self.new → self.new.volume.stopped ≡ false }
+    {
+        match next_item(alloc, text, is_end) {
+            Ok(Next::End) => Ok(None),
+            Ok(Next::Blank(bytes)) => Ok(Some(bytes)),
+            Ok(Next::Item { item, bytes }) => {
+                self.run_item(alloc, &item, writer)?;
+                Ok(Some(bytes))
+            }
+            Err(_) => Err(Ending::Memory),
+        }
+    }
+
+    /// Runs an item.
+    fn run_item<W: Write>(
+        &mut self,
+        alloc: Global,
+        item: &Item,
+        writer: &mut W,
+    ) -> Result<(), Ending>
+        ensures told { IsQuiet self.old self.new → RunsItems (item.now ∷ []) (state_of self.old) (state_of self.new) (W.contents writer.old) (W.contents writer.new) result }
+        ensures later { IsLater self.old self.new }
+        ensures running { IsQuiet self.old self.new → self.new.volume.stopped ≡ false }
+    {
+        match item {
+            Item::Do(entry) => self.run_entry(alloc, entry, writer),
+            Item::Finish => self.run_finish(alloc, writer),
+            Item::Refused(why) => self.refuse(*why, writer),
+        }
+    }
+
+    /// Does an entry, and writes the lines of its answer.
+    fn run_entry<W: Write>(
+        &mut self,
+        alloc: Global,
+        entry: &Entry,
+        writer: &mut W,
+    ) -> Result<(), Ending>
+        ensures told { IsQuiet self.old self.new → RunsItems (Do entry.now ∷ []) (state_of self.old) (state_of self.new) (W.contents writer.old) (W.contents writer.new) result }
+        ensures later { IsLater self.old self.new }
+        ensures running { IsQuiet self.old self.new → self.new.volume.stopped ≡ false }
+    {
+        let answer = self.step(alloc, entry);
+        if is_memory(&answer) {
+            return Err(Ending::Memory);
+        }
+        self.tell(Some(entry), &answer, writer)
+    }
+
+    /// Lets the lowest job take turns until no job is left, and writes the lines of their ends.
+    fn run_finish<W: Write>(&mut self, alloc: Global, writer: &mut W) -> Result<(), Ending>
+        ensures told { IsQuiet self.old self.new → RunsItems (Finish ∷ []) (state_of self.old) (state_of self.new) (W.contents writer.old) (W.contents writer.new) result }
+        ensures later { IsLater self.old self.new }
+        ensures running { IsQuiet self.old self.new → self.new.volume.stopped ≡ false }
+    {
+        while let Some(place) = lowest_place(&self.jobs) {
+            self.run_turn(alloc, place as u32 + 1, writer)?;
+        }
+        self.tell(None, &Ok(Reply::Line(Said::Finished)), writer)
+    }
+
+    /// Lets the lowest job take a turn, and writes the line of its end.
+    fn run_turn<W: Write>(
+        &mut self,
+        alloc: Global,
+        number: u32,
+        writer: &mut W,
+    ) -> Result<(), Ending>
+        requires { jobs.lowest_job self.old.jobs ≡ Some number }
+        ensures told { IsQuiet self.old self.new → RunsTurn number (state_of self.old) (state_of self.new) (W.contents writer.old) (W.contents writer.new) result }
+        ensures fewer { OnOk result (job_count self.new.jobs < job_count self.old.jobs) }
+        ensures later { IsLater self.old self.new }
+        ensures running { IsQuiet self.old self.new → self.new.volume.stopped ≡ false }
+    {
+        let answer = self.turn(alloc, number);
+        if is_memory(&answer) {
+            return Err(Ending::Memory);
+        }
+        if let Ok(Reply::Line(Said::Working(_))) = answer {
+            return Ok(());
+        }
+        self.tell(Some(&Entry::Turn(number)), &answer, writer)
+    }
+
+    /// Writes the lines of an answer. `Memory` comes only where they are several, and then nothing is written.
+    fn tell<W: Write>(
+        &mut self,
+        entry: Option<&Entry>,
+        answer: &Result<Reply, SessionFault>,
+        writer: &mut W,
+    ) -> Result<(), Ending>
+        ensures ok { OnOk result (Appends (W.contents writer.old) (W.contents writer.new) (answer_lines (lent entry.entry) answer.now)) }
+        ensures err { IfErr result (λ e. (e ≡ ending.Writer) ⊎ ((e ≡ ending.Memory) × Appends (W.contents writer.old) (W.contents writer.new) [] × (IsShort answer.now → ⊥))) }
+        ensures same { self.new ≡ self.old }
+    {
+        write_lines(&mut self.line, entry, answer, writer)
+    }
+
+    /// Writes the line of a fault that belongs to no entry.
+    fn refuse<W: Write>(&mut self, why: SessionFault, writer: &mut W) -> Result<(), Ending>
+        ensures ok { OnOk result (Appends (W.contents writer.old) (W.contents writer.new) (fault_line why)) }
+        ensures same { self.new ≡ self.old }
+        ensures kind { IfErr result (λ e. e ≡ ending.Writer) }
+    {
+        self.tell(None, &Err(why), writer)
+    }
+
+    /// Ends a run: the line of want of memory or of the reader is the last.
+    fn end_run<W: Write>(
+        &mut self,
+        run: Result<(), Ending>,
+        writer: &mut W,
+    ) -> Result<(), SessionFault>
+        ensures ended { IsEnded run (W.contents writer.old) (W.contents writer.new) result }
+        ensures same { self.new ≡ self.old }
+    {
+        let Err(ending) = run else {
+            return match flush(writer) {
+                Ok(()) => Ok(()),
+                Err(ending) => Err(ending.fault()),
+            };
+        };
+        let why = ending.fault();
+        match self.end_with(ending, writer) {
+            Ok(()) => Err(why),
+            Err(ending) => Err(ending.fault()),
+        }
+    }
+
+    /// Writes the last line, that of a fault, but for the writer's.
+    fn end_with<W: Write>(&mut self, why: Ending, writer: &mut W) -> Result<(), Ending>
+        ensures ok { OnOk result ((why ≢ ending.Writer) × Appends (W.contents writer.old) (W.contents writer.new) (fault_line (fault_of why))) }
+        ensures err { IfErr result (λ e. e ≡ ending.Writer) }
+        ensures same { self.new ≡ self.old }
+    {
+        match why {
+            Ending::Writer => Err(Ending::Writer),
+            _ => {
+                self.refuse(why.fault(), writer)?;
+                flush(writer)
+            }
+        }
+    }
+}
+
+/// Writes the lines of an answer, which are built in a line that is lent.
+fn write_lines<W: Write>(
+    line: &mut Vec<u8>,
+    entry: Option<&Entry>,
+    answer: &Result<Reply, SessionFault>,
+    writer: &mut W,
+) -> Result<(), Ending>
+    requires { 80 ≤ vec_capacity line.old }
+    ensures ok { OnOk result (Appends (W.contents writer.old) (W.contents writer.new) (answer_lines (lent entry.entry) answer.now)) }
+    ensures err { IfErr result (λ e. (e ≡ ending.Writer) ⊎ ((e ≡ ending.Memory) × Appends (W.contents writer.old) (W.contents writer.new) [] × (IsShort answer.now → ⊥))) }
+    ensures room { 80 ≤ vec_capacity line.new }
+{
+    line.clear();
+    if put_reply(entry, answer, line).is_err() {
+        return Err(Ending::Memory);
+    }
+    if writer.write_all(line).is_err() {
+        return Err(Ending::Writer);
+    }
+    Ok(())
+}
+
+fn flush<W: Write>(writer: &mut W) -> Result<(), Ending>
+    ensures ok { OnOk result (Appends (W.contents writer.old) (W.contents writer.new) []) }
+    ensures err { IfErr result (λ e. e ≡ ending.Writer) }
+{
+    if writer.flush().is_err() {
+        return Err(Ending::Writer);
+    }
+    Ok(())
+}
