@@ -1,7 +1,7 @@
 -- Letters and digits that stand together are one run.
 use Rattle.std.proofs.Common.{◌≡◌, ℕ, ◌+◌, nat_eq, Bool, true, false, ◌&&◌, ◌||◌, not, if◌then◌else◌, Option, Some, None, is_some, List, [], ◌∷◌, ◌++◌, refl, ap, sym, ◌∙◌}
 use Rattle.pal_lex.specs.Cutting.{Piece, Run, Mark, is_coded, is_space, sign_of, is_legal, has_illegal, is_operand, with_character, with_blank, with_sign, with_byte, pieces}
-use Rattle.pal_lex.specs.Laws.{all_coded, ends_coded, spelt, first_place, RunsAreMaximal, RunsEnd}
+use Rattle.pal_lex.specs.Laws.{all_coded, ends_coded, RunsAreMaximal, RunsEnd}
 use Rattle.pal_lex.specs.declared.pieces.Term.TheVariants.{Here}
 use Rattle.pal_lex.specs.declared.pieces.Kind.{Kind}
 use Rattle.pal_lex.specs.declared.pieces.Kind.TheVariants.{Term, Blank}
