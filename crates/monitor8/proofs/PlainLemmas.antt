@@ -1,5 +1,5 @@
 -- Plain command lines are taken, and ask for what they say.
-use Rattle.std.proofs.Common.{◌≡◌, ◌∙◌, codes, true, false, refl, sym, ap, List, [], ◌∷◌, Option, Some, None}
+use Rattle.std.proofs.Common.{◌≡◌, ◌∙◌, codes, true, false, true≢false, refl, sym, ap, List, [], ◌∷◌, Option, Some, None}
 use Rattle.std.specs.Prelude.{option_map}
 use Rattle.std.specs.Str.{bytes_eq}
 use Rattle.std.proofs.lemmas.Bool.{ne_eqb}
@@ -10,8 +10,8 @@ use Rattle.clap.proofs.ValueTestLemmas.{Accepts-accepts}
 use Rattle.clap.specs.Words.{IsUnsignedIn, Row, Text, first_of, one_of, subcommand_of, takes}
 use Rattle.clap.specs.declared.builder.value_parser.ValueParser.TheVariants.{Unsigned}
 use Rattle.monitor8.specs.declared.kinds.Task.{Task}
-use Rattle.monitor8.specs.declared.kinds.Task.TheVariants.{Tape, Run, Create}
-use Rattle.monitor8.specs.Tasks.{Asks, IsCreateOf, IsPlain, IsRunOf, IsTakenAs, IsTape, number_of, pdp8}
+use Rattle.monitor8.specs.declared.kinds.Task.TheVariants.{Tape, Source, Run, Create}
+use Rattle.monitor8.specs.Tasks.{Asks, IsCreateOf, IsPlain, IsRunOf, IsSource, IsTakenAs, IsTape, number_of, pdp8}
 use Rattle.monitor8.proofs.WalkLemmas.{some_eq}
 
 no_hyphen : (word : Text) → IsPlain word → strip_byte 45 word ≡ None
@@ -35,6 +35,9 @@ tape_met name = refl
 asks_tape : (met : Option (Text × List Row)) (task : Task) → option_map (λ met. met.0) met ≡ Some (codes "tape") → Asks met task → IsTape task
 asks_tape None task is asks = absurd asks
 asks_tape (Some met) Tape is asks = tt
+asks_tape (Some met) Source is asks =
+    let same : codes "tape" ≡ codes "source" = sym (some_eq met.0 (codes "tape") is) ∙ asks in
+    absurd (cc)
 asks_tape (Some met) (Run image) is asks =
     let same : codes "tape" ≡ codes "run" = sym (some_eq met.0 (codes "tape") is) ∙ asks.0 in
     absurd (cc)
@@ -44,6 +47,32 @@ asks_tape (Some met) (Create image blocks) is asks =
 
 pub plain_tape : (name : Text) → IsTakenAs (name ∷ codes "tape" ∷ []) IsTape
 plain_tape name = (tape_taken name, λ task asks. asks_tape (subcommand_of pdp8 (name ∷ codes "tape" ∷ [])) task (tape_met name) asks)
+
+-- ## Source
+
+source_taken : (name : Text) → takes pdp8 (name ∷ codes "source" ∷ []) ≡ true
+unfolding clap_on_literals
+source_taken name = refl
+
+source_met : (name : Text) → option_map (λ met. met.0) (subcommand_of pdp8 (name ∷ codes "source" ∷ [])) ≡ Some (codes "source")
+unfolding clap_on_literals
+source_met name = refl
+
+asks_source : (met : Option (Text × List Row)) (task : Task) → option_map (λ met. met.0) met ≡ Some (codes "source") → Asks met task → IsSource task
+asks_source None task is asks = absurd asks
+asks_source (Some met) Source is asks = tt
+asks_source (Some met) Tape is asks =
+    let same : codes "source" ≡ codes "tape" = sym (some_eq met.0 (codes "source") is) ∙ asks in
+    absurd (cc)
+asks_source (Some met) (Run image) is asks =
+    let same : codes "source" ≡ codes "run" = sym (some_eq met.0 (codes "source") is) ∙ asks.0 in
+    absurd (cc)
+asks_source (Some met) (Create image blocks) is asks =
+    let same : codes "source" ≡ codes "create" = sym (some_eq met.0 (codes "source") is) ∙ asks.0 in
+    absurd (true≢false (sym (ap (λ (l : Text). bytes_eq l (codes "create")) same)))
+
+pub plain_source : (name : Text) → IsTakenAs (name ∷ codes "source" ∷ []) IsSource
+plain_source name = (source_taken name, λ task asks. asks_source (subcommand_of pdp8 (name ∷ codes "source" ∷ [])) task (source_met name) asks)
 
 -- ## Run
 
@@ -64,6 +93,9 @@ asks_run : (image : Text) (met : Option (Text × List Row)) (task : Task) → op
 asks_run image None task is asks = absurd asks
 asks_run image (Some met) Tape is asks =
     let same : codes "run" ≡ codes "tape" = sym (ap (λ p. p.0) (some_eq (with_image met) (codes "run", Some image) is)) ∙ asks in
+    absurd (cc)
+asks_run image (Some met) Source is asks =
+    let same : codes "run" ≡ codes "source" = sym (ap (λ p. p.0) (some_eq (with_image met) (codes "run", Some image) is)) ∙ asks in
     absurd (cc)
 asks_run image (Some met) (Run name) is asks =
     some_eq name.bytes.items image (sym asks.1 ∙ ap (λ p. p.1) (some_eq (with_image met) (codes "run", Some image) is))
@@ -99,6 +131,9 @@ asks_create image blocks None task is asks = absurd asks
 asks_create image blocks (Some met) Tape is asks =
     let same : codes "create" ≡ codes "tape" = sym (ap (λ p. p.0) (some_eq (with_both met) (codes "create", Some image, Some blocks) is)) ∙ asks in
     absurd (cc)
+asks_create image blocks (Some met) Source is asks =
+    let same : codes "create" ≡ codes "source" = sym (ap (λ p. p.0) (some_eq (with_both met) (codes "create", Some image, Some blocks) is)) ∙ asks in
+    absurd (true≢false (sym (ap (λ (l : Text). bytes_eq l (codes "source")) same)))
 asks_create image blocks (Some met) (Run name) is asks =
     let same : codes "create" ≡ codes "run" = sym (ap (λ p. p.0) (some_eq (with_both met) (codes "create", Some image, Some blocks) is)) ∙ asks.0 in
     absurd (cc)

@@ -22,7 +22,7 @@ use Rattle.clap.specs.declared.error.Error.{Error}
 use Rattle.clap.specs.declared.error.kind.ErrorKind.TheVariants.{OutOfMemory}
 use Rattle.monitor8.specs.declared.kinds.TaskFault.{TaskFault}
 use Rattle.monitor8.specs.declared.kinds.TaskFault.TheVariants.{Words, Memory}
-use Rattle.monitor8.specs.Tasks.{HasBlocks, HasImage, HasMet, IsFaultOf, blocks_rule, create_app, image_rule, pdp8, run_app, tape_app}
+use Rattle.monitor8.specs.Tasks.{HasBlocks, HasImage, HasMet, IsFaultOf, blocks_rule, create_app, image_rule, pdp8, run_app, source_app, tape_app}
 use Rattle.monitor8.proofs.WalkLemmas.{IsNoHelp, IsPlainLeaf, found_value, leaf_given, leaf_good, level_stops, not_none, or_first, or_second, some_eq}
 use Rattle.monitor8.proofs.NumberLemmas.{none_some}
 
@@ -46,7 +46,7 @@ run_rules = image_built ∷ help_built ∷ []
 abbrev create_rules : List Rule
 create_rules = image_built ∷ blocks_built ∷ help_built ∷ []
 
-subs_are : (built pdp8).subs ≡ below tape_app.top ∷ below run_app.top ∷ below create_app.top ∷ below help_shape ∷ []
+subs_are : (built pdp8).subs ≡ below tape_app.top ∷ below source_app.top ∷ below run_app.top ∷ below create_app.top ∷ below help_shape ∷ []
 subs_are = refl
 
 -- ## Options
@@ -149,26 +149,27 @@ no_help name not_help is = go (bytes_eq (codes "help") name) refl is
         let named : codes "help" ≡ name = (bytes_eq-Decides (codes "help") name).0 same in
         true≢false (sym ((bytes_eq-Decides name (codes "help")).1 (sym named)) ∙ not_help)
 
-chosen : (words : List Text) (tape run create help : Bool) → (help ≡ true → ⊥)
+chosen : (words : List Text) (tape source run create help : Bool) → (help ≡ true → ⊥)
     → is_some (option_map (λ s. rows_at s words)
-    (cond tape (Some (below tape_app.top)) (cond run (Some (below run_app.top)) (cond create (Some (below create_app.top)) (cond help (Some (below help_shape)) None))))) ≡ true
+    (cond tape (Some (below tape_app.top)) (cond source (Some (below source_app.top)) (cond run (Some (below run_app.top)) (cond create (Some (below create_app.top)) (cond help (Some (below help_shape)) None)))))) ≡ true
     → option_map_or (λ s. level_fault s [] nothing_held words false [])
-    (cond tape (Some (below tape_app.top)) (cond run (Some (below run_app.top)) (cond create (Some (below create_app.top)) (cond help (Some (below help_shape)) None)))) [] ≡ []
+    (cond tape (Some (below tape_app.top)) (cond source (Some (below source_app.top)) (cond run (Some (below run_app.top)) (cond create (Some (below create_app.top)) (cond help (Some (below help_shape)) None))))) [] ≡ []
     → HasMet (option_map (λ s. rows_at s words)
-    (cond tape (Some (below tape_app.top)) (cond run (Some (below run_app.top)) (cond create (Some (below create_app.top)) (cond help (Some (below help_shape)) None)))))
-chosen words true run create help not_help met none = inl refl
-chosen words false true create help not_help met none = inr (inl (refl, run_whole words none))
-chosen words false false true help not_help met none =
+    (cond tape (Some (below tape_app.top)) (cond source (Some (below source_app.top)) (cond run (Some (below run_app.top)) (cond create (Some (below create_app.top)) (cond help (Some (below help_shape)) None))))))
+chosen words true source run create help not_help met none = inl refl
+chosen words false true run create help not_help met none = inr (inl refl)
+chosen words false false true create help not_help met none = inr (inr (inl (refl, run_whole words none)))
+chosen words false false false true help not_help met none =
     let whole = create_whole words none in
-    inr (inr (refl, whole.0, whole.1))
-chosen words false false false true not_help met none = absurd (not_help refl)
-chosen words false false false false not_help met none = absurd (true≢false (sym met))
+    inr (inr (inr (refl, whole.0, whole.1)))
+chosen words false false false false true not_help met none = absurd (not_help refl)
+chosen words false false false false false not_help met none = absurd (true≢false (sym met))
 
 entered_whole : (stop : Option (Text × List Text)) → IsNoHelp stop → is_some (entered (built pdp8) stop) ≡ true → entered_fault (built pdp8) stop ≡ []
     → HasMet (entered (built pdp8) stop)
 entered_whole None past met none = absurd (true≢false (sym met))
 entered_whole (Some p) past met none =
-    chosen p.1 (answers_to p.0 (codes "tape", [])) (answers_to p.0 (codes "run", [])) (answers_to p.0 (codes "create", [])) (answers_to p.0 (codes "help", []))
+    chosen p.1 (answers_to p.0 (codes "tape", [])) (answers_to p.0 (codes "source", [])) (answers_to p.0 (codes "run", [])) (answers_to p.0 (codes "create", [])) (answers_to p.0 (codes "help", []))
     (no_help p.0 past) met none
 
 -- words with no fault ask for a subcommand that has what it needs

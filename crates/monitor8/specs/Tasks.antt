@@ -7,7 +7,7 @@ use Rattle.clap.specs.declared.builder.value_parser.ValueParser.TheVariants.{Uns
 use Rattle.clap.specs.declared.error.Error.{Error}
 use Rattle.clap.specs.declared.error.kind.ErrorKind.TheVariants.{OutOfMemory}
 use Rattle.monitor8.specs.declared.kinds.Task.{Task}
-use Rattle.monitor8.specs.declared.kinds.Task.TheVariants.{Tape, Run, Create}
+use Rattle.monitor8.specs.declared.kinds.Task.TheVariants.{Tape, Source, Run, Create}
 use Rattle.monitor8.specs.declared.kinds.TaskFault.{TaskFault}
 use Rattle.monitor8.specs.declared.kinds.TaskFault.TheVariants.{Words, Memory}
 
@@ -24,6 +24,9 @@ blocks_rule = record (new_rule (codes "BLOCKS")) { required = true; parser = Som
 abbrev pub tape_app : App
 tape_app = new_app (codes "tape")
 
+abbrev pub source_app : App
+source_app = new_app (codes "source")
+
 abbrev pub run_app : App
 run_app = with_rule (new_app (codes "run")) image_rule
 
@@ -36,9 +39,13 @@ bare_app = record (new_app (codes "pdp8")) {
   top = record (new_app (codes "pdp8")).top { subcommand_required = true; has_version = true };
 }
 
--- the program: `tape`, `run IMAGE` and `create IMAGE BLOCKS`, and what `clap` adds of its own, help and version
+-- the program with `tape` and `source`
+abbrev pub tapes_app : App
+tapes_app = with_subcommand (with_subcommand bare_app tape_app.top) source_app.top
+
+-- the program: `tape`, `source`, `run IMAGE` and `create IMAGE BLOCKS`, and what `clap` adds of its own, help and version
 abbrev pub pdp8 : App
-pdp8 = with_subcommand (with_subcommand (with_subcommand bare_app tape_app.top) run_app.top) create_app.top
+pdp8 = with_subcommand (with_subcommand tapes_app run_app.top) create_app.top
 
 -- ## What it asks for
 
@@ -49,6 +56,7 @@ number_of text = digits_value 10 (without_leading_plus text)
 -- the subcommand of this name, with the values that were found for it, asks for the task
 abbrev pub AsksFor : Text → List Row → Task → Type 0
 AsksFor name values Tape = name ≡ codes "tape"
+AsksFor name values Source = name ≡ codes "source"
 AsksFor name values (Run image) = (name ≡ codes "run") × (first_of (codes "IMAGE") values ≡ Some image.bytes.items)
 AsksFor name values (Create image blocks) = (name ≡ codes "create")
     × (first_of (codes "IMAGE") values ≡ Some image.bytes.items)
@@ -61,6 +69,7 @@ Asks (Some met) task = AsksFor met.0 met.1 task
 -- a new volume has 8 to 4095 blocks
 abbrev pub HasFitBlocks : Task → Type 0
 HasFitBlocks Tape = ⊤
+HasFitBlocks Source = ⊤
 HasFitBlocks (Run image) = ⊤
 HasFitBlocks (Create image blocks) = (8 ≤ blocks) × (blocks ≤ 4095)
 
@@ -86,8 +95,8 @@ HasBlocks values = (text : Text) × (one_of (codes "BLOCKS") values ≡ Some tex
 
 -- the subcommand of this name has the values that it needs
 abbrev pub IsWhole : Text → List Row → Type 0
-IsWhole name values = (name ≡ codes "tape") ⊎ (((name ≡ codes "run") × HasImage values)
-    ⊎ ((name ≡ codes "create") × HasImage values × HasBlocks values))
+IsWhole name values = (name ≡ codes "tape") ⊎ ((name ≡ codes "source") ⊎ (((name ≡ codes "run") × HasImage values)
+    ⊎ ((name ≡ codes "create") × HasImage values × HasBlocks values)))
 
 abbrev pub HasMet : Option (Text × List Row) → Type 0
 HasMet None = ⊥
@@ -103,6 +112,10 @@ IsPlain (byte ∷ rest) = byte ≢ 45
 abbrev pub IsTape : Task → Type 0
 IsTape Tape = ⊤
 IsTape task = ⊥
+
+abbrev pub IsSource : Task → Type 0
+IsSource Source = ⊤
+IsSource task = ⊥
 
 abbrev pub IsRunOf : Text → Task → Type 0
 IsRunOf name (Run image) = image.bytes.items ≡ name

@@ -1,7 +1,7 @@
 //! The program over the files and the streams of a host. What it does with bytes is in the functions that it calls; here
 //! files are read and written, and exit statuses are given.
 
-use crate::{ProgramLine, Task, TaskFault, put_program, tape_text, task};
+use crate::{ProgramLine, SourceFault, Task, TaskFault, put_program, source_text, tape_text, task};
 use os8_dir::DirFault;
 use script8::{SessionFault, put_reply};
 use session8::{MOST, Session};
@@ -34,8 +34,8 @@ impl From<AllocError> for Ended {
     }
 }
 
-/// Does what the words of the command line ask for: `pdp8 tape`, `pdp8 run IMAGE` or `pdp8 create IMAGE BLOCKS`. The exit
-/// status is 0, 1 after a fault, whose line is on standard output, and 2 for words that are refused (this project's
+/// Does what the words of the command line ask for: `pdp8 tape`, `pdp8 source`, `pdp8 run IMAGE` or
+/// `pdp8 create IMAGE BLOCKS`. The exit status is 0, 1 after a fault, whose line is on standard output, and 2 for words that are refused (this project's
 /// profile).
 pub fn program<R: Env + Files + Input + Print + Eprint + AllocGlobal>(rt: &R) -> ExitCode {
     match asked(rt) {
@@ -47,6 +47,7 @@ pub fn program<R: Env + Files + Input + Print + Eprint + AllocGlobal>(rt: &R) ->
 fn asked<R: Env + Files + Input + Print + AllocGlobal>(rt: &R) -> Result<(), Ended> {
     match read_words(rt)? {
         Task::Tape => list_tape(rt),
+        Task::Source => write_source(rt),
         Task::Run(image) => run_image(rt, &image),
         Task::Create(image, blocks) => create_image(rt, &image, blocks),
     }
@@ -116,6 +117,15 @@ fn list_tape<R: Input + Print + AllocGlobal>(rt: &R) -> Result<(), Ended> {
     match tape_text(rt.alloc(), &mut rt.reader(), &mut io::writer(rt)) {
         Ok(()) => Ok(()),
         Err(fault) => Err(Ended::Fault(fault)),
+    }
+}
+
+/// Writes the source of the tape on standard input.
+fn write_source<R: Input + Print + AllocGlobal>(rt: &R) -> Result<(), Ended> {
+    match source_text(rt.alloc(), &mut rt.reader(), &mut io::writer(rt)) {
+        Ok(()) => Ok(()),
+        Err(SourceFault::NoWord) => Err(Ended::Line(ProgramLine::NoWord)),
+        Err(SourceFault::Session(fault)) => Err(Ended::Fault(fault)),
     }
 }
 

@@ -10,6 +10,9 @@ pub enum Task {
     /// List the BIN tape on standard input.
     Tape,
 
+    /// Write the PAL III source of the BIN tape on standard input.
+    Source,
+
     /// Run the script on standard input, on the volume in the file of this name.
     Run(String),
 

@@ -6,6 +6,7 @@ mod host;
 mod kinds;
 mod listings;
 mod programs;
+mod sources;
 mod tasks;
 
 pub use host::program;
@@ -14,4 +15,5 @@ pub use listings::tape_text;
 pub use programs::{ProgramLine, put_program};
 pub use script8::SessionFault;
 pub use session8::{Ran, Session, laws};
+pub use sources::{SourceFault, source_text};
 pub use tasks::{plain_words, task};

@@ -132,7 +132,7 @@ fn unnamed(alloc: Global, count: usize) -> Result<Vec<bool>, AllocError>
     Ok(named)
 }
 
-fn write_out<W: Write>(writer: &mut W, text: &[u8]) -> Result<(), SessionFault>
+pub(crate) fn write_out<W: Write>(writer: &mut W, text: &[u8]) -> Result<(), SessionFault>
     ensures ok { OnOk result (Appends (W.contents writer.old) (W.contents writer.new) text.now) }
     ensures err { IfErr result (λ e. e ≡ fault.Writer) }
 {

@@ -2,17 +2,17 @@ ghost use Rattle.std.specs.Prelude.{◌≡◌, ◌≤◌, [], ◌∷◌, ℕ, Li
 ghost use Rattle.clap.specs.Words.{app_of, first_of, found_of, one_of, rows_of, rule_of, subcommand_rows_of, takes, IsUnsignedIn};
 ghost use Rattle.clap.specs.declared.builder.command.Command.TheViews.{out-Command as fields_of};
 ghost use Rattle.monitor8.specs.declared.kinds.TaskFault.TheVariants.{Memory};
-ghost use Rattle.monitor8.specs.Tasks.{IsCreateOf, IsPlain, IsRunOf, IsTakenAs, IsTape};
+ghost use Rattle.monitor8.specs.Tasks.{IsCreateOf, IsPlain, IsRunOf, IsSource, IsTakenAs, IsTape};
 ghost use Rattle.monitor8.specs.Tasks.{Answers, Asks, AsksFor, HasBlocks, HasFitBlocks, HasImage, HasMet, IsFaultOf, IsWhole};
-ghost use Rattle.monitor8.specs.Tasks.{bare_app, blocks_rule, create_app, image_rule, number_of, pdp8, run_app, tape_app};
+ghost use Rattle.monitor8.specs.Tasks.{bare_app, blocks_rule, create_app, image_rule, number_of, pdp8, run_app, source_app, tape_app, tapes_app};
 
 use crate::{Task, TaskFault};
 use clap::error::ErrorKind;
 use clap::{Arg, ArgMatches, Command};
 use std::alloc::{AllocError, Global};
 
-/// What the words of a command line ask for, the program's own name first: `tape`, `run IMAGE`, or
-/// `create IMAGE BLOCKS` with 8 to 4095 blocks of 512 bytes (this project's profile). A request for help or the version
+/// What the words of a command line ask for, the program's own name first: `tape`, `source`, `run IMAGE`,
+/// or `create IMAGE BLOCKS` with 8 to 4095 blocks of 512 bytes (this project's profile). A request for help or the version
 /// comes back as an error of `clap`, as it gives it.
 pub fn task(alloc: Global, words: &[&str]) -> Result<Task, TaskFault>
     ensures answer { Answers (map (λ word. word.now) words.now) result }
@@ -29,6 +29,7 @@ pub fn task(alloc: Global, words: &[&str]) -> Result<Task, TaskFault>
 /// or gives a number is plain where it begins with no hyphen.
 pub fn plain_words()
     ensures tape { (name : List ℕ) → IsTakenAs (name ∷ codes "tape" ∷ []) IsTape }
+    ensures source { (name : List ℕ) → IsTakenAs (name ∷ codes "source" ∷ []) IsSource }
     ensures run { (name image : List ℕ) → IsPlain image → IsTakenAs (name ∷ codes "run" ∷ image ∷ []) (IsRunOf image) }
     ensures create { (name image blocks : List ℕ) → IsPlain image → IsPlain blocks → IsUnsignedIn 8 4095 blocks
         → IsTakenAs (name ∷ codes "create" ∷ image ∷ blocks ∷ []) (IsCreateOf image (number_of blocks)) }
@@ -38,13 +39,24 @@ pub fn plain_words()
 fn program<'a>(alloc: Global) -> Result<Command<'a>, AllocError>
     ensures app { IfOk result (λ command. app_of command ≡ pdp8) }
 {
-    let tape = tape(alloc);
     let run = run(alloc)?;
     let create = create(alloc)?;
+    let tapes = program_of_tapes(alloc)?;
+    let one = tapes.subcommand(run)?;
+    let command = one.subcommand(create)?;
+    Ok(command)
+}
+
+/// The command `pdp8` with its subcommands for tapes.
+fn program_of_tapes<'a>(alloc: Global) -> Result<Command<'a>, AllocError>
+    ensures app { IfOk result (λ command. app_of command ≡ tapes_app) }
+    ensures local { IfOk result (λ command. (fields_of command).has_globals ≡ false) }
+{
+    let tape = tape(alloc);
+    let source = source(alloc);
     let bare = bare_program(alloc)?;
     let one = bare.subcommand(tape)?;
-    let two = one.subcommand(run)?;
-    let command = two.subcommand(create)?;
+    let command = one.subcommand(source)?;
     Ok(command)
 }
 
@@ -70,6 +82,17 @@ fn tape<'a>(alloc: Global) -> Command<'a>
         .about("List the memory words of a BIN paper tape")
         .long_about(
             "Reads a BIN paper tape from standard input, and prints a line F AAAA WWWW for each memory{n}word that it loads: field, address and word, in octal, by rising address.",
+        )
+}
+
+fn source<'a>(alloc: Global) -> Command<'a>
+    ensures app { app_of result ≡ source_app }
+    ensures local { (fields_of result).has_globals ≡ false }
+{
+    Command::new(alloc, "source")
+        .about("Write the PAL III source of a BIN paper tape")
+        .long_about(
+            "Reads a BIN paper tape from standard input, and prints a PAL III source that assembles to the words{n}that it loads, one line a word, with the cell and the word in octal behind it.",
         )
 }
 
@@ -152,6 +175,9 @@ fn asked_of(alloc: Global, name: &str, found: &ArgMatches<'_>) -> Result<Task, A
 {
     if name == "tape" {
         return Ok(Task::Tape);
+    }
+    if name == "source" {
+        return Ok(Task::Source);
     }
     let image = image_of(alloc, found)?;
     if name == "run" {

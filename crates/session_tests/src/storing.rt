@@ -1,9 +1,9 @@
 //! Sessions over stores that count or fail, and the largest file and run.
 
 use crate::making::long_text;
-use session8::Session;
 use os8_dir::DirFault;
 use script8::{Entry, Reply, Said};
+use session8::Session;
 use std::alloc::{AllocError, Global};
 use std::test::Fail;
 use volume_image::{BlockStore, CountVolume, FuseVolume, ImageFault, MemoryVolume};

@@ -1,0 +1,46 @@
+#!/usr/bin/env bash
+# Runs the six programs of bench/cpu.sh by scripts of the program `pdp8`: their words deposited, and GO 1000000 until each has
+# halted, with no break, with 64 that are never met, and by STEP. Prints the processor seconds of each less those of a program that
+# stops at once, beside those of the debugger's go alone, and the part of its rate that is reached. Then the seconds of 100,000 lines
+# of EXAMINE.
+set -eu
+top=$(cd "$(dirname "${BASH_SOURCE[0]}")/.." && pwd)
+. "$top/bench/seconds.sh"
+program=$top/crates/pdp8/out/pdp8
+alone=$top/crates/cpu_bench/out/cpu_bench
+(cd "$top/crates/cpu_bench" && rt run <stdin >/dev/null) 2>/dev/null
+
+folder=$(mktemp -d)
+trap 'rm -rf "$folder"' EXIT
+cp "$top"/bench/cpu/*.pal "$folder"
+cd "$folder"
+"$top/pdp8" create V 20 >/dev/null
+
+run_alone() { "$alone" <"$1.bin"; }
+run_script() { "$program" run V <"$1"; }
+
+# A program's words as a script, with its start.
+deposits() {
+    "$program" tape <"$1.bin" | sed 's/^\(.\) /DEPOSIT \1/'
+    echo START 00200
+}
+
+for source in *.pal; do
+    name=${source%.pal}
+    palbart "$source" >/dev/null
+    for verb in GO STEP; do
+        { deposits "$name"; yes "$verb 1000000" | head -n 400; } >"$name.$verb"
+    done
+    { for k in $(seq 64); do printf 'BREAK 7%04o ON\n' "$k"; done; cat "$name.GO"; } >"$name.breaks"
+done
+idle_alone=$(seconds run_alone stop)
+idle=$(seconds run_script stop.GO)
+printf '%-10s %8s %8s %8s %8s %6s %6s %6s\n' program alone GO breaks STEP GO breaks STEP
+for name in isz copy multiply operate indirect wait; do
+    read -r a b c d <<<"$(alternate 3 "run_alone $name >/dev/null" "run_script $name.GO >/dev/null" "run_script $name.breaks >/dev/null" "run_script $name.STEP >/dev/null")"
+    awk -v name=$name -v a="$a" -v b="$b" -v c="$c" -v d="$d" -v idle_alone="$idle_alone" -v idle="$idle" \
+        'BEGIN { a -= idle_alone; b -= idle; c -= idle; d -= idle
+                 printf "%-10s %8.3f %8.3f %8.3f %8.3f %6.2f %6.2f %6.2f\n", name, a, b, c, d, a / b, a / c, a / d }'
+done
+yes 'EXAMINE 00200' | head -n 100000 >examine
+printf '100,000 lines of EXAMINE: %s s\n' "$(seconds run_script examine)"

@@ -1,0 +1,15 @@
+mod FrameLemmas
+mod TapeLemmas
+mod LoadLemmas
+mod BeginLemmas
+mod TurnLemmas
+mod StepLemmas
+mod TableLemmas
+mod TimesLemmas
+mod SettledLemmas
+mod SqueezeLemmas
+mod PlainLemmas
+mod StartLemmas
+mod NumberLemmas
+mod EndLemmas
+mod WorkedRows

@@ -1,0 +1,189 @@
+-- What the table does for entries.
+use Rattle.std.proofs.Common.{◌≡◌, ◌∙◌, ℕ, ◌+◌, ◌<◌, ◌≤◌, suc, add-one, true, false, true≢false, Option, Some, None, List, [], ◌∷◌, length, slice_set, get_or, Ok, Err, refl, ap, sym, subst, arith}
+use Rattle.std.specs.FinMap.{get}
+use Rattle.std.specs.List.{position}
+use Rattle.std.specs.Option.{is_none}
+use Rattle.os8_dir.specs.Files.{files_of, above_of}
+use Rattle.os8_files.specs.Holds.{with_hold, times}
+use Rattle.os8_files.specs.Mounted.{Mounted}
+use Rattle.os8_files.specs.Service.{count_of}
+use Rattle.os8_files.specs.declared.faults.FileFault.{FileFault}
+use Rattle.os8_files.specs.declared.faults.FileFault.TheVariants as file
+use Rattle.jobs8.specs.Calls.{HasBegunLoading, BeginsLoading, StartsOver, StartsLoading, StartsSqueezing, TurnsJob, TakesTurn, CallsOf, LeavesJobs}
+use Rattle.jobs8.specs.Faults.{fault_of_file}
+use Rattle.jobs8.specs.Jobs as plain
+use Rattle.jobs8.specs.Schedule.{blocks_in, loading_turns}
+use Rattle.jobs8.specs.Settled.{IsSettled, state_over, plain_job, plain_jobs, work_of, left_of}
+use Rattle.jobs8.specs.Starts.{Begun}
+use Rattle.jobs8.specs.State.{words_or}
+use Rattle.jobs8.specs.Turns.{Answer, JobTurn, WorkTurn}
+use Rattle.jobs8.specs.declared.loading.Loading.{Loading}
+use Rattle.jobs8.specs.declared.kinds.Job.{Job}
+use Rattle.jobs8.specs.declared.kinds.Work.TheVariants as work
+use Rattle.jobs8.specs.declared.faults.JobFault.{JobFault}
+use Rattle.jobs8.specs.declared.faults.JobFault.TheVariants as fault
+use Rattle.jobs8.proofs.PlainLemmas.{free_none, free_is, free_at, number_has, number_at_place, number_put, turns_put}
+use Rattle.jobs8.proofs.SettledLemmas.{HeldLaw, settled_turn, settled_begun}
+use Rattle.jobs8.proofs.TableLemmas.{unchanged}
+
+-- ## Turns
+
+pub takes_turn : HeldLaw → (old new : Mounted) (core core2 : List ℕ) (jobs : List (Option Job)) (number place : ℕ) (it : Job) (answer : Answer) (after : Option Job) → IsSettled old jobs → number ≡ suc place → place < 8 → get_or jobs place None ≡ Some it
+    → TurnsJob old core it answer after new core2 → TakesTurn old core jobs number answer new core2 (slice_set jobs place after)
+takes_turn law old new core core2 jobs number place it answer after settled next low is turns = record {
+  settled = settled_turn law old new core core2 jobs place it answer after settled inside is turns;
+  step = λ quiet.
+      subst (λ j. JobTurn (state_over old core (plain_jobs jobs)) number j answer (state_over new core2 (plain_jobs (slice_set jobs place after)))) (sym here)
+      (subst (λ l. WorkTurn (state_over old core (plain_jobs jobs)) number (work_of it.work) it.left answer (state_over new core2 l)) put (turns.step number (plain_jobs jobs) here quiet));
+  volume = turns.volume;
+  left = subst (λ l. LeavesJobs number answer (plain_jobs jobs) l) put (turns.jobs number (plain_jobs jobs) here);
+  fewer = λ not_memory not_none. omega (arith, turns_put jobs place after inside, turns.fewer not_memory, ap left_of is);
+  calls = subst (λ o. CallsOf o old new) (sym (number_at_place jobs number place next ∙ is)) turns.calls;
+}
+  where
+    inside : place < length jobs
+    inside = omega (arith, low, settled.places)
+
+    here : plain.job_of number (plain_jobs jobs) ≡ plain_job (Some it)
+    here = number_has jobs number place next ∙ ap plain_job is
+
+    put : plain.with_job number (plain_job after) (plain_jobs jobs) ≡ plain_jobs (slice_set jobs place after)
+    put = number_put jobs number place after next
+
+-- there is no job of the number
+pub no_turn : (old : Mounted) (core : List ℕ) (jobs : List (Option Job)) (number place : ℕ) → IsSettled old jobs → number ≡ suc place → get_or jobs place None ≡ None → TakesTurn old core jobs number (Err fault.NoJob) old core jobs
+no_turn old core jobs number place settled next none = record {
+  settled = settled;
+  step = λ quiet. subst (λ j. JobTurn (state_over old core (plain_jobs jobs)) number j (Err fault.NoJob) (state_over old core (plain_jobs jobs))) (sym here) refl;
+  volume = record {
+    quiet = tt;
+    memory = λ memory. absurd (not_memory memory);
+    reads = omega arith;
+    writes = omega arith;
+    running = λ quiet. quiet.running;
+    files = λ more. absurd (never more);
+  };
+  left = sym (number_put jobs number place None next ∙ ap plain_jobs (unchanged place jobs none));
+  fewer = λ a b. absurd (b refl);
+  calls = subst (λ o. CallsOf o old old) (sym (number_at_place jobs number place next ∙ none)) refl;
+}
+  where
+    here : plain.job_of number (plain_jobs jobs) ≡ None
+    here = number_has jobs number place next ∙ ap plain_job none
+
+    an_answer : JobFault → Answer
+    an_answer why = Err why
+
+    not_memory : an_answer fault.NoJob ≡ Err fault.Memory → ⊥
+    not_memory e = cc
+
+    never : old.failed_writes < old.failed_writes → ⊥
+    never more = omega (arith, more)
+
+-- ## Starts
+
+pub same_start : (old : Mounted) (jobs : List (Option Job)) (answer : Begun) → IsSettled old jobs → old.stopped ≡ false → StartsOver old jobs answer old jobs
+same_start old jobs answer settled running = record {
+  settled = settled;
+  others = refl;
+  stopped = λ stopped. absurd (true≢false (sym stopped ∙ running));
+}
+
+pub too_many_loads : (old : Mounted) (jobs : List (Option Job)) (name : ℕ) → IsSettled old jobs → old.stopped ≡ false → position is_none jobs ≡ None → StartsLoading old jobs name (Err fault.TooManyJobs) old jobs
+too_many_loads old jobs name settled running full = record {
+  over = same_start old jobs _ settled running;
+  step = λ running core. (free_none jobs full, refl);
+}
+
+pub too_many_squeezes : (old : Mounted) (jobs : List (Option Job)) → IsSettled old jobs → old.stopped ≡ false → position is_none jobs ≡ None → StartsSqueezing old jobs (Err fault.TooManyJobs) old jobs
+too_many_squeezes old jobs settled running full = record {
+  over = same_start old jobs _ settled running;
+  step = λ running core. (free_none jobs full, refl);
+}
+
+settled_same : (old new : Mounted) (jobs : List (Option Job)) → new ≡ old → IsSettled old jobs → IsSettled new jobs
+settled_same old new jobs is settled = subst (λ m. IsSettled m jobs) (sym is) settled
+
+refused_by : (old new : Mounted) (jobs : List (Option Job)) (answer : Begun) → IsSettled old jobs → old.stopped ≡ false → new ≡ old → StartsOver old jobs answer new jobs
+refused_by old new jobs answer settled running is = record {
+  settled = settled_same old new jobs is settled;
+  others = is ∙ ap (λ (m : Mounted). record old { holds = m.holds }) (sym is);
+  stopped = λ stopped. absurd (true≢false (sym stopped ∙ running));
+}
+
+-- a file that can't be held
+pub refused_load : (old new : Mounted) (jobs : List (Option Job)) (name place : ℕ) (why : FileFault) (answer : JobFault) → IsSettled old jobs → old.stopped ≡ false → position is_none jobs ≡ Some place → answer ≡ fault_of_file why → BeginsLoading old name (Err why) new → StartsLoading old jobs name (Err answer) new jobs
+refused_load old new jobs name place why answer settled running free is begins = subst (λ a. StartsLoading old jobs name (Err a) new jobs) (sym is) (by_fault why begins)
+  where
+    by_fault : (w : FileFault) → BeginsLoading old name (Err w) new → StartsLoading old jobs name (Err (fault_of_file w)) new jobs
+    by_fault file.NotFound b = record {
+      over = refused_by old new jobs _ settled running b.2;
+      step = λ still core. ((place + 1, free_is jobs place free), b.1, ap (λ (m : Mounted). state_over m core (plain_jobs jobs)) b.2);
+    }
+    by_fault file.Memory b = record {
+      over = refused_by old new jobs _ settled running b.1;
+      step = λ still core. ap (λ (m : Mounted). state_over m core (plain_jobs jobs)) b.1;
+    }
+    by_fault file.Stopped b = absurd (true≢false (sym b.0 ∙ running))
+    by_fault (file.NoRoom n) b = absurd b
+    by_fault file.DirectoryFull b = absurd b
+    by_fault (file.Busy n) b = absurd b
+    by_fault file.BadName b = absurd b
+    by_fault file.TooLong b = absurd b
+    by_fault file.TentativeOpen b = absurd b
+    by_fault file.Device b = absurd b
+    by_fault file.NothingWritten b = absurd b
+
+abbrev pub TakenLaw : Type 0
+TakenLaw = (name hold : ℕ) (holds : List ℕ) → times name (with_hold hold holds) ≡ times name (hold ∷ []) + times name holds
+
+-- a job that loads is begun
+pub begun_load : TakenLaw → (old new : Mounted) (jobs : List (Option Job)) (name place : ℕ) (it : Loading) (left : ℕ) → IsSettled old jobs → position is_none jobs ≡ Some place → place < 8 → HasBegunLoading old name it left new
+    → StartsLoading old jobs name (Ok (place + 1)) new (slice_set jobs place (Some (record { work = work.Loading it; left = left })))
+begun_load law old new jobs name place it left settled free low begun = record {
+  over = record {
+    settled =
+        settled_begun old new jobs place (Some job) (with_hold name old.holds) settled (omega (arith, low, settled.places)) (free_at jobs place free) begun.others
+        (λ other. omega (arith, law other name old.holds, ap (λ n. times other (n ∷ [])) begun.holds)) begun.fits
+        (λ running. (begun.words, (begun.has.0, ap (λ n. get (files_of old.blocks) n) begun.holds ∙ begun.has.1), begun.stands));
+    others = begun.others ∙ ap (λ (m : Mounted). record old { holds = m.holds }) (sym begun.others);
+    stopped = λ stopped. absurd (true≢false (sym stopped ∙ begun.running));
+  };
+  step = λ running core. (
+    ((begun.has.0, begun.words), begun.has.1),
+    record {
+      least = free_is jobs place free;
+      others =
+          ap (λ (m : Mounted). state_over m core (plain_jobs (slice_set jobs place (Some job)))) begun.others
+          ∙ ap (state_over old core) (sym (number_put jobs (place + 1) place (Some job) (add-one place)))
+          ∙ ap (λ (j : plain.Job). record (state_over old core (plain_jobs jobs)) { jobs = plain.with_job (place + 1) (Some j) (plain_jobs jobs) })
+          (ap (λ n. plain.loading n left) begun.holds ∙ ap (λ n. plain.loading name n) (begun.turns ∙ ap (λ w. loading_turns (blocks_in w)) (sym (ap words_or begun.has.1))));
+    },
+  );
+}
+  where
+    job : Job
+    job = record { work = work.Loading it; left = left }
+
+-- a job that squeezes is begun
+pub begun_squeeze : (old : Mounted) (jobs : List (Option Job)) (place left : ℕ) → IsSettled old jobs → old.stopped ≡ false → position is_none jobs ≡ Some place → place < 8 → left ≡ count_of (files_of old.blocks) + 1 → above_of old.blocks ≤ count_of (files_of old.blocks)
+    → StartsSqueezing old jobs (Ok (place + 1)) old (slice_set jobs place (Some (record { work = work.Squeezing true; left = left })))
+begun_squeeze old jobs place left settled running free low count above = record {
+  over = record {
+    settled =
+        settled_begun old old jobs place (Some job) old.holds settled (omega (arith, low, settled.places)) (free_at jobs place free) refl
+        (λ other. omega arith) (omega (arith, count))
+        (λ still. record { more = omega (arith, count); enough = λ clean. omega (arith, count, above) });
+    others = refl;
+    stopped = λ stopped. absurd (true≢false (sym stopped ∙ running));
+  };
+  step = λ still core. record {
+    least = free_is jobs place free;
+    others =
+        ap (state_over old core) (sym (number_put jobs (place + 1) place (Some job) (add-one place)))
+        ∙ ap (λ n. record (state_over old core (plain_jobs jobs)) { jobs = plain.with_job (place + 1) (Some (plain.squeezing true n)) (plain_jobs jobs) }) count;
+  };
+}
+  where
+    job : Job
+    job = record { work = work.Squeezing true; left = left }

@@ -1,0 +1,9 @@
+pub mod Jobs
+pub mod Schedule
+pub mod State
+pub mod Faults
+pub mod Starts
+pub mod Turns
+pub mod Reading
+pub mod Settled
+pub mod Calls

@@ -1,0 +1,16 @@
+use crate::Loading;
+
+/// What a job does.
+pub enum Work {
+    /// It loads a file.
+    Loading(Loading),
+
+    /// It moves files down. It is clean while no other entry has changed the directory since its start.
+    Squeezing { clean: bool },
+}
+
+/// A job, and how many turns it may still take.
+pub struct Job {
+    pub work: Work,
+    pub left: usize,
+}

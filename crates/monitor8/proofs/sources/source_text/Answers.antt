@@ -1,0 +1,18 @@
+use Rattle.std.proofs.Common.{length, refl, arith}
+use Rattle.monitor8.proofs.sources.source_text.Goals as goal
+
+pub returns-in-Ok-write_out-clause-taken : goal.returns-in-Ok-write_out-clause-taken
+returns-in-Ok-write_out-clause-taken g c =
+    let within = c.in-Ok.ensures.within in (
+      length c.in-Ok.frames.items,
+      record { bytes = c.in-Ok.frames.items; taken = c.in-Ok.ensures.read.taken; count_is = refl },
+      omega (arith, within),
+    )
+
+pub returns-clause-taken : goal.returns-clause-taken
+returns-clause-taken g c =
+    let within = c.in-Ok.ensures.within in (
+      length c.in-Ok.frames.items,
+      record { bytes = c.in-Ok.frames.items; taken = c.in-Ok.ensures.read.taken; count_is = refl },
+      omega (arith, within),
+    )

@@ -1,0 +1,48 @@
+ghost use Rattle.std.specs.Prelude.{◌≡◌, ℕ, ◌≤◌, List, OnOk, IfErr};
+ghost use Rattle.std.specs.Io.KnownBytes.{Appends};
+ghost use Rattle.session8.specs.Reading.{Takes};
+ghost use Rattle.monitor8.specs.Written.{WritesSource};
+
+use crate::listings::write_out;
+use pal_list::{ListFault, source_of};
+use script8::SessionFault;
+use session8::read_all;
+use std::alloc::Global;
+use std::io::{Read, Write};
+
+/// Why a reader's tape has no source.
+#[derive(Clone, Copy, PartialEq, Eq, Debug)]
+pub enum SourceFault {
+    /// The tape gives no cell a word, and the assembler refuses a source of no word.
+    NoWord,
+
+    /// The frames are no tape; or the reader, the writer or memory failed.
+    Session(SessionFault),
+}
+
+/// Writes the PAL III source of the tape of a reader: it assembles without a fault to the last words that the tape gives its cells
+/// (PAL III Symbolic Assembler manual, and this project's profile of it). The whole reader is read, at most 16,777,217 bytes, before
+/// anything is written; where the last of these comes, the answer is `Reader`.
+pub fn source_text<R: Read, W: Write>(
+    alloc: Global,
+    reader: &mut R,
+    writer: &mut W,
+) -> Result<(), SourceFault>
+    ensures source { WritesSource (R.remaining reader.old) (R.remaining reader.new) (W.contents writer.old) (W.contents writer.new) result }
+    ensures taken { (count : ℕ) × Takes (R.remaining reader.old) (R.remaining reader.new) count × (count ≤ 16777217) }
+{
+    let frames = match read_all(alloc, reader) {
+        Ok(frames) => frames,
+        Err(fault) => return Err(SourceFault::Session(fault)),
+    };
+    let text = match source_of(alloc, &frames) {
+        Ok(text) => text,
+        Err(ListFault::Tape(fault)) => return Err(SourceFault::Session(SessionFault::Tape(fault))),
+        Err(ListFault::NoWord) => return Err(SourceFault::NoWord),
+        Err(ListFault::Memory) => return Err(SourceFault::Session(SessionFault::Memory)),
+    };
+    match write_out(writer, &text) {
+        Ok(()) => Ok(()),
+        Err(fault) => Err(SourceFault::Session(fault)),
+    }
+}

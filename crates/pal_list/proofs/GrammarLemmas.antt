@@ -1,0 +1,100 @@
+-- What statements of a few pieces say.
+use Rattle.std.proofs.Common.{◌≡◌, ℕ, ◌+◌, ◌/◌, ◌<◌, nat_lt, Bool, true, false, ◌&&◌, if◌then◌else◌, Some, List, [], ◌∷◌, refl, ap, ◌∙◌, arith}
+use Rattle.std.specs.Prelude.{codes}
+use Rattle.std.proofs.lemmas.Bool.Decides.{nat_tests}
+use Rattle.word12.specs.Octal.{octal_digit, octal4}
+use Rattle.word12.specs.Sixbit.{name_number}
+use Rattle.pal_lex.specs.Runs.{number_kind, number, are_digits}
+use Rattle.pal_lex.specs.Grammar.{said, has_bad_number}
+use Rattle.pal_lex.specs.declared.pieces.Term.TheVariants.{Name, Number}
+use Rattle.pal_lex.specs.declared.pieces.Kind.{Kind}
+use Rattle.pal_lex.specs.declared.pieces.Kind.TheVariants.{Term, BadNumber, Star}
+use Rattle.pal_lex.specs.declared.pieces.Token.{Token}
+use Rattle.pal_lex.specs.declared.phrases.Joint.TheVariants.{Add}
+use Rattle.pal_lex.specs.declared.phrases.Part.{Part}
+use Rattle.pal_lex.specs.declared.phrases.Body.{Body}
+use Rattle.pal_lex.specs.declared.phrases.Body.TheVariants.{Origin, Field, Word}
+use Rattle.pal_list.proofs.ByteLemmas.{octal}
+use Rattle.pal_list.proofs.PieceLemmas.{kind_of, run_token, blank_token, tokens_at}
+
+-- ## Octal numbers
+
+digits_value : (w : ℕ) → w < 4096 → number 8 (octal4 w) ≡ w
+digits_value w small = omega arith
+
+digit_value : (n : ℕ) → n < 8 → number 8 (octal_digit n ∷ []) ≡ n
+digit_value n small = omega arith
+
+four : (a b c d e f g h : Bool) → a ≡ true → b ≡ true → c ≡ true → d ≡ true → e ≡ true → f ≡ true → g ≡ true → h ≡ true
+    → (a && b && (c && d && (e && f && (g && h && true)))) ≡ true
+four a b c d e f g h p q r s t u v w = rw (p, q, r, s, t, u, v, w) refl
+
+number_is : (digits : List ℕ) (w : ℕ) → are_digits 8 digits ≡ true → number 8 digits ≡ w → w < 4096 → number_kind 8 digits ≡ Term (Number w)
+number_is digits w are value small =
+    ap (λ (b : Bool). if b && nat_lt (number 8 digits) 4096 then Term (Number (number 8 digits)) else BadNumber) are
+    ∙ ap (λ n. if nat_lt n 4096 then Term (Number n) else BadNumber) value
+    ∙ ap (λ (b : Bool). if b then Term (Number w) else BadNumber) (below w small)
+  where
+    below : (w : ℕ) → w < 4096 → nat_lt w 4096 ≡ true
+    below w small = grind (arith, nat_tests)
+
+pub octal_kind : (w : ℕ) → w < 4096 → kind_of (octal4 w) ≡ Term (Number w)
+octal_kind w small =
+    let a = octal (w / 512) in
+    let b = octal (w / 64) in
+    let c = octal (w / 8) in
+    let d = octal w in
+    ap (λ (l : Bool). if l then Term (Name (name_number (octal4 w))) else number_kind 8 (octal4 w)) a.letter
+    ∙ number_is (octal4 w) w (four _ _ _ _ _ _ _ _ a.least a.below b.least b.below c.least c.below d.least d.below) (digits_value w small) small
+
+pub digit_kind : (n : ℕ) → n < 8 → kind_of (octal_digit n ∷ []) ≡ Term (Number n)
+digit_kind n small =
+    let a = octal n in
+    ap (λ (l : Bool). if l then Term (Name (name_number (octal_digit n ∷ []))) else number_kind 8 (octal_digit n ∷ [])) a.letter
+    ∙ number_is (octal_digit n ∷ []) n (one _ _ a.least a.below) (digit_value n small) (omega (arith, small))
+  where
+    one : (a b : Bool) → a ≡ true → b ≡ true → (a && b && true) ≡ true
+    one a b p q = rw (p, q) refl
+
+-- ## Statements
+
+-- tokens say this
+pub record Say (tokens : List Token) (body : Body) : Type 0 where
+  pub fine : has_bad_number tokens ≡ false
+  pub said_is : said tokens ≡ Some record { tags = []; body = body }
+
+abbrev pub number_parts : ℕ → List Part
+number_parts w = record { joint = Add; term = Number w } ∷ []
+
+-- a token with another kind
+abbrev pub with_kind : Token → Kind → Token
+with_kind t kind = record { kind = kind; start = t.start; end = t.end }
+
+pub number_says : (w at : ℕ) → w < 4096 → Say (tokens_at at (octal4 w ∷ [])) (Word (number_parts w))
+number_says w at small =
+    let t = run_token at (octal4 w) in
+    let kind = octal_kind w small in
+    record {
+      fine = ap (λ k. has_bad_number (with_kind t k ∷ [])) kind;
+      said_is = ap (λ k. said (with_kind t k ∷ [])) kind;
+    }
+
+pub origin_says : (w at : ℕ) (star : Token) → w < 4096 → star.kind ≡ Star → Say (star ∷ tokens_at at (octal4 w ∷ [])) (Origin (number_parts w))
+origin_says w at star small is =
+    let t = run_token at (octal4 w) in
+    let kind = octal_kind w small in
+    record {
+      fine = ap (λ k. has_bad_number (star ∷ with_kind t k ∷ [])) kind ∙ ap (λ k. has_bad_number (with_kind star k ∷ with_kind t (Term (Number w)) ∷ [])) is;
+      said_is = ap (λ k. said (star ∷ with_kind t k ∷ [])) kind ∙ ap (λ k. said (with_kind star k ∷ with_kind t (Term (Number w)) ∷ [])) is;
+    }
+
+pub field_says : (n at : ℕ) → n < 8 → Say (tokens_at at (codes "FIELD" ∷ (octal_digit n ∷ []) ∷ [])) (Field (number_parts n))
+field_says n at small =
+    let name = run_token at (codes "FIELD") in
+    let blank = blank_token (at + 5) in
+    let t = run_token (at + 5 + 1) (octal_digit n ∷ []) in
+    let kind = digit_kind n small in
+    record {
+      fine = ap (λ k. has_bad_number (name ∷ blank ∷ with_kind t k ∷ [])) kind;
+      said_is = ap (λ k. said (name ∷ blank ∷ with_kind t k ∷ [])) kind;
+    }

@@ -1,0 +1,11 @@
+pub mod ByteLemmas
+pub mod TextLemmas
+pub mod PieceLemmas
+pub mod GrammarLemmas
+pub mod StepLemmas
+pub mod SourceLemmas
+pub mod TapeLemmas
+pub mod ShownLemmas
+pub mod ReferenceLemmas
+pub mod NameLemmas
+pub mod FewestLemmas

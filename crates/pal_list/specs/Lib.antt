@@ -1,0 +1,5 @@
+pub mod Patterns
+pub mod Statements
+pub mod Lines
+pub mod Sources
+pub mod Fewest

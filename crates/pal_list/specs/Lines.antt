@@ -1,0 +1,46 @@
+-- The lines of a source, by the words that it gives cells (PAL III Symbolic Assembler manual, and this project's profile).
+use Rattle.std.specs.Prelude.{ℕ, ◌/◌, ◌%◌, nat_eq, if◌then◌else◌, Option, List, [], ◌∷◌, ◌++◌, codes}
+use Rattle.word12.specs.Octal.{octal_digit, octal4}
+use Rattle.bin_tape.specs.Writing.{field_behind, is_next, newest_cell}
+use Rattle.pal_list.specs.Statements.{statement}
+
+-- CR and LF
+abbrev pub line_end : List ℕ
+line_end = 13 ∷ 10 ∷ []
+
+-- `FIELD` with the number of the cell's field
+abbrev pub field_line : ℕ → List ℕ
+field_line cell = codes "FIELD " ++ octal_digit (cell / 4096) ∷ line_end
+
+-- `*` with the cell's address in octal
+abbrev pub origin_line : ℕ → List ℕ
+origin_line cell = 42 ∷ octal4 (cell % 4096) ++ line_end
+
+-- a `/` with the cell, its field first, and the word in octal
+abbrev pub comment : ℕ → ℕ → List ℕ
+comment cell word = 47 ∷ octal_digit (cell / 4096) ∷ octal4 (cell % 4096) ++ 32 ∷ octal4 word
+
+-- pieces, the first behind this byte and the others behind a blank
+abbrev pub led : ℕ → List (List ℕ) → List ℕ
+led byte [] = []
+led byte (piece ∷ others) = byte ∷ piece ++ led 32 others
+
+-- the statement of the word behind a tab, and behind another the comment
+abbrev pub word_line : ℕ → ℕ → List ℕ
+word_line cell word = led 9 (statement cell word) ++ 9 ∷ comment cell word ++ line_end
+
+-- the lines of a cell's word behind a word for the cell before: the field where it changes, an origin where the cell isn't
+-- the next, and the word
+abbrev pub cell_lines : Option ℕ → ℕ → ℕ → List ℕ
+cell_lines before cell word =
+    (if nat_eq (cell / 4096) (field_behind before) then [] else field_line cell) ++ (if is_next before cell then [] else origin_line cell)
+    ++ word_line cell word
+
+-- the lines of cells with their words, the newest first
+abbrev pub lines_of : List (ℕ × ℕ) → List ℕ
+lines_of [] = []
+lines_of (pair ∷ older) = lines_of older ++ cell_lines (newest_cell older) pair.0 pair.1
+
+-- the source of cells with their words, the newest first: their lines, and `$`
+abbrev pub source_of : List (ℕ × ℕ) → List ℕ
+source_of pairs = lines_of pairs ++ 36 ∷ line_end

@@ -1,0 +1,83 @@
+-- The source that says what a tape says.
+use Rattle.std.specs.Prelude.{◌≡◌, ℕ, ◌<◌, zero, suc, slice_index_or, Option, None, Some, reverse, List, [], ◌∷◌}
+use Rattle.pal_lex.specs.Text.{text_of}
+use Rattle.pal_asm.specs.Words.{pairs_of}
+use Rattle.pal_asm.specs.Faults.{fault_of}
+use Rattle.bin_tape.specs.Items.{Item, tape_map}
+use Rattle.bin_tape.specs.Tape.{IsTape}
+use Rattle.bin_tape.specs.Fault.{IsFault}
+use Rattle.bin_tape.specs.Pairs.{last_word}
+use Rattle.bin_tape.specs.Progress.{Progress}
+use Rattle.bin_tape.specs.Reading.{HasRead}
+use Rattle.pal_list.specs.Lines.{source_of}
+use Rattle.pal_list.specs.declared.faults.ListFault.{ListFault}
+use Rattle.pal_list.specs.declared.faults.ListFault.TheVariants.{Tape, NoWord, Memory}
+
+-- a cell's word before others, where it has one
+abbrev pub with_word : Option ℕ → ℕ → List (ℕ × ℕ) → List (ℕ × ℕ)
+with_word None cell below = below
+with_word (Some word) cell below = (cell, word) ∷ below
+
+-- the cells below a number that a tape gives a word, each with its last word, the highest cell first
+unfoldable pub words_below : List Item → ℕ → List (ℕ × ℕ)
+words_below items zero = []
+words_below items (suc cell) = with_word (tape_map items cell) cell (words_below items cell)
+
+-- the words of a tape of 32768 cells, the highest cell first
+abbrev pub words_of_tape : List Item → List (ℕ × ℕ)
+words_of_tape items = words_below items 32768
+
+-- A text assembles without a fault to these words with their cells.
+pub record IsReadAs (text : List ℕ) (pairs : List (ℕ × ℕ)) : Type 0 where
+  pub no_fault : fault_of (text_of text) ≡ None
+  pub pairs_are : pairs_of (text_of text) ≡ pairs
+
+-- A text says what a tape says: it assembles without a fault to the tape's words, by rising cell, and gives each cell the
+-- tape's last word for it, and no other cell a word.
+pub record Says (text : List ℕ) (items : List Item) : Type 0 where
+  pub no_fault : fault_of (text_of text) ≡ None
+  pub pairs : pairs_of (text_of text) ≡ reverse (words_of_tape items)
+  pub map : (cell : ℕ) → last_word (pairs_of (text_of text)) cell ≡ tape_map items cell
+
+-- The frames are a tape of some word, and the text is its source.
+pub record IsSourceOf (frames text : List ℕ) : Type 0 where
+  pub items : List Item
+  pub is_tape : IsTape frames items
+  pub lines : text ≡ source_of (words_of_tape items)
+  pub says : Says text items
+
+-- The frames are a tape that gives each cell what these items give it.
+pub record SaysTheSame (frames : List ℕ) (items : List Item) : Type 0 where
+  pub again : List Item
+  pub is_tape : IsTape frames again
+  pub map : (cell : ℕ) → tape_map again cell ≡ tape_map items cell
+
+-- the frames are a tape that gives no cell a word
+pub record GivesNoWord (frames : List ℕ) : Type 0 where
+  pub items : List Item
+  pub is_tape : IsTape frames items
+  pub none : (cell : ℕ) → tape_map items cell ≡ None
+
+-- Why frames have no source.
+abbrev pub IsListFault : List ℕ → ListFault → Type 0
+IsListFault frames (Tape fault) = IsFault frames fault
+IsListFault frames NoWord = GivesNoWord frames
+IsListFault frames Memory = Unit {0}
+
+-- ## Cell by cell
+
+-- these are the last words of a tape's cells
+abbrev pub HoldsMap : List Item → List (Option ℕ) → Type 0
+HoldsMap items words = (cell : ℕ) → cell < 32768 → slice_index_or words cell None ≡ tape_map items cell
+
+-- the frames are a tape, and these are the last words of its cells
+pub record IsHeld (frames : List ℕ) (words : List (Option ℕ)) : Type 0 where
+  pub items : List Item
+  pub is_tape : IsTape frames items
+  pub cells : HoldsMap items words
+
+-- the cells hold the last words that the reader has handed out for them
+pub record HoldsRead (reader : Progress) (frames : List ℕ) (words : List (Option ℕ)) : Type 0 where
+  pub out : List (ℕ × ℕ)
+  pub read : HasRead reader frames out
+  pub cells : (cell : ℕ) → cell < 32768 → slice_index_or words cell None ≡ last_word out cell

@@ -1,0 +1,30 @@
+ghost use Rattle.std.specs.Prelude.{◌≡◌};
+ghost use Rattle.pal_list.specs.declared.faults.ListFault.TheVariants.{Memory};
+
+use bin_tape::TapeFault;
+use std::alloc::AllocError;
+use thiserror::Error;
+
+/// Why frames have no source, numbered from 1 in this order.
+#[derive(Clone, Copy, PartialEq, Eq, Debug, Error)]
+pub enum ListFault {
+    /// The frames are no tape. The tape's fault is not `Memory`.
+    #[error("{0}")]
+    Tape(TapeFault),
+
+    /// The tape gives no cell a word, and the assembler refuses a source of no word.
+    #[error("no word")]
+    NoWord,
+
+    /// Memory ran out.
+    #[error("out of memory")]
+    Memory,
+}
+
+impl From<AllocError> for ListFault {
+    ghost from_gives = { λ _ fault. fault ≡ Memory };
+
+    fn from(_error: AllocError) -> ListFault {
+        ListFault::Memory
+    }
+}

@@ -1,0 +1,16 @@
+//! PAL III source of a BIN tape: what a tape gives the cells of core, as statements that assemble to just that.
+//!
+//! A line stands for each cell that the tape gives a word, by rising field and address (PAL III Symbolic Assembler manual,
+//! and this project's profile of it). It has a statement that is the word at that place, a memory reference or permanent
+//! names where they come to the word and else its number, and a comment with the cell and the word in octal.
+#![tactic(auto)]
+
+mod faults;
+pub mod laws;
+mod lines;
+mod patterns;
+mod sources;
+mod statements;
+
+pub use faults::ListFault;
+pub use sources::source_of;

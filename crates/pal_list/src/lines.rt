@@ -1,0 +1,116 @@
+ghost use Rattle.std.specs.Prelude.{◌≡◌, ℕ, ◌/◌, ◌++◌, nat_eq, if◌then◌else◌, OnOk, List, [], ◌∷◌};
+ghost use Rattle.bin_tape.specs.Writing.{field_behind, is_next};
+ghost use Rattle.pal_list.specs.Lines.{line_end, field_line, origin_line, comment, word_line, cell_lines};
+
+use crate::statements::put_statement;
+use std::alloc::AllocError;
+use word12::{Cell, Word};
+
+/// Appends the lines of a cell's word behind a word for the cell before.
+pub fn put_cell(
+    text: &mut Vec<u8>,
+    before: Option<Cell>,
+    cell: Cell,
+    word: Word,
+) -> Result<(), AllocError>
+    ensures { OnOk result (text.new.items ≡ text.old.items ++ cell_lines before cell word) }
+{
+    let again = before;
+    put_field(text, before, cell)?;
+    put_origin(text, again, cell)?;
+    put_word(text, cell, word)?;
+    Ok(())
+}
+
+/// Appends a field where it changes.
+fn put_field(text: &mut Vec<u8>, before: Option<Cell>, cell: Cell) -> Result<(), AllocError>
+    ensures { OnOk result (text.new.items ≡ text.old.items ++ (if nat_eq (cell / 4096) (field_behind before) then [] else field_line cell)) }
+{
+    let field = cell.field();
+    if field == field_behind(before) {
+        return Ok(());
+    }
+    let line = [
+        b'F',
+        b'I',
+        b'E',
+        b'L',
+        b'D',
+        b' ',
+        b'0' + field,
+        b'\r',
+        b'\n',
+    ];
+    text.extend_from_slice(&line)?;
+    Ok(())
+}
+
+/// Appends an origin where the cell isn't the next.
+fn put_origin(text: &mut Vec<u8>, before: Option<Cell>, cell: Cell) -> Result<(), AllocError>
+    ensures { OnOk result (text.new.items ≡ text.old.items ++ (if is_next before cell then [] else origin_line cell)) }
+{
+    if is_next(before, cell) {
+        return Ok(());
+    }
+    let [a, b, c, d] = cell.address().octal4();
+    let line = [b'*', a, b, c, d, b'\r', b'\n'];
+    text.extend_from_slice(&line)?;
+    Ok(())
+}
+
+/// Appends the line of a cell's word: its statement, and a comment with the cell and the word in octal.
+fn put_word(text: &mut Vec<u8>, cell: Cell, word: Word) -> Result<(), AllocError>
+    ensures { OnOk result (text.new.items ≡ text.old.items ++ word_line cell word) }
+{
+    put_statement(text, cell, word)?;
+    put_comment(text, cell, word)?;
+    Ok(())
+}
+
+/// Appends a tab, the comment and the line's end.
+fn put_comment(text: &mut Vec<u8>, cell: Cell, word: Word) -> Result<(), AllocError>
+    ensures { OnOk result (text.new.items ≡ text.old.items ++ 9 ∷ comment cell word ++ line_end) }
+{
+    let [a, b, c, d] = cell.address().octal4();
+    let [e, f, g, h] = word.octal4();
+    let line = [
+        b'\t',
+        b'/',
+        b'0' + cell.field(),
+        a,
+        b,
+        c,
+        d,
+        b' ',
+        e,
+        f,
+        g,
+        h,
+        b'\r',
+        b'\n',
+    ];
+    text.extend_from_slice(&line)?;
+    Ok(())
+}
+
+/// The field that words go to behind a word for this cell, or behind none.
+fn field_behind(before: Option<Cell>) -> u8
+    ensures { result ≡ field_behind before }
+{
+    match before {
+        None => 0,
+        Some(before) => before.field(),
+    }
+}
+
+/// Whether a word for the cell needs no origin behind a word for the cell before.
+fn is_next(before: Option<Cell>, cell: Cell) -> bool
+    ensures { result ≡ is_next before cell }
+{
+    match before {
+        None => false,
+        Some(before) => {
+            cell.field() == before.field() && cell.address().get() == before.address().get() + 1
+        }
+    }
+}
