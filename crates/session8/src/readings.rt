@@ -1,4 +1,6 @@
-ghost use Rattle.std.specs.Prelude.{◌≡◌, ◌<◌, [], length, vec_len, IfOk, MatchResult};
+ghost use Rattle.std.specs.Prelude.{◌≡◌, ◌<◌, [], true, length, vec_len, IfOk, MatchResult};
+ghost use Rattle.std.specs.IoError.{error_kind};
+ghost use Rattle.std.specs.declared.io.ErrorKind.TheVariants.{Interrupted};
 ghost use Rattle.session8.specs.Reading.{Reads, ReadsWithin, Ends, IsReadWithin, IsReadFault};
 
 use script8::SessionFault;
@@ -95,7 +97,11 @@ pub fn ends<R: Read>(reader: &mut R) -> bool
     false
 }
 
-fn is_interrupted(error: &io::Error) -> bool {
+/// Whether a reader only says that it was interrupted.
+fn is_interrupted(error: &io::Error) -> bool
+    ensures it { result ≡ true → error_kind error.now ≡ Interrupted }
+    ensures all { error_kind error.now ≡ Interrupted → result ≡ true }
+{
     match error.kind() {
         ErrorKind::Interrupted => true,
         _ => false,

@@ -120,6 +120,7 @@ fn squeezed(alloc: Global, script: &[u8], out: &mut Vec<u8>) -> Result<bool, Ima
             let answer = own.run_text(alloc, &mut reader, out);
             let is_squeezed = squeezes(alloc, &mut own);
             let listed = own.run_text(alloc, &mut rest, out);
+            drop(own.into_store());
             Ok(is_squeezed && answer.is_ok() && listed.is_ok())
         }
         Err(_) => Ok(false),
@@ -161,7 +162,9 @@ fn ran(alloc: Global, entries: &[Entry]) -> Option<(usize, bool)> {
     match Session::mount(alloc, volume) {
         Ok(session) => {
             let mut own = session;
-            match own.run(alloc, entries) {
+            let run = own.run(alloc, entries);
+            drop(own.into_store());
+            match run {
                 Ok(ran) => Some((ran.replies.len(), ran.stopped)),
                 Err(_) => None,
             }

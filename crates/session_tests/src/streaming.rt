@@ -67,7 +67,9 @@ fn told<R: Read, W: Write>(
         Ok(volume) => match Session::mount(alloc, volume) {
             Ok(session) => {
                 let mut own = session;
-                own.run_text(alloc, reader, writer)
+                let run = own.run_text(alloc, reader, writer);
+                drop(own.into_store());
+                run
             }
             Err(_) => Err(SessionFault::NoJob),
         },
