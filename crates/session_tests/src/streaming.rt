@@ -156,5 +156,7 @@ fn is_unwritten(alloc: Global, lists: bool, bytes: &[u8]) -> bool {
 #[test]
 fn failing_writers(rt: HostRuntime) {
     assert!(rt; is_unwritten(rt.alloc(), true, b"\x80\x42\x00\x00\x05\x01\x07\x80"));
-    assert!(rt; is_unwritten(rt.alloc(), false, b"DIRECT"));
+    for script in [b"DIRECT".as_slice(), b"PRINTED", b"NOTHING", b"FINISH"] {
+        assert!(rt; is_unwritten(rt.alloc(), false, script));
+    }
 }
