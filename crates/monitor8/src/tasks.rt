@@ -18,7 +18,7 @@ pub fn task(alloc: Global, words: &[&str]) -> Result<Task, TaskFault>
     ensures answer { Answers (map (λ word. word.now) words.now) result }
     ensures taken { takes pdp8 (map (λ word. word.now) words.now) ≡ true → IfErr result (λ fault. fault ≡ Memory) }
 {
-    let command = program(alloc)?;
+    let command = command_line(alloc)?;
     match command.try_get_matches_from(words) {
         Ok(matches) => Ok(asked(alloc, &matches)?),
         Err(error) => Err(fault_of(error)),
@@ -36,32 +36,32 @@ pub fn plain_words()
 {}
 
 /// The command `pdp8` with its subcommands.
-fn program<'a>(alloc: Global) -> Result<Command<'a>, AllocError>
+fn command_line<'a>(alloc: Global) -> Result<Command<'a>, AllocError>
     ensures app { IfOk result (λ command. app_of command ≡ pdp8) }
 {
     let run = run(alloc)?;
     let create = create(alloc)?;
-    let tapes = program_of_tapes(alloc)?;
+    let tapes = command_line_of_tapes(alloc)?;
     let one = tapes.subcommand(run)?;
     let command = one.subcommand(create)?;
     Ok(command)
 }
 
 /// The command `pdp8` with its subcommands for tapes.
-fn program_of_tapes<'a>(alloc: Global) -> Result<Command<'a>, AllocError>
+fn command_line_of_tapes<'a>(alloc: Global) -> Result<Command<'a>, AllocError>
     ensures app { IfOk result (λ command. app_of command ≡ tapes_app) }
     ensures local { IfOk result (λ command. (fields_of command).has_globals ≡ false) }
 {
     let tape = tape(alloc);
     let source = source(alloc);
-    let bare = bare_program(alloc)?;
+    let bare = bare_command_line(alloc)?;
     let one = bare.subcommand(tape)?;
     let command = one.subcommand(source)?;
     Ok(command)
 }
 
 /// The command `pdp8` before it has its subcommands. Its texts always name it `pdp8`, whatever the first word is.
-fn bare_program<'a>(alloc: Global) -> Result<Command<'a>, AllocError>
+fn bare_command_line<'a>(alloc: Global) -> Result<Command<'a>, AllocError>
     ensures app { IfOk result (λ command. app_of command ≡ bare_app) }
     ensures local { IfOk result (λ command. (fields_of command).has_globals ≡ false) }
 {
