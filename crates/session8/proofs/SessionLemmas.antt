@@ -19,7 +19,7 @@ use Rattle.script8.specs.declared.faults.SessionFault.TheVariants as fault
 use Rattle.script8.specs.declared.replies.Reply.{Reply}
 use Rattle.script8.specs.declared.replies.Reply.TheVariants.{Line}
 use Rattle.script8.specs.declared.replies.Said.TheVariants.{Stored, Deleted, Squeezed}
-use Rattle.session8.specs.Console.{is_console, ConsoleDoes, IsBreakTooMany, IsLong}
+use Rattle.session8.specs.Console.{is_console, ConsoleDoes, IsBreakTooMany, TakesMemory}
 use Rattle.session8.specs.Files.{IsCrowded, IsFull, text_blocks}
 use Rattle.session8.specs.Jobs.{held_by, held_by_work, disturbed, with_job}
 use Rattle.session8.specs.Refusals.{MayLack}
@@ -244,7 +244,7 @@ pub console_shown : (e : Entry) (s : Seen) (reply : Reply) (console : Console) �
 console_shown e s reply console is has = shown e s _ reply is refl (console_done e s reply console is has)
 
 -- an entry of the console for which memory was lacking
-long_lacks : (e : Entry) (s : State) → IsLong e → MayLack s e
+long_lacks : (e : Entry) (s : State) → TakesMemory e → MayLack s e
 long_lacks (entry.Step n) s long = tt
 long_lacks (entry.Go n) s long = tt
 long_lacks (entry.Run cell n) s long = tt
@@ -263,7 +263,7 @@ long_lacks (entry.Examine cell) s long = absurd long
 long_lacks (entry.Deposit cell word) s long = absurd long
 long_lacks (entry.Break cell is_on) s long = absurd long
 
-pub console_undone : (e : Entry) (s : Seen) (console : Console) → IsLong e → console ≡ s.console → Does e s (Err fault.Memory) (record s { console = console })
+pub console_undone : (e : Entry) (s : Seen) (console : Console) → TakesMemory e → console ≡ s.console → Does e s (Err fault.Memory) (record s { console = console })
 console_undone e s console long is = undone e s _ (long_lacks e (state_of s) long) (steady_same _ _ refl) (ap (λ (c : Console). record (state_of s) { console = c }) is)
 
 -- a break too many is refused

@@ -79,16 +79,16 @@ IsBreakTooMany old (entry.Break cell true) = (is_break old.breaks cell ≡ false
 IsBreakTooMany old entry = ⊥
 
 -- an entry of the console that takes memory: steps may print characters, and reports are texts
-abbrev pub IsLong : Entry → Type 0
-IsLong (entry.Step n) = Unit {0}
-IsLong (entry.Go n) = Unit {0}
-IsLong (entry.Run cell n) = Unit {0}
-IsLong entry.Registers = Unit {0}
-IsLong entry.Printed = Unit {0}
-IsLong entry = ⊥
+abbrev pub TakesMemory : Entry → Type 0
+TakesMemory (entry.Step n) = Unit {0}
+TakesMemory (entry.Go n) = Unit {0}
+TakesMemory (entry.Run cell n) = Unit {0}
+TakesMemory entry.Registers = Unit {0}
+TakesMemory entry.Printed = Unit {0}
+TakesMemory entry = ⊥
 
 -- What doing an entry at the console comes to.
 abbrev pub ConsoleDoes : Entry → Console → Result Reply DebugFault → Console → Type 0
 ConsoleDoes entry old (Ok reply) new = Shows old entry reply new
 ConsoleDoes entry old (Err TooManyBreaks) new = IsBreakTooMany old entry × (new ≡ old)
-ConsoleDoes entry old (Err Memory) new = IsLong entry × (new ≡ old)
+ConsoleDoes entry old (Err Memory) new = TakesMemory entry × (new ≡ old)

@@ -50,7 +50,8 @@ after_refusal old (entry.Turn number) = record old { jobs = with_job number None
 after_refusal old entry = old
 
 -- The machine may lack memory for an entry: for a file of a name that is one, the list of the files, the turn of a job that is
--- there, the characters that steps may print, and reports. What is refused before is judged without memory.
+-- there, the characters that steps may print, and reports. A bad name takes none to tell, and neither does a file to be deleted that is
+-- not there, or held.
 abbrev pub MayLack : State → Entry → Type 0
 MayLack old (entry.Store name text) = (n : ℕ) × (parsed_name name ≡ Some n)
 MayLack old (entry.Delete name) = (n : ℕ) × (parsed_name name ≡ Some n) × IsThere old n × IsUnheld old n
