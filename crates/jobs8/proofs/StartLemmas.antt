@@ -37,7 +37,7 @@ takes_turn law old new core core2 jobs number place it answer after settled next
       (subst (λ l. WorkTurn (state_over old core (plain_jobs jobs)) number (work_of it.work) it.left answer (state_over new core2 l)) put (turns.step number (plain_jobs jobs) here quiet));
   volume = turns.volume;
   left = subst (λ l. LeavesJobs number answer (plain_jobs jobs) l) put (turns.jobs number (plain_jobs jobs) here);
-  fewer = λ not_memory not_none. omega (arith, turns_put jobs place after inside, turns.fewer not_memory, ap left_of is);
+  fewer = λ it not_memory there. omega (arith, turns_put jobs place after inside, turns.fewer not_memory, ap left_of is);
   calls = subst (λ o. CallsOf o old new) (sym (number_at_place jobs number place next ∙ is)) turns.calls;
 }
   where
@@ -64,12 +64,15 @@ no_turn old core jobs number place settled next none = record {
     files = λ more. absurd (never more);
   };
   left = sym (number_put jobs number place None next ∙ ap plain_jobs (unchanged place jobs none));
-  fewer = λ a b. absurd (b refl);
+  fewer = λ it other there. absurd (no_job it (sym here ∙ there));
   calls = subst (λ o. CallsOf o old old) (sym (number_at_place jobs number place next ∙ none)) refl;
 }
   where
     here : plain.job_of number (plain_jobs jobs) ≡ None
     here = number_has jobs number place next ∙ ap plain_job none
+
+    no_job : (it : plain.Job) → None ≡ Some it → ⊥
+    no_job it is = cc
 
     an_answer : JobFault → Answer
     an_answer why = Err why

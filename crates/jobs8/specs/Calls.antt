@@ -140,7 +140,7 @@ pub record TakesTurn (old : Mounted) (core : List ℕ) (jobs : List (Option Job)
   pub step : IsQuiet old new → Turns (state_over old core (plain_jobs jobs)) number answer (state_over new core' (plain_jobs jobs'))
   pub volume : TurnsOver old answer new
   pub left : LeavesJobs number answer (plain_jobs jobs) (plain_jobs jobs')
-  pub fewer : (answer ≡ Err fault.Memory → ⊥) → (answer ≡ Err fault.NoJob → ⊥) → plain.turns_left (plain_jobs jobs') < plain.turns_left (plain_jobs jobs)
+  pub fewer : (it : plain.Job) → (answer ≡ Err fault.Memory → ⊥) → plain.job_of number (plain_jobs jobs) ≡ Some it → plain.turns_left (plain_jobs jobs') < plain.turns_left (plain_jobs jobs)
   pub calls : CallsOf (job_at number jobs) old new
 
 -- What a start of a job leaves: no block is read or written. Where a write has failed before, that is the first refusal.
