@@ -18,23 +18,23 @@ use Rattle.os8_files.proofs.MapLemmas.{get-without, get-with}
 same-blocks : (old new : Mounted) → new.blocks ≡ old.blocks → KeepsHeld old new
 same-blocks old new same name held running = ap (λ bs. get (files_of bs) name) same
 
-same-files : (old new : Mounted) → files_of new.blocks ≡ files_of old.blocks → KeepsHeld old new
+pub same-files : (old new : Mounted) → files_of new.blocks ≡ files_of old.blocks → KeepsHeld old new
 same-files old new same name held running = ap (λ m. get m name) same
 
-has-failed : (old new : Mounted) → new.stopped ≡ true → KeepsHeld old new
+pub has-failed : (old new : Mounted) → new.stopped ≡ true → KeepsHeld old new
 has-failed old new stopped name held running = absurd (true≢false (sym stopped ∙ running))
 
-blocks-same : (old new : Mounted) → new ≡ old → KeepsHeld old new
+pub blocks-same : (old new : Mounted) → new ≡ old → KeepsHeld old new
 blocks-same old new same = same-blocks old new (ap (λ (m : Mounted). m.blocks) same)
 
 -- a held name is not one that is free
-held-other : (holds : List ℕ) (name q : ℕ) → contains holds name ≡ false → contains holds q ≡ true → eqb name q ≡ false
+pub held-other : (holds : List ℕ) (name q : ℕ) → contains holds name ≡ false → contains holds q ≡ true → eqb name q ≡ false
 held-other holds name q free held = elim (eqb_tells name q) [
   | inl is ↦ absurd (true≢false (sym held ∙ ap (contains holds) (sym is.1) ∙ free))
   | inr is ↦ is.0
 ]
 
-kept-with : (m : Files) (name : ℕ) (h : Held) (q : ℕ) → eqb name q ≡ false → get (insert m name h) q ≡ get m q
+pub kept-with : (m : Files) (name : ℕ) (h : Held) (q : ℕ) → eqb name q ≡ false → get (insert m name h) q ≡ get m q
 kept-with m name h q other = get-with m name h q ∙ ap (λ b. cond b (Some h) (get m q)) other
 
 pub reads-keep : (old new : Mounted) (name k : ℕ) (before after : List ℕ) (result : Result (Unit {0}) FileFault) → Reads old name k before result new after → KeepsHeld old new

@@ -19,7 +19,7 @@ pub record Leaves (old new : Mounted) (Other : ℕ → Type 0) (Counts : Type 0)
   pub counts : Counts
 
 -- the directory that the blocks hold is the same
-steady : (old new : Mounted) (Other : ℕ → Type 0) (Counts : Type 0) → new.holds ≡ old.holds → new.stopped ≡ old.stopped → directory_of new.blocks ≡ directory_of old.blocks → Counts → Leaves old new Other Counts
+pub steady : (old new : Mounted) (Other : ℕ → Type 0) (Counts : Type 0) → new.holds ≡ old.holds → new.stopped ≡ old.stopped → directory_of new.blocks ≡ directory_of old.blocks → Counts → Leaves old new Other Counts
 steady old new Other Counts holds stopped blocks counts = record {
   holds = holds;
   running = λ runs. sym stopped ∙ runs;
@@ -28,11 +28,11 @@ steady old new Other Counts holds stopped blocks counts = record {
 }
 
 -- nothing is changed
-same : (old new : Mounted) (Other : ℕ → Type 0) → new ≡ old → Leaves old new Other (new.reads ≡ old.reads)
+pub same : (old new : Mounted) (Other : ℕ → Type 0) → new ≡ old → Leaves old new Other (new.reads ≡ old.reads)
 same old new Other is = steady old new Other (new.reads ≡ old.reads) (ap (λ (m : Mounted). m.holds) is) (ap (λ (m : Mounted). m.stopped) is) (ap (λ (m : Mounted). directory_of m.blocks) is) (ap (λ (m : Mounted). m.reads) is)
 
 -- a write failed
-broken : (old new : Mounted) (Other : ℕ → Type 0) → new.holds ≡ old.holds → new.stopped ≡ true → new.reads ≡ old.reads → Leaves old new Other (new.reads ≡ old.reads)
+pub broken : (old new : Mounted) (Other : ℕ → Type 0) → new.holds ≡ old.holds → new.stopped ≡ true → new.reads ≡ old.reads → Leaves old new Other (new.reads ≡ old.reads)
 broken old new Other holds stopped counts = record {
   holds = holds;
   running = λ runs. absurd (true≢false (sym stopped ∙ runs));

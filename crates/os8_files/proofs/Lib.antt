@@ -23,3 +23,5 @@ pub mod StoppedLemmas
 pub mod LeaveLemmas
 pub mod TimesLemmas
 pub mod WholeLemmas
+pub mod PutLemmas
+pub mod PutLaws

@@ -9,10 +9,10 @@ use Rattle.os8_files.specs.declared.faults.FileFault.TheVariants.{NotFound, NoRo
 use Rattle.os8_files.specs.declared.tokens.Squeezed.{Squeezed}
 use Rattle.os8_files.specs.declared.tokens.Squeezed.TheVariants.{Moved, Nothing}
 
-running : {A : Type 0} (old : Mounted) (result : Result A FileFault) → (result ≡ Err Stopped → ⊥) → old.stopped ≡ false → IsStopped old result
+pub running : {A : Type 0} (old : Mounted) (result : Result A FileFault) → (result ≡ Err Stopped → ⊥) → old.stopped ≡ false → IsStopped old result
 running old result other runs = ((λ is. absurd (other is)), (λ is. absurd (true≢false (sym is ∙ runs))))
 
-stopped : {A : Type 0} (old : Mounted) → old.stopped ≡ true → IsStopped {A = A} old (Err Stopped)
+pub stopped : {A : Type 0} (old : Mounted) → old.stopped ≡ true → IsStopped {A = A} old (Err Stopped)
 stopped old is = ((λ answer. is), (λ was. refl))
 
 pub reads-stopped : (old new : Mounted) (name k : ℕ) (before after : List ℕ) (result : Result (Unit {0}) FileFault) → Reads old name k before result new after → IsStopped old result

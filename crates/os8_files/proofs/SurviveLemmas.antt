@@ -13,10 +13,10 @@ use Rattle.os8_files.specs.declared.faults.FileFault.TheVariants.{NotFound, NoRo
 use Rattle.os8_files.specs.declared.tokens.Squeezed.{Squeezed}
 use Rattle.os8_files.specs.declared.tokens.Squeezed.TheVariants.{Moved, Nothing}
 
-none-failed : (old new : Mounted) → new.failed_writes ≡ old.failed_writes → old.failed_writes < new.failed_writes → Survives old.blocks new.blocks
+pub none-failed : (old new : Mounted) → new.failed_writes ≡ old.failed_writes → old.failed_writes < new.failed_writes → Survives old.blocks new.blocks
 none-failed old new same more = absurd (omega (arith, same, more))
 
-same-failed : (old new : Mounted) → new ≡ old → old.failed_writes < new.failed_writes → Survives old.blocks new.blocks
+pub same-failed : (old new : Mounted) → new ≡ old → old.failed_writes < new.failed_writes → Survives old.blocks new.blocks
 same-failed old new same more = none-failed old new (ap (λ (m : Mounted). m.failed_writes) same) more
 
 pub writes-survive : (old new : Mounted) (words : List ℕ) (result : Result (Unit {0}) FileFault) → Writes old words result new → old.failed_writes < new.failed_writes → Survives old.blocks new.blocks
@@ -83,7 +83,7 @@ squeezes-survive old new (Err Memory) is more = none-failed old new (ap (λ (m :
 squeezes-survive old new (Err NothingWritten) is more = absurd is
 
 -- What a failed write leaves, where no block of the directory and no file was changed before.
-keeps-trans : (old mid new : List (List ℕ)) → KeepsDirectory old mid → KeepsDirectory mid new → KeepsDirectory old new
+pub keeps-trans : (old mid new : List (List ℕ)) → KeepsDirectory old mid → KeepsDirectory mid new → KeepsDirectory old new
 keeps-trans old mid new one two = record {
   count = two.count ∙ one.count;
   segments = λ k low high. two.segments k low high ∙ one.segments k low high;

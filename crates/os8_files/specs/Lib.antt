@@ -7,3 +7,4 @@ pub mod Failed
 pub mod Calls
 pub mod Written
 pub mod Laws
+pub mod Puts

@@ -8,6 +8,7 @@ ghost use Rattle.os8_dir.specs.Files.{Held, files_of, above_of};
 ghost use Rattle.os8_files.specs.Service.{blocks_in, count_of};
 ghost use Rattle.os8_files.specs.Mounted.{Mounted};
 ghost use Rattle.os8_files.specs.Calls.{Reads, Lists, Holds, Deletes, Enters, Writes, Closes, Squeezes, Spent, HasMissed};
+ghost use Rattle.os8_files.specs.Puts.{Puts};
 ghost use Rattle.os8_files.specs.Holds.{with_hold, without_hold, times};
 ghost use Rattle.os8_files.specs.Failed.{KeepsDirectory, Survives};
 ghost use Rattle.os8_files.specs.Laws.{KeepsHeld, KeepsHolds, IsHeldThrough, KeepsPlaces, KeepsOtherPlaces, MovesOne, ReadsOne, ReadsLowest, IsStopped};
@@ -26,6 +27,7 @@ pub fn held_files()
     ensures enter { (old new : Mounted) (name wish : ℕ) (result : Result ℕ FileFault) → Enters old name wish result new → KeepsHeld old new }
     ensures write { (old new : Mounted) (words : List ℕ) (result : Result (Unit {0}) FileFault) → Writes old words result new → KeepsHeld old new }
     ensures close { (old new : Mounted) (name : ℕ) (info : List ℕ) (result : Result (Unit {0}) FileFault) → Closes old name info result new → KeepsHeld old new }
+    ensures put { (old new : Mounted) (name : ℕ) (words : List ℕ) (result : Result (Unit {0}) FileFault) → Puts old name words result new → KeepsHeld old new }
     ensures delete { (old new : Mounted) (name : ℕ) (result : Result (Unit {0}) FileFault) → Deletes old name result new → KeepsHeld old new }
     ensures squeeze_turn { (old new : Mounted) (result : Result Squeezed FileFault) → Squeezes old result new → KeepsHeld old new }
     ensures release { (old : Mounted) (hold : ℕ) → KeepsHeld old (record old { holds = without_hold hold old.holds }) }
@@ -45,6 +47,7 @@ pub fn kept_holds()
     ensures enter { (old new : Mounted) (name wish : ℕ) (result : Result ℕ FileFault) → Enters old name wish result new → KeepsHolds old new }
     ensures write { (old new : Mounted) (words : List ℕ) (result : Result (Unit {0}) FileFault) → Writes old words result new → KeepsHolds old new }
     ensures close { (old new : Mounted) (name : ℕ) (info : List ℕ) (result : Result (Unit {0}) FileFault) → Closes old name info result new → KeepsHolds old new }
+    ensures put { (old new : Mounted) (name : ℕ) (words : List ℕ) (result : Result (Unit {0}) FileFault) → Puts old name words result new → KeepsHolds old new }
     ensures give_up { (old : Mounted) → KeepsHolds old (Spent old) }
     ensures delete { (old new : Mounted) (name : ℕ) (result : Result (Unit {0}) FileFault) → Deletes old name result new → KeepsHolds old new }
     ensures squeeze_turn { (old new : Mounted) (result : Result Squeezed FileFault) → Squeezes old result new → KeepsHolds old new }
@@ -74,6 +77,7 @@ pub fn file_places()
     ensures enter { (old new : Mounted) (name wish : ℕ) (result : Result ℕ FileFault) → Enters old name wish result new → KeepsPlaces old new }
     ensures write { (old new : Mounted) (words : List ℕ) (result : Result (Unit {0}) FileFault) → Writes old words result new → KeepsPlaces old new }
     ensures close { (old new : Mounted) (name : ℕ) (info : List ℕ) (result : Result (Unit {0}) FileFault) → Closes old name info result new → KeepsOtherPlaces name old new }
+    ensures put { (old new : Mounted) (name : ℕ) (words : List ℕ) (result : Result (Unit {0}) FileFault) → Puts old name words result new → KeepsOtherPlaces name old new }
     ensures give_up { (old : Mounted) → KeepsPlaces old (Spent old) }
     ensures delete { (old new : Mounted) (name : ℕ) (result : Result (Unit {0}) FileFault) → Deletes old name result new → KeepsOtherPlaces name old new }
     ensures squeeze_turn { (old new : Mounted) (result : Result Squeezed FileFault) → Squeezes old result new → MovesOne old result new }
@@ -87,6 +91,7 @@ pub fn block_reads()
     ensures enter { (old new : Mounted) (name wish : ℕ) (result : Result ℕ FileFault) → Enters old name wish result new → new.reads ≡ old.reads }
     ensures write { (old new : Mounted) (words : List ℕ) (result : Result (Unit {0}) FileFault) → Writes old words result new → new.reads ≡ old.reads }
     ensures close { (old new : Mounted) (name : ℕ) (info : List ℕ) (result : Result (Unit {0}) FileFault) → Closes old name info result new → new.reads ≡ old.reads }
+    ensures put { (old new : Mounted) (name : ℕ) (words : List ℕ) (result : Result (Unit {0}) FileFault) → Puts old name words result new → new.reads ≡ old.reads }
     ensures delete { (old new : Mounted) (name : ℕ) (result : Result (Unit {0}) FileFault) → Deletes old name result new → new.reads ≡ old.reads }
     ensures squeeze_turn { (old new : Mounted) (result : Result Squeezed FileFault) → Squeezes old result new → (new.reads ≡ old.reads) ⊎ ReadsLowest old new }
 {}
@@ -127,6 +132,7 @@ pub fn failed_reads()
 pub fn failed_writes()
     ensures write { (old new : Mounted) (words : List ℕ) (result : Result (Unit {0}) FileFault) → Writes old words result new → old.failed_writes < new.failed_writes → Survives old.blocks new.blocks }
     ensures close { (old new : Mounted) (name : ℕ) (info : List ℕ) (result : Result (Unit {0}) FileFault) → Closes old name info result new → old.failed_writes < new.failed_writes → Survives old.blocks new.blocks }
+    ensures put { (old new : Mounted) (name : ℕ) (words : List ℕ) (result : Result (Unit {0}) FileFault) → Puts old name words result new → old.failed_writes < new.failed_writes → Survives old.blocks new.blocks }
     ensures delete { (old new : Mounted) (name : ℕ) (result : Result (Unit {0}) FileFault) → Deletes old name result new → old.failed_writes < new.failed_writes → Survives old.blocks new.blocks }
     ensures squeeze_turn { (old new : Mounted) (result : Result Squeezed FileFault) → Squeezes old result new → old.failed_writes < new.failed_writes → Survives old.blocks new.blocks }
     ensures later { (old mid new : List (List ℕ)) → KeepsDirectory old mid → files_of mid ≡ files_of old → Survives mid new → Survives old new }
@@ -140,6 +146,7 @@ pub fn stopped_calls()
     ensures enter { (old new : Mounted) (name wish : ℕ) (result : Result ℕ FileFault) → Enters old name wish result new → IsStopped old result }
     ensures write { (old new : Mounted) (words : List ℕ) (result : Result (Unit {0}) FileFault) → Writes old words result new → IsStopped old result }
     ensures close { (old new : Mounted) (name : ℕ) (info : List ℕ) (result : Result (Unit {0}) FileFault) → Closes old name info result new → IsStopped old result }
+    ensures put { (old new : Mounted) (name : ℕ) (words : List ℕ) (result : Result (Unit {0}) FileFault) → Puts old name words result new → IsStopped old result }
     ensures delete { (old new : Mounted) (name : ℕ) (result : Result (Unit {0}) FileFault) → Deletes old name result new → IsStopped old result }
     ensures squeeze_turn { (old new : Mounted) (result : Result Squeezed FileFault) → Squeezes old result new → IsStopped old result }
 {}

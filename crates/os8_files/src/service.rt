@@ -24,6 +24,7 @@ use volume_image::{Block, BlockStore};
 use word12::Word;
 
 mod changes;
+mod putting;
 mod squeezing;
 mod writing;
 
@@ -229,8 +230,8 @@ impl<S: BlockStore> FileService<S> {
         }
     }
 
-    /// Whether a file is held.
-    fn is_held(&self, name: Name) -> bool
+    /// Whether a name is held.
+    pub fn is_held(&self, name: Name) -> bool
         ensures { result ≡ contains self.now.holds name }
     {
         first_of(&self.holds, name) < self.holds.len()

@@ -1,5 +1,6 @@
 use Rattle.std.proofs.Common.{refl}
 use Rattle.os8_files.proofs.KeptLemmas.{reads-keep, holds-keep, enters-keep, writes-keep, closes-keep, deletes-keep, squeezes-keep}
+use Rattle.os8_files.proofs.PutLaws.{puts-keep}
 use Rattle.os8_files.proofs.laws.held_files.Goals as goal
 
 pub returns : goal.returns
@@ -9,6 +10,7 @@ returns c = record {
   enter = enters-keep;
   write = writes-keep;
   close = closes-keep;
+  put = puts-keep;
   delete = deletes-keep;
   squeeze_turn = squeezes-keep;
   release = λ old hold name held runs. refl;

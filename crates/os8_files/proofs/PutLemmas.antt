@@ -1,0 +1,280 @@
+-- What is left where a file is put.
+use lib.Pointwise.{pointwise}
+use Rattle.std.proofs.Common.{◌≡◌, ℕ, zero, suc, ◌+◌, ◌/◌, ◌<◌, ◌≤◌, Bool, false, true, true≢false, nat_eq, if◌then◌else◌, List, [], ◌++◌, length, Option, Some, None, Result, Ok, Err, refl, ap, sym, subst, ◌∙◌, arith, add-one, inl, inr}
+use Rattle.std.specs.FinMap.{get, insert}
+use Rattle.volume_image.specs.Volume.{counted}
+use Rattle.os8_dir.specs.Files.{files_of, capacity_of, limit_of, above_of, run}
+use Rattle.os8_dir.specs.Entries.{IsNamed, contains}
+use Rattle.os8_dir.specs.Names.{padded}
+use Rattle.os8_dir.specs.Reading.{directory_of, block}
+use Rattle.os8_files.specs.Mounted.{Mounted, Begun}
+use Rattle.os8_files.specs.Failed.{KeepsDirectory, Survives, extent_or, listed_or}
+use Rattle.os8_files.specs.Service.{count_of}
+use Rattle.os8_files.specs.Calls.{IsOf, IsOver, HasWritten, HasEntered, HasFailed, Writes, Enters, Closes, info_of, new_held, Spent, counted_more, differing}
+use Rattle.os8_files.specs.Puts.{HasKept, Puts, plain_file, blocks_filled}
+use Rattle.os8_files.specs.Steps.{IsBeginning, HasFilled, Fills}
+use Rattle.os8_files.specs.declared.faults.FileFault.{FileFault}
+use Rattle.os8_files.specs.declared.faults.FileFault.TheVariants.{NotFound, NoRoom, DirectoryFull, Busy, BadName, TooLong, TentativeOpen, Device, Stopped, Memory, NothingWritten}
+use Rattle.os8_files.proofs.PlaceLemmas.{some-same}
+use Rattle.os8_files.proofs.SurviveLemmas.{keeps-trans, survives-from}
+
+-- ## Counts
+
+more-counted : (one two n : ℕ) → counted_more one (counted_more two n) ≡ counted_more (one + two) n
+more-counted zero two n = ap (λ k. counted_more k n) none
+  where
+    none : two ≡ zero + two
+    none = omega arith
+more-counted (suc one) two n = ap counted (more-counted one two n) ∙ ap (λ k. counted_more k n) next
+  where
+    next : suc (one + two) ≡ suc one + two
+    next = omega arith
+
+once-more : (k n : ℕ) → counted (counted_more k n) ≡ counted_more (k + 1) n
+once-more k n = ap (λ j. counted_more j n) (sym (add-one k))
+
+few-differ : (m : ℕ) (old new : List (List ℕ)) → differing m old new ≤ m
+few-differ zero old new = omega arith
+few-differ (suc m) old new = few (few-differ m old new)
+  where
+    cases : (b : Bool) → differing m old new ≤ m → (if b then differing m old new else suc (differing m old new)) ≤ suc m
+    cases true less = omega (arith, less)
+    cases false less = omega (arith, less)
+
+    few : differing m old new ≤ m → differing (suc m) old new ≤ suc m
+    few less = cases (pointwise nat_eq (block old (suc m)) (block new (suc m))) less
+
+-- the same blocks differ from those that are the same
+differ-same : (m : ℕ) (old mid new : List (List ℕ)) → ((k : ℕ) → 1 ≤ k → k ≤ m → block mid k ≡ block old k) → differing m mid new ≡ differing m old new
+differ-same zero old mid new same = refl
+differ-same (suc m) old mid new same =
+    ap (λ ws. if pointwise nat_eq ws (block new (suc m)) then differing m mid new else suc (differing m mid new)) (same (suc m) (omega arith) (omega arith))
+    ∙ ap (λ j. if pointwise nat_eq (block old (suc m)) (block new (suc m)) then j else suc j) (differ-same m old mid new (λ k one low. same k one (omega (arith, low))))
+
+-- ## Blocks are written
+
+-- a file that was begun has no block
+pub filled_none : (m : Mounted) (token blocks : ℕ) (b : IsBeginning m token blocks) → HasFilled m b.begun [] 0 m
+filled_none m token blocks b = record {
+  was = b.was;
+  text = refl;
+  kept = record { count = refl; segments = λ k low high. refl; directory = refl };
+  files = refl;
+  capacity = refl;
+  limit = refl;
+  info = refl;
+  above = refl;
+  writes = refl;
+  others = ap (λ (t : Option Begun). record m { tentative = t }) (b.was ∙ ap (λ n. Some (record { name = b.begun.name; place = b.begun.place; room = b.begun.room; written = n })) b.none);
+}
+
+-- the file that is being written, after some blocks
+pub begun_now : (old : Mounted) (begun : Begun) (front : List ℕ) (written : ℕ) (mid : Mounted) → HasFilled old begun front written mid → mid.tentative ≡ Some (record { name = begun.name; place = begun.place; room = begun.room; written = written })
+begun_now old begun front written mid done = ap (λ (m : Mounted). m.tentative) done.others
+
+-- one more block
+pub filled_more : (old : Mounted) (begun : Begun) (front words : List ℕ) (written : ℕ) (mid new : Mounted) → HasFilled old begun front written mid → HasWritten mid words new → HasFilled old begun (front ++ words) (written + 1) new
+filled_more old begun front words written mid new done more = record {
+  was = done.was;
+  text = ap (λ (b : Begun). run new.blocks b.place (b.written + 1)) (sym same) ∙ more.text ∙ ap (λ (b : Begun). run mid.blocks b.place b.written ++ words) same ∙ ap (λ l. l ++ words) done.text;
+  kept = keeps-trans old.blocks mid.blocks new.blocks done.kept more.kept;
+  files = more.files ∙ done.files;
+  capacity = more.capacity ∙ done.capacity;
+  limit = more.limit ∙ done.limit;
+  info = more.info ∙ done.info;
+  above = more.above ∙ done.above;
+  writes = ap (λ (m : Mounted). m.writes) more.others ∙ ap counted done.writes ∙ once-more written old.writes;
+  others = more.others ∙ ap (λ (b : Begun). record mid { blocks = new.blocks; writes = counted mid.writes; tentative = Some (record { name = b.name; place = b.place; room = b.room; written = b.written + 1 }) }) same ∙ ap (λ (m : Mounted). record m { blocks = new.blocks; writes = counted mid.writes; tentative = Some (record { name = begun.name; place = begun.place; room = begun.room; written = written + 1 }) }) done.others
+      ∙ ap (λ n. record old { blocks = new.blocks; writes = n; tentative = Some (record { name = begun.name; place = begun.place; room = begun.room; written = written + 1 }) }) (sym (ap (λ (m : Mounted). m.writes) more.others));
+}
+  where
+    same : more.begun ≡ record { name = begun.name; place = begun.place; room = begun.room; written = written }
+    same = some-same _ _ (sym more.was ∙ begun_now old begun front written mid done)
+
+-- a write failed over blocks that have the directory of the first ones
+failed-from : (old mid new : Mounted) → KeepsDirectory old.blocks mid.blocks → mid ≡ record old { blocks = mid.blocks; writes = mid.writes } → HasFailed mid new → HasFailed old new
+failed-from old mid new kept is failed =
+    failed
+    ∙ ap (λ (m : Mounted). record m { blocks = new.blocks; writes = new.writes; failed_writes = m.failed_writes + 1; stopped = true; last = listed_or (directory_of mid.blocks) }) is
+    ∙ ap (λ r. record old { blocks = new.blocks; writes = new.writes; failed_writes = old.failed_writes + 1; stopped = true; last = listed_or r }) kept.directory
+
+-- a block that was not written
+pub filled_not : (old : Mounted) (begun : Begun) (front words all : List ℕ) (written blocks : ℕ) (mid new : Mounted) (why : FileFault) → old.stopped ≡ false → HasFilled old begun front written mid → blocks ≤ begun.room → written < blocks → Writes mid words (Err why) new → Fills old all blocks (Err why) new
+filled_not old begun front words all written blocks mid new TooLong running done fits short failed = absurd (past (ap (λ (b : Begun). b.room) same) (ap (λ (b : Begun). b.written) same) failed.3)
+  where
+    same : failed.1 ≡ record { name = begun.name; place = begun.place; room = begun.room; written = written }
+    same = some-same _ _ (sym failed.2 ∙ begun_now old begun front written mid done)
+
+    past : {r w : ℕ} → r ≡ begun.room → w ≡ written → r ≤ w → ⊥
+    past one two full = omega (arith, one, two, full, fits, short)
+filled_not old begun front words all written blocks mid new Device running done fits short failed = record {
+  files = survives-from old.blocks mid.blocks new.blocks done.kept done.files (inl failed.files);
+  writes = record { number = written + 1; some = omega arith; few = omega (arith, short); rise = failed.writes ∙ ap counted done.writes ∙ once-more written old.writes };
+  others = failed-from (Spent old) (Spent mid) (Spent new) done.kept (ap Spent done.others) (ap Spent failed.others);
+}
+filled_not old begun front words all written blocks mid new Stopped running done fits short failed = absurd (true≢false (sym failed.0 ∙ ap (λ (m : Mounted). m.stopped) done.others ∙ running))
+filled_not old begun front words all written blocks mid new NotFound running done fits short failed = absurd failed
+filled_not old begun front words all written blocks mid new (NoRoom n) running done fits short failed = absurd failed
+filled_not old begun front words all written blocks mid new DirectoryFull running done fits short failed = absurd failed
+filled_not old begun front words all written blocks mid new (Busy n) running done fits short failed = absurd failed
+filled_not old begun front words all written blocks mid new BadName running done fits short failed = absurd failed
+filled_not old begun front words all written blocks mid new TentativeOpen running done fits short failed = absurd failed
+filled_not old begun front words all written blocks mid new Memory running done fits short failed = absurd failed
+filled_not old begun front words all written blocks mid new NothingWritten running done fits short failed = absurd failed
+
+-- ## The file is begun
+
+-- a file that could not be begun
+pub entered_not : (old new : Mounted) (name blocks : ℕ) (words : List ℕ) (why : FileFault) → IsNamed name → 0 < blocks → blocks ≡ blocks_filled words → old.tentative ≡ None → Enters old name blocks (Err why) new → Puts old name words (Err why) new
+entered_not old new name blocks words BadName named some count none failed = absurd (unnamed (name / 68719476736) named failed.1)
+  where
+    unnamed : (n : ℕ) → 0 < n → n ≡ 0 → ⊥
+    unnamed n more is = omega (arith, more, is)
+entered_not old new name blocks words TentativeOpen named some count none failed = absurd (open_none failed.2 (sym none ∙ failed.3))
+  where
+    open_none : (b : Begun) → None ≡ Some b → ⊥
+    open_none b is = cc
+entered_not old new name blocks words (Busy other) named some count none failed = (failed.0, failed.2, failed.3, failed.4)
+entered_not old new name blocks words (NoRoom n) named some count none failed = (failed.0, failed.2, subst (λ most. n < most) count (failed.5 some), failed.6, failed.7)
+entered_not old new name blocks words Stopped named some count none failed = failed
+entered_not old new name blocks words NotFound named some count none failed = absurd failed
+entered_not old new name blocks words DirectoryFull named some count none failed = absurd failed
+entered_not old new name blocks words TooLong named some count none failed = absurd failed
+entered_not old new name blocks words Device named some count none failed = absurd failed
+entered_not old new name blocks words Memory named some count none failed = absurd failed
+entered_not old new name blocks words NothingWritten named some count none failed = absurd failed
+
+-- a file that was begun
+pub entered_beginning : (old new : Mounted) (name blocks token : ℕ) (e : HasEntered old name blocks token new) → blocks ≤ e.room → IsBeginning new token blocks
+entered_beginning old new name blocks token e fits = record {
+  running = ap (λ (m : Mounted). m.stopped) e.others ∙ e.ready.running;
+  begun = record { name = name; place = e.place; room = e.room; written = 0 };
+  was = ap (λ (m : Mounted). m.tentative) e.others;
+  name = sym e.token;
+  none = refl;
+  fits = fits;
+}
+
+-- its name
+pub filled_of : (old m1 m2 : Mounted) (name blocks token token' : ℕ) (words : List ℕ) (begun : Begun) → HasEntered old name blocks token m1 → HasFilled m1 begun words blocks m2 → token' ≡ token → IsOf m2 token'
+filled_of old m1 m2 name blocks token token' words begun e done same = (
+  _,
+  begun_now m1 begun words blocks m2 done,
+  ap (λ (b : Begun). b.name) (some-same _ _ (sym done.was ∙ ap (λ (m : Mounted). m.tentative) e.others)) ∙ sym e.token ∙ sym same,
+)
+
+-- without the file that was begun all is as before
+spent-entered : (old m1 : Mounted) (name blocks token : ℕ) → HasEntered old name blocks token m1 → Spent m1 ≡ old
+spent-entered old m1 name blocks token e = ap Spent e.others ∙ ap (λ (t : Option Begun). record old { tentative = t }) (sym e.ready.none)
+
+-- a file whose blocks were not all written is given up
+pub filled_failed : (old m1 m2 new : Mounted) (name blocks token : ℕ) (words : List ℕ) (why : FileFault) → blocks ≡ blocks_filled words → HasEntered old name blocks token m1 → Fills m1 words blocks (Err why) m2 → new ≡ Spent m2 → Puts old name words (Err why) new
+filled_failed old m1 m2 new name blocks token words Device count e failed is = record {
+  ready = e.ready;
+  free = e.free;
+  files = subst (λ (m : Mounted). Survives old.blocks m.blocks) (sym is) (subst (λ (m : Mounted). Survives m.blocks m2.blocks) e.others failed.files);
+  writes = record {
+    number = failed.writes.number;
+    some = failed.writes.some;
+    few = omega (arith, failed.writes.few, count);
+    rise = ap (λ (m : Mounted). m.writes) is ∙ failed.writes.rise ∙ ap (λ (m : Mounted). counted_more failed.writes.number m.writes) e.others;
+  };
+  others = subst (λ (m : Mounted). HasFailed old m) (sym is) (subst (λ (m : Mounted). HasFailed m (Spent m2)) (spent-entered old m1 name blocks token e) failed.others);
+}
+filled_failed old m1 m2 new name blocks token words Stopped count e failed is = absurd failed
+filled_failed old m1 m2 new name blocks token words NotFound count e failed is = absurd failed
+filled_failed old m1 m2 new name blocks token words (NoRoom n) count e failed is = absurd failed
+filled_failed old m1 m2 new name blocks token words DirectoryFull count e failed is = absurd failed
+filled_failed old m1 m2 new name blocks token words (Busy n) count e failed is = absurd failed
+filled_failed old m1 m2 new name blocks token words BadName count e failed is = absurd failed
+filled_failed old m1 m2 new name blocks token words TooLong count e failed is = absurd failed
+filled_failed old m1 m2 new name blocks token words TentativeOpen count e failed is = absurd failed
+filled_failed old m1 m2 new name blocks token words Memory count e failed is = absurd failed
+filled_failed old m1 m2 new name blocks token words NothingWritten count e failed is = absurd failed
+
+-- ## The file is closed
+
+-- a file that was filled and is gone leaves the files as they were
+spent_kept : (old m1 m2 new : Mounted) (name blocks token : ℕ) (words : List ℕ) (begun : Begun) → HasEntered old name blocks token m1 → HasFilled m1 begun words blocks m2 → new ≡ Spent m2 → HasKept old blocks new
+spent_kept old m1 m2 new name blocks token words begun e done is = record {
+  kept = record {
+    count = ap (λ (m : Mounted). length m.blocks) is ∙ done.kept.count ∙ ap (λ (m : Mounted). length m.blocks) e.others;
+    segments = λ k low high. ap (λ (m : Mounted). block m.blocks k) is ∙ done.kept.segments k low high ∙ ap (λ (m : Mounted). block m.blocks k) e.others;
+    directory = ap (λ (m : Mounted). directory_of m.blocks) is ∙ done.kept.directory ∙ ap (λ (m : Mounted). directory_of m.blocks) e.others;
+  };
+  files = ap (λ (m : Mounted). files_of m.blocks) is ∙ done.files ∙ ap (λ (m : Mounted). files_of m.blocks) e.others;
+  capacity = ap (λ (m : Mounted). capacity_of m.blocks) is ∙ done.capacity ∙ ap (λ (m : Mounted). capacity_of m.blocks) e.others;
+  limit = ap (λ (m : Mounted). limit_of m.blocks) is ∙ done.limit ∙ ap (λ (m : Mounted). limit_of m.blocks) e.others;
+  info = ap (λ (m : Mounted). info_of m.blocks) is ∙ done.info ∙ ap (λ (m : Mounted). info_of m.blocks) e.others;
+  above = ap (λ (m : Mounted). above_of m.blocks) is ∙ done.above ∙ ap (λ (m : Mounted). above_of m.blocks) e.others;
+  writes = ap (λ (m : Mounted). m.writes) is ∙ done.writes ∙ ap (λ (m : Mounted). counted_more blocks m.writes) e.others;
+  others = is ∙ ap Spent done.others ∙ ap (λ (m : Mounted). record (Spent m) { blocks = m2.blocks; writes = m2.writes }) e.others ∙ ap (λ (t : Option Begun). record old { blocks = m2.blocks; writes = m2.writes; tentative = t }) (sym e.ready.none) ∙ ap (λ (m : Mounted). record old { blocks = m.blocks; writes = m.writes }) (sym is);
+}
+
+-- what was written is the file
+new_is : (old m1 m2 : Mounted) (name blocks token : ℕ) (words : List ℕ) (begun b : Begun) → HasEntered old name blocks token m1 → HasFilled m1 begun words blocks m2 → m2.tentative ≡ Some b → new_held m2 b [] ≡ plain_file old words
+new_is old m1 m2 name blocks token words begun b e done was =
+    ap (λ (x : Begun). (padded (info_of m2.blocks) [], run m2.blocks x.place x.written)) (some-same _ _ (sym was ∙ begun_now m1 begun words blocks m2 done))
+    ∙ ap (λ (l : List ℕ). (padded (info_of m2.blocks) [], l)) done.text
+    ∙ ap (λ (n : ℕ). (padded n [], words)) (done.info ∙ ap (λ (m : Mounted). info_of m.blocks) e.others)
+
+-- the file that was filled is closed
+pub closed : (old m1 m2 new : Mounted) (name blocks token : ℕ) (words : List ℕ) (begun : Begun) (r : Result (Unit {0}) FileFault) → 0 < blocks → blocks ≡ blocks_filled words → HasEntered old name blocks token m1 → HasFilled m1 begun words blocks m2 → Closes m2 name [] r new → Puts old name words r new
+closed old m1 m2 new name blocks token words begun (Ok done) some count e filled has = record {
+  ready = e.ready;
+  free = e.free;
+  files = has.files ∙ ap (λ h. insert (files_of m2.blocks) name h) (new_is old m1 m2 name blocks token words begun has.begun e filled has.was) ∙ ap (λ fs. insert fs name (plain_file old words)) kept.files;
+  places = λ other differ runs. has.places other differ ∙ ap (extent_or other) kept.kept.directory;
+  capacity = has.capacity ∙ kept.capacity;
+  limit = has.limit ∙ kept.limit;
+  info = has.info ∙ kept.info;
+  tight = λ fresh low. has.tight (subst (λ fs. get fs name ≡ None) (sym kept.files) fresh) (kept.above ∙ low);
+  writes = has.writes ∙ ap (λ n. counted_more n m2.writes) (differ-same 6 old.blocks m2.blocks new.blocks kept.kept.segments) ∙ ap (λ n. counted_more (differing 6 old.blocks new.blocks) n) (kept.writes ∙ ap (λ n. counted_more n old.writes) count);
+  others = has.others ∙ ap (λ (m : Mounted). record m { blocks = new.blocks; writes = new.writes }) kept.others;
+}
+  where
+    kept : HasKept old blocks (Spent m2)
+    kept = spent_kept old m1 m2 (Spent m2) name blocks token words begun e filled refl
+closed old m1 m2 new name blocks token words begun (Err NothingWritten) some count e filled has = absurd (written (ap (λ (b : Begun). b.written) (some-same _ _ (sym has.1.was ∙ begun_now m1 begun words blocks m2 filled))) has.2)
+  where
+    written : {n : ℕ} → n ≡ blocks → n ≡ 0 → ⊥
+    written one two = omega (arith, one, two, some)
+closed old m1 m2 new name blocks token words begun (Err (Busy other)) some count e filled has = absurd (true≢false (sym held ∙ e.free))
+  where
+    held : contains old.holds name ≡ true
+    held = subst (λ (l : List ℕ). contains l name ≡ true) (ap (λ (m : Mounted). m.holds) filled.others ∙ ap (λ (m : Mounted). m.holds) e.others) has.4
+closed old m1 m2 new name blocks token words begun (Err DirectoryFull) some count e filled has = (e.ready, e.free, over, subst (λ n. HasKept old n new) count (spent_kept old m1 m2 new name blocks token words begun e filled has.6))
+  where
+    kept : HasKept old blocks (Spent m2)
+    kept = spent_kept old m1 m2 (Spent m2) name blocks token words begun e filled refl
+
+    files : insert (files_of m2.blocks) name (new_held m2 has.0 []) ≡ insert (files_of old.blocks) name (plain_file old words)
+    files = ap (λ h. insert (files_of m2.blocks) name h) (new_is old m1 m2 name blocks token words begun has.0 e filled has.1.was) ∙ ap (λ fs. insert fs name (plain_file old words)) kept.files
+
+    over : IsOver old.blocks (insert (files_of old.blocks) name (plain_file old words))
+    over = record {
+      files = omega (arith, has.5.files, kept.limit, ap count_of files);
+      tight = λ low. omega (arith, has.5.tight (kept.above ∙ low), kept.limit, ap count_of kept.files);
+    }
+closed old m1 m2 new name blocks token words begun (Err Device) some count e filled has = record {
+  ready = e.ready;
+  free = e.free;
+  files = survives-from old.blocks m2.blocks new.blocks kept.kept kept.files (inr (inr (inl (record { files = has.3.older; directory = has.3.written.0; part = has.3.written.2.part }))));
+  writes = record {
+    number = suc (differing has.3.written.2.part.number m2.blocks new.blocks + blocks);
+    some = omega arith;
+    few = omega (arith, has.3.written.2.part.low, few-differ has.3.written.2.part.number m2.blocks new.blocks, count);
+    rise = has.3.written.2.writes ∙ ap counted (ap (λ n. counted_more (differing has.3.written.2.part.number m2.blocks new.blocks) n) kept.writes ∙ more-counted (differing has.3.written.2.part.number m2.blocks new.blocks) blocks old.writes);
+  };
+  others = failed-from old (Spent m2) new kept.kept kept.others has.3.others;
+}
+  where
+    kept : HasKept old blocks (Spent m2)
+    kept = spent_kept old m1 m2 (Spent m2) name blocks token words begun e filled refl
+closed old m1 m2 new name blocks token words begun (Err Stopped) some count e filled has = absurd (true≢false (sym has.0 ∙ ap (λ (m : Mounted). m.stopped) filled.others ∙ ap (λ (m : Mounted). m.stopped) e.others ∙ e.ready.running))
+closed old m1 m2 new name blocks token words begun (Err Memory) some count e filled has = (e.ready, e.free, subst (λ n. HasKept old n new) count (spent_kept old m1 m2 new name blocks token words begun e filled has.4))
+closed old m1 m2 new name blocks token words begun (Err NotFound) some count e filled has = absurd has
+closed old m1 m2 new name blocks token words begun (Err (NoRoom n)) some count e filled has = absurd has
+closed old m1 m2 new name blocks token words begun (Err BadName) some count e filled has = absurd has
+closed old m1 m2 new name blocks token words begun (Err TooLong) some count e filled has = absurd has
+closed old m1 m2 new name blocks token words begun (Err TentativeOpen) some count e filled has = absurd has

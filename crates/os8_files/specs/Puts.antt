@@ -1,0 +1,63 @@
+-- What putting words under a name comes to: a file is begun, its blocks are written, and it is closed or given up (this
+-- project's profile).
+use Rattle.std.specs.Prelude.{◌≡◌, ℕ, ◌+◌, ◌/◌, ◌<◌, None, List, [], length, Result, Ok, Err}
+use Rattle.std.specs.FinMap.{get, insert}
+use Rattle.os8_dir.specs.Names.{padded}
+use Rattle.os8_dir.specs.Files.{Held, files_of, limit_of, above_of, capacity_of}
+use Rattle.os8_files.specs.Mounted.{Mounted}
+use Rattle.os8_files.specs.Failed.{KeepsDirectory, Survives}
+use Rattle.os8_files.specs.Calls.{IsReady, IsFree, IsHeld, IsLargest, IsOver, HasFailed, HasStopped, RisesBy, counted_more, differing, info_of}
+use Rattle.os8_files.specs.Laws.{KeepsOtherPlaces}
+use Rattle.os8_files.specs.declared.faults.FileFault.{FileFault}
+use Rattle.os8_files.specs.declared.faults.FileFault.TheVariants.{NoRoom, DirectoryFull, Busy, Device, Stopped, Memory}
+
+-- how many blocks words fill
+abbrev pub blocks_filled : List ℕ → ℕ
+blocks_filled words = length words / 256
+
+-- what a file of these words is: its information words are 0
+abbrev pub plain_file : Mounted → List ℕ → Held
+plain_file m words = (padded (info_of m.blocks) [], words)
+
+-- A file has these words, and an older one of its name is gone; the others stay in their places. Each of its blocks was written
+-- once, and each of blocks 1 to 6 that has other words.
+pub record HasPut (old : Mounted) (name : ℕ) (words : List ℕ) (new : Mounted) : Type 0 where
+  pub ready : IsReady old
+  pub free : IsFree old name
+  pub files : files_of new.blocks ≡ insert (files_of old.blocks) name (plain_file old words)
+  pub places : KeepsOtherPlaces name old new
+  pub capacity : capacity_of new.blocks ≡ capacity_of old.blocks
+  pub limit : limit_of new.blocks ≡ limit_of old.blocks
+  pub info : info_of new.blocks ≡ info_of old.blocks
+  pub tight : get (files_of old.blocks) name ≡ None → above_of old.blocks ≡ 0 → above_of new.blocks ≡ 0
+  pub writes : new.writes ≡ counted_more (differing 6 old.blocks new.blocks) (counted_more (blocks_filled words) old.writes)
+  pub others : new ≡ record old { blocks = new.blocks; writes = new.writes }
+
+-- so many blocks were written that belong to no file, and no file is changed
+pub record HasKept (old : Mounted) (blocks : ℕ) (new : Mounted) : Type 0 where
+  pub kept : KeepsDirectory old.blocks new.blocks
+  pub files : files_of new.blocks ≡ files_of old.blocks
+  pub capacity : capacity_of new.blocks ≡ capacity_of old.blocks
+  pub limit : limit_of new.blocks ≡ limit_of old.blocks
+  pub info : info_of new.blocks ≡ info_of old.blocks
+  pub above : above_of new.blocks ≡ above_of old.blocks
+  pub writes : new.writes ≡ counted_more blocks old.writes
+  pub others : new ≡ record old { blocks = new.blocks; writes = new.writes }
+
+-- a write failed, of so many blocks or of the directory
+pub record PutFailed (old : Mounted) (name blocks : ℕ) (new : Mounted) : Type 0 where
+  pub ready : IsReady old
+  pub free : IsFree old name
+  pub files : Survives old.blocks new.blocks
+  pub writes : RisesBy (blocks + 6) old.writes new.writes
+  pub others : HasFailed old new
+
+abbrev pub Puts : Mounted → ℕ → List ℕ → Result (Unit {0}) FileFault → Mounted → Type 0
+Puts old name words (Ok done) new = HasPut old name words new
+Puts old name words (Err (Busy other)) new = IsReady old × (other ≡ name) × IsHeld old name × (new ≡ old)
+Puts old name words (Err (NoRoom largest)) new = IsReady old × IsFree old name × (largest < blocks_filled words) × IsLargest old.blocks largest × (new ≡ old)
+Puts old name words (Err DirectoryFull) new = IsReady old × IsFree old name × IsOver old.blocks (insert (files_of old.blocks) name (plain_file old words)) × HasKept old (blocks_filled words) new
+Puts old name words (Err Device) new = PutFailed old name (blocks_filled words) new
+Puts old name words (Err Stopped) new = HasStopped old new
+Puts old name words (Err Memory) new = IsReady old × IsFree old name × HasKept old (blocks_filled words) new
+Puts old name words (Err fault) new = ⊥

@@ -1,0 +1,90 @@
+//! The putting of whole files.
+ghost use Rattle.std.specs.Prelude.{◌≡◌, ◌*◌, ◌<◌, length, None};
+ghost use Rattle.os8_dir.specs.Entries.{IsNamed};
+ghost use Rattle.os8_files.specs.Puts.{Puts, blocks_filled};
+ghost use Rattle.os8_files.specs.Steps.{IsBeginning, Fills};
+
+use crate::{FileFault, FileService, Tentative};
+use os8_dir::Name;
+use os8_dir::laws::rooms;
+use std::alloc::Global;
+use volume_image::BlockStore;
+use word12::Word;
+
+impl<S: BlockStore> FileService<S> {
+    /// Makes a file of whole blocks of words, at least one, whose information words are 0, in place of an older one of the name
+    /// (this project's profile). Where it is held it is `Busy`; then come `NoRoom` with the blocks of the largest empty, and
+    /// `DirectoryFull` where the new list is too long. Each of its blocks is written once, and each of blocks 1 to 6 whose words
+    /// change; nothing is read. While a file is written it can't be called.
+    pub fn put(&mut self, alloc: Global, name: Name, words: &[Word]) -> Result<(), FileFault>
+        requires named { IsNamed name }
+        requires some { 0 < blocks_filled words.now }
+        requires whole { 256 * blocks_filled words.now ≡ length words.now }
+        requires none { self.old.tentative ≡ None }
+        ensures call { Puts self.old name words.now result self.new }
+        ensures none { self.new.tentative ≡ None }
+    {
+        put_file(self, alloc, name, words, words.len() / 256)
+    }
+}
+
+/// Begins a file, writes its blocks, and closes it or gives it up.
+fn put_file<S: BlockStore>(
+    files: &mut FileService<S>,
+    alloc: Global,
+    name: Name,
+    words: &[Word],
+    blocks: usize,
+) -> Result<(), FileFault>
+    requires named { IsNamed name }
+    requires some { 0 < blocks }
+    requires whole { 256 * blocks ≡ length words.now }
+    requires count { blocks ≡ blocks_filled words.now }
+    requires none { files.old.tentative ≡ None }
+    ensures call { Puts files.old name words.now result files.new }
+    ensures none { files.new.tentative ≡ None }
+{
+    rooms();
+    match files.enter(name, blocks) {
+        Err(fault) => Err(fault),
+        Ok(token) => {
+            let mut tentative = token;
+            match fill(files, &mut tentative, words, blocks) {
+                Ok(()) => files.close(alloc, tentative, &[]),
+                Err(fault) => {
+                    files.give_up(tentative);
+                    Err(fault)
+                }
+            }
+        }
+    }
+}
+
+/// Writes the blocks of a file that was begun.
+fn fill<S: BlockStore>(
+    files: &mut FileService<S>,
+    tentative: &mut Tentative,
+    words: &[Word],
+    blocks: usize,
+) -> Result<(), FileFault>
+    requires whole { 256 * blocks ≡ length words.now }
+    requires beginning { IsBeginning files.old tentative.old blocks }
+    ensures call { Fills files.old words.now blocks result files.new }
+    ensures token { tentative.new ≡ tentative.old }
+{
+    let mut rest = words;
+    let mut written = 0;
+    while written < blocks {
+        let (front, behind) = rest.split_at(256);
+        let mut block = [Word::ZERO; 256];
+        block.copy_from_slice(front);
+        match files.write(tentative, &block) {
+            Ok(()) => {
+                rest = behind;
+                written += 1;
+            }
+            Err(fault) => return Err(fault),
+        }
+    }
+    Ok(())
+}
