@@ -5,7 +5,7 @@ use Rattle.std.specs.Borrow.{Bor}
 use Rattle.pal_lex.specs.Text.{text_from, text_of, up_to_end}
 use Rattle.pal_lex.specs.Statements.{statements, first_fault}
 use Rattle.pal_lex.specs.Joins.{pauses, IsClear, join_of}
-use Rattle.pal_lex.specs.Laws.{has_next, PauseJoins, ByteGoesOn, EndsJoin}
+use Rattle.pal_lex.specs.Laws.{has_next, PauseJoins, JoinGoesOn, ByteGoesOn, EndsJoin}
 use Rattle.pal_lex.specs.Reading.{HasRead, HasPaused}
 use Rattle.pal_lex.specs.Progress as lex
 use Rattle.pal_asm.specs.declared.faults.AsmFault.{AsmFault}
@@ -14,7 +14,7 @@ use Rattle.pal_asm.specs.Places.{Source, values}
 use Rattle.pal_asm.specs.Faults.{first_of, first_order, no_end, words_fault}
 use Rattle.pal_asm.specs.Progress.{Progress}
 use Rattle.pal_asm.specs.Passes.{IsFirst}
-use Rattle.pal_asm.specs.Texts.{texts, are_several, PausesAt, ends_source, PassesByte, Behind, HasMade, MakesByte, EndsText, JoinsAt, ReadsAll, PassesSource, MakesSource, IsFirstOf, IsFirstFault, IsWordsFault}
+use Rattle.pal_asm.specs.Texts.{texts, are_several, PausesAt, ends_source, PassesByte, Behind, HasMade, MakesByte, EndsText, JoinsAt, ReadsAll, PassesSource, MakesSource, IsFirstOf, IsFirstFault, IsWordsFault, RanOut}
 use Rattle.pal_asm.proofs.NameLemmas.{behind_one, first_one}
 use Rattle.pal_asm.proofs.TextLemmas.{behind_others, no_lex_fault, first_stays, words_stay}
 
@@ -77,6 +77,13 @@ byte_goes before text here rest b others old law clear none whole may quiet =
     let goes = law before here (text_of rest) b others clear none (ap (λ (t : Bool). t && pauses (here ++ before) b) (sym may) ∙ quiet) in
     (goes.0, ap (λ t. statements (join_of (t ∷ others) ++ before)) (later_of (b ∷ here) rest text whole) ∙ goes.1)
 
+-- the statements of the whole go on behind what was read
+so_far : (before text here rest : List ℕ) (others : List (List ℕ)) → JoinGoesOn → IsClear before → first_fault (statements (here ++ before)) ≡ None
+    → text_from here rest ≡ text → Behind (statements (join_of (text ∷ others) ++ before)) (statements (here ++ before))
+so_far before text here rest others law clear none whole =
+    let goes = law before here (text_of rest) others clear none in
+    (goes.0, ap (λ t. statements (join_of (t ∷ others) ++ before)) (later_of here rest text whole) ∙ goes.1)
+
 pub all_read : (before text here : List ℕ) (others : List (List ℕ)) (lexer : lex.Progress) → EndsJoin → IsClear before → first_fault (statements (here ++ before)) ≡ None
     → here ≡ text → HasRead lexer (length before) (here ++ before) → ReadsAll before text others lexer
 all_read before text here others lexer law clear none whole read = record {
@@ -94,14 +101,18 @@ first_paused before text rest others old new assembler after law clear long s ma
     let at = join_at before text s.here (behind_one rest) (get_or rest 0 0) others old new law clear none (with_byte s.here rest text long s.whole) may passes.0 in
     (at.0, subst (λ t. IsFirst after t) (sym at.1) passes.1)
 
-pub first_failed : (before text rest : List ℕ) (others : List (List ℕ)) (f : AsmFault) (old new : lex.Progress) (assembler after : Progress) → ByteGoesOn → IsClear before → 1 ≤ length rest
+pub first_failed : (before text rest : List ℕ) (others : List (List ℕ)) (f : AsmFault) (old new : lex.Progress) (assembler after : Progress) → JoinGoesOn → ByteGoesOn → IsClear before → 1 ≤ length rest
     → (s : Stands before text rest old assembler) → old.may_pause ≡ has_next others → PassesByte (length before) (s.here ++ before) (get_or rest 0 0) (Err f) old new after
     → PassesSource before text others (Err f) new after
-first_failed before text rest others (At code line) old new assembler after law clear long s may passes =
+first_failed before text rest others (At code line) old new assembler after joins law clear long s may passes =
     let none = no_lex_fault (statements (s.here ++ before)) s.first.no_fault in
     let goes = byte_goes before text s.here (behind_one rest) (get_or rest 0 0) others old law clear none (with_byte s.here rest text long s.whole) may passes.1 in
     ap first_order goes.1 ∙ first_stays goes.0 (statements (get_or rest 0 0 ∷ s.here ++ before)) (At code line) passes.0
-first_failed before text rest others Memory old new assembler after law clear long s may passes = tt
+first_failed before text rest others Memory old new assembler after joins law clear long s may passes = record {
+  front = s.here ++ before;
+  behind = so_far before text s.here rest others joins clear (no_lex_fault (statements (s.here ++ before)) s.first.no_fault) s.whole;
+  no_fault = s.first.no_fault;
+}
 
 no_more : (rest : List ℕ) → length rest < 1 → rest ≡ []
 no_more [] short = refl
@@ -131,15 +142,19 @@ pub split_byte : (before text rest : List ℕ) (others : List (List ℕ)) (old :
 split_byte before text rest others old pairs assembler law clear long s may quiet =
     byte_goes before text s.here (behind_one rest) (get_or rest 0 0) others old law clear (no_lex_fault (statements (s.here ++ before)) s.made.2) (with_byte s.here rest text long s.split) may quiet
 
-pub second_failed : (before text rest : List ℕ) (others : List (List ℕ)) (f : AsmFault) (old new : lex.Progress) (pairs after : List (ℕ × ℕ)) (assembler moved : Progress) → ByteGoesOn
+pub second_failed : (before text rest : List ℕ) (others : List (List ℕ)) (f : AsmFault) (old new : lex.Progress) (pairs after : List (ℕ × ℕ)) (assembler moved : Progress) → JoinGoesOn → ByteGoesOn
     → IsClear before → 1 ≤ length rest → (s : StandsAgain (statements (join_of (text ∷ others) ++ before)) before text rest old pairs assembler) → old.may_pause ≡ has_next others
     → MakesByte (statements (join_of (text ∷ others) ++ before)) (length before) (s.here ++ before) (get_or rest 0 0) (Err f) old new after moved
     → MakesSource (statements (join_of (text ∷ others) ++ before)) before text others (Err f) new after moved
-second_failed before text rest others (At code line) old new pairs after assembler moved law clear long s may makes =
+second_failed before text rest others (At code line) old new pairs after assembler moved joins law clear long s may makes =
     let whole = statements (join_of (text ∷ others) ++ before) in
     let goes = split_byte before text rest others old pairs assembler law clear long s may makes.1 in
     ap (words_fault (values whole)) goes.1 ∙ words_stay (values whole) goes.0 (statements (get_or rest 0 0 ∷ s.here ++ before)) (At code line) makes.0
-second_failed before text rest others Memory old new pairs after assembler moved law clear long s may makes = tt
+second_failed before text rest others Memory old new pairs after assembler moved joins law clear long s may makes = record {
+  front = s.here ++ before;
+  behind = so_far before text s.here rest others joins clear (no_lex_fault (statements (s.here ++ before)) s.made.2) s.split;
+  no_fault = makes;
+}
 
 pub second_read : (before text rest : List ℕ) (others : List (List ℕ)) (whole : Source) (lexer : lex.Progress) (pairs : List (ℕ × ℕ)) (assembler : Progress) → EndsJoin → IsClear before
     → length rest < 1 → StandsAgain whole before text rest lexer pairs assembler → MakesSource whole before text others (Ok true) lexer pairs assembler
@@ -236,18 +251,18 @@ ended_well text (Err f) assembler ends first = tt
 pub ended_badly : (text : List ℕ) (result : Result (Unit {0}) AsmFault) (assembler : Progress) → EndsText text result → IsFirst assembler (statements text) → IfErr result (λ f. IsFirstFault text f)
 ended_badly text (Ok done) assembler ends first = tt
 ended_badly text (Err (At code line)) assembler ends first = ap (λ o. first_of o (no_end text)) first.no_fault ∙ ends
-ended_badly text (Err Memory) assembler ends first = tt
+ended_badly text (Err Memory) assembler ends first = absurd ends
 
 pub failed_first : (before text whole : List ℕ) (others : List (List ℕ)) (f : AsmFault) (lexer : lex.Progress) (assembler : Progress) → whole ≡ join_of (text ∷ others) ++ before
     → PassesSource before text others (Err f) lexer assembler → IsFirstFault whole f
 failed_first before text whole others (At code line) lexer assembler is told =
     ap (λ o. first_of o (no_end whole)) (ap (λ t. first_order (statements t)) is ∙ told)
-failed_first before text whole others Memory lexer assembler is told = tt
+failed_first before text whole others Memory lexer assembler is told = subst (λ t. RanOut (statements t)) (sym is) told
 
 pub failed_second : (before text whole : List ℕ) (others : List (List ℕ)) (f : AsmFault) (lexer : lex.Progress) (pairs : List (ℕ × ℕ)) (assembler : Progress)
     → MakesSource (statements whole) before text others (Err f) lexer pairs assembler → IsWordsFault whole f
 failed_second before text whole others (At code line) lexer pairs assembler told = told
-failed_second before text whole others Memory lexer pairs assembler told = tt
+failed_second before text whole others Memory lexer pairs assembler told = told
 
 -- what the second pass answers for the first of sources
 pub second_at : (sources : List (Bor (List ℕ))) (none : Bor (List ℕ)) (before whole : List ℕ) (result : Result Bool AsmFault) (old new : lex.Progress) (pairs made : List (ℕ × ℕ)) (assembler after : Progress)

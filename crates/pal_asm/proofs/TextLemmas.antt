@@ -1,5 +1,5 @@
 -- A byte more of a text, and a whole text.
-use Rattle.std.proofs.Common.{◌≡◌, ℕ, nat_eq, Bool, true, false, ◌&&◌, if◌then◌else◌, Option, Some, None, Result, Ok, Err, zero, suc, take, drop, List, [], ◌∷◌, ◌++◌, refl, ap, sym, subst, ◌∙◌, ◌⊎◌, inl, inr, append_assoc}
+use Rattle.std.proofs.Common.{◌≡◌, ℕ, nat_eq, Bool, true, false, ◌&&◌, if◌then◌else◌, Option, Some, None, Result, Ok, Err, zero, suc, take, drop, List, [], ◌∷◌, ◌++◌, refl, ap, sym, subst, ◌∙◌, ◌⊎◌, inl, inr, append_assoc, true≢false}
 use Rattle.pal_lex.specs.Text.{ends_statement, stretch, line_after, text_from}
 use Rattle.pal_lex.specs.Statements.{statements, first_fault, first_of as lex_first_of, with_stretch, judged, radix_after}
 use Rattle.pal_lex.specs.Joins.{pauses}
@@ -20,8 +20,8 @@ use Rattle.pal_asm.specs.Words.{word_values}
 use Rattle.pal_asm.specs.Faults.{first_of, at_line, lexical, statement_fault, first_order, no_end, word_fault, words_fault, has_word, last_line, no_word}
 use Rattle.pal_asm.specs.Laws.{FixedNamesKeepTheirValues, FirstFaultStays, WordFaultStays, NoWordIsTold, LexicalFaultIsTold, NoLexicalFault, StatementsStay, NoFaultBefore, FirstStatementsTell, FirstWordsTell, NoEndIsTold}
 use Rattle.pal_asm.specs.Progress.{Progress}
-use Rattle.pal_asm.specs.Passes.{IsFirst, AnswersFirst, AnswersSecond, with_handed, TurnsOver}
-use Rattle.pal_asm.specs.Texts.{ReadsTo, PausesAt, ends_source, PassesStatement, PassesByte, Behind, HasMade, MakesStatement, EndsText, MakesByte, IsFirstOf, IsFaultOf}
+use Rattle.pal_asm.specs.Passes.{IsFirst, IsSecond, AnswersFirst, AnswersSecond, with_handed, TurnsOver}
+use Rattle.pal_asm.specs.Texts.{ReadsTo, PausesAt, ends_source, PassesStatement, PassesByte, Behind, HasMade, MakesStatement, EndsText, MakesByte, IsFirstOf, IsFaultOf, IsFirstFault, IsWordsFault}
 use Rattle.pal_asm.proofs.WholeLemmas.{first_none, second_none, some_none, no_fault_before, fixed_keep}
 
 -- ## Statements
@@ -138,7 +138,7 @@ first_lexical seam text b (fault.NU line) answer old new assembler e answers non
     subst (λ a. PassesByte seam text b (Err a) old new assembler) (sym e) (first_tells seam text b (fault.NU line) old new answers none)
 first_lexical seam text b (fault.NE line) answer old new assembler e answers none = absurd answers
 first_lexical seam text b fault.Memory answer old new assembler e answers none =
-    subst (λ a. PassesByte seam text b (Err a) old new assembler) (sym e) tt
+    subst (λ a. PassesByte seam text b (Err a) old new assembler) (sym e) none
 
 -- what the end of a text is answered
 pub end_lexical : (text : List ℕ) (f : LexFault) (answer : AsmFault) → answer ≡ lexical f → Ends text (Err f) → first_order (statements text) ≡ None → EndsText text (Err answer)
@@ -159,13 +159,13 @@ second_tells whole seam text b f old new tells split none before =
 
 pub second_lexical : (whole : Source) (seam : ℕ) (text : List ℕ) (b : ℕ) (f : LexFault) (answer : AsmFault) (old new : lex.Progress) (pairs : List (ℕ × ℕ)) (assembler : Progress)
     → answer ≡ lexical f → Answers seam text b (Err f) old new → (ends_source old text b ≡ false → Behind whole (statements (b ∷ text))) → first_order whole ≡ None
-    → first_order (statements text) ≡ None → MakesByte whole seam text b (Err answer) old new pairs assembler
-second_lexical whole seam text b (fault.IC line) answer old new pairs assembler e answers split none before = second_tells whole seam text b (fault.IC line) old new answers split none before
-second_lexical whole seam text b (fault.SY line) answer old new pairs assembler e answers split none before = second_tells whole seam text b (fault.SY line) old new answers split none before
-second_lexical whole seam text b (fault.NU line) answer old new pairs assembler e answers split none before = second_tells whole seam text b (fault.NU line) old new answers split none before
-second_lexical whole seam text b (fault.NE line) answer old new pairs assembler e answers split none before = absurd answers
-second_lexical whole seam text b fault.Memory answer old new pairs assembler e answers split none before =
-    subst (λ a. MakesByte whole seam text b (Err a) old new pairs assembler) (sym e) tt
+    → first_order (statements text) ≡ None → words_fault (values whole) (statements text) ≡ None → MakesByte whole seam text b (Err answer) old new pairs assembler
+second_lexical whole seam text b (fault.IC line) answer old new pairs assembler e answers split none before words = second_tells whole seam text b (fault.IC line) old new answers split none before
+second_lexical whole seam text b (fault.SY line) answer old new pairs assembler e answers split none before words = second_tells whole seam text b (fault.SY line) old new answers split none before
+second_lexical whole seam text b (fault.NU line) answer old new pairs assembler e answers split none before words = second_tells whole seam text b (fault.NU line) old new answers split none before
+second_lexical whole seam text b (fault.NE line) answer old new pairs assembler e answers split none before words = absurd answers
+second_lexical whole seam text b fault.Memory answer old new pairs assembler e answers split none before words =
+    subst (λ a. MakesByte whole seam text b (Err a) old new pairs assembler) (sym e) words
 
 pauses_at : (seam : ℕ) (text : List ℕ) (b : ℕ) (s : Statement) (before after : lex.Progress) → Pauses seam text b s before after → PausesAt text b before after
 pauses_at seam text b s before after p = record { may_pause = p.may_pause; pauses = p.pauses; clear = p.clear; same = p.same; paused = p.paused }
@@ -181,7 +181,7 @@ first_ended false seam text b s (Ok true) before after old new bad out passes fi
 first_ended false seam text b s (Ok false) before after old new bad out passes first = absurd passes
 first_ended false seam text b s (Err (At code line)) before after old new bad out passes first =
     (ap first_order out.newest ∙ passes, no_pause before text b bad (no_lex_fault (statements text) first.no_fault) out.no_fault)
-first_ended false seam text b s (Err Memory) before after old new bad out passes first = tt
+first_ended false seam text b s (Err Memory) before after old new bad out passes first = first.no_fault
 
 -- statements of the whole with one more, which a byte ended
 pub split_newest : (pause : Bool) (whole : Source) (seam : ℕ) (text : List ℕ) (b : ℕ) (s : Statement) (before after : lex.Progress) → PauseIsBad → HandsOut pause seam text b s before after
@@ -195,16 +195,16 @@ split_newest false whole seam text b s before after bad out none split e =
 -- what the second pass answers for a byte that ends a statement
 pub second_ended : (pause : Bool) (whole : Source) (seam : ℕ) (text : List ℕ) (b : ℕ) (s : Statement) (result : Result Bool AsmFault) (before after : lex.Progress) (pairs : List (ℕ × ℕ)) (new : Progress)
     → PauseIsBad → HandsOut pause seam text b s before after → MakesStatement pause whole (statements text) (with_tokens (tokens_behind text) s) result pairs new
-    → first_order (statements text) ≡ None → MakesByte whole seam text b result before after pairs new
-second_ended true whole seam text b s (Ok true) before after pairs new bad out makes none = absurd makes
-second_ended true whole seam text b s (Ok false) before after pairs new bad out makes none = (pauses_at seam text b s before after out, makes)
-second_ended true whole seam text b s (Err f) before after pairs new bad out makes none = absurd makes
-second_ended false whole seam text b s (Ok true) before after pairs new bad out makes none =
+    → first_order (statements text) ≡ None → words_fault (values whole) (statements text) ≡ None → MakesByte whole seam text b result before after pairs new
+second_ended true whole seam text b s (Ok true) before after pairs new bad out makes none words = absurd makes
+second_ended true whole seam text b s (Ok false) before after pairs new bad out makes none words = (pauses_at seam text b s before after out, makes)
+second_ended true whole seam text b s (Err f) before after pairs new bad out makes none words = absurd makes
+second_ended false whole seam text b s (Ok true) before after pairs new bad out makes none words =
     (out.read, subst (λ t. HasMade whole t pairs new) (sym out.newest) makes)
-second_ended false whole seam text b s (Ok false) before after pairs new bad out makes none = absurd makes
-second_ended false whole seam text b s (Err (At code line)) before after pairs new bad out makes none =
+second_ended false whole seam text b s (Ok false) before after pairs new bad out makes none words = absurd makes
+second_ended false whole seam text b s (Err (At code line)) before after pairs new bad out makes none words =
     (ap (words_fault (values whole)) out.newest ∙ makes, no_pause before text b bad (no_lex_fault (statements text) none) out.no_fault)
-second_ended false whole seam text b s (Err Memory) before after pairs new bad out makes none = tt
+second_ended false whole seam text b s (Err Memory) before after pairs new bad out makes none words = words
 
 -- ## Faults of a whole text
 
@@ -258,6 +258,37 @@ turned text (At code line) old new turns first =
     ∙ ap (λ o. first_of o (no_word (statements text))) (no_words (values (statements text)) (statements text) (wordless (statements text) (At code line) turns.0))
     ∙ turns.0
 turned text Memory old new turns first = absurd turns
+
+-- the fault that the first pass met
+pub met_first : (text : List ℕ) (f : AsmFault) → IsFirstFault text f → IsFaultOf text f
+met_first text (At code line) told =
+    both_of (first_order (statements text)) (no_end text) (first_of (words_fault (values (statements text)) (statements text)) (no_word (statements text))) told
+  where
+    both_of : {f : AsmFault} (a b c : Option AsmFault) → first_of a b ≡ Some f → first_of a (first_of b c) ≡ Some f
+    both_of None None c e = absurd cc
+    both_of None (Some g) c e = e
+    both_of (Some g) b c e = e
+met_first text Memory ran = record {
+  again = false;
+  first = λ _. ran;
+  no_fault = λ e. absurd (true≢false (sym e));
+  has_word = λ e. absurd (true≢false (sym e));
+  second = λ e. absurd (true≢false (sym e));
+}
+
+-- the fault that the second pass met
+pub met_second : (text : List ℕ) (f : AsmFault) (turned : Progress) → IsWordsFault text f → no_end text ≡ None → IsSecond turned (statements text) [] → IsFaultOf text f
+met_second text (At code line) turned told ended second =
+    ap (λ o. first_of o (first_of (no_end text) (first_of (words_fault (values (statements text)) (statements text)) (no_word (statements text))))) second.no_fault
+    ∙ ap (λ o. first_of o (first_of (words_fault (values (statements text)) (statements text)) (no_word (statements text)))) ended
+    ∙ ap (λ o. first_of o (no_word (statements text))) told
+met_second text Memory turned ran ended second = record {
+  again = true;
+  first = λ e. absurd (true≢false e);
+  no_fault = λ _. ap (λ o. first_of o (no_end text)) second.no_fault ∙ ended;
+  has_word = λ _. second.has_word;
+  second = λ _. ran;
+}
 
 -- ## Laws
 
@@ -321,7 +352,7 @@ no_fault_before_all = no_fault_before
 
 pub passes_err : (older : Source) (s : Statement) (f : AsmFault) (old new : Progress) → AnswersFirst older s (Err f) old new → PassesStatement false older s (Err f) old new
 passes_err older s (At code line) old new answers = answers.0
-passes_err older s Memory old new answers = tt
+passes_err older s Memory old new answers = answers.1
 
 pub makes_err : (whole older : Source) (s : Statement) (f : AsmFault) (old new : Progress) (pairs : List (ℕ × ℕ)) → AnswersSecond whole older s (Err f) old new
     → MakesStatement false whole older s (Err f) pairs new

@@ -1,5 +1,5 @@
 -- What the two passes over whole sources come to.
-use Rattle.std.specs.Prelude.{◌≡◌, ℕ, Bool, true, false, ◌&&◌, Some, None, Result, Ok, Err, List, [], ◌∷◌, ◌++◌, length}
+use Rattle.std.specs.Prelude.{◌≡◌, ℕ, ◌+◌, ◌<◌, Bool, true, false, ◌&&◌, Some, None, Result, Ok, Err, List, [], ◌∷◌, ◌++◌, length}
 use Rattle.std.specs.Borrow.{Bor}
 use Rattle.pal_lex.specs.Text.{text_from, text_of, up_to_end}
 use Rattle.pal_lex.specs.Statements.{statements}
@@ -12,9 +12,9 @@ use Rattle.pal_asm.specs.declared.faults.AsmFault.{AsmFault}
 use Rattle.pal_asm.specs.declared.faults.AsmFault.TheVariants.{At, Memory}
 use Rattle.pal_asm.specs.Places.{Source, values}
 use Rattle.pal_asm.specs.Words.{pairs_by, pairs_of}
-use Rattle.pal_asm.specs.Faults.{first_of, first_order, words_fault, no_end, fault_of}
+use Rattle.pal_asm.specs.Faults.{first_of, first_order, words_fault, no_end, no_word, fault_of}
 use Rattle.pal_asm.specs.Progress.{Progress}
-use Rattle.pal_asm.specs.Passes.{IsFirst, IsSecond}
+use Rattle.pal_asm.specs.Passes.{definitions, IsFirst, IsSecond}
 
 -- the texts of sources, in their order
 abbrev pub texts : List (Bor (List ℕ)) → List (List ℕ)
@@ -23,10 +23,35 @@ texts (source ∷ others) = text_of source.now ∷ texts others
 
 -- ## What is promised of sources
 
--- the first fault of a text, or want of memory
+-- The statements of a whole source go on behind others.
+abbrev pub Behind : Source → Source → Type 0
+Behind whole older = (later : Source) × (whole ≡ later ++ older)
+
+-- The first pass wanted memory behind these bytes, and none of their statements has a fault that it tells.
+pub record RanOut (whole : Source) : Type 0 where
+  pub front : List ℕ
+  pub behind : Behind whole (statements front)
+  pub no_fault : first_order (statements front) ≡ None
+
+-- The second pass wanted memory behind these bytes, and none of their words has a fault.
+pub record RanOutAgain (whole : Source) : Type 0 where
+  pub front : List ℕ
+  pub behind : Behind whole (statements front)
+  pub no_fault : words_fault (values whole) (statements front) ≡ None
+
+-- One of the two passes wanted memory. The second is made only of a text with its `$` and a word, none of whose statements
+-- has a fault that the first one tells.
+pub record WantsMemory (text : List ℕ) : Type 0 where
+  pub again : Bool
+  pub first : again ≡ false → RanOut (statements text)
+  pub no_fault : again ≡ true → first_of (first_order (statements text)) (no_end text) ≡ None
+  pub has_word : again ≡ true → no_word (statements text) ≡ None
+  pub second : again ≡ true → RanOutAgain (statements text)
+
+-- The first fault of a text; or want of memory, where no fault was met.
 abbrev pub IsFaultOf : List ℕ → AsmFault → Type 0
 IsFaultOf text (At code line) = fault_of text ≡ Some (At code line)
-IsFaultOf text Memory = Unit {0}
+IsFaultOf text Memory = WantsMemory text
 
 -- these are the words of a text, which has no fault
 abbrev pub ArePairsOf : List ℕ → List (ℕ × ℕ) → Type 0
@@ -59,7 +84,7 @@ PassesStatement true older s result old new = (result ≡ Ok false) × (new ≡ 
 PassesStatement false older s (Ok true) old new = IsFirst new (Ok s ∷ older)
 PassesStatement false older s (Ok false) old new = ⊥
 PassesStatement false older s (Err (At code line)) old new = first_order (Ok s ∷ older) ≡ Some (At code line)
-PassesStatement false older s (Err Memory) old new = Unit {0}
+PassesStatement false older s (Err Memory) old new = old.symbols.room < length s.tags + definitions s.body
 
 -- what the first pass answers for a byte behind a text
 abbrev pub PassesByte : ℕ → List ℕ → ℕ → Result Bool AsmFault → lex.Progress → lex.Progress → Progress → Type 0
@@ -67,11 +92,7 @@ PassesByte seam text b (Ok true) old new assembler = HasRead new seam (b ∷ tex
 PassesByte seam text b (Ok false) old new assembler = PausesAt text b old new × IsFirst assembler (statements text)
 PassesByte seam text b (Err (At code line)) old new assembler =
     (first_order (statements (b ∷ text)) ≡ Some (At code line)) × (ends_source old text b ≡ false)
-PassesByte seam text b (Err Memory) old new assembler = Unit {0}
-
--- The statements of a whole source go on behind others.
-abbrev pub Behind : Source → Source → Type 0
-Behind whole older = (later : Source) × (whole ≡ later ++ older)
+PassesByte seam text b (Err Memory) old new assembler = first_order (statements text) ≡ None
 
 -- The pairs so far of a whole source, and the second pass behind the same statements, which have no fault.
 abbrev pub HasMade : Source → Source → List (ℕ × ℕ) → Progress → Type 0
@@ -85,7 +106,7 @@ MakesStatement true whole older s (Err fault) pairs assembler = ⊥
 MakesStatement false whole older s (Ok true) pairs assembler = HasMade whole (Ok s ∷ older) pairs assembler
 MakesStatement false whole older s (Ok false) pairs assembler = ⊥
 MakesStatement false whole older s (Err (At code line)) pairs assembler = words_fault (values whole) (Ok s ∷ older) ≡ Some (At code line)
-MakesStatement false whole older s (Err Memory) pairs assembler = Unit {0}
+MakesStatement false whole older s (Err Memory) pairs assembler = words_fault (values whole) (Ok s ∷ older) ≡ None
 
 -- what the second pass of a whole source answers for a byte behind a text
 abbrev pub MakesByte : Source → ℕ → List ℕ → ℕ → Result Bool AsmFault → lex.Progress → lex.Progress → List (ℕ × ℕ) → Progress → Type 0
@@ -93,7 +114,7 @@ MakesByte whole seam text b (Ok true) old new pairs assembler = HasRead new seam
 MakesByte whole seam text b (Ok false) old new pairs assembler = PausesAt text b old new × HasMade whole (statements text) pairs assembler
 MakesByte whole seam text b (Err (At code line)) old new pairs assembler =
     (words_fault (values whole) (statements (b ∷ text)) ≡ Some (At code line)) × (ends_source old text b ≡ false)
-MakesByte whole seam text b (Err Memory) old new pairs assembler = Unit {0}
+MakesByte whole seam text b (Err Memory) old new pairs assembler = words_fault (values whole) (statements text) ≡ None
 
 -- what the end of a text is answered, none of whose statements has a fault
 abbrev pub EndsText : List ℕ → Result (Unit {0}) AsmFault → Type 0
@@ -121,7 +142,7 @@ abbrev pub PassesSource : List ℕ → List ℕ → List (List ℕ) → Result B
 PassesSource before text others (Ok true) lexer assembler = ReadsAll before text others lexer × IsFirst assembler (statements (text ++ before))
 PassesSource before text others (Ok false) lexer assembler = (at : JoinsAt before text others lexer) × IsFirst assembler (statements at.cut)
 PassesSource before text others (Err (At code line)) lexer assembler = first_order (statements (join_of (text ∷ others) ++ before)) ≡ Some (At code line)
-PassesSource before text others (Err Memory) lexer assembler = Unit {0}
+PassesSource before text others (Err Memory) lexer assembler = RanOut (statements (join_of (text ∷ others) ++ before))
 
 -- what the second pass of the join of all sources answers for one of them
 abbrev pub MakesSource : Source → List ℕ → List ℕ → List (List ℕ) → Result Bool AsmFault → lex.Progress → List (ℕ × ℕ) → Progress → Type 0
@@ -129,7 +150,7 @@ MakesSource whole before text others (Ok true) lexer pairs assembler = ReadsAll 
 MakesSource whole before text others (Ok false) lexer pairs assembler =
     (at : JoinsAt before text others lexer) × HasMade whole (statements at.cut) pairs assembler
 MakesSource whole before text others (Err (At code line)) lexer pairs assembler = words_fault (values whole) whole ≡ Some (At code line)
-MakesSource whole before text others (Err Memory) lexer pairs assembler = Unit {0}
+MakesSource whole before text others (Err Memory) lexer pairs assembler = RanOutAgain whole
 
 -- ## All sources
 
@@ -137,19 +158,19 @@ MakesSource whole before text others (Err Memory) lexer pairs assembler = Unit {
 abbrev pub IsFirstOf : List ℕ → Progress → Type 0
 IsFirstOf text assembler = IsFirst assembler (statements text) × (no_end text ≡ None)
 
--- the first fault of a text that the first pass meets, or want of memory
+-- The first fault of a text that the first pass meets; or want of memory, where it met none.
 abbrev pub IsFirstFault : List ℕ → AsmFault → Type 0
 IsFirstFault text (At code line) = first_of (first_order (statements text)) (no_end text) ≡ Some (At code line)
-IsFirstFault text Memory = Unit {0}
+IsFirstFault text Memory = RanOut (statements text)
 
 -- these are the words of a text, none of which has a fault
 abbrev pub AreWordsOf : List ℕ → List (ℕ × ℕ) → Type 0
 AreWordsOf text pairs = (words_fault (values (statements text)) (statements text) ≡ None) × (pairs ≡ pairs_of text)
 
--- the first fault of the words of a text, or want of memory
+-- The first fault of the words of a text; or want of memory, where the second pass met none.
 abbrev pub IsWordsFault : List ℕ → AsmFault → Type 0
 IsWordsFault text (At code line) = words_fault (values (statements text)) (statements text) ≡ Some (At code line)
-IsWordsFault text Memory = Unit {0}
+IsWordsFault text Memory = RanOutAgain (statements text)
 
 -- more than one
 abbrev pub are_several : List (List ℕ) → Bool

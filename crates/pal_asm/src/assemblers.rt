@@ -74,9 +74,10 @@ impl Assembler {
     /// counted.
     ///
     /// Its fault is the first of the source in the order of its statements. A call that answers want of memory took
-    /// nothing, and comes only for a statement that defines names; after another fault each call answers the same
-    /// (PAL III Symbolic Assembler manual, and this project's profile of it). PAUSE says nothing: of several sources the
-    /// statements come one after the other. Behind the turn nothing is taken.
+    /// nothing, and comes only for a statement that defines names, which asks for the room of each, also of one that is there
+    /// already; after another fault each call answers the same (PAL III Symbolic Assembler manual, and this project's profile
+    /// of it). PAUSE says nothing: of several sources the statements come one after the other. Behind the turn nothing is
+    /// taken.
     pub fn first(&mut self, statement: &Statement) -> Result<(), AsmFault>
         ensures answers { (older : Source) (tokens : List Token) → is_pause_body statement.now.body ≡ false → IsFirst self.old older → AnswersFirst older (with_tokens tokens statement.now) result self.old self.new }
         ensures paused { (older : Source) → is_pause_body statement.now.body ≡ true → IsFirst self.old older → (result ≡ Ok tt) × (self.new ≡ self.old) }

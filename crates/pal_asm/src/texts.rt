@@ -14,13 +14,13 @@ ghost use Rattle.pal_asm.specs.Passes.{with_handed, IsFirst, IsSecond};
 ghost use Rattle.pal_asm.specs.Texts.{texts, are_several, ends_source, Behind, HasMade, ReadsTo, PassesStatement, PassesByte, MakesStatement, MakesByte, EndsText, PassesSource, MakesSource, BeginsNext, IsFirstOf, IsFirstFault, AreWordsOf, IsWordsFault, ArePairsOf, IsFaultOf};
 
 use crate::{AsmFault, Assembler};
-use pal_lex::laws::{byte_goes_on, pause_is_bad, pause_joins, source_ends_join};
+use pal_lex::laws::{byte_goes_on, join_goes_on, pause_is_bad, pause_joins, source_ends_join};
 use pal_lex::{Body, Lexer, Statement};
 use std::alloc::{AllocError, Global};
 use word12::{Cell, Word};
 
 /// The words of a source, each with its cell, in the order of the source; or its first fault with its line, 1 and up (PAL
-/// III Symbolic Assembler manual, and this project's profile of it).
+/// III Symbolic Assembler manual, and this project's profile of it). Want of memory is answered only where none was met.
 pub fn assemble(alloc: Global, source: &[u8]) -> Result<Vec<(Cell, Word)>, AsmFault>
     ensures pairs { IfOk result (λ pairs. ArePairsOf (text_of source.now) pairs.items) }
     ensures fault { IfErr result (λ fault. IsFaultOf (text_of source.now) fault) }
@@ -31,17 +31,18 @@ pub fn assemble(alloc: Global, source: &[u8]) -> Result<Vec<(Cell, Word)>, AsmFa
 /// The words of sources that are one, each with its cell, in their order; or the first fault with its line, 1 and up. Each
 /// source but the last goes on in the next one at its first PAUSE that stands alone; lines count over them all (PAL III
 /// Symbolic Assembler manual, and this project's profile of it). No source at all is an empty one.
+///
+/// Want of memory is answered only where no fault was met: in the first pass behind statements with none, and in the second
+/// where the whole has its `$`, a word and no fault that the first one tells.
 pub fn assemble_all(alloc: Global, sources: &[&[u8]]) -> Result<Vec<(Cell, Word)>, AsmFault>
     ensures pairs { IfOk result (λ pairs. ArePairsOf (join_of (texts sources.now)) pairs.items) }
     ensures fault { IfErr result (λ fault. IsFaultOf (join_of (texts sources.now)) fault) }
 {
     let mut assembler = Assembler::new(alloc);
-    match first_pass(alloc, sources, &mut assembler) {
-        Ok(()) => match assembler.turn_over() {
-            Ok(()) => second_pass(alloc, sources, &mut assembler),
-            Err(fault) => Err(fault),
-        },
-        Err(fault) => Err(fault),
+    first_pass(alloc, sources, &mut assembler)?;
+    match assembler.turn_over() {
+        Ok(()) => second_pass(alloc, sources, &mut assembler),
+        Err(no_word) => Err(no_word),
     }
 }
 
@@ -91,10 +92,8 @@ fn is_pause(statement: &Statement) -> bool
 fn ended(lexer: &Lexer) -> Result<(), AsmFault>
     ensures { (seam : ℕ) (text : List ℕ) → HasRead lexer.now seam text → first_order (statements text) ≡ None → EndsText text result }
 {
-    match lexer.end() {
-        Ok(()) => Ok(()),
-        Err(fault) => Err(AsmFault::from(fault)),
-    }
+    lexer.end()?;
+    Ok(())
 }
 
 /// Takes a statement more in the first pass, and answers whether the source goes on.
@@ -104,10 +103,8 @@ fn first_statement(assembler: &mut Assembler, statement: &Statement) -> Result<b
     if is_pause(statement) {
         return Ok(false);
     }
-    match assembler.first(statement) {
-        Ok(()) => Ok(true),
-        Err(fault) => Err(fault),
-    }
+    assembler.first(statement)?;
+    Ok(true)
 }
 
 /// Takes a byte more in the first pass, and answers whether the source goes on.
@@ -133,6 +130,7 @@ fn first_source(
     ensures { (before : List ℕ) (others : List (List ℕ)) → IsClear before → HasRead lexer.old (length before) before → IsFirst assembler.old (statements before) → lexer.old.may_pause ≡ has_next others → PassesSource before (text_of source.now) others result lexer.new assembler.new }
 {
     pause_is_bad();
+    join_goes_on();
     byte_goes_on();
     pause_joins();
     source_ends_join();
@@ -197,7 +195,7 @@ fn second_statement(
             Ok(()) => Ok(true),
             Err(_) => Err(AsmFault::Memory),
         },
-        Err(fault) => Err(fault),
+        Err(word) => Err(word),
     }
 }
 
@@ -230,6 +228,7 @@ fn second_source(
     ensures { (before : List ℕ) (others : List (List ℕ)) → IsClear before → HasRead lexer.old (length before) before → HasMade (statements (join_of (text_of source.now ∷ others) ++ before)) (statements before) pairs.old.items assembler.old → lexer.old.may_pause ≡ has_next others → MakesSource (statements (join_of (text_of source.now ∷ others) ++ before)) before (text_of source.now) others result lexer.new pairs.new.items assembler.new }
 {
     pause_is_bad();
+    join_goes_on();
     byte_goes_on();
     pause_joins();
     source_ends_join();

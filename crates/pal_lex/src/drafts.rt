@@ -136,7 +136,7 @@ impl Draft {
     }
 
     /// Puts a token behind the others, and a blank before it where one is pending.
-    #[inline(never)]
+    #[inline(always)]
     fn add(&mut self, token: Token, tail: Tail) -> Result<(), AllocError>
         ensures refused { OnErr result (self.new ≡ self.old) }
         ensures added { OnOk result (self.new ≡ record {

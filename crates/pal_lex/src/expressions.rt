@@ -38,11 +38,13 @@ fn term_of(kind: Kind) -> Option<Term>
 {
     match kind {
         Kind::Term(term) => free_term(term),
-        _ => None,
+        Kind::BadNumber | Kind::Blank | Kind::Plus | Kind::Minus => None,
+        Kind::Equals | Kind::Comma | Kind::Star => None,
     }
 }
 
 /// The terms before some tokens, and the terms that these are, each with what joins it to those before it.
+#[inline(always)]
 fn continued(
     before: SmallVec<Part, 2>,
     blanks: bool,

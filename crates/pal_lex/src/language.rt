@@ -81,7 +81,7 @@ fn name_of_term(term: Term) -> Option<Name>
 {
     match term {
         Term::Name(name) => Some(name),
-        _ => None,
+        Term::Number(_) | Term::Here => None,
     }
 }
 
@@ -91,7 +91,8 @@ fn name_of(kind: Kind) -> Option<Name>
 {
     match kind {
         Kind::Term(term) => name_of_term(term),
-        _ => None,
+        Kind::BadNumber | Kind::Blank | Kind::Plus | Kind::Minus => None,
+        Kind::Equals | Kind::Comma | Kind::Star => None,
     }
 }
 

@@ -346,7 +346,8 @@ impl Lexer {
         }
     }
 
-    /// Takes a byte, a whole comment, or a whole name or number of a source that goes on, or nothing.
+    /// Takes a byte, a whole comment, or a whole name or number of a source that goes on, or nothing. What most lines have
+    /// besides names and numbers is compiled for itself.
     #[inline(always)]
     fn take_some(&mut self, bytes: &[u8]) -> usize
         requires { self.old.state ≡ State.Reading }
@@ -361,6 +362,11 @@ impl Lexer {
         match bytes {
             [byte, others @ ..] => match *byte {
                 b'A'..=b'Z' | b'0'..=b'9' => self.take_run(bytes, *byte, others),
+                b'\t' => usize::from(self.take_byte(b'\t')),
+                b' ' => usize::from(self.take_byte(b' ')),
+                b'/' => usize::from(self.take_byte(b'/')),
+                b'\r' => usize::from(self.take_byte(b'\r')),
+                LINE_FEED => usize::from(self.take_byte(LINE_FEED)),
                 _ => usize::from(self.take_byte(*byte)),
             },
             [] => 0,

@@ -6,18 +6,28 @@ use std::marker::Model;
 /// Symbolic Assembler manual).
 ///
 /// A contract sees the number of six digits to the base 64, which are the sixbit codes of those characters, with 0 for
-/// each that is missing.
+/// each that is missing. It is kept as two halves, which need not lie at a multiple of eight bytes: so each token and each
+/// term of an expression is that much smaller.
 #[derive(Clone, Copy, PartialEq, Eq, PartialOrd, Ord, Hash, Debug)]
 pub struct Name {
-    number: u64,
+    high: u32,
+    low: u32,
 }
 
 impl Model for Name {
+    ghost use Rattle.std.specs.Prelude.{ℕ, ◌+◌, ◌*◌, ◌/◌, ◌%◌, ◌<◌};
+    ghost use Rattle.std.proofs.Common.{ap, ◌∙◌};
+    ghost use Rattle.std.proofs.lemmas.Nat.{div-mul-add, mod-mul-add};
+
     ghost Value = { ℕ };
 
-    ghost view = { λ name. name.number };
+    ghost invariant = { λ name. name.low < 4294967296 };
 
-    ghost inverse = { λ number. record { number = number } };
+    ghost view = { λ name. name.high * 4294967296 + name.low };
+
+    ghost inverse = { λ number. record { high = number / 4294967296; low = number % 4294967296 } };
+
+    ghost inverse_ok = { λ a h. ap (λ (n : ℕ). record { high = n; low = (a.high * 4294967296 + a.low) % 4294967296 }) (div-mul-add a.high 4294967296 a.low h) ∙ ap (λ (n : ℕ). record { high = a.high; low = n }) (mod-mul-add a.high 4294967296 a.low h) };
 }
 
 impl Name {
@@ -26,7 +36,10 @@ impl Name {
     pub(crate) fn numbered(number: u64) -> Name
         ensures { result ≡ number }
     {
-        Name { number }
+        Name {
+            high: (number / 4294967296) as u32,
+            low: (number % 4294967296) as u32,
+        }
     }
 
     /// The number that its six sixbit codes make.
@@ -34,6 +47,6 @@ impl Name {
     pub fn number(self) -> u64
         ensures { result ≡ self }
     {
-        self.number
+        4294967296 * u64::from(self.high) + u64::from(self.low)
     }
 }

@@ -67,7 +67,8 @@ pub fn grown(kind: Kind, radix: Radix, weight: u32, character: u8) -> Kind
 {
     match kind {
         Kind::Term(term) => grown_term(term, radix, weight, character),
-        _ => kind,
+        Kind::BadNumber | Kind::Blank | Kind::Plus | Kind::Minus => kind,
+        Kind::Equals | Kind::Comma | Kind::Star => kind,
     }
 }
 

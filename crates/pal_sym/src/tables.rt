@@ -53,7 +53,8 @@ impl Symbols {
         permanent_value(name)
     }
 
-    /// Makes room for so many new names: that many definitions then take no memory.
+    /// Makes room for so many new names: that many definitions then take no memory. It doesn't ask which names come, so a
+    /// caller that counts names that are there already asks for more than it needs.
     pub fn room(&mut self, names: usize) -> Result<(), SymFault>
         ensures { MakesRoom names self.old self.new result }
     {

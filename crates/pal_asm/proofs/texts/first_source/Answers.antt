@@ -47,7 +47,7 @@ pub returns-in-Err : goal.returns-in-Err
 returns-in-Err c = λ before others clear read first may.
     let s = c.loop-rest.invariant.stands before read first in
     first_failed before (text_of c.args.source.now) c.loop-rest.rest.now others c.in-Err.fault c.loop-rest.lexer c.first_byte.new.lexer c.loop-rest.assembler c.first_byte.new.assembler
-    c.byte_goes_on.ensures clear c.in-len1-up.len_at_least s (ap (λ (t : Setting). t.may_pause) c.loop-rest.invariant.setting ∙ may)
+    c.join_goes_on.ensures c.byte_goes_on.ensures clear c.in-len1-up.len_at_least s (ap (λ (t : Setting). t.may_pause) c.loop-rest.invariant.setting ∙ may)
     (c.in-Err.ensures.passed (length before) (s.here ++ before) c.pause_is_bad.ensures s.read s.first)
 
 pub returns : goal.returns

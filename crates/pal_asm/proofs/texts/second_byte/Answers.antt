@@ -11,9 +11,9 @@ returns-in-Some-clause-made c = λ whole seam text bad split read made.
     c.second_statement.new.pairs.items c.second_statement.new.assembler bad answers
     (c.second_statement.ensures whole (statements text) (tokens_behind text)
     (split_newest (is_pause_body c.in-Some.statement.body) whole seam text c.args.byte c.in-Some.statement c.args.lexer.now c.push.new.self bad answers made.2 split) made)
-    made.2
+    made.2 made.0.words
 
 pub returns-in-Err-clause-made : goal.returns-in-Err-clause-made
 returns-in-Err-clause-made c = λ whole seam text bad split read made.
     second_lexical whole seam text c.args.byte c.in-Err.fault c.from.result c.args.lexer.now c.push.new.self c.args.pairs.now.items c.args.assembler.now c.from.ensures
-    (c.in-Err.ensures.answers seam text read) split made.0.no_fault made.2
+    (c.in-Err.ensures.answers seam text read) split made.0.no_fault made.2 made.0.words

@@ -64,7 +64,7 @@ returns-in-Err c = λ before others clear read made may.
     let s = c.loop-rest.invariant.stands before others clear read made may in
     let pauses = ap (λ (t : Setting). t.may_pause) c.loop-rest.invariant.setting ∙ may in
     second_failed before text c.loop-rest.rest.now others c.in-Err.fault c.loop-rest.lexer c.second_byte.new.lexer c.loop-rest.pairs.items c.second_byte.new.pairs.items c.loop-rest.assembler
-    c.second_byte.new.assembler c.byte_goes_on.ensures clear c.in-len1-up.len_at_least s pauses
+    c.second_byte.new.assembler c.join_goes_on.ensures c.byte_goes_on.ensures clear c.in-len1-up.len_at_least s pauses
     (c.in-Err.ensures.made whole (length before) (s.here ++ before) c.pause_is_bad.ensures
     (split_byte before text c.loop-rest.rest.now others c.loop-rest.lexer c.loop-rest.pairs.items c.loop-rest.assembler c.byte_goes_on.ensures clear c.in-len1-up.len_at_least s pauses)
     s.read s.made)

@@ -1,0 +1,19 @@
+# Sources to assemble, for other scripts to read in.
+
+# A source of so many lines of words, in stretches of 3,400 words, each in the next field.
+source_of() {
+    awk -v lines="$1" 'BEGIN {
+        for (i = 0; i < lines; i++) {
+            if (i % 3400 == 0) printf "FIELD %d\n*200\n", int(i / 3400) % 8
+            tag = int(i / 5) % 2000
+            kind = i % 5
+            if (kind == 0 && i < 10000) printf "T%04d,\tCLA CLL\n", tag
+            else if (kind == 0) printf "\tCLA CLL\n"
+            else if (kind == 1) printf "\tTAD 20\t/ a word of page zero\n"
+            else if (kind == 2) printf "\tT%04d+1\n", int(tag * 7 % (tag + 1))
+            else if (kind == 3) printf "\tDCA I 21\n"
+            else printf "\tISZ 22\n"
+        }
+        printf "$\n"
+    }' | sed 's/$/\r/'
+}
