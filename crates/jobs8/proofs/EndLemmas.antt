@@ -1,17 +1,16 @@
 -- The end of all jobs.
 use Rattle.std.proofs.Common.{◌≡◌, ◌∙◌, ℕ, zero, suc, ◌+◌, ◌<◌, ◌≤◌, Option, Some, None, List, [], ◌∷◌, ◌++◌, length, take, drop, get_or, slice_set, refl, ap, sym, subst, add-one, arith}
-use Rattle.os8_files.specs.Holds.{times, without_hold}
+use Rattle.os8_files.specs.Holds.{times}
 use Rattle.os8_files.specs.Mounted.{Mounted}
 use Rattle.jobs8.specs.Calls.{without_job, without_jobs, cleared}
-use Rattle.jobs8.specs.Settled.{AreHeld, IsSettled}
+use Rattle.jobs8.specs.Settled.{AreHeld, IsSettled, plain_jobs}
 use Rattle.jobs8.specs.declared.kinds.Job.{Job}
 use Rattle.jobs8.specs.declared.kinds.Work.{Work}
 use Rattle.jobs8.specs.declared.kinds.Work.TheVariants as work
-use Rattle.jobs8.proofs.TimesLemmas.{self_once}
-
--- a hold that is released takes one away from its name
-abbrev pub ReleasedLaw : Type 0
-ReleasedLaw = (name hold : ℕ) (holds : List ℕ) → 1 ≤ times hold holds → times name (hold ∷ []) + times name (without_hold hold holds) ≡ times name holds
+use Rattle.jobs8.specs.Jobs.{held_by}
+use Rattle.jobs8.specs.Sources.{names_of}
+use Rattle.jobs8.proofs.TimesLemmas.{self_once, times-append}
+use Rattle.jobs8.proofs.PlaceLemmas.{ReleasedLaw, times_without}
 
 -- where no name stands in a list it is empty
 none_held : (holds : List ℕ) → ((name : ℕ) → times name holds ≡ 0) → holds ≡ []
@@ -30,6 +29,13 @@ fewer_held law (Some it) jobs holds held = by_work it.work it.left held
       where
         some : 1 ≤ times l.hold holds
         some = omega (arith, h l.hold, self_once l.hold)
+    by_work (work.Assembling a) left h = λ name.
+        omega (
+          arith,
+          h name,
+          times-append name (names_of a.holds) (held_by (plain_jobs jobs)),
+          times_without law a.holds holds name (λ n. omega (arith, h n, times-append n (names_of a.holds) (held_by (plain_jobs jobs)))),
+        )
     by_work (work.Squeezing clean) left h = h
 
 -- the holds are those of the jobs, and none is left where each job has let go
@@ -38,10 +44,10 @@ all_let_go law [] holds held = none_held holds held
 all_let_go law (it ∷ jobs) holds held = all_let_go law jobs (without_job it holds) (fewer_held law it jobs holds held)
 
 -- one more has let go
-pub cleared_more : (jobs old : List (Option Job)) (place : ℕ) → place < length old → jobs ≡ cleared (take place old) ++ drop place old → slice_set jobs place None ≡ cleared (take (place + 1) old) ++ drop (place + 1) old
+pub cleared_more : {A : Type 0} (jobs old : List (Option A)) (place : ℕ) → place < length old → jobs ≡ cleared (take place old) ++ drop place old → slice_set jobs place None ≡ cleared (take (place + 1) old) ++ drop (place + 1) old
 cleared_more jobs old place short is = rw is (set_more old place short ∙ ap (λ n. cleared (take n old) ++ drop n old) (sym (add-one place)))
   where
-    set_more : (old : List (Option Job)) (place : ℕ) → place < length old → slice_set (cleared (take place old) ++ drop place old) place None ≡ cleared (take (suc place) old) ++ drop (suc place) old
+    set_more : {A : Type 0} (old : List (Option A)) (place : ℕ) → place < length old → slice_set (cleared (take place old) ++ drop place old) place None ≡ cleared (take (suc place) old) ++ drop (suc place) old
     set_more [] place short = absurd (nothing place short)
       where
         nothing : (n : ℕ) → n < 0 → ⊥
@@ -50,10 +56,10 @@ cleared_more jobs old place short is = rw is (set_more old place short ∙ ap (�
     set_more (j ∷ old) (suc place) short = ap (λ l. None ∷ l) (set_more old place (omega (arith, short)))
 
 -- the job that lets go is the one at its place
-pub at_place : (jobs old : List (Option Job)) (place : ℕ) → place < length old → jobs ≡ cleared (take place old) ++ drop place old → get_or jobs place None ≡ get_or old place None
+pub at_place : {A : Type 0} (jobs old : List (Option A)) (place : ℕ) → place < length old → jobs ≡ cleared (take place old) ++ drop place old → get_or jobs place None ≡ get_or old place None
 at_place jobs old place short is = rw is (same old place short)
   where
-    same : (old : List (Option Job)) (place : ℕ) → place < length old → get_or (cleared (take place old) ++ drop place old) place None ≡ get_or old place None
+    same : {A : Type 0} (old : List (Option A)) (place : ℕ) → place < length old → get_or (cleared (take place old) ++ drop place old) place None ≡ get_or old place None
     same [] place short = absurd (nothing place short)
       where
         nothing : (n : ℕ) → n < 0 → ⊥
@@ -81,16 +87,16 @@ fresh volume jobs is none free = subst (λ l. IsSettled volume l) (sym is) (reco
   stand = λ running. (tt, (tt, (tt, (tt, (tt, (tt, (tt, (tt, tt))))))));
 })
 
-pub cleared_at : (jobs : List (Option Job)) (place : ℕ) (other : Option Job) → place < length jobs → get_or (cleared jobs) place other ≡ None
+pub cleared_at : {A : Type 0} (jobs : List (Option A)) (place : ℕ) (other : Option A) → place < length jobs → get_or (cleared jobs) place other ≡ None
 cleared_at [] place other short = absurd (omega (arith, short))
 cleared_at (j ∷ jobs) zero other short = refl
 cleared_at (j ∷ jobs) (suc place) other short = cleared_at jobs place other (omega (arith, short))
 
 -- what stands at a place that has no job is none
-pub none_at : (jobs : List (Option Job)) (place : ℕ) (it : Option Job) → get_or jobs place it ≡ None → it ≡ get_or jobs place it → it ≡ None
+pub none_at : {A : Type 0} (jobs : List (Option A)) (place : ℕ) (it : Option A) → get_or jobs place it ≡ None → it ≡ get_or jobs place it → it ≡ None
 none_at jobs place it none is = is ∙ none
 
-same_all : (old : List (Option Job)) (place : ℕ) → length old ≤ place → cleared (take place old) ++ drop place old ≡ cleared old
+same_all : {A : Type 0} (old : List (Option A)) (place : ℕ) → length old ≤ place → cleared (take place old) ++ drop place old ≡ cleared old
 same_all [] zero all = refl
 same_all [] (suc place) all = refl
 same_all (j ∷ old) zero all = absurd (never (length old) all)
@@ -100,5 +106,5 @@ same_all (j ∷ old) zero all = absurd (never (length old) all)
 same_all (j ∷ old) (suc place) all = ap (λ l. None ∷ l) (same_all old place (omega (arith, all)))
 
 -- all have let go
-pub none_left : (jobs old : List (Option Job)) (last place : ℕ) (other : Option Job) → length old ≤ last → jobs ≡ cleared (take last old) ++ drop last old → place < length old → get_or jobs place other ≡ None
+pub none_left : {A : Type 0} (jobs old : List (Option A)) (last place : ℕ) (other : Option A) → length old ≤ last → jobs ≡ cleared (take last old) ++ drop last old → place < length old → get_or jobs place other ≡ None
 none_left jobs old last place other all is short = ap (λ l. get_or l place other) (is ∙ same_all old last all) ∙ cleared_at old place other short

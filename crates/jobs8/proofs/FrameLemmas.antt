@@ -3,8 +3,8 @@ use Rattle.std.proofs.Common.{◌≡◌, ◌∙◌, ℕ, ◌+◌, ◌*◌, ◌/�
 use Rattle.std.proofs.Math.Seq.{take-suc, take-add, drop-cons}
 use Rattle.std.proofs.lemmas.List.{take-append-drop, length-take-le}
 use Rattle.char_pack.specs.Packing.{frames}
-use Rattle.jobs8.specs.Schedule.{first_blocks}
-use Rattle.jobs8.specs.Reading.{block_at}
+use Rattle.pal_blocks.specs.Blocks.{first_blocks}
+use Rattle.pal_blocks.specs.Blocks.{block_at}
 
 -- three for each two words
 pub length-frames : (words : List ℕ) → length (frames words) ≡ 3 * (length words / 2)

@@ -11,8 +11,10 @@ use Rattle.bin_tape.specs.declared.faults.TapeFault.TheVariants.{BadFrame, NoOri
 use Rattle.char_pack.specs.Packing.{frames}
 use Rattle.core_load.specs.Loading as load
 use Rattle.core_load.specs.Load.{IsFed, IsFine, IsComplete, IsLoaded, IsOverlaid}
-use Rattle.jobs8.specs.Schedule.{blocks_in, first_blocks, IsMet, IsMetNone, IsFirstMet}
-use Rattle.jobs8.specs.Reading.{block_at, frames_taken, HasTaken, TakesFrames, IsLoading, ReadsBlock, EndsTape}
+use Rattle.pal_blocks.specs.Blocks.{blocks_in, first_blocks}
+use Rattle.jobs8.specs.Schedule.{IsMet, IsMetNone, IsFirstMet}
+use Rattle.pal_blocks.specs.Blocks.{block_at}
+use Rattle.jobs8.specs.Reading.{frames_taken, HasTaken, TakesFrames, IsLoading, ReadsBlock, EndsTape}
 use Rattle.jobs8.specs.declared.loading.Loading.{Loading}
 use Rattle.jobs8.specs.declared.faults.JobFault.{JobFault}
 use Rattle.jobs8.specs.declared.faults.JobFault.TheVariants as fault

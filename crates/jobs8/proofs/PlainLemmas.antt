@@ -1,5 +1,5 @@
 -- The jobs of the table without what they keep.
-use Rattle.std.proofs.Common.{◌≡◌, ◌∙◌, ℕ, zero, suc, ◌+◌, ◌<◌, true, Option, Some, None, List, [], ◌∷◌, length, slice_set, get_or, refl, ap, sym, arith, add-one}
+use Rattle.std.proofs.Common.{◌≡◌, ◌∙◌, ℕ, zero, suc, ◌+◌, ◌<◌, Bool, true, false, Option, Some, None, List, [], ◌∷◌, length, slice_set, get_or, refl, ap, sym, arith, add-one}
 use Rattle.std.proofs.lemmas.List.Quantifiers.{position-Some}
 use Rattle.std.specs.List.{position, position_or_len}
 use Rattle.std.specs.Option.{is_some, is_none}
@@ -89,8 +89,24 @@ plain_disturbed_job (Some it) = by_work it.work it.left
   where
     by_work : (w : Work) (left : ℕ) → plain_job (settled.disturbed_job (Some (record { work = w; left = left }))) ≡ plain.disturbed_job (plain_job (Some (record { work = w; left = left })))
     by_work (work.Loading l) left = refl
+    by_work (work.Assembling a) left = refl
     by_work (work.Squeezing clean) left = refl
 
 pub plain_disturbed : (jobs : List (Option Job)) → plain_jobs (settled.disturbed jobs) ≡ plain.disturbed (plain_jobs jobs)
 plain_disturbed [] = refl
 plain_disturbed (it ∷ jobs) = ap (λ j. j ∷ plain_jobs (settled.disturbed jobs)) (plain_disturbed_job it) ∙ ap (λ l. plain.disturbed_job (plain_job it) ∷ l) (plain_disturbed jobs)
+
+-- ## Behind a turn
+
+pub plain_is_after : (b : Bool) (jobs : List (Option Job)) → settled.plain_after b (plain_jobs jobs) ≡ plain_jobs (settled.jobs_after b jobs)
+plain_is_after true jobs = sym (plain_disturbed jobs)
+plain_is_after false jobs = refl
+
+turns_disturbed : (jobs : List (Option Job)) → turns_left (plain_jobs (settled.disturbed jobs)) ≡ turns_left (plain_jobs jobs)
+turns_disturbed [] = refl
+turns_disturbed (None ∷ jobs) = turns_disturbed jobs
+turns_disturbed (Some it ∷ jobs) = ap (λ n. it.left + n) (turns_disturbed jobs)
+
+pub turns_after : (b : Bool) (jobs : List (Option Job)) → turns_left (plain_jobs (settled.jobs_after b jobs)) ≡ turns_left (plain_jobs jobs)
+turns_after true jobs = turns_disturbed jobs
+turns_after false jobs = refl

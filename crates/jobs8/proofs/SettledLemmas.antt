@@ -1,5 +1,5 @@
 -- What stands between entries stays.
-use Rattle.std.proofs.Common.{◌≡◌, ◌∙◌, ℕ, ◌+◌, ◌<◌, ◌≤◌, nat_lt, true, false, Option, Some, None, List, [], ◌∷◌, zero, suc, length-set, slice_set, get_or, length, refl, ap, sym, subst, arith}
+use Rattle.std.proofs.Common.{◌≡◌, ◌∙◌, ℕ, ◌+◌, ◌<◌, ◌≤◌, nat_lt, Bool, true, false, Option, Some, None, List, [], ◌∷◌, zero, suc, length-set, slice_set, get_or, length, refl, ap, sym, subst, arith}
 use Rattle.std.specs.FinMap.{get}
 use Rattle.os8_dir.specs.Entries.{contains}
 use Rattle.os8_dir.specs.Files.{files_of, above_of}
@@ -8,11 +8,15 @@ use Rattle.os8_files.specs.Laws.{KeepsHeld, KeepsHolds}
 use Rattle.os8_files.specs.Mounted.{Mounted}
 use Rattle.jobs8.specs.Calls.{TurnsJob}
 use Rattle.jobs8.specs.Jobs.{held_by, held_by_work}
-use Rattle.jobs8.specs.Settled.{work_of, plain_jobs, disturbed, disturbed_job, disturbed_work, Stands, StandsIn, AllStand, FitsIn, AllFit, AreHeld, IsSettled, names_in}
-use Rattle.jobs8.specs.Turns.{Answer}
+use Rattle.jobs8.specs.Settled.{work_of, plain_jobs, disturbed, disturbed_job, disturbed_work, Stands, StandsIn, AllStand, FitsIn, AllFit, AreHeld, IsSettled, names_in, jobs_after}
+use Rattle.pal_blocks.specs.Progress.{IsAssembling}
+use Rattle.jobs8.specs.Sources.{names_of, AssemblyStands}
+use Rattle.jobs8.specs.declared.assembly.Assembly.{Assembly}
+use Rattle.jobs8.specs.Turns.{Answer, is_assembled}
 use Rattle.jobs8.specs.declared.kinds.Job.{Job}
 use Rattle.jobs8.specs.declared.kinds.Work.{Work}
 use Rattle.jobs8.specs.declared.kinds.Work.TheVariants as work
+use Rattle.jobs8.proofs.PlaceLemmas.{same_words, same_there}
 use Rattle.jobs8.proofs.TimesLemmas.{more_than_none, times-append, self_once}
 
 -- a name is held where it stands among the holds at least once
@@ -28,8 +32,15 @@ AreSame old new names = (name : ℕ) → 1 ≤ times name names → get (files_o
 at_least : (name : ℕ) → 1 ≤ times name (name ∷ [])
 at_least name = omega (arith, self_once name)
 
+assembly_on : (old new : List (List ℕ)) (a : Assembly) (left : ℕ) → AreSame old new (names_of a.holds) → AssemblyStands old a left → AssemblyStands new a left
+assembly_on old new a left same stands = record {
+  there = same_there (files_of old) (files_of new) (names_of a.holds) same stands.there;
+  reads = subst (λ w. IsAssembling w a.assembling left) (sym (same_words (files_of old) (files_of new) (names_of a.holds) same)) stands.reads;
+}
+
 stands_on : (old new : List (List ℕ)) (it : Work) (left : ℕ) → AreSame old new (held_by_work (work_of it)) → above_of new ≤ above_of old → Stands old it left → Stands new it left
 stands_on old new (work.Loading it) left same fewer stands = (stands.0, (stands.1.0, same it.hold (at_least it.hold) ∙ stands.1.1), stands.2)
+stands_on old new (work.Assembling a) left same fewer stands = assembly_on old new a left same stands
 stands_on old new (work.Squeezing clean) left same fewer stands = record { more = stands.more; enough = λ is. omega (arith, fewer, stands.enough is) }
 
 -- jobs stand on where the files that they hold are the same, and no more files have a free block below them
@@ -85,20 +96,6 @@ same_files law old new jobs held kept running name some = kept name (law name ol
 
 -- ## Calls
 
--- behind a turn of a job
-pub settled_turn : HeldLaw → (old new : Mounted) (core core2 : List ℕ) (jobs : List (Option Job)) (place : ℕ) (it : Job) (answer : Answer) (after : Option Job) → IsSettled old jobs → place < length jobs → get_or jobs place None ≡ Some it
-    → TurnsJob old core it answer after new core2 → IsSettled new (slice_set jobs place after)
-settled_turn law old new core core2 jobs place it answer after settled inside is turns = record {
-  none = turns.none;
-  places = length-set jobs place after ∙ settled.places;
-  held = λ name. omega (arith, turns.holds name, settled.held name, times_put name jobs place after inside, ap (λ o. times name (names_in o)) is);
-  fit = fit_set jobs place after settled.fit turns.fits;
-  stand = λ running.
-      stand_set new.blocks jobs place after
-      (all_stand_on old.blocks new.blocks jobs (same_files law old new jobs settled.held turns.kept running) (turns.above running) (settled.stand (turns.running running)))
-      (turns.stands running);
-}
-
 -- behind the beginning of a job that holds so many names more
 pub settled_begun : (old new : Mounted) (jobs : List (Option Job)) (place : ℕ) (it : Option Job) (holds : List ℕ) → IsSettled old jobs → place < length jobs → get_or jobs place None ≡ None
     → new ≡ record old { holds = holds } → ((name : ℕ) → times name holds ≡ times name (names_in it) + times name old.holds) → FitsIn it → (old.stopped ≡ false → StandsIn old.blocks it) → IsSettled new (slice_set jobs place it)
@@ -126,6 +123,7 @@ settled_on law old new jobs settled keeps none fewer = record {
 
 disturbed_stands : (old new : List (List ℕ)) (it : Work) (left : ℕ) → AreSame old new (held_by_work (work_of it)) → Stands old it left → Stands new (disturbed_work it) left
 disturbed_stands old new (work.Loading it) left same stands = (stands.0, (stands.1.0, same it.hold (at_least it.hold) ∙ stands.1.1), stands.2)
+disturbed_stands old new (work.Assembling a) left same stands = assembly_on old new a left same stands
 disturbed_stands old new (work.Squeezing clean) left same stands = record { more = stands.more; enough = λ is. absurd (never is) }
   where
     never : false ≡ true → ⊥
@@ -145,6 +143,7 @@ disturbed_names (Some it) = by_work it.work
   where
     by_work : (w : Work) → held_by_work (work_of (disturbed_work w)) ≡ held_by_work (work_of w)
     by_work (work.Loading l) = refl
+    by_work (work.Assembling a) = refl
     by_work (work.Squeezing clean) = refl
 
 disturbed_held : (name : ℕ) (jobs : List (Option Job)) → times name (held_by (plain_jobs (disturbed jobs))) ≡ times name (held_by (plain_jobs jobs))
@@ -158,6 +157,7 @@ disturbed_fit (Some it ∷ jobs) fit = (by_work it.work it.left fit.0, disturbed
   where
     by_work : (w : Work) (left : ℕ) → FitsIn (Some (record { work = w; left = left })) → FitsIn (Some (record { work = disturbed_work w; left = left }))
     by_work (work.Loading l) left fits = fits
+    by_work (work.Assembling a) left fits = fits
     by_work (work.Squeezing clean) left fits = fits
 
 disturbed_length : (jobs : List (Option Job)) → length (disturbed jobs) ≡ length jobs
@@ -177,3 +177,48 @@ settled_disturbed law old new jobs settled keeps none = record {
 -- a name is held just where a job holds it
 pub held_same : HeldLaw → (volume : Mounted) (jobs : List (Option Job)) (name : ℕ) → IsSettled volume jobs → contains volume.holds name ≡ contains (held_by (plain_jobs jobs)) name
 held_same law volume jobs name settled = law name volume.holds ∙ ap (λ n. nat_lt 0 n) (settled.held name) ∙ sym (law name (held_by (plain_jobs jobs)))
+
+-- ## Turns
+
+disturbed_set : (jobs : List (Option Job)) (place : ℕ) (after : Option Job) → slice_set (disturbed jobs) place (disturbed_job after) ≡ disturbed (slice_set jobs place after)
+disturbed_set [] place after = refl
+disturbed_set (it ∷ jobs) zero after = refl
+disturbed_set (it ∷ jobs) (suc place) after = ap (λ l. disturbed_job it ∷ l) (disturbed_set jobs place after)
+
+disturbed_in : (blocks : List (List ℕ)) (after : Option Job) → StandsIn blocks after → StandsIn blocks (disturbed_job after)
+disturbed_in blocks None stands = tt
+disturbed_in blocks (Some it) stands = disturbed_stands blocks blocks it.work it.left (λ name some. refl) stands
+
+-- behind a turn of a job
+pub settled_turn : HeldLaw → (old new : Mounted) (core core2 : List ℕ) (jobs : List (Option Job)) (place : ℕ) (it : Job) (answer : Answer) (after : Option Job) → IsSettled old jobs → place < length jobs → get_or jobs place None ≡ Some it
+    → TurnsJob old core it answer after new core2 → IsSettled new (jobs_after (is_assembled answer) (slice_set jobs place after))
+settled_turn law old new core core2 jobs place it answer after settled inside is turns = by_answer (is_assembled answer) refl
+  where
+    held : AreHeld new.holds (slice_set jobs place after)
+    held name = omega (arith, turns.holds name, settled.held name, times_put name jobs place after inside, ap (λ o. times name (names_in o)) is)
+
+    fit : AllFit (slice_set jobs place after)
+    fit = fit_set jobs place after settled.fit turns.fits
+
+    by_answer : (b : Bool) → is_assembled answer ≡ b → IsSettled new (jobs_after b (slice_set jobs place after))
+    by_answer true put = record {
+      none = turns.none;
+      places = disturbed_length (slice_set jobs place after) ∙ length-set jobs place after ∙ settled.places;
+      held = λ name. held name ∙ sym (disturbed_held name (slice_set jobs place after));
+      fit = disturbed_fit (slice_set jobs place after) fit;
+      stand = λ running.
+          subst (AllStand new.blocks) (disturbed_set jobs place after)
+          (stand_set new.blocks (disturbed jobs) place (disturbed_job after)
+          (all_disturbed old.blocks new.blocks jobs (same_files law old new jobs settled.held turns.kept running) (settled.stand (turns.running running)))
+          (disturbed_in new.blocks after (turns.stands running)));
+    }
+    by_answer false other = record {
+      none = turns.none;
+      places = length-set jobs place after ∙ settled.places;
+      held = held;
+      fit = fit;
+      stand = λ running.
+          stand_set new.blocks jobs place after
+          (all_stand_on old.blocks new.blocks jobs (same_files law old new jobs settled.held turns.kept running) (turns.above other running) (settled.stand (turns.running running)))
+          (turns.stands running);
+    }

@@ -14,9 +14,9 @@ use Rattle.os8_files.specs.declared.tokens.Squeezed.TheVariants as token
 use Rattle.jobs8.specs.Calls.{IsQuiet, TurnsOver, LeavesJobs, SqueezeTurns, TurnsJob}
 use Rattle.jobs8.specs.Jobs as plain
 use Rattle.jobs8.specs.Jobs.{with_job, job_of, squeezing}
-use Rattle.jobs8.specs.Settled.{IsSqueezing, state_over, plain_job, StandsIn, FitsIn, names_in, left_of}
+use Rattle.jobs8.specs.Settled.{IsSqueezing, state_over, plain_job, plain_after, StandsIn, FitsIn, names_in, left_of}
 use Rattle.jobs8.specs.State.{State}
-use Rattle.jobs8.specs.Turns.{Answer, SqueezingTurn}
+use Rattle.jobs8.specs.Turns.{Answer, is_assembled, SqueezingTurn}
 use Rattle.jobs8.specs.declared.kinds.Job.{Job}
 use Rattle.jobs8.specs.declared.kinds.Work.TheVariants as work
 use Rattle.jobs8.specs.declared.turned.Turned.TheVariants.{Working, Squeezed}
@@ -52,13 +52,13 @@ state_moved old new core jobs after name moved =
     at f c l i = record { files = f; capacity = c; limit = l; info = i; tight = nat_eq (above_of new.blocks) 0; core = core; jobs = after }
 
 -- what a call leaves, whatever it answers
-turn_by : (old new : Mounted) (core : List ℕ) (clean : Bool) (left : ℕ) (call : Result tokens.Squeezed FileFault) (answer : Answer) (after : Option Job) → KeepsHolds old new → Squeezes old call new → new.tentative ≡ None → (new.stopped ≡ false → above_of new.blocks ≤ above_of old.blocks)
+turn_by : (old new : Mounted) (core : List ℕ) (clean : Bool) (left : ℕ) (call : Result tokens.Squeezed FileFault) (answer : Answer) (after : Option Job) → is_assembled answer ≡ false → KeepsHolds old new → Squeezes old call new → new.tentative ≡ None → (new.stopped ≡ false → above_of new.blocks ≤ above_of old.blocks)
     → ((number : ℕ) (jobs : List (Option plain.Job)) → job_of number jobs ≡ Some (squeezing clean left) → IsQuiet old new → SqueezingTurn (state_over old core jobs) number clean left answer (state_over new core (with_job number (plain_job after) jobs)))
     → ((number : ℕ) (jobs : List (Option plain.Job)) → job_of number jobs ≡ Some (squeezing clean left) → LeavesJobs number answer jobs (with_job number (plain_job after) jobs))
     → TurnsOver old answer new → (new.stopped ≡ false → StandsIn new.blocks after) → FitsIn after → ((name : ℕ) → times name (names_in after) ≡ 0) → ((answer ≡ Err fault.Memory → ⊥) → left_of after < left)
     → TurnsJob old core (the_job clean left) answer after new core
-turn_by old new core clean left call answer after keeps squeezes none above step jobs volume stands fits names fewer = record {
-  step = step;
+turn_by old new core clean left call answer after other keeps squeezes none above step jobs volume stands fits names fewer = record {
+  step = λ number l there named quiet. subst (λ b. SqueezingTurn (state_over old core l) number clean left answer (state_over new core (plain_after b (with_job number (plain_job after) l)))) (sym other) (step number l there quiet);
   jobs = jobs;
   volume = volume;
   stands = stands;
@@ -67,7 +67,7 @@ turn_by old new core clean left call answer after keeps squeezes none above step
   running = keeps.running;
   none = none;
   kept = keeps.held;
-  above = above;
+  above = λ kind. above;
   fewer = fewer;
   calls = (call, squeezes);
 }
@@ -82,7 +82,7 @@ no_names name = refl
 -- a file was moved
 moved_on : (old new : Mounted) (core : List ℕ) (clean : Bool) (left name : ℕ) → (old.stopped ≡ false → IsSqueezing old.blocks clean left) → KeepsHolds old new → HasMoved old name new → 2 ≤ left → TurnsJob old core (the_job clean left) (Ok Working) (Some (the_job clean (left - 1))) new core
 moved_on old new core clean left name is keeps moved more =
-    turn_by old new core clean left (Ok (token.Moved name)) (Ok Working) (Some (the_job clean (left - 1))) keeps moved
+    turn_by old new core clean left (Ok (token.Moved name)) (Ok Working) (Some (the_job clean (left - 1))) refl keeps moved
     (ap (λ (m : Mounted). m.tentative) moved.others ∙ moved.ready.none) (λ running. omega (arith, moved.above))
     (λ number jobs there quiet. (
       more,
@@ -104,7 +104,7 @@ moved_on old new core clean left name is keeps moved more =
 -- a file was moved at the last turn
 moved_last : (old new : Mounted) (core : List ℕ) (clean : Bool) (left name : ℕ) → (old.stopped ≡ false → IsSqueezing old.blocks clean left) → KeepsHolds old new → HasMoved old name new → left ≡ 1 → TurnsJob old core (the_job clean left) (Ok Squeezed) None new core
 moved_last old new core clean left name is keeps moved one =
-    turn_by old new core clean left (Ok (token.Moved name)) (Ok Squeezed) None keeps moved
+    turn_by old new core clean left (Ok (token.Moved name)) (Ok Squeezed) None refl keeps moved
     (ap (λ (m : Mounted). m.tentative) moved.others ∙ moved.ready.none) (λ running. omega (arith, moved.above))
     (λ number jobs there quiet. (
       inl one,
@@ -124,13 +124,13 @@ moved_last old new core clean left name is keeps moved one =
     never it_is = omega (arith, one, moved.above, (is moved.ready.running).enough it_is)
 
 -- nothing is changed
-same_by : (old new : Mounted) (core : List ℕ) (clean : Bool) (left : ℕ) (call : Result tokens.Squeezed FileFault) (answer : Answer) (after : Option Job) → KeepsHolds old new → Squeezes old call new → old.tentative ≡ None → new ≡ old
+same_by : (old new : Mounted) (core : List ℕ) (clean : Bool) (left : ℕ) (call : Result tokens.Squeezed FileFault) (answer : Answer) (after : Option Job) → is_assembled answer ≡ false → KeepsHolds old new → Squeezes old call new → old.tentative ≡ None → new ≡ old
     → ((number : ℕ) (jobs : List (Option plain.Job)) → job_of number jobs ≡ Some (squeezing clean left) → IsQuiet old new → SqueezingTurn (state_over old core jobs) number clean left answer (state_over new core (with_job number (plain_job after) jobs)))
     → ((number : ℕ) (jobs : List (Option plain.Job)) → job_of number jobs ≡ Some (squeezing clean left) → LeavesJobs number answer jobs (with_job number (plain_job after) jobs))
     → TurnsOver old answer new → (new.stopped ≡ false → StandsIn new.blocks after) → FitsIn after → ((name : ℕ) → times name (names_in after) ≡ 0) → ((answer ≡ Err fault.Memory → ⊥) → left_of after < left)
     → TurnsJob old core (the_job clean left) answer after new core
-same_by old new core clean left call answer after keeps squeezes none is step jobs volume stands fits names fewer =
-    turn_by old new core clean left call answer after keeps squeezes (ap (λ (m : Mounted). m.tentative) is ∙ none) (λ running. omega (arith, ap (λ (m : Mounted). above_of m.blocks) is)) step jobs volume stands fits names fewer
+same_by old new core clean left call answer after other keeps squeezes none is step jobs volume stands fits names fewer =
+    turn_by old new core clean left call answer after other keeps squeezes (ap (λ (m : Mounted). m.tentative) is ∙ none) (λ running. omega (arith, ap (λ (m : Mounted). above_of m.blocks) is)) step jobs volume stands fits names fewer
 
 -- What a turn of a job that squeezes comes to, by the answer of its one call.
 pub squeezed_turn : (old new : Mounted) (core : List ℕ) (clean : Bool) (left : ℕ) (call : Result tokens.Squeezed FileFault) (answer : Answer) (after : Option Job) → old.tentative ≡ None → 1 ≤ left → (old.stopped ≡ false → IsSqueezing old.blocks clean left)
@@ -141,7 +141,7 @@ squeezed_turn old new core clean left (Ok (token.Moved name)) answer after none 
 ]
 squeezed_turn old new core clean left (Ok token.Nothing) answer after none some is keeps survives call turns =
     told old new core (the_job clean left) (Ok Squeezed) answer None after turns.0 turns.1
-    (same_by old new core clean left (Ok token.Nothing) (Ok Squeezed) None keeps call none call.2
+    (same_by old new core clean left (Ok token.Nothing) (Ok Squeezed) None refl keeps call none call.2
     (λ number jobs there quiet. (
       inr (none_above (above_of old.blocks) call.1),
       λ it_is. none_above (above_of new.blocks) (ap (λ (m : Mounted). above_of m.blocks) call.2 ∙ call.1),
@@ -155,31 +155,31 @@ squeezed_turn old new core clean left (Ok token.Nothing) answer after none some 
     (λ number jobs there. tt) (quiet_over old new (Ok Squeezed) old.reads old.holds call.0.running call.2) (λ running. tt) tt no_names (λ other. omega (arith, some)))
 squeezed_turn old new core clean left (Err file.Memory) answer after none some is keeps survives call turns =
     told old new core (the_job clean left) (Err fault.Memory) answer (Some (the_job clean left)) after turns.0 turns.1
-    (same_by old new core clean left (Err file.Memory) (Err fault.Memory) (Some (the_job clean left)) keeps call none call.2
+    (same_by old new core clean left (Err file.Memory) (Err fault.Memory) (Some (the_job clean left)) refl keeps call none call.2
     (λ number jobs there quiet. ap (λ (m : Mounted). state_over m core (with_job number (Some (squeezing clean left)) jobs)) call.2 ∙ ap (state_over old core) (same_put number (squeezing clean left) jobs there))
     (λ number jobs there. same_put number (squeezing clean left) jobs there)
     (quiet_over old new (Err fault.Memory) old.reads old.holds call.0.running call.2)
     (λ running. subst (λ (m : Mounted). IsSqueezing m.blocks clean left) (sym call.2) (is call.0.running)) some no_names (λ other. absurd (other refl)))
 squeezed_turn old new core clean left (Err file.DirectoryFull) answer after none some is keeps survives call turns =
     told old new core (the_job clean left) (Err (fault.File file.DirectoryFull)) answer None after turns.0 turns.1
-    (same_by old new core clean left (Err file.DirectoryFull) (Err (fault.File file.DirectoryFull)) None keeps call none call.7
+    (same_by old new core clean left (Err file.DirectoryFull) (Err (fault.File file.DirectoryFull)) None refl keeps call none call.7
     (λ number jobs there quiet. (some_above (above_of old.blocks) call.5, call.6.files, ap (λ (m : Mounted). state_over m core (with_job number None jobs)) call.7))
     (λ number jobs there. refl) (quiet_over old new _ old.reads old.holds call.0.running call.7) (λ running. tt) tt no_names (λ other. omega (arith, some)))
 squeezed_turn old new core clean left (Err file.Stopped) answer after none some is keeps survives call turns =
     told old new core (the_job clean left) (Err (fault.File file.Stopped)) answer None after turns.0 turns.1
-    (same_by old new core clean left (Err file.Stopped) (Err (fault.File file.Stopped)) None keeps call none call.1
+    (same_by old new core clean left (Err file.Stopped) (Err (fault.File file.Stopped)) None refl keeps call none call.1
     (λ number jobs there quiet. absurd (true≢false (sym call.0 ∙ quiet.running)))
     (λ number jobs there. refl) (failed_over old new file.Stopped old.reads old.failed_reads old.holds (omega arith) call.1) (λ running. tt) tt no_names (λ other. omega (arith, some)))
 squeezed_turn old new core clean left (Err file.Device) answer after none some is keeps survives call turns =
     told old new core (the_job clean left) (Err (fault.File file.Device)) answer None after turns.0 turns.1
     (elim call [
-      | inl missed ↦ turn_by old new core clean left (Err file.Device) (Err (fault.File file.Device)) None keeps (inl missed) (ap (λ (m : Mounted). m.tentative) missed.1 ∙ none)
+      | inl missed ↦ turn_by old new core clean left (Err file.Device) (Err (fault.File file.Device)) None refl keeps (inl missed) (ap (λ (m : Mounted). m.tentative) missed.1 ∙ none)
           (λ running. omega (arith, ap (λ (m : Mounted). above_of m.blocks) missed.1))
           (λ number jobs there quiet. absurd (more_reads missed.1 quiet.reads))
           (λ number jobs there. refl)
           (failed_over old new file.Device new.reads (old.failed_reads + 1) old.holds (omega arith) missed.1)
           (λ running. tt) tt no_names (λ other. omega (arith, some))
-      | inr failed ↦ turn_by old new core clean left (Err file.Device) (Err (fault.File file.Device)) None keeps (inr failed) (ap (λ (m : Mounted). m.tentative) failed.others ∙ none)
+      | inr failed ↦ turn_by old new core clean left (Err file.Device) (Err (fault.File file.Device)) None refl keeps (inr failed) (ap (λ (m : Mounted). m.tentative) failed.others ∙ none)
           (λ running. absurd (true≢false (sym (ap (λ (m : Mounted). m.stopped) failed.others) ∙ running)))
           (λ number jobs there quiet. absurd (more_writes failed quiet.writes))
           (λ number jobs there. refl)

@@ -1,5 +1,5 @@
 -- What the table does for entries.
-use Rattle.std.proofs.Common.{◌≡◌, ◌∙◌, ℕ, ◌+◌, ◌<◌, ◌≤◌, suc, add-one, true, false, true≢false, Option, Some, None, List, [], ◌∷◌, length, slice_set, get_or, Ok, Err, refl, ap, sym, subst, arith}
+use Rattle.std.proofs.Common.{◌≡◌, ◌∙◌, ℕ, ◌+◌, ◌<◌, ◌≤◌, suc, add-one, true, false, true≢false, Option, Some, None, List, [], ◌∷◌, length, slice_set, get_or, Ok, Err, refl, ap, sym, subst, arith, inl, inr}
 use Rattle.std.specs.FinMap.{get}
 use Rattle.std.specs.List.{position}
 use Rattle.std.specs.Option.{is_none}
@@ -9,35 +9,40 @@ use Rattle.os8_files.specs.Mounted.{Mounted}
 use Rattle.os8_files.specs.Service.{count_of}
 use Rattle.os8_files.specs.declared.faults.FileFault.{FileFault}
 use Rattle.os8_files.specs.declared.faults.FileFault.TheVariants as file
-use Rattle.jobs8.specs.Calls.{HasBegunLoading, BeginsLoading, StartsOver, StartsLoading, StartsSqueezing, TurnsJob, TakesTurn, CallsOf, LeavesJobs}
+use Rattle.jobs8.specs.Calls.{HasBegunLoading, BeginsLoading, StartsOver, StartsAssembling, StartsLoading, StartsSqueezing, TurnsJob, TakesTurn, CallsOf, LeavesJobs}
 use Rattle.jobs8.specs.Faults.{fault_of_file}
 use Rattle.jobs8.specs.Jobs as plain
-use Rattle.jobs8.specs.Schedule.{blocks_in, loading_turns}
-use Rattle.jobs8.specs.Settled.{IsSettled, state_over, plain_job, plain_jobs, work_of, left_of}
+use Rattle.pal_blocks.specs.Blocks.{blocks_in}
+use Rattle.jobs8.specs.Schedule.{loading_turns}
+use Rattle.jobs8.specs.Settled.{IsSettled, AllStand, state_over, plain_job, plain_jobs, plain_after, jobs_after, work_of, left_of}
+use Rattle.jobs8.specs.Sources.{names_of, HoldsAgain, HasBegunAssembly, BeginsAssembly}
 use Rattle.jobs8.specs.Starts.{Begun}
+use Rattle.jobs8.specs.declared.assembly.Assembly.{Assembly}
 use Rattle.jobs8.specs.State.{words_or}
-use Rattle.jobs8.specs.Turns.{Answer, JobTurn, WorkTurn}
+use Rattle.jobs8.specs.Turns.{Answer, is_assembled, JobTurn, WorkTurn}
 use Rattle.jobs8.specs.declared.loading.Loading.{Loading}
 use Rattle.jobs8.specs.declared.kinds.Job.{Job}
 use Rattle.jobs8.specs.declared.kinds.Work.TheVariants as work
 use Rattle.jobs8.specs.declared.faults.JobFault.{JobFault}
 use Rattle.jobs8.specs.declared.faults.JobFault.TheVariants as fault
-use Rattle.jobs8.proofs.PlainLemmas.{free_none, free_is, free_at, number_has, number_at_place, number_put, turns_put}
-use Rattle.jobs8.proofs.SettledLemmas.{HeldLaw, settled_turn, settled_begun}
+use Rattle.jobs8.proofs.PlainLemmas.{free_none, free_is, free_at, number_has, number_at_place, number_put, turns_put, turns_after, plain_is_after}
+use Rattle.jobs8.proofs.SettledLemmas.{HeldLaw, settled_turn, settled_begun, held_same}
 use Rattle.jobs8.proofs.TableLemmas.{unchanged}
+use Rattle.jobs8.proofs.PlaceLemmas.{TakenLaw}
 
 -- ## Turns
 
 pub takes_turn : HeldLaw → (old new : Mounted) (core core2 : List ℕ) (jobs : List (Option Job)) (number place : ℕ) (it : Job) (answer : Answer) (after : Option Job) → IsSettled old jobs → number ≡ suc place → place < 8 → get_or jobs place None ≡ Some it
-    → TurnsJob old core it answer after new core2 → TakesTurn old core jobs number answer new core2 (slice_set jobs place after)
+    → TurnsJob old core it answer after new core2 → TakesTurn old core jobs number answer new core2 (jobs_after (is_assembled answer) (slice_set jobs place after))
 takes_turn law old new core core2 jobs number place it answer after settled next low is turns = record {
   settled = settled_turn law old new core core2 jobs place it answer after settled inside is turns;
   step = λ quiet.
-      subst (λ j. JobTurn (state_over old core (plain_jobs jobs)) number j answer (state_over new core2 (plain_jobs (slice_set jobs place after)))) (sym here)
-      (subst (λ l. WorkTurn (state_over old core (plain_jobs jobs)) number (work_of it.work) it.left answer (state_over new core2 l)) put (turns.step number (plain_jobs jobs) here quiet));
+      subst (λ j. JobTurn (state_over old core (plain_jobs jobs)) number j answer (state_over new core2 (plain_jobs (jobs_after (is_assembled answer) (slice_set jobs place after))))) (sym here)
+      (subst (λ l. WorkTurn (state_over old core (plain_jobs jobs)) number (work_of it.work) it.left answer (state_over new core2 l)) (ap (plain_after (is_assembled answer)) put ∙ plain_is_after (is_assembled answer) (slice_set jobs place after))
+      (turns.step number (plain_jobs jobs) here (λ name. held_same law old jobs name settled) quiet));
   volume = turns.volume;
-  left = subst (λ l. LeavesJobs number answer (plain_jobs jobs) l) put (turns.jobs number (plain_jobs jobs) here);
-  fewer = λ it not_memory there. omega (arith, turns_put jobs place after inside, turns.fewer not_memory, ap left_of is);
+  left = leaves answer (subst (λ l. LeavesJobs number answer (plain_jobs jobs) l) put (turns.jobs number (plain_jobs jobs) here));
+  fewer = λ it not_memory there. omega (arith, turns_put jobs place after inside, turns.fewer not_memory, ap left_of is, turns_after (is_assembled answer) (slice_set jobs place after));
   calls = subst (λ o. CallsOf o old new) (sym (number_at_place jobs number place next ∙ is)) turns.calls;
 }
   where
@@ -49,6 +54,10 @@ takes_turn law old new core core2 jobs number place it answer after settled next
 
     put : plain.with_job number (plain_job after) (plain_jobs jobs) ≡ plain_jobs (slice_set jobs place after)
     put = number_put jobs number place after next
+
+    leaves : (a : Answer) → LeavesJobs number a (plain_jobs jobs) (plain_jobs (slice_set jobs place after)) → LeavesJobs number a (plain_jobs jobs) (plain_jobs (jobs_after (is_assembled a) (slice_set jobs place after)))
+    leaves (Ok turned) left = tt
+    leaves (Err why) left = left
 
 -- there is no job of the number
 pub no_turn : (old : Mounted) (core : List ℕ) (jobs : List (Option Job)) (number place : ℕ) → IsSettled old jobs → number ≡ suc place → get_or jobs place None ≡ None → TakesTurn old core jobs number (Err fault.NoJob) old core jobs
@@ -137,9 +146,6 @@ refused_load old new jobs name place why answer settled running free is begins =
     by_fault file.Device b = absurd b
     by_fault file.NothingWritten b = absurd b
 
-abbrev pub TakenLaw : Type 0
-TakenLaw = (name hold : ℕ) (holds : List ℕ) → times name (with_hold hold holds) ≡ times name (hold ∷ []) + times name holds
-
 -- a job that loads is begun
 pub begun_load : TakenLaw → (old new : Mounted) (jobs : List (Option Job)) (name place : ℕ) (it : Loading) (left : ℕ) → IsSettled old jobs → position is_none jobs ≡ Some place → place < 8 → HasBegunLoading old name it left new
     → StartsLoading old jobs name (Ok (place + 1)) new (slice_set jobs place (Some (record { work = work.Loading it; left = left })))
@@ -190,3 +196,93 @@ begun_squeeze old jobs place left settled running free low count above = record 
   where
     job : Job
     job = record { work = work.Squeezing true; left = left }
+
+-- ## Assembling
+
+pub too_many_assemblies : (old : Mounted) (jobs : List (Option Job)) (target : ℕ) (from : List ℕ) → IsSettled old jobs → old.stopped ≡ false → position is_none jobs ≡ None → StartsAssembling old jobs target from (Err fault.TooManyJobs) old jobs
+too_many_assemblies old jobs target from settled running full = record {
+  over = same_start old jobs _ settled running;
+  step = λ running core. (free_none jobs full, refl);
+}
+
+-- names are held as often as before
+over_again : (old new : Mounted) (jobs : List (Option Job)) (answer : Begun) → IsSettled old jobs → old.stopped ≡ false → HoldsAgain old new → StartsOver old jobs answer new jobs
+over_again old new jobs answer settled running again = record {
+  settled = record {
+    none = ap (λ (m : Mounted). m.tentative) again.others ∙ settled.none;
+    places = settled.places;
+    held = λ name. again.same name ∙ settled.held name;
+    fit = settled.fit;
+    stand = λ still. subst (λ (m : Mounted). AllStand m.blocks jobs) (sym again.others) (settled.stand running);
+  };
+  others = again.others;
+  stopped = λ stopped. absurd (true≢false (sym stopped ∙ running));
+}
+
+again_state : (old new : Mounted) (core : List ℕ) (jobs : List (Option Job)) → HoldsAgain old new → state_over new core (plain_jobs jobs) ≡ state_over old core (plain_jobs jobs)
+again_state old new core jobs again = ap (λ (m : Mounted). state_over m core (plain_jobs jobs)) again.others
+
+-- sources or a target that can't be
+pub refused_assembly : HeldLaw → (old new : Mounted) (jobs : List (Option Job)) (target : ℕ) (from : List ℕ) (place : ℕ) (why : JobFault) → IsSettled old jobs → old.stopped ≡ false → position is_none jobs ≡ Some place → BeginsAssembly old target from (Err why) new → StartsAssembling old jobs target from (Err why) new jobs
+refused_assembly law old new jobs target from place (fault.File file.NotFound) settled running free b = record {
+  over = over_again old new jobs _ settled running b.1;
+  step = λ still core. ((place + 1, free_is jobs place free), b.0, again_state old new core jobs b.1);
+}
+refused_assembly law old new jobs target from place (fault.File (file.Busy other)) settled running free b = record {
+  over = over_again old new jobs _ settled running b.3;
+  step = λ still core. (
+    (place + 1, free_is jobs place free),
+    b.1,
+    b.0,
+    elim b.2 [
+      | inl held ↦ inl (sym (held_same law old jobs target settled) ∙ held)
+      | inr among ↦ inr among
+    ],
+    again_state old new core jobs b.3,
+  );
+}
+refused_assembly law old new jobs target from place fault.Memory settled running free b = record {
+  over = over_again old new jobs _ settled running b;
+  step = λ still core. again_state old new core jobs b;
+}
+refused_assembly law old new jobs target from place (fault.File (file.NoRoom n)) settled running free b = absurd b
+refused_assembly law old new jobs target from place (fault.File file.DirectoryFull) settled running free b = absurd b
+refused_assembly law old new jobs target from place (fault.File file.BadName) settled running free b = absurd b
+refused_assembly law old new jobs target from place (fault.File file.TooLong) settled running free b = absurd b
+refused_assembly law old new jobs target from place (fault.File file.TentativeOpen) settled running free b = absurd b
+refused_assembly law old new jobs target from place (fault.File file.Device) settled running free b = absurd b
+refused_assembly law old new jobs target from place (fault.File file.Stopped) settled running free b = absurd b
+refused_assembly law old new jobs target from place (fault.File file.Memory) settled running free b = absurd b
+refused_assembly law old new jobs target from place (fault.File file.NothingWritten) settled running free b = absurd b
+refused_assembly law old new jobs target from place fault.NoJob settled running free b = absurd b
+refused_assembly law old new jobs target from place fault.TooManyJobs settled running free b = absurd b
+refused_assembly law old new jobs target from place (fault.Asm why) settled running free b = absurd b
+refused_assembly law old new jobs target from place (fault.Tape why) settled running free b = absurd b
+
+-- a job that assembles is begun
+pub started_assembly : HeldLaw → (old new : Mounted) (jobs : List (Option Job)) (target : ℕ) (from : List ℕ) (place : ℕ) (it : Assembly) (left : ℕ) → IsSettled old jobs → old.stopped ≡ false → position is_none jobs ≡ Some place → place < 8 → HasBegunAssembly old target from it left new
+    → StartsAssembling old jobs target from (Ok (place + 1)) new (slice_set jobs place (Some (record { work = work.Assembling it; left = left })))
+started_assembly law old new jobs target from place it left settled running free low begun = record {
+  over = record {
+    settled =
+        settled_begun old new jobs place (Some job) new.holds settled (omega (arith, low, settled.places)) (free_at jobs place free) begun.held.others
+        begun.held.taken begun.fits (λ still. begun.stands);
+    others = begun.held.others;
+    stopped = λ stopped. absurd (true≢false (sym stopped ∙ running));
+  };
+  step = λ still core. (
+    begun.there,
+    record { unheld = sym (held_same law old jobs target settled) ∙ begun.unheld; other = begun.other },
+    record {
+      least = free_is jobs place free;
+      others =
+          ap (λ (m : Mounted). state_over m core (plain_jobs (slice_set jobs place (Some job)))) begun.held.others
+          ∙ ap (state_over old core) (sym (number_put jobs (place + 1) place (Some job) (add-one place)))
+          ∙ ap (λ (j : plain.Job). record (state_over old core (plain_jobs jobs)) { jobs = plain.with_job (place + 1) (Some j) (plain_jobs jobs) })
+          (ap (λ n. plain.assembling n (names_of it.holds) left) begun.is_target ∙ ap (λ l. plain.assembling target l left) begun.names ∙ ap (plain.assembling target from) begun.turns);
+    },
+  );
+}
+  where
+    job : Job
+    job = record { work = work.Assembling it; left = left }

@@ -15,7 +15,8 @@ use Rattle.jobs8.specs.Faults.{is_memory}
 use Rattle.jobs8.specs.Jobs as plain
 use Rattle.jobs8.specs.Jobs.{job_of, with_job, loading}
 use Rattle.jobs8.specs.Reading.{HasWords, IsLoading, HasReadOne, LoadsOn}
-use Rattle.jobs8.specs.Schedule.{blocks_in, turn_of, loading_turns, IsMetNone, IsFirstMet}
+use Rattle.pal_blocks.specs.Blocks.{blocks_in, turn_of}
+use Rattle.jobs8.specs.Schedule.{loading_turns, IsMetNone, IsFirstMet}
 use Rattle.jobs8.specs.Settled.{state_over, StandsIn, LoadingFits}
 use Rattle.jobs8.specs.State.{words_or, words_of}
 use Rattle.jobs8.specs.Turns.{Answer}
@@ -85,6 +86,7 @@ failed_over old new why reads failed holds more is = record {
 pub laid_turn : (words : List ℕ) (old new : Mounted) (core core2 : List ℕ) (job : Loading) (left name : ℕ) → HasWords (files_of old.blocks) job.hold words → IsLoading words job left → left < 2 → old.stopped ≡ false → name ≡ job.hold
     → (IsLoading words job 1 → IsLoaded (frames words) core core2) → new ≡ record old { holds = without_hold job.hold old.holds } → TurnsLoading old core job left (Ok (Loaded name)) None new core2
 laid_turn words old new core core2 job left name has stands low running same loads is = record {
+  kind = refl;
   step = λ number jobs there quiet. (
     same,
     one,
@@ -124,6 +126,7 @@ goes_on old new words job job2 left has one same is = (
 pub working_turn : (words : List ℕ) (old new : Mounted) (core : List ℕ) (job job2 : Loading) (left : ℕ) → HasWords (files_of old.blocks) job.hold words → IsLoading words job left → LoadingFits job left → 2 ≤ left
     → job2.done ≤ job.done + 1 → LoadsOn words old job left (Ok tt) new job2 → TurnsLoading old core job left (Ok Working) (with_turns job2 (left - 1)) new core
 working_turn words old new core job job2 left has is fits more done loads = record {
+  kind = refl;
   step = λ number jobs there quiet. (
     subst (λ w. IsMetNone w (turn_of (loading_turns (blocks_in w)) left)) (sym (words_are old core jobs job.hold words has)) (subst (λ t. IsMetNone words t) (sym (turn_is words job left is)) loads.1.2),
     record {
@@ -164,6 +167,7 @@ memory_turn words old new core job job2 left why memory has fits done loads =
 
     told : LoadsOn words old job left (Err fault.Memory) new job2 → TurnsLoading old core job left (Err fault.Memory) (with_turns job2 left) new core
     told on = record {
+      kind = refl;
       step = λ number jobs there quiet.
           state_same old new core _ (ap (λ (m : Mounted). m.blocks) on.0.1)
           ∙ ap (state_over old core) (put number jobs there);
@@ -186,6 +190,7 @@ let_go old mid new reads failed hold hold2 same is gone =
 pub refused_turn : (words : List ℕ) (old mid new : Mounted) (core : List ℕ) (job job2 : Loading) (left : ℕ) (why : JobFault) → is_memory why ≡ false → HasWords (files_of old.blocks) job.hold words → IsLoading words job left → 2 ≤ left
     → job2.hold ≡ job.hold → LoadsOn words old job left (Err why) mid job2 → new ≡ record mid { holds = without_hold job2.hold mid.holds } → TurnsLoading old core job left (Err why) None new core
 refused_turn words old mid new core job job2 left (fault.Tape why) memory has is more same loads gone = record {
+  kind = refl;
   step = λ number jobs there quiet. (
     more,
     subst (λ w. IsFirstMet w (turn_of (loading_turns (blocks_in w)) left) why) (sym (words_are old core jobs job.hold words has)) (subst (λ t. IsFirstMet words t why) (sym (turn_is words job left is)) loads.1.0),
@@ -202,6 +207,7 @@ refused_turn words old mid new core job job2 left (fault.Tape why) memory has is
     all : new ≡ record old { reads = counted old.reads; holds = without_hold job.hold old.holds }
     all = let_go old mid new (counted old.reads) old.failed_reads job.hold job2.hold same loads.0.1 gone
 refused_turn words old mid new core job job2 left (fault.File file.Device) memory has is more same loads gone = record {
+  kind = refl;
   step = λ number jobs there quiet. absurd (never quiet.reads);
   jobs = λ number jobs there. refl;
   volume = failed_over old new file.Device (counted old.reads) (old.failed_reads + 1) _ (omega arith) all;

@@ -7,7 +7,9 @@ use Rattle.pal_asm.specs.declared.faults.AsmFault.TheVariants.{At}
 use Rattle.pal_asm.specs.declared.faults.Code.TheVariants.{NE, UA}
 use Rattle.pal_sym.specs.Permanent.{permanent}
 use Rattle.bin_tape.specs.declared.faults.TapeFault.TheVariants.{BadFrame}
-use Rattle.jobs8.specs.Schedule.{IsMet, known_at, turn_of, assembling_turns, loading_turns}
+use Rattle.pal_blocks.specs.Blocks.{turn_of, assembling_turns}
+use Rattle.pal_blocks.specs.Schedule.{known_at}
+use Rattle.jobs8.specs.Schedule.{IsMet, loading_turns}
 
 -- a source of one block: three turns, and no fault
 turns : turn_of (assembling_turns 1) 3 ≡ 1

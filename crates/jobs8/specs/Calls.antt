@@ -5,8 +5,9 @@ use Rattle.os8_dir.specs.Files.{files_of, above_of}
 use Rattle.os8_files.specs.Calls.{Squeezes}
 use Rattle.os8_files.specs.Failed.{Survives}
 use Rattle.os8_files.specs.Holds.{with_hold, without_hold, times}
-use Rattle.os8_files.specs.Laws.{KeepsHeld, ReadsOne}
+use Rattle.os8_files.specs.Laws.{KeepsHeld, KeepsPlaces, KeepsOtherPlaces, ReadsOne, ReadsLowest}
 use Rattle.os8_files.specs.Mounted.{Mounted}
+use Rattle.os8_files.specs.Puts.{Puts}
 use Rattle.os8_files.specs.declared.faults.FileFault.{FileFault}
 use Rattle.os8_files.specs.declared.faults.FileFault.TheVariants as file
 use Rattle.os8_files.specs.declared.tokens.Squeezed.TheVariants as token
@@ -20,10 +21,12 @@ use Rattle.jobs8.specs.declared.kinds.Work.TheVariants as work
 use Rattle.jobs8.specs.Faults.{fault_of_file}
 use Rattle.jobs8.specs.Jobs as plain
 use Rattle.jobs8.specs.Reading.{HasWords, IsLoading}
-use Rattle.jobs8.specs.Schedule.{blocks_in, loading_turns}
-use Rattle.jobs8.specs.Settled.{LoadingFits, IsSettled, state_over, work_of, plain_job, plain_jobs, StandsIn, FitsIn, FitsAfter, names_in, left_of}
-use Rattle.jobs8.specs.Starts.{Begun, LoadStarts, SqueezeStarts}
-use Rattle.jobs8.specs.Turns.{Answer, LoadingTurn, WorkTurn, Turns}
+use Rattle.pal_blocks.specs.Blocks.{blocks_in}
+use Rattle.jobs8.specs.Schedule.{loading_turns}
+use Rattle.jobs8.specs.Settled.{LoadingFits, IsSettled, state_over, work_of, plain_job, plain_jobs, StandsIn, FitsIn, FitsAfter, names_in, left_of, plain_after, AreNamed}
+use Rattle.jobs8.specs.Sources.{without_holds}
+use Rattle.jobs8.specs.Starts.{Begun, AssembleStarts, LoadStarts, SqueezeStarts}
+use Rattle.jobs8.specs.Turns.{Answer, is_assembled, LoadingTurn, WorkTurn, Turns}
 
 -- no block call failed between, and no write before
 pub record IsQuiet (old new : Mounted) : Type 0 where
@@ -61,14 +64,38 @@ pub record LeavesHold (old : Mounted) (hold : ℕ) (after : Option Job) (new : M
   pub reads : ReadsOne old new
   pub others : new ≡ record old { reads = new.reads; failed_reads = new.failed_reads; holds = left_holds hold after old.holds }
 
--- The calls that a turn of a job makes: one that loads reads one block at most and writes none, one that squeezes makes one call.
-abbrev pub WorkCalls : Work → Mounted → Mounted → Type 0
-WorkCalls (work.Loading it) old new = (new.blocks ≡ old.blocks) × ReadsOne old new
-WorkCalls (work.Squeezing clean) old new = (call : Result tokens.Squeezed FileFault) × Squeezes old call new
+-- no block was written, and one at most was read
+abbrev pub ReadsAtMost : Mounted → Mounted → Type 0
+ReadsAtMost old new = (new.blocks ≡ old.blocks) × ReadsOne old new
+
+-- words were put under a name, or refused there, by one call, and perhaps holds were released
+abbrev pub PutsThere : ℕ → Mounted → Mounted → Type 0
+PutsThere name old new = (words : List ℕ) × (call : Result (Unit {0}) FileFault) × (mid : Mounted) × Puts old name words call mid × (new ≡ record mid { holds = new.holds })
+
+-- The calls that a turn of a job makes. One that loads reads one block at most and writes none; so does one that assembles, but
+-- for its last, which reads none and puts its target; one that squeezes makes one call.
+abbrev pub WorkCalls : Work → ℕ → Mounted → Mounted → Type 0
+WorkCalls (work.Assembling it) left old new = ReadsAtMost old new ⊎ ((left ≡ 1) × PutsThere it.to old new)
+WorkCalls (work.Loading it) left old new = ReadsAtMost old new
+WorkCalls (work.Squeezing clean) left old new = (call : Result tokens.Squeezed FileFault) × Squeezes old call new
+
+-- How many blocks of the store a turn of a job reads: one at most, but that one that squeezes reads each block of the file that
+-- it moves once.
+abbrev pub ReadsFew : plain.Work → Mounted → Mounted → Type 0
+ReadsFew (plain.Assembling to from) old new = ReadsOne old new
+ReadsFew (plain.Loading from) old new = ReadsOne old new
+ReadsFew (plain.Squeezing clean) old new = (new.reads ≡ old.reads) ⊎ ReadsLowest old new
+
+-- Whose places a turn of a job changes: that of the file that it puts, and, where it squeezes, of one file at most.
+abbrev pub MovesFew : plain.Work → Mounted → Mounted → Type 0
+MovesFew (plain.Assembling to from) old new = KeepsOtherPlaces to old new
+MovesFew (plain.Loading from) old new = KeepsPlaces old new
+MovesFew (plain.Squeezing clean) old new = (name : ℕ) × KeepsOtherPlaces name old new
 
 -- What a turn of a job that loads comes to, with so many turns left: it answers, and hands the job back where it isn't at its
 -- end.
 pub record TurnsLoading (old : Mounted) (core : List ℕ) (job : Loading) (left : ℕ) (answer : Answer) (after : Option Job) (new : Mounted) (core' : List ℕ) : Type 0 where
+  pub kind : is_assembled answer ≡ false
   pub step : (number : ℕ) (jobs : List (Option plain.Job)) → plain.job_of number jobs ≡ Some (plain.loading job.hold left) → IsQuiet old new
       → LoadingTurn (state_over old core jobs) number job.hold left answer (state_over new core' (plain.with_job number (plain_job after) jobs))
   pub jobs : (number : ℕ) (jobs : List (Option plain.Job)) → plain.job_of number jobs ≡ Some (plain.loading job.hold left) → LeavesJobs number answer jobs (plain.with_job number (plain_job after) jobs)
@@ -79,10 +106,11 @@ pub record TurnsLoading (old : Mounted) (core : List ℕ) (job : Loading) (left 
   pub fewer : (answer ≡ Err fault.Memory → ⊥) → left_of after < left
 
 -- What a turn of any job comes to: it answers, and hands the job back where it isn't at its end. A job that goes on holds what it
--- held, and one that ends holds nothing. Files that are held keep their words, and no more files have a free block below them.
+-- held, and one that ends holds nothing. Files that are held keep their words, and no more files have a free block below them,
+-- but where a target was put.
 pub record TurnsJob (old : Mounted) (core : List ℕ) (job : Job) (answer : Answer) (after : Option Job) (new : Mounted) (core' : List ℕ) : Type 0 where
-  pub step : (number : ℕ) (jobs : List (Option plain.Job)) → plain.job_of number jobs ≡ plain_job (Some job) → IsQuiet old new
-      → WorkTurn (state_over old core jobs) number (work_of job.work) job.left answer (state_over new core' (plain.with_job number (plain_job after) jobs))
+  pub step : (number : ℕ) (jobs : List (Option plain.Job)) → plain.job_of number jobs ≡ plain_job (Some job) → AreNamed old.holds jobs → IsQuiet old new
+      → WorkTurn (state_over old core jobs) number (work_of job.work) job.left answer (state_over new core' (plain_after (is_assembled answer) (plain.with_job number (plain_job after) jobs)))
   pub jobs : (number : ℕ) (jobs : List (Option plain.Job)) → plain.job_of number jobs ≡ plain_job (Some job) → LeavesJobs number answer jobs (plain.with_job number (plain_job after) jobs)
   pub volume : TurnsOver old answer new
   pub stands : new.stopped ≡ false → StandsIn new.blocks after
@@ -91,9 +119,9 @@ pub record TurnsJob (old : Mounted) (core : List ℕ) (job : Job) (answer : Answ
   pub running : new.stopped ≡ false → old.stopped ≡ false
   pub none : new.tentative ≡ None
   pub kept : KeepsHeld old new
-  pub above : new.stopped ≡ false → above_of new.blocks ≤ above_of old.blocks
+  pub above : is_assembled answer ≡ false → new.stopped ≡ false → above_of new.blocks ≤ above_of old.blocks
   pub fewer : (answer ≡ Err fault.Memory → ⊥) → left_of after < job.left
-  pub calls : WorkCalls job.work old new
+  pub calls : WorkCalls job.work job.left old new
 
 -- What beginning a job that loads comes to.
 pub record HasBegunLoading (old : Mounted) (name : ℕ) (it : Loading) (left : ℕ) (new : Mounted) : Type 0 where
@@ -132,7 +160,7 @@ job_at (suc place) jobs = get_or jobs place None
 -- the calls that a turn of a job makes; none where there is no job
 abbrev pub CallsOf : Option Job → Mounted → Mounted → Type 0
 CallsOf None old new = new ≡ old
-CallsOf (Some it) old new = WorkCalls it.work old new
+CallsOf (Some it) old new = WorkCalls it.work it.left old new
 
 -- What a turn of the job of a number comes to, over a volume with core and the jobs of a session.
 pub record TakesTurn (old : Mounted) (core : List ℕ) (jobs : List (Option Job)) (number : ℕ) (answer : Answer) (new : Mounted) (core' : List ℕ) (jobs' : List (Option Job)) : Type 0 where
@@ -154,6 +182,11 @@ pub record StartsLoading (old : Mounted) (jobs : List (Option Job)) (name : ℕ)
   pub over : StartsOver old jobs answer new jobs'
   pub step : old.stopped ≡ false → (core : List ℕ) → LoadStarts (state_over old core (plain_jobs jobs)) name answer (state_over new core (plain_jobs jobs'))
 
+-- what beginning to assemble comes to
+pub record StartsAssembling (old : Mounted) (jobs : List (Option Job)) (target : ℕ) (from : List ℕ) (answer : Begun) (new : Mounted) (jobs' : List (Option Job)) : Type 0 where
+  pub over : StartsOver old jobs answer new jobs'
+  pub step : old.stopped ≡ false → (core : List ℕ) → AssembleStarts (state_over old core (plain_jobs jobs)) target from answer (state_over new core (plain_jobs jobs'))
+
 -- what beginning to squeeze comes to
 pub record StartsSqueezing (old : Mounted) (jobs : List (Option Job)) (answer : Begun) (new : Mounted) (jobs' : List (Option Job)) : Type 0 where
   pub over : StartsOver old jobs answer new jobs'
@@ -164,6 +197,7 @@ pub record StartsSqueezing (old : Mounted) (jobs : List (Option Job)) (answer : 
 -- the holds without those of a job
 abbrev pub without_work : Work → List ℕ → List ℕ
 without_work (work.Loading it) holds = without_hold it.hold holds
+without_work (work.Assembling it) holds = without_holds it.holds holds
 without_work (work.Squeezing clean) holds = holds
 
 abbrev pub without_job : Option Job → List ℕ → List ℕ
@@ -176,6 +210,6 @@ without_jobs [] holds = holds
 without_jobs (it ∷ jobs) holds = without_jobs jobs (without_job it holds)
 
 -- no job at any place
-abbrev pub cleared : List (Option Job) → List (Option Job)
+abbrev pub cleared : {A : Type 0} → List (Option A) → List (Option A)
 cleared [] = []
 cleared (it ∷ jobs) = None ∷ cleared jobs

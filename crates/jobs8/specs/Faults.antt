@@ -3,6 +3,9 @@ use Rattle.std.specs.Prelude.{Bool, true, false}
 use Rattle.bin_tape.specs.declared.faults.TapeFault.{TapeFault}
 use Rattle.bin_tape.specs.declared.faults.TapeFault.TheVariants as tape
 use Rattle.bin_tape.specs.declared.faults.TapeFault.TheVariants.{BadFrame, NoOrigin, CheckSum, NoTrailer}
+use Rattle.pal_asm.specs.declared.faults.AsmFault.{AsmFault}
+use Rattle.pal_asm.specs.declared.faults.AsmFault.TheVariants as asm
+use Rattle.pal_asm.specs.declared.faults.AsmFault.TheVariants.{At}
 use Rattle.os8_files.specs.declared.faults.FileFault.{FileFault}
 use Rattle.os8_files.specs.declared.faults.FileFault.TheVariants as file
 use Rattle.os8_files.specs.declared.faults.FileFault.TheVariants.{NotFound, NoRoom, DirectoryFull, Busy, BadName, TooLong, TentativeOpen, Device, Stopped, NothingWritten}
@@ -15,6 +18,10 @@ fault_of_tape NoOrigin = Tape NoOrigin
 fault_of_tape (CheckSum found computed) = Tape (CheckSum found computed)
 fault_of_tape NoTrailer = Tape NoTrailer
 fault_of_tape tape.Memory = Memory
+
+abbrev pub fault_of_asm : AsmFault → JobFault
+fault_of_asm (At code line) = Asm (At code line)
+fault_of_asm asm.Memory = Memory
 
 abbrev pub fault_of_file : FileFault → JobFault
 fault_of_file NotFound = File NotFound

@@ -5,5 +5,6 @@ pub mod Faults
 pub mod Starts
 pub mod Turns
 pub mod Reading
+pub mod Sources
 pub mod Settled
 pub mod Calls

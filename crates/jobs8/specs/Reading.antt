@@ -1,5 +1,5 @@
 -- How far a job is in the files that it reads.
-use Rattle.std.specs.Prelude.{◌≡◌, ℕ, ◌+◌, ◌-◌, ◌*◌, ◌<◌, ◌≤◌, Some, List, ◌++◌, length, take, drop, false, Result, Ok, Err}
+use Rattle.std.specs.Prelude.{◌≡◌, ℕ, ◌+◌, ◌-◌, ◌*◌, ◌<◌, ◌≤◌, Some, List, ◌++◌, length, take, false, Result, Ok, Err}
 use Rattle.std.specs.FinMap.{get}
 use Rattle.char_pack.specs.Packing.{frames}
 use Rattle.bin_tape.specs.Items.{Item}
@@ -16,11 +16,8 @@ use Rattle.os8_files.specs.declared.faults.FileFault.TheVariants as file
 use Rattle.jobs8.specs.declared.loading.Loading.{Loading}
 use Rattle.jobs8.specs.declared.faults.JobFault.{JobFault}
 use Rattle.jobs8.specs.declared.faults.JobFault.TheVariants as fault
-use Rattle.jobs8.specs.Schedule.{blocks_in, first_blocks, loading_turns, IsMetNone, IsFirstMet}
-
--- the words of block k of a file, counted from 0
-abbrev pub block_at : ℕ → List ℕ → List ℕ
-block_at k words = take 256 (drop (256 * k) words)
+use Rattle.pal_blocks.specs.Blocks.{blocks_in, first_blocks, block_at}
+use Rattle.jobs8.specs.Schedule.{loading_turns, IsMetNone, IsFirstMet}
 
 -- The frames that a job has taken of a file: those of so many first blocks, and of the next block as many as were taken
 -- before want of memory broke a turn off.

@@ -1,5 +1,6 @@
--- What stands between entries: the holds are those of the jobs, and what a job has read is the beginning of its file as it is.
+-- What stands between entries: the holds are those of the jobs, and what a job has read is the beginning of its files as they are.
 use Rattle.std.specs.Prelude.{◌≡◌, ◌≤◌, ◌<◌, ℕ, ◌+◌, Bool, false, true, nat_eq, Option, Some, None, List, [], ◌∷◌, map, length}
+use Rattle.os8_dir.specs.Entries.{contains}
 use Rattle.os8_dir.specs.Files.{files_of, capacity_of, limit_of, above_of}
 use Rattle.os8_files.specs.Calls.{info_of}
 use Rattle.os8_files.specs.Holds.{times}
@@ -7,6 +8,7 @@ use Rattle.os8_files.specs.Mounted.{Mounted}
 use Rattle.jobs8.specs.Jobs as plain
 use Rattle.jobs8.specs.Jobs.{held_by, held_by_work}
 use Rattle.jobs8.specs.Reading.{HasWords, IsLoading}
+use Rattle.jobs8.specs.Sources.{names_of, AssemblyFits, AssemblyStands}
 use Rattle.jobs8.specs.State.{State}
 use Rattle.jobs8.specs.declared.loading.Loading.{Loading}
 use Rattle.jobs8.specs.declared.kinds.Job.{Job}
@@ -17,6 +19,7 @@ use Rattle.jobs8.specs.declared.kinds.Work.TheVariants as work
 
 abbrev pub work_of : Work → plain.Work
 work_of (work.Loading it) = plain.Loading it.hold
+work_of (work.Assembling it) = plain.Assembling it.to (names_of it.holds)
 work_of (work.Squeezing clean) = plain.Squeezing clean
 
 abbrev pub plain_job : Option Job → Option plain.Job
@@ -41,6 +44,7 @@ state_over m core jobs = record {
 -- work where another entry has changed the directory: a squeezing job is clean no longer
 abbrev pub disturbed_work : Work → Work
 disturbed_work (work.Loading it) = work.Loading it
+disturbed_work (work.Assembling it) = work.Assembling it
 disturbed_work (work.Squeezing clean) = work.Squeezing false
 
 abbrev pub disturbed_job : Option Job → Option Job
@@ -57,9 +61,10 @@ pub record IsSqueezing (blocks : List (List ℕ)) (clean : Bool) (left : ℕ) : 
   pub more : 1 ≤ left
   pub enough : clean ≡ true → above_of blocks < left
 
--- A job stands so over blocks: what it has read is the beginning of its file as that is now, wherever it lies.
+-- A job stands so over blocks: what it has read is the beginning of its files as they are now, wherever they lie.
 abbrev pub Stands : List (List ℕ) → Work → ℕ → Type 0
 Stands blocks (work.Loading it) left = (words : List ℕ) × HasWords (files_of blocks) it.hold words × IsLoading words it left
+Stands blocks (work.Assembling it) left = AssemblyStands blocks it left
 Stands blocks (work.Squeezing clean) left = IsSqueezing blocks clean left
 
 abbrev pub StandsIn : List (List ℕ) → Option Job → Type 0
@@ -79,6 +84,7 @@ pub record LoadingFits (it : Loading) (left : ℕ) : Type 0 where
 -- the same of each job, also where a write has failed
 abbrev pub Fits : Work → ℕ → Type 0
 Fits (work.Loading it) left = LoadingFits it left
+Fits (work.Assembling it) left = AssemblyFits it left
 Fits (work.Squeezing clean) left = 1 ≤ left
 
 abbrev pub FitsIn : Option Job → Type 0
@@ -92,6 +98,7 @@ AllFit (it ∷ jobs) = FitsIn it × AllFit jobs
 -- a job that goes on loads the same file
 abbrev pub FitsOn : ℕ → Work → ℕ → Type 0
 FitsOn hold (work.Loading it) left = LoadingFits it left × (it.hold ≡ hold)
+FitsOn hold (work.Assembling it) left = ⊥
 FitsOn hold (work.Squeezing clean) left = ⊥
 
 abbrev pub FitsAfter : ℕ → Option Job → Type 0
@@ -107,6 +114,20 @@ left_of (Some it) = it.left
 abbrev pub names_in : Option Job → List ℕ
 names_in None = []
 names_in (Some it) = held_by_work (work_of it.work)
+
+-- the jobs behind a turn, where its end may have changed the directory
+abbrev pub jobs_after : Bool → List (Option Job) → List (Option Job)
+jobs_after true jobs = disturbed jobs
+jobs_after false jobs = jobs
+
+-- the same without what they keep
+abbrev pub plain_after : Bool → List (Option plain.Job) → List (Option plain.Job)
+plain_after true jobs = plain.disturbed jobs
+plain_after false jobs = jobs
+
+-- a name is held just where a job names it
+abbrev pub AreNamed : List ℕ → List (Option plain.Job) → Type 0
+AreNamed holds jobs = (name : ℕ) → contains holds name ≡ contains (held_by jobs) name
 
 -- ## All jobs
 

@@ -7,7 +7,8 @@ use Rattle.os8_files.specs.declared.faults.FileFault.TheVariants as file
 use Rattle.jobs8.specs.declared.faults.JobFault.{JobFault}
 use Rattle.jobs8.specs.declared.faults.JobFault.TheVariants.{TooManyJobs, File, Memory}
 use Rattle.jobs8.specs.Jobs.{Job, assembling, loading, squeezing, least_free, with_job, held_by}
-use Rattle.jobs8.specs.Schedule.{blocks_among, blocks_in, loading_turns, assembling_turns}
+use Rattle.pal_blocks.specs.Blocks.{blocks_among, blocks_in, assembling_turns}
+use Rattle.jobs8.specs.Schedule.{loading_turns}
 use Rattle.jobs8.specs.State.{State, words_of, words_among, IsThere, AreThere, IsOneMissing}
 
 -- the number of a job that is begun, or why none is
@@ -63,5 +64,4 @@ LoadStarts old from (Err fault) new = ⊥
 abbrev pub SqueezeStarts : State → Begun → State → Type 0
 SqueezeStarts old (Ok number) new = HasBegun old number (new_squeezing old) new
 SqueezeStarts old (Err TooManyJobs) new = (least_free old.jobs ≡ None) × (new ≡ old)
-SqueezeStarts old (Err Memory) new = new ≡ old
 SqueezeStarts old (Err fault) new = ⊥

@@ -8,7 +8,7 @@ use Rattle.os8_files.specs.Service.{used_of, count_of}
 use Rattle.os8_files.specs.declared.faults.FileFault.{FileFault}
 use Rattle.os8_files.specs.declared.faults.FileFault.TheVariants as file
 use Rattle.jobs8.specs.Jobs.{Job, held_by, disturbed}
-use Rattle.jobs8.specs.Schedule.{blocks_in}
+use Rattle.pal_blocks.specs.Blocks.{blocks_in}
 
 pub record State : Type 0 where
   -- the map from names to information words and words
@@ -35,23 +35,35 @@ abbrev pub words_of : State → ℕ → List ℕ
 words_of s name = words_or (get s.files name)
 
 -- the words of files, one after the other
+abbrev pub words_in : Files → List ℕ → List (List ℕ)
+words_in files [] = []
+words_in files (name ∷ names) = words_or (get files name) ∷ words_in files names
+
 abbrev pub words_among : State → List ℕ → List (List ℕ)
-words_among s [] = []
-words_among s (name ∷ names) = words_of s name ∷ words_among s names
+words_among s names = words_in s.files names
 
 -- there is a file of the name
+abbrev pub IsIn : Files → ℕ → Type 0
+IsIn files name = (held : Held) × (get files name ≡ Some held)
+
 abbrev pub IsThere : State → ℕ → Type 0
-IsThere s name = (held : Held) × (get s.files name ≡ Some held)
+IsThere s name = IsIn s.files name
 
 -- there is a file of each name
+abbrev pub AreIn : Files → List ℕ → Type 0
+AreIn files [] = Unit {0}
+AreIn files (name ∷ names) = IsIn files name × AreIn files names
+
 abbrev pub AreThere : State → List ℕ → Type 0
-AreThere s [] = Unit {0}
-AreThere s (name ∷ names) = IsThere s name × AreThere s names
+AreThere s names = AreIn s.files names
 
 -- of one of the names there is no file
+abbrev pub IsOneOut : Files → List ℕ → Type 0
+IsOneOut files [] = ⊥
+IsOneOut files (name ∷ names) = (get files name ≡ None) ⊎ IsOneOut files names
+
 abbrev pub IsOneMissing : State → List ℕ → Type 0
-IsOneMissing s [] = ⊥
-IsOneMissing s (name ∷ names) = (get s.files name ≡ None) ⊎ IsOneMissing s names
+IsOneMissing s names = IsOneOut s.files names
 
 -- The largest run of free blocks has so many, fewer than are wanted. All free blocks are no fewer, no more than so many for
 -- each file and once more, and exactly so many where no file has a free block below it.

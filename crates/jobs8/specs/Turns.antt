@@ -1,12 +1,7 @@
 -- What turns of jobs do, where no block call fails.
 use Rattle.std.specs.Prelude.{◌≡◌, ◌⊎◌, ℕ, ◌+◌, ◌-◌, ◌*◌, ◌<◌, ◌≤◌, Bool, true, false, Option, Some, None, List, Result, Ok, Err}
-use Rattle.char_pack.specs.Packing.{frames, packed_blocks}
-use Rattle.bin_tape.specs.Items.{Item, tape_map}
-use Rattle.bin_tape.specs.Tape.{IsTape}
-use Rattle.bin_tape.specs.Writing.{tape_of}
+use Rattle.char_pack.specs.Packing.{frames}
 use Rattle.core_load.specs.Load.{IsLoaded}
-use Rattle.bin_tape.specs.Pairs.{last_word}
-use Rattle.pal_asm.specs.Words.{pairs_of}
 use Rattle.pal_asm.specs.Faults.{fault_of}
 use Rattle.os8_files.specs.Service.{count_of}
 use Rattle.os8_files.specs.declared.faults.FileFault.TheVariants as file
@@ -15,7 +10,10 @@ use Rattle.jobs8.specs.declared.faults.JobFault.TheVariants.{NoJob, File, Asm, T
 use Rattle.jobs8.specs.declared.turned.Turned.{Turned}
 use Rattle.jobs8.specs.declared.turned.Turned.TheVariants.{Working, Assembled, Loaded, Squeezed}
 use Rattle.jobs8.specs.Jobs.{Job, Work, Assembling, Loading, Squeezing, assembling, loading, squeezing, job_of, with_job}
-use Rattle.jobs8.specs.Schedule.{blocks_among, blocks_in, loading_turns, assembling_turns, turn_of, IsMetNone, IsFirstMet, newest_first, known_at, IsFirstKnown}
+use Rattle.pal_blocks.specs.Blocks.{blocks_among, blocks_in, assembling_turns, turn_of}
+use Rattle.pal_blocks.specs.Sources.{newest_first, assembled_words, IsTapeOfSources}
+use Rattle.pal_blocks.specs.Schedule.{known_at, IsFirstKnown}
+use Rattle.jobs8.specs.Schedule.{loading_turns, IsMetNone, IsFirstMet}
 use Rattle.jobs8.specs.State.{State, words_of, words_among, HasPut, PutRefused}
 
 -- what a turn answers
@@ -30,6 +28,14 @@ pub record HasWorked (old : State) (number : ℕ) (it : Job) (new : State) : Typ
 -- a job ends, and nothing else changes
 abbrev pub HasEnded : State → ℕ → State → Type 0
 HasEnded old number new = new ≡ record old { jobs = with_job number None old.jobs }
+
+-- the file of a job that assembles has been put: other entries' squeezing jobs are clean no longer
+abbrev pub is_assembled : Answer → Bool
+is_assembled (Ok Working) = false
+is_assembled (Ok (Assembled name blocks)) = true
+is_assembled (Ok (Loaded name)) = false
+is_assembled (Ok Squeezed) = false
+is_assembled (Err why) = false
 
 -- ## Loading
 
@@ -52,20 +58,6 @@ LoadingTurn old number from left answer new =
     LoadingAt old number from left (turn_of (loading_turns (blocks_in (words_of old from))) left) answer new
 
 -- ## Assembling
-
--- the words of the file that sources are assembled to: the fewest blocks that hold their tape
-abbrev pub assembled_words : List (List ℕ) → List ℕ
-assembled_words sources = packed_blocks (tape_of (pairs_of (newest_first sources)))
-
--- what sources put into a cell: the word of the last pair there
-abbrev pub meaning_of : List (List ℕ) → ℕ → Option ℕ
-meaning_of sources cell = last_word (pairs_of (newest_first sources)) cell
-
--- the words are a tape that gives each cell what the sources put into it
-pub record IsTapeOfSources (sources : List (List ℕ)) (words : List ℕ) : Type 0 where
-  pub items : List Item
-  pub is_tape : IsTape (frames words) items
-  pub map : (cell : ℕ) → tape_map items cell ≡ meaning_of sources cell
 
 -- sources without fault are assembled to a file, and the job ends
 pub record HasAssembled (old : State) (number to : ℕ) (sources : List (List ℕ)) (new : State) : Type 0 where

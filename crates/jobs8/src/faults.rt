@@ -45,6 +45,20 @@ impl From<TapeFault> for JobFault {
     }
 }
 
+impl From<AsmFault> for JobFault {
+    ghost use Rattle.std.specs.Prelude.{◌≡◌};
+    ghost use Rattle.jobs8.specs.Faults.{fault_of_asm};
+
+    ghost from_gives = { λ asm fault. fault ≡ fault_of_asm asm };
+
+    fn from(fault: AsmFault) -> JobFault {
+        match fault {
+            AsmFault::Memory => JobFault::Memory,
+            _ => JobFault::Asm(fault),
+        }
+    }
+}
+
 impl From<FileFault> for JobFault {
     ghost use Rattle.std.specs.Prelude.{◌≡◌};
     ghost use Rattle.jobs8.specs.Faults.{fault_of_file};

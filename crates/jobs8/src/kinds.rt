@@ -1,7 +1,10 @@
-use crate::Loading;
+use crate::{Assembly, Loading};
 
 /// What a job does.
 pub enum Work {
+    /// It assembles files to another one.
+    Assembling(Assembly),
+
     /// It loads a file.
     Loading(Loading),
 

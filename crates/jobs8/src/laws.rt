@@ -6,10 +6,12 @@ ghost use Rattle.os8_files.specs.Laws.{KeepsHolds};
 ghost use Rattle.os8_files.specs.Mounted.{Mounted};
 ghost use Rattle.jobs8.specs.Jobs.{Job, IsLowest, IsOfNone, IsFree, IsTaken, least_free, lowest_job, job_of, with_job, held_by, disturbed};
 ghost use Rattle.jobs8.specs.Settled as settled;
-ghost use Rattle.jobs8.specs.Settled.{IsSettled, plain_jobs};
+ghost use Rattle.jobs8.specs.Settled.{work_of, IsSettled, plain_jobs};
+ghost use Rattle.jobs8.specs.Calls.{WorkCalls, ReadsFew, MovesFew};
 ghost use Rattle.jobs8.specs.declared.kinds.Job as kept;
+ghost use Rattle.jobs8.specs.declared.kinds.Work.{Work};
 
-use os8_files::laws::counted_holds;
+use os8_files::laws::{block_reads, counted_holds, file_places};
 
 /// The number that a new job gets is the lowest that no job has, and there is none where each number has a job. The job that
 /// FINISH gives a turn is that of the lowest number that has one, and there is none where no number has a job.
@@ -46,3 +48,13 @@ pub fn held_names()
 pub fn disturbed_jobs()
     ensures { (jobs : List (Option kept.Job)) → plain_jobs (settled.disturbed jobs) ≡ disturbed (plain_jobs jobs) }
 {}
+
+/// A turn of a job that assembles or loads reads one block of the store at most; only one that squeezes changes the place of a
+/// file that it doesn't put, and of one file at most.
+pub fn job_calls()
+    ensures reads { (old new : Mounted) (it : Work) (left : ℕ) → WorkCalls it left old new → ReadsFew (work_of it) old new }
+    ensures places { (old new : Mounted) (it : Work) (left : ℕ) → WorkCalls it left old new → MovesFew (work_of it) old new }
+{
+    block_reads();
+    file_places();
+}

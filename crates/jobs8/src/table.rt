@@ -26,12 +26,16 @@ pub struct Jobs {
 }
 
 impl Model for Jobs {
+    ghost use Rattle.std.specs.Coded.{codes};
+    ghost use Rattle.pal_sym.specs.SymbolTable.{table_code};
     ghost use Rattle.std.specs.Prelude.{List, Option};
     ghost use Rattle.jobs8.specs.declared.kinds.Job as job;
 
     ghost Value = { List (Option job.Job) };
 
     ghost view = { λ jobs. jobs.places };
+
+    ghost coded = { Prim.hlevel (codes, table_code) };
 }
 
 impl Jobs {
@@ -133,6 +137,10 @@ fn disturbed_job(job: Option<Job>) -> Option<Job>
                     work: Work::Squeezing { clean: false },
                     left,
                 }),
+                Work::Assembling(assembly) => Some(Job {
+                    work: Work::Assembling(assembly),
+                    left,
+                }),
                 Work::Loading(loading) => Some(Job {
                     work: Work::Loading(loading),
                     left,
@@ -189,7 +197,7 @@ fn let_all_go<S: BlockStore>(files: &mut FileService<S>, places: &mut [Option<Jo
     }
 }
 
-/// Ends a job: its file is held once less.
+/// Ends a job: its files are held once less.
 fn let_go<S: BlockStore>(files: &mut FileService<S>, job: Option<Job>)
     ensures { files.new ≡ record files.old { holds = without_job job files.old.holds } }
 {
@@ -198,6 +206,7 @@ fn let_go<S: BlockStore>(files: &mut FileService<S>, job: Option<Job>)
         Some(job) => {
             let Job { work, left: _ } = job;
             match work {
+                Work::Assembling(assembly) => assembly.let_go(files),
                 Work::Loading(loading) => loading.let_go(files),
                 Work::Squeezing { clean: _ } => {}
             }

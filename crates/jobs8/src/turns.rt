@@ -1,16 +1,19 @@
 //! What the entries of a session do with the table of jobs.
-ghost use Rattle.std.specs.Prelude.{◌≡◌, ◌≤◌, ℕ, false, None, Some};
+ghost use Rattle.std.specs.Prelude.{◌≡◌, ◌≤◌, ◌<◌, ℕ, false, None, Some, length};
+ghost use Rattle.os8_dir.specs.Entries.{IsNamed};
 ghost use Rattle.os8_files.specs.Holds.{times};
-ghost use Rattle.jobs8.specs.Calls.{StartsLoading, StartsSqueezing, TakesTurn, TurnsJob};
+ghost use Rattle.jobs8.specs.Calls.{StartsAssembling, StartsLoading, StartsSqueezing, TakesTurn, TurnsJob};
 ghost use Rattle.jobs8.specs.Jobs as plain;
+ghost use Rattle.jobs8.specs.Turns as turned;
 ghost use Rattle.jobs8.specs.Settled.{IsSettled, Fits, Stands, names_in, plain_jobs};
 
+use crate::assembling::assembling_turn;
 use crate::loading::loading_turn;
 use crate::squeezing::squeezing_turn;
-use crate::{Job, JobFault, Jobs, Loading, Turned, Work};
+use crate::{Assembly, Job, JobFault, Jobs, Loading, Turned, Work};
 use core_load::Core;
 use os8_dir::Name;
-use os8_files::laws::{counted_holds, failed_writes, files_above, kept_holds};
+use os8_files::laws::{counted_holds, failed_writes, kept_holds};
 use os8_files::{FileFault, FileService};
 use std::alloc::Global;
 use volume_image::BlockStore;
@@ -23,6 +26,40 @@ impl Jobs {
         match self.lowest_place() {
             None => None,
             Some(place) => Some(place as u32 + 1),
+        }
+    }
+
+    /// Begins a job that assembles files to another one: its number, the least that has no job. Each of them is held from now on,
+    /// as often as it is named, and the job has two turns for each of their blocks and one more. Where there are eight jobs it
+    /// is `TooManyJobs`; then come `NotFound` for a file that isn't there, and `Busy` with the target where a job holds it or it
+    /// is one of them (this project's profile).
+    pub fn assemble<S: BlockStore>(
+        &mut self,
+        alloc: Global,
+        files: &mut FileService<S>,
+        to: Name,
+        from: &[Name],
+    ) -> Result<u32, JobFault>
+        requires settled { IsSettled files.old self.old }
+        requires named { IsNamed to }
+        requires some { 0 < length from.now }
+        requires few { length from.now ≤ 8 }
+        ensures { StartsAssembling files.old self.old to from.now result files.new self.new }
+    {
+        counted_holds();
+        if files.stopped() {
+            return Err(JobFault::File(FileFault::Stopped));
+        }
+        match self.free_place() {
+            None => Err(JobFault::TooManyJobs),
+            Some(place) => match Assembly::begin(alloc, files, to, from) {
+                Err(fault) => Err(fault),
+                Ok((assembly, left)) => {
+                    let work = Work::Assembling(assembly);
+                    self.put(place, Some(Job { work, left }));
+                    Ok(place as u32 + 1)
+                }
+            },
         }
     }
 
@@ -56,30 +93,22 @@ impl Jobs {
     }
 
     /// Begins a job that moves files down: its number, the least that has no job. It has a turn for each file and one more.
-    /// Where there are eight jobs it is `TooManyJobs` (this project's profile).
-    pub fn squeeze<S: BlockStore>(
-        &mut self,
-        alloc: Global,
-        files: &FileService<S>,
-    ) -> Result<u32, JobFault>
+    /// Where there are eight jobs it is `TooManyJobs` (this project's profile). It takes no memory.
+    pub fn squeeze<S: BlockStore>(&mut self, files: &FileService<S>) -> Result<u32, JobFault>
         requires { IsSettled files.now self.old }
         ensures { StartsSqueezing files.now self.old result files.now self.new }
     {
-        files_above();
         if files.stopped() {
             return Err(JobFault::File(FileFault::Stopped));
         }
         match self.free_place() {
             None => Err(JobFault::TooManyJobs),
-            Some(place) => match files.listing(alloc) {
-                Err(fault) => Err(JobFault::from(fault)),
-                Ok(list) => {
-                    let left = list.as_slice().len() + 1;
-                    let work = Work::Squeezing { clean: true };
-                    self.put(place, Some(Job { work, left }));
-                    Ok(place as u32 + 1)
-                }
-            },
+            Some(place) => {
+                let left = files.count() + 1;
+                let work = Work::Squeezing { clean: true };
+                self.put(place, Some(Job { work, left }));
+                Ok(place as u32 + 1)
+            }
         }
     }
 
@@ -105,10 +134,20 @@ impl Jobs {
             Some(job) => {
                 let (answer, after) = job_turn(alloc, files, core, job);
                 self.put(place, after);
+                if is_assembled(&answer) {
+                    self.disturb();
+                }
                 answer
             }
         }
     }
+}
+
+/// Whether a job has put its target.
+fn is_assembled(answer: &Result<Turned, JobFault>) -> bool
+    ensures { result ≡ turned.is_assembled answer.now }
+{
+    matches!(answer, Ok(Turned::Assembled { name: _, blocks: _ }))
 }
 
 /// A turn of a job. It answers, and hands the job back where it isn't at its end.
@@ -129,6 +168,7 @@ fn job_turn<S: BlockStore>(
     failed_writes();
     let Job { work, left } = job;
     match work {
+        Work::Assembling(assembly) => assembling_turn(alloc, files, assembly, left),
         Work::Loading(loading) => loading_turn(files, core, loading, left),
         Work::Squeezing { clean } => squeezing_turn(alloc, files, clean, left),
     }

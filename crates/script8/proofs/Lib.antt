@@ -4,3 +4,4 @@ pub mod LawLemmas
 pub mod LineLemmas
 pub mod NumberLemmas
 pub mod ReplyLemmas
+pub mod WrittenLemmas

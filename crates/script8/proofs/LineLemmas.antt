@@ -1,12 +1,12 @@
--- Lines without the CR at their end, and the words of commands.
+-- Lines without the CR at their end, and the parts of texts.
 use Rattle.std.proofs.Common.{◌≡◌, ◌<◌, ◌≤◌, ◌-◌, ◌+◌, suc, arith, ℕ, refl, sym, ◌∙◌, ap, inl, inr, Bool, true, false, if◌then◌else◌, List, [], ◌∷◌, ◌++◌, ◌≢◌, length, take, drop, take_all, Option, Some, None, Result, Err}
-use Rattle.std.specs.Prelude.{codes, cond, nat_lt, unwrap_or}
-use Rattle.std.specs.List.{position, position_or_len}
+use Rattle.std.specs.Prelude.{codes, cond, nat_lt, ◌&&◌, unwrap_or}
+use Rattle.std.specs.List.{list_all, position, position_or_len}
 use Rattle.std.proofs.lemmas.List.Recursion.{is_position_or_len}
 use Rattle.std.specs.Str.{bytes_eq}
 use Rattle.std.proofs.lemmas.Bool.Decides.{eqb_tells, leb_tells}
-use Rattle.script8.specs.Lines.{command_of, onto_first, words_of, form_of, whole, name_bytes, delete_of, store_of, bare_entry, entry_with_word, entry_with_words, command_says, says}
-use Rattle.script8.specs.Cuts.{word_of, is_blank}
+use Rattle.script8.specs.Lines.{command_of, onto_first, parts_of, words_of, form_of, whole, name_bytes, named, store_of, is_name, listed, lists_names, assembled, assemble_of, bare_entry, entry_with_word, entry_with_words, command_says, says}
+use Rattle.script8.specs.Cuts.{part_of, is_mark}
 use Rattle.script8.specs.declared.entries.Entry.{Entry}
 use Rattle.script8.specs.declared.faults.SessionFault.{SessionFault}
 use Rattle.script8.specs.declared.faults.SessionFault.TheVariants.{BadLine}
@@ -27,35 +27,35 @@ no_return [] other = refl
 no_return (b ∷ []) other = elim (eqb_tells b 13) [ inl h ↦ absurd (other [] (ap (λ t. t ∷ []) h.1)) | inr h ↦ rw h.0 refl ]
 no_return (b ∷ c ∷ bs) other = ap (λ t. b ∷ t) (no_return (c ∷ bs) (λ front is. other (b ∷ front) (ap (λ t. b ∷ t) is)))
 
--- what stands behind the first word of a command
-abbrev pub behind_word : List ℕ → List (List ℕ)
-behind_word [] = []
-behind_word (b ∷ bs) = words_of bs
+-- what stands behind the first part of a text
+abbrev pub behind_part : ℕ → List ℕ → List (List ℕ)
+behind_part mark [] = []
+behind_part mark (b ∷ bs) = parts_of mark bs
 
--- a command is its first word, and the words behind it
-cut : (text : List ℕ) → words_of text ≡ take (length (word_of text)) text ∷ behind_word (drop (length (word_of text)) text)
-cut [] = refl
-cut (b ∷ bs) = elim (eqb_tells b 32) [ inl is ↦ rw is.0 refl | inr other ↦ rw other.0 (ap (onto_first b) (cut bs)) ]
+-- a text is its first part, and the parts behind it
+cut : (mark : ℕ) (text : List ℕ) → parts_of mark text ≡ take (length (part_of mark text)) text ∷ behind_part mark (drop (length (part_of mark text)) text)
+cut mark [] = refl
+cut mark (b ∷ bs) = elim (eqb_tells b mark) [ inl is ↦ rw is.0 refl | inr other ↦ rw other.0 (ap (onto_first b) (cut mark bs)) ]
 
-cut_at : (text word rest : List ℕ) (size : ℕ) → size ≡ length (word_of text) → word ≡ take size text → rest ≡ drop size text → words_of text ≡ word ∷ behind_word rest
-cut_at text word rest size is word_is rest_is =
-    cut text
-    ∙ ap (λ w. w ∷ behind_word (drop (length (word_of text)) text)) (sym (word_is ∙ ap (λ n. take n text) is))
-    ∙ ap (λ r. word ∷ behind_word r) (sym (rest_is ∙ ap (λ n. drop n text) is))
+cut_at : (mark : ℕ) (text part rest : List ℕ) (size : ℕ) → size ≡ length (part_of mark text) → part ≡ take size text → rest ≡ drop size text → parts_of mark text ≡ part ∷ behind_part mark rest
+cut_at mark text part rest size is part_is rest_is =
+    cut mark text
+    ∙ ap (λ w. w ∷ behind_part mark (drop (length (part_of mark text)) text)) (sym (part_is ∙ ap (λ n. take n text) is))
+    ∙ ap (λ r. part ∷ behind_part mark r) (sym (rest_is ∙ ap (λ n. drop n text) is))
 
--- the first word is as long as the place of the first blank says
-pub before_blank : (text : List ℕ) → unwrap_or (position is_blank text) (length text) ≡ length (word_of text)
-before_blank text = place (position_or_len is_blank text) (length text) (omega (arith, word_is text, short text)) ∙ sym (word_is text)
+-- the first part is as long as the place of the first mark says
+pub before_mark : (mark : ℕ) (text : List ℕ) → unwrap_or (position (is_mark mark) text) (length text) ≡ length (part_of mark text)
+before_mark mark text = place (position_or_len (is_mark mark) text) (length text) (omega (arith, part_is text, short text)) ∙ sym (part_is text)
   where
-    one_more : (b : ℕ) (bs : List ℕ) → length (word_of (b ∷ bs)) ≡ cond (is_blank b) 0 (1 + length (word_of bs))
-    one_more b bs = elim (eqb_tells b 32) [ inl h ↦ rw h.0 refl | inr h ↦ rw h.0 (omega arith) ]
+    one_more : (b : ℕ) (bs : List ℕ) → length (part_of mark (b ∷ bs)) ≡ cond (is_mark mark b) 0 (1 + length (part_of mark bs))
+    one_more b bs = elim (eqb_tells b mark) [ inl h ↦ rw h.0 refl | inr h ↦ rw h.0 (omega arith) ]
 
-    word_is : (text : List ℕ) → length (word_of text) ≡ position_or_len is_blank text
-    word_is text = is_position_or_len (λ text. length (word_of text)) is_blank refl one_more text
+    part_is : (text : List ℕ) → length (part_of mark text) ≡ position_or_len (is_mark mark) text
+    part_is text = is_position_or_len (λ text. length (part_of mark text)) (is_mark mark) refl one_more text
 
-    short : (text : List ℕ) → length (word_of text) ≤ length text
+    short : (text : List ℕ) → length (part_of mark text) ≤ length text
     short [] = omega arith
-    short (b ∷ bs) = elim (eqb_tells b 32) [ inl h ↦ rw h.0 (omega arith) | inr h ↦ rw h.0 (omega (arith, short bs)) ]
+    short (b ∷ bs) = elim (eqb_tells b mark) [ inl h ↦ rw h.0 (omega arith) | inr h ↦ rw h.0 (omega (arith, short bs)) ]
 
     place : (n size : ℕ) → n ≤ size → unwrap_or (cond (nat_lt n size) (Some n) None) size ≡ n
     place n size within = elim (leb_tells (suc n) size) [ inl h ↦ rw h.0 refl | inr h ↦ rw h.0 (omega (arith, within, h.1)) ]
@@ -66,21 +66,49 @@ some_length n h = omega (arith, h)
 none_length : 1 ≤ 0 → ⊥
 none_length h = omega (arith, h)
 
--- the last word of a command
-pub last_word : (text word rest : List ℕ) (size : ℕ) → size ≡ length (word_of text) → word ≡ take size text → rest ≡ drop size text → length rest < 1 → words_of text ≡ word ∷ []
-last_word text word rest size is word_is rest_is none = cut_at text word rest size is word_is rest_is ∙ ap (λ w. word ∷ w) (nothing rest none)
+-- the last part of a text
+pub last_part : (mark : ℕ) (text part rest : List ℕ) (size : ℕ) → size ≡ length (part_of mark text) → part ≡ take size text → rest ≡ drop size text → length rest < 1 → parts_of mark text ≡ part ∷ []
+last_part mark text part rest size is part_is rest_is none = cut_at mark text part rest size is part_is rest_is ∙ ap (λ w. part ∷ w) (nothing rest none)
   where
-    nothing : (rest : List ℕ) → length rest < 1 → behind_word rest ≡ []
+    nothing : (rest : List ℕ) → length rest < 1 → behind_part mark rest ≡ []
     nothing [] none = refl
     nothing (b ∷ bs) none = absurd (some_length (length bs) none)
 
--- a word that a blank ends
-pub ended_word : (text word rest : List ℕ) (size : ℕ) → size ≡ length (word_of text) → word ≡ take size text → rest ≡ drop size text → 1 ≤ length rest → words_of text ≡ word ∷ words_of (take (length rest - 1) (drop 1 rest))
-ended_word text word rest size is word_is rest_is some = cut_at text word rest size is word_is rest_is ∙ ap (λ w. word ∷ w) (all rest some)
+-- a part that a mark ends
+pub ended_part : (mark : ℕ) (text part rest : List ℕ) (size : ℕ) → size ≡ length (part_of mark text) → part ≡ take size text → rest ≡ drop size text → 1 ≤ length rest
+    → parts_of mark text ≡ part ∷ parts_of mark (take (length rest - 1) (drop 1 rest))
+ended_part mark text part rest size is part_is rest_is some = cut_at mark text part rest size is part_is rest_is ∙ ap (λ w. part ∷ w) (all rest some)
   where
-    all : (rest : List ℕ) → 1 ≤ length rest → behind_word rest ≡ words_of (take (length rest - 1) (drop 1 rest))
+    all : (rest : List ℕ) → 1 ≤ length rest → behind_part mark rest ≡ parts_of mark (take (length rest - 1) (drop 1 rest))
     all [] some = absurd (none_length some)
-    all (b ∷ bs) some = ap words_of (sym (take_all (length (b ∷ bs) - 1) bs (omega arith)))
+    all (b ∷ bs) some = ap (parts_of mark) (sym (take_all (length (b ∷ bs) - 1) bs (omega arith)))
+
+-- a text has a part
+some_part : (mark : ℕ) (text : List ℕ) → 1 ≤ length (parts_of mark text)
+some_part mark [] = omega arith
+some_part mark (b ∷ bs) = elim (eqb_tells b mark) [ inl h ↦ rw h.0 (omega arith) | inr h ↦ rw h.0 (begun b (parts_of mark bs)) ]
+  where
+    begun : (b : ℕ) (parts : List (List ℕ)) → 1 ≤ length (onto_first b parts)
+    begun b [] = omega arith
+    begun b (part ∷ parts) = omega arith
+
+and_false : (b : Bool) → false ≡ (b && false)
+and_false true = refl
+and_false false = refl
+
+too_many : (most size : ℕ) → most ≡ 0 → 1 ≤ size → size ≤ most → ⊥
+too_many most size none some few = omega (arith, none, some, few)
+
+-- a list of no name at most is none
+pub no_names : (most : ℕ) (list : List ℕ) → most ≡ 0 → false ≡ lists_names most list
+no_names most list none = elim (leb_tells (length (listed list)) most) [ inl h ↦ absurd (too_many most _ none (some_part 44 list) h.1) | inr h ↦ rw h.0 (and_false (list_all is_name (listed list))) ]
+
+-- an `ASSEMBLE` with two `<` is none
+pub many_targets : (word rest behind to from : List ℕ) (is_one is_two : Bool) → parts_of 60 word ≡ to ∷ (if is_one then [] else parts_of 60 rest) → is_one ≡ false
+    → parts_of 60 rest ≡ from ∷ (if is_two then [] else parts_of 60 behind) → is_two ≡ false → Err BadLine ≡ whole (assemble_of word)
+many_targets word rest behind to from is_one is_two one some two more =
+    sym (ap (λ parts. whole (assembled parts)) (one ∙ ap (λ b. to ∷ (if b then [] else parts_of 60 rest)) some
+    ∙ ap (λ w. to ∷ w) (two ∙ ap (λ b. from ∷ (if b then [] else parts_of 60 behind)) more ∙ ap (λ w. from ∷ w) (cut 60 behind))))
 
 -- four words or more are none of the forms
 pub many_words : (command second third fourth verb word other : List ℕ) (is_one is_two is_three : Bool) → words_of command ≡ verb ∷ (if is_one then [] else words_of second) → is_one ≡ false
@@ -89,7 +117,7 @@ pub many_words : (command second third fourth verb word other : List ℕ) (is_on
 many_words command second third fourth verb word other is_one is_two is_three one some two more three most =
     sym (ap form_of (one ∙ ap (λ b. verb ∷ (if b then [] else words_of second)) some
     ∙ ap (λ w. verb ∷ w) (two ∙ ap (λ b. word ∷ (if b then [] else words_of third)) more
-    ∙ ap (λ w. word ∷ w) (three ∙ ap (λ b. other ∷ (if b then [] else words_of fourth)) most ∙ ap (λ w. other ∷ w) (cut fourth)))))
+    ∙ ap (λ w. word ∷ w) (three ∙ ap (λ b. other ∷ (if b then [] else words_of fourth)) most ∙ ap (λ w. other ∷ w) (cut 32 fourth)))))
 
 -- what a line says is refused as a bad line alone
 if_err : (b : Bool) (this other : Result Line SessionFault) (why : SessionFault) → (this ≡ Err why → why ≡ BadLine) → (other ≡ Err why → why ≡ BadLine) → (if b then this else other) ≡ Err why → why ≡ BadLine
@@ -100,9 +128,9 @@ whole_err : (said : Option Entry) (why : SessionFault) → whole said ≡ Err wh
 whole_err None why is = cc
 whole_err (Some said) why is = cc
 
-delete_err : (word : List ℕ) (why : SessionFault) → delete_of (name_bytes word) ≡ Err why → why ≡ BadLine
-delete_err [] why is = cc
-delete_err (b ∷ bs) why is = cc
+named_err : (entry : List ℕ → Entry) (word : List ℕ) (why : SessionFault) → named entry (name_bytes word) ≡ Err why → why ≡ BadLine
+named_err entry [] why is = cc
+named_err entry (b ∷ bs) why is = cc
 
 store_err : (word : List ℕ) (lines : Option ℕ) (why : SessionFault) → store_of (name_bytes word) lines ≡ Err why → why ≡ BadLine
 store_err [] None why is = cc
@@ -113,7 +141,10 @@ store_err (b ∷ bs) (Some lines) why is = cc
 form_err : (words : List (List ℕ)) (why : SessionFault) → form_of words ≡ Err why → why ≡ BadLine
 form_err [] why is = cc
 form_err (verb ∷ []) why is = if_err (bytes_eq verb (codes "FINISH")) _ _ why (λ done. cc) (whole_err (bare_entry verb) why) is
-form_err (verb ∷ word ∷ []) why is = if_err (bytes_eq verb (codes "DELETE")) _ _ why (delete_err word why) (whole_err (entry_with_word verb word) why) is
+form_err (verb ∷ word ∷ []) why is =
+    if_err (bytes_eq verb (codes "DELETE")) _ _ why (named_err _ word why)
+    (if_err (bytes_eq verb (codes "LOAD")) _ _ why (named_err _ word why)
+    (if_err (bytes_eq verb (codes "ASSEMBLE")) _ _ why (whole_err (assemble_of word) why) (whole_err (entry_with_word verb word) why))) is
 form_err (verb ∷ first ∷ second ∷ []) why is = if_err (bytes_eq verb (codes "STORE")) _ _ why (store_err first _ why) (whole_err (entry_with_words verb first second) why) is
 form_err (verb ∷ first ∷ second ∷ third ∷ words) why is = cc
 

@@ -1,18 +1,18 @@
--- How many bytes some lines of a text have, and the first word of a command.
+-- How many bytes some lines of a text have, and the first part of a text.
 use Rattle.std.specs.Prelude.{◌≡◌, ℕ, ◌<◌, ◌≤◌, ◌==◌, Bool, true, false, if◌then◌else◌, Option, Some, None, List, [], ◌∷◌, ◌++◌, length, take, drop, Result}
 use Rattle.script8.specs.Lines.{says}
 use Rattle.script8.specs.declared.faults.SessionFault.{SessionFault}
 use Rattle.script8.specs.declared.lines.Line.{Line}
 use Rattle.script8.specs.Items.{lines_of, ended_lines, text_of}
 
--- what stands between words
-abbrev pub is_blank : ℕ → Bool
-is_blank b = b == 32
+-- what stands between parts
+abbrev pub is_mark : ℕ → ℕ → Bool
+is_mark mark b = b == mark
 
--- the first of the words of a command
-abbrev pub word_of : List ℕ → List ℕ
-word_of [] = []
-word_of (b ∷ bs) = if b == 32 then [] else b ∷ word_of bs
+-- the first of the parts of a text
+abbrev pub part_of : ℕ → List ℕ → List ℕ
+part_of mark [] = []
+part_of mark (b ∷ bs) = if b == mark then [] else b ∷ part_of mark bs
 
 -- a text behind bytes of a line, or behind none, with an LF at its end
 abbrev pub ended_behind : Bool → List ℕ → List ℕ

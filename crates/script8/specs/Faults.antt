@@ -1,17 +1,26 @@
 -- The faults of a session, and their texts.
-use Rattle.std.specs.Prelude.{ℕ, codes, decimal, List, ◌++◌}
+use Rattle.std.specs.Prelude.{ℕ, codes, decimal, List, ◌∷◌, ◌++◌}
 use Rattle.word12.specs.Octal.{octal4}
 use Rattle.bin_tape.specs.declared.faults.TapeFault.{TapeFault}
 use Rattle.bin_tape.specs.declared.faults.TapeFault.TheVariants.{BadFrame, NoOrigin, CheckSum, NoTrailer}
 use Rattle.bin_tape.specs.declared.faults.TapeFault.TheVariants as tape
+use Rattle.pal_asm.specs.declared.faults.Code.{Code}
+use Rattle.pal_asm.specs.declared.faults.Code.TheVariants.{IC, SY, NU, UA, DT, RD, IR, FD, PF, NE, NW}
+use Rattle.pal_asm.specs.declared.faults.AsmFault.{AsmFault}
+use Rattle.pal_asm.specs.declared.faults.AsmFault.TheVariants.{At}
+use Rattle.pal_asm.specs.declared.faults.AsmFault.TheVariants as asm
 use Rattle.os8_files.specs.declared.faults.FileFault.{FileFault}
 use Rattle.os8_files.specs.declared.faults.FileFault.TheVariants.{NotFound, NoRoom, DirectoryFull, Busy, BadName, TooLong, TentativeOpen, Device, Stopped, NothingWritten}
 use Rattle.os8_files.specs.declared.faults.FileFault.TheVariants as file
 use Rattle.script8.specs.Shown.{shown}
 use Rattle.script8.specs.declared.faults.SessionFault.{SessionFault}
-use Rattle.script8.specs.declared.faults.SessionFault.TheVariants.{BadLine, NoJob, TooManyJobs, File, Tape, BadText, Reader, Writer, Memory, TooManyBreaks}
+use Rattle.script8.specs.declared.faults.SessionFault.TheVariants.{BadLine, NoJob, TooManyJobs, File, Asm, Tape, BadText, Reader, Writer, Memory, TooManyBreaks}
 
 -- want of memory is one fault, whatever met it
+abbrev pub fault_of_asm : AsmFault → SessionFault
+fault_of_asm (At code line) = Asm (At code line)
+fault_of_asm asm.Memory = Memory
+
 abbrev pub fault_of_tape : TapeFault → SessionFault
 fault_of_tape (BadFrame at) = Tape (BadFrame at)
 fault_of_tape NoOrigin = Tape NoOrigin
@@ -31,6 +40,25 @@ fault_of_file Device = File Device
 fault_of_file Stopped = File Stopped
 fault_of_file file.Memory = Memory
 fault_of_file NothingWritten = File NothingWritten
+
+-- the two letters of an assembler's fault
+abbrev pub code_text : Code → List ℕ
+code_text IC = codes "IC"
+code_text SY = codes "SY"
+code_text NU = codes "NU"
+code_text UA = codes "UA"
+code_text DT = codes "DT"
+code_text RD = codes "RD"
+code_text IR = codes "IR"
+code_text FD = codes "FD"
+code_text PF = codes "PF"
+code_text NE = codes "NE"
+code_text NW = codes "NW"
+
+-- the text of a fault of the assembler
+abbrev pub asm_fault_text : AsmFault → List ℕ
+asm_fault_text (At code line) = codes "? 5 " ++ code_text code ++ 32 ∷ decimal line
+asm_fault_text asm.Memory = codes "? 10 MEMORY"
 
 -- the text of a fault of a tape
 abbrev pub tape_fault_text : TapeFault → List ℕ
@@ -60,6 +88,7 @@ fault_text BadLine = codes "? 1 BAD LINE"
 fault_text NoJob = codes "? 2 NO JOB"
 fault_text TooManyJobs = codes "? 3 TOO MANY JOBS"
 fault_text (File fault) = file_fault_text fault
+fault_text (Asm fault) = asm_fault_text fault
 fault_text (Tape fault) = tape_fault_text fault
 fault_text BadText = codes "? 7 BAD TEXT"
 fault_text Reader = codes "? 8 READER"

@@ -4,3 +4,4 @@ pub mod Items
 pub mod Lines
 pub mod Replies
 pub mod Shown
+pub mod Written

@@ -1,5 +1,6 @@
 -- What the lines of a script say (this project's profile).
 use Rattle.std.specs.Prelude.{◌≡◌, ◌⊎◌, ℕ, zero, suc, ◌+◌, ◌-◌, ◌*◌, codes, ◌==◌, ◌&&◌, nat_eq, nat_le, nat_lt, if◌then◌else◌, Bool, true, false, Option, Some, None, List, [], ◌∷◌, length, Result, Ok, Err}
+use Rattle.std.specs.List.{list_all}
 use Rattle.std.specs.Str.{bytes_eq}
 use Rattle.script8.specs.declared.entries.Entry.{Entry}
 use Rattle.script8.specs.declared.entries.Entry.TheVariants as entry
@@ -19,10 +20,14 @@ abbrev pub onto_first : ℕ → List (List ℕ) → List (List ℕ)
 onto_first b [] = (b ∷ []) ∷ []
 onto_first b (word ∷ words) = (b ∷ word) ∷ words
 
--- the words of a command: what stands between its blanks, which may be nothing
+-- the parts of a text: what stands between its marks, which may be nothing
+abbrev pub parts_of : ℕ → List ℕ → List (List ℕ)
+parts_of mark [] = [] ∷ []
+parts_of mark (b ∷ bs) = if b == mark then [] ∷ parts_of mark bs else onto_first b (parts_of mark bs)
+
+-- the words of a command: what stands between its blanks
 abbrev pub words_of : List ℕ → List (List ℕ)
-words_of [] = [] ∷ []
-words_of (b ∷ bs) = if b == 32 then [] ∷ words_of bs else onto_first b (words_of bs)
+words_of command = parts_of 32 command
 
 -- the number that decimal digits go on to
 abbrev pub digits_from : ℕ → List ℕ → Option ℕ
@@ -90,7 +95,7 @@ bare_entry verb =
     (if bytes_eq verb (codes "REGISTERS") then Some entry.Registers else
     (if bytes_eq verb (codes "PRINTED") then Some entry.Printed else None))))
 
--- the entries of two words, but those with a name
+-- the entries of two words, but those with names
 abbrev pub entry_with_word : List ℕ → List ℕ → Option Entry
 entry_with_word verb word =
     if bytes_eq verb (codes "TURN") then of_one entry.Turn (number_of word) else
@@ -118,10 +123,10 @@ abbrev pub name_bytes : List ℕ → Result (List ℕ) SessionFault
 name_bytes [] = Err BadLine
 name_bytes (b ∷ bs) = Ok (b ∷ bs)
 
--- `DELETE` of a name
-abbrev pub delete_of : Result (List ℕ) SessionFault → Result Line SessionFault
-delete_of (Err fault) = Err fault
-delete_of (Ok name) = Ok (Whole (entry.Delete name))
+-- an entry of a name, as `DELETE` and `LOAD`
+abbrev pub named : (List ℕ → Entry) → Result (List ℕ) SessionFault → Result Line SessionFault
+named entry (Err fault) = Err fault
+named entry (Ok name) = Ok (Whole (entry name))
 
 -- `STORE` of a name and of so many lines, at most 999,999
 abbrev pub store_of : Result (List ℕ) SessionFault → Option ℕ → Result Line SessionFault
@@ -129,13 +134,44 @@ store_of name None = Err BadLine
 store_of (Err fault) (Some lines) = Err fault
 store_of (Ok name) (Some lines) = Ok (Store name lines)
 
+-- a part that is a name: one or more bytes
+abbrev pub is_name : List ℕ → Bool
+is_name [] = false
+is_name (b ∷ bs) = true
+
+-- what stands between the commas of a list
+abbrev pub listed : List ℕ → List (List ℕ)
+listed list = parts_of 44 list
+
+-- a list of names, of so many at most
+abbrev pub lists_names : ℕ → List ℕ → Bool
+lists_names most list = list_all is_name (listed list) && nat_le (length (listed list)) most
+
+-- `ASSEMBLE` of one target and of 1 to 8 sources, which are between commas
+abbrev pub target_and_sources : List ℕ → List ℕ → Option Entry
+target_and_sources to from = if lists_names 1 to && lists_names 8 from then Some (entry.Assemble to (listed from)) else None
+
+-- the parts of an `ASSEMBLE`: a target and its sources
+abbrev pub assembled : List (List ℕ) → Option Entry
+assembled [] = None
+assembled (to ∷ []) = None
+assembled (to ∷ from ∷ []) = target_and_sources to from
+assembled (to ∷ from ∷ other ∷ others) = None
+
+-- `ASSEMBLE` of what stands around one `<`
+abbrev pub assemble_of : List ℕ → Option Entry
+assemble_of word = assembled (parts_of 60 word)
+
 -- what a command of one word says
 abbrev pub bare : List ℕ → Result Line SessionFault
 bare verb = if bytes_eq verb (codes "FINISH") then Ok Finish else whole (bare_entry verb)
 
 -- what a command of two words says
 abbrev pub with_word : List ℕ → List ℕ → Result Line SessionFault
-with_word verb word = if bytes_eq verb (codes "DELETE") then delete_of (name_bytes word) else whole (entry_with_word verb word)
+with_word verb word =
+    if bytes_eq verb (codes "DELETE") then named entry.Delete (name_bytes word) else
+    (if bytes_eq verb (codes "LOAD") then named entry.Load (name_bytes word) else
+    (if bytes_eq verb (codes "ASSEMBLE") then whole (assemble_of word) else whole (entry_with_word verb word)))
 
 -- what a command of three words says
 abbrev pub with_words : List ℕ → List ℕ → List ℕ → Result Line SessionFault
@@ -159,12 +195,34 @@ command_says (b ∷ bs) = form_of (words_of (b ∷ bs))
 unfoldable pub says : List ℕ → Result Line SessionFault
 says line = command_says (command_of line)
 
--- a line of a STORE or a DELETE: its name is kept
+-- the names of an entry of one line are kept
+abbrev pub KeepsNames : Entry → Type 0
+KeepsNames (entry.Store name text) = ⊥
+KeepsNames (entry.Delete name) = Unit {0}
+KeepsNames entry.Direct = ⊥
+KeepsNames (entry.Assemble to from) = Unit {0}
+KeepsNames (entry.Load name) = Unit {0}
+KeepsNames entry.Squeeze = ⊥
+KeepsNames (entry.Turn job) = ⊥
+KeepsNames (entry.Start cell) = ⊥
+KeepsNames (entry.Step steps) = ⊥
+KeepsNames (entry.Go steps) = ⊥
+KeepsNames (entry.Run cell steps) = ⊥
+KeepsNames (entry.Key character) = ⊥
+KeepsNames entry.Done = ⊥
+KeepsNames (entry.Switches word) = ⊥
+KeepsNames (entry.Examine cell) = ⊥
+KeepsNames (entry.Deposit cell word) = ⊥
+KeepsNames (entry.Break cell is_on) = ⊥
+KeepsNames entry.Registers = ⊥
+KeepsNames entry.Printed = ⊥
+
+-- a line of a STORE, a DELETE, a LOAD or an ASSEMBLE: its names are kept
 abbrev pub HasName : Result Line SessionFault → Type 0
 HasName (Ok Empty) = ⊥
 HasName (Ok Finish) = ⊥
 HasName (Ok (Store name lines)) = Unit {0}
-HasName (Ok (Whole said)) = (name : List ℕ) × said ≡ entry.Delete name
+HasName (Ok (Whole said)) = KeepsNames said
 HasName (Err fault) = ⊥
 
 -- What a line says is told; where it has a name, memory for it may be refused.

@@ -8,14 +8,14 @@ use Rattle.script8.specs.Shown.{shown}
 use Rattle.script8.specs.declared.entries.Entry.{Entry}
 use Rattle.script8.specs.declared.entries.Entry.TheVariants as entry
 use Rattle.script8.specs.declared.faults.SessionFault.{SessionFault}
-use Rattle.script8.specs.declared.faults.SessionFault.TheVariants.{BadLine, NoJob, TooManyJobs, File, Tape, BadText, Reader, Writer, Memory, TooManyBreaks}
+use Rattle.script8.specs.declared.faults.SessionFault.TheVariants.{BadLine, NoJob, TooManyJobs, File, Asm, Tape, BadText, Reader, Writer, Memory, TooManyBreaks}
 use Rattle.script8.specs.declared.replies.Reply.{Reply}
 use Rattle.script8.specs.declared.replies.Reply.TheVariants.{Line}
 use Rattle.script8.specs.declared.replies.Reply.TheVariants as reply
 use Rattle.script8.specs.declared.replies.Report.{Report}
 use Rattle.script8.specs.declared.replies.Report.TheVariants.{Direct, Registers, Printed}
 use Rattle.script8.specs.declared.replies.Said.{Said}
-use Rattle.script8.specs.declared.replies.Said.TheVariants.{Stored, Deleted, Job, Working, Squeezed, Finished, Started, Steps, Key, Done, Switches, Core, Break}
+use Rattle.script8.specs.declared.replies.Said.TheVariants.{Stored, Deleted, Job, Working, Assembled, Loaded, Squeezed, Finished, Started, Steps, Key, Done, Switches, Core, Break}
 use Rattle.script8.specs.declared.replies.Why.{Why}
 use Rattle.script8.specs.declared.replies.Why.TheVariants.{Halt, Unassigned, Limit}
 use Rattle.script8.specs.declared.replies.Why.TheVariants as why
@@ -62,12 +62,22 @@ abbrev pub setting_text : Bool → List ℕ
 setting_text true = codes "ON"
 setting_text false = codes "OFF"
 
+-- the name of a file, and its blocks
+abbrev pub file_text : ℕ → ℕ → List ℕ
+file_text name blocks = shown name ++ 32 ∷ decimal blocks
+
+-- the end of an assembling job
+abbrev pub assembled_text : ℕ → ℕ → ℕ → List ℕ
+assembled_text job name blocks = job_text job (codes " ASSEMBLED " ++ file_text name blocks)
+
 -- what is said in one line
 abbrev pub said_text : Said → List ℕ
-said_text (Stored name blocks) = codes "STORED " ++ shown name ++ 32 ∷ decimal blocks
+said_text (Stored name blocks) = codes "STORED " ++ file_text name blocks
 said_text (Deleted name) = codes "DELETED " ++ shown name
 said_text (Job job) = job_text job []
 said_text (Working job) = codes "WORKING " ++ decimal job
+said_text (Assembled job name blocks) = assembled_text job name blocks
+said_text (Loaded job name) = job_text job (codes " LOADED " ++ shown name)
 said_text (Squeezed job) = job_text job (codes " SQUEEZED")
 said_text Finished = codes "FINISHED"
 said_text (Started cell) = codes "STARTED " ++ cell_text cell
@@ -102,6 +112,8 @@ abbrev pub job_of_entry : Entry → Option ℕ
 job_of_entry (entry.Store name text) = None
 job_of_entry (entry.Delete name) = None
 job_of_entry entry.Direct = None
+job_of_entry (entry.Assemble to from) = None
+job_of_entry (entry.Load name) = None
 job_of_entry entry.Squeeze = None
 job_of_entry (entry.Turn job) = Some job
 job_of_entry (entry.Start cell) = None
@@ -128,6 +140,7 @@ end_text job BadLine = []
 end_text job NoJob = []
 end_text job TooManyJobs = []
 end_text job (File fault) = job_text job (codes " ")
+end_text job (Asm fault) = job_text job (codes " ")
 end_text job (Tape fault) = job_text job (codes " ")
 end_text job BadText = []
 end_text job Reader = []

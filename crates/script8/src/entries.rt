@@ -1,4 +1,4 @@
-use crate::Bytes;
+use crate::{Bytes, Names};
 use word12::{Cell, Word};
 
 /// What a session is asked to do. Names are the bytes of the line; whether they name a file is judged where the entry is done.
@@ -12,6 +12,12 @@ pub enum Entry {
 
     /// `DIRECT`: the files of the volume with their lengths, and the free blocks.
     Direct,
+
+    /// `ASSEMBLE`: begins a job that assembles 1 to 8 sources, one behind the other, to a tape in a file.
+    Assemble { to: Bytes, from: Names },
+
+    /// `LOAD`: begins a job that loads the tape of a file into core.
+    Load { name: Bytes },
 
     /// `SQUEEZE`: begins a job that moves files down until no free block is below a file.
     Squeeze,

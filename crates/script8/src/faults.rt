@@ -3,11 +3,11 @@ ghost use Rattle.script8.specs.declared.faults.SessionFault.TheVariants.{Memory}
 
 use bin_tape::TapeFault;
 use os8_files::FileFault;
+use pal_asm::AsmFault;
 use std::alloc::AllocError;
 use thiserror::Error;
 
-/// What a session refuses, or what ends it. The numbers are those of the lines that are printed; 5 is kept for the faults of
-/// the assembler.
+/// What a session refuses, or what ends it. The numbers are those of the lines that are printed.
 #[derive(Clone, Copy, PartialEq, Eq, Debug, Error)]
 pub enum SessionFault {
     /// 1: the line has none of the forms, or a number in it is out of its limits.
@@ -25,6 +25,10 @@ pub enum SessionFault {
     /// 4: the file service refuses.
     #[error("{0}")]
     File(FileFault),
+
+    /// 5: a source that the assembler refuses.
+    #[error("{0}")]
+    Asm(AsmFault),
 
     /// 6: frames that are no BIN tape.
     #[error("{0}")]
@@ -56,6 +60,19 @@ impl From<AllocError> for SessionFault {
 
     fn from(_error: AllocError) -> SessionFault {
         SessionFault::Memory
+    }
+}
+
+impl From<AsmFault> for SessionFault {
+    ghost use Rattle.script8.specs.Faults.{fault_of_asm};
+
+    ghost from_gives = { λ asm fault. fault ≡ fault_of_asm asm };
+
+    fn from(fault: AsmFault) -> SessionFault {
+        match fault {
+            AsmFault::Memory => SessionFault::Memory,
+            _ => SessionFault::Asm(fault),
+        }
     }
 }
 

@@ -5,6 +5,7 @@ ghost use Rattle.os8_dir.specs.Names.{parsed_name};
 ghost use Rattle.script8.specs.Lines.{number_of, cell_of, octal_of, character_of};
 ghost use Rattle.script8.specs.Replies.{cell_text, character_text};
 ghost use Rattle.script8.specs.Shown.{shown};
+ghost use Rattle.script8.specs.Written.{AssembleAsWritten};
 
 /// A name is shown as it was typed.
 #[tactic(auto, using(crate::proofs::LawLemmas::name_as_typed))]
@@ -24,4 +25,10 @@ pub fn octal_as_shown()
     ensures cell { (cell : ℕ) → cell < 32768 → cell_of (cell_text cell) ≡ Some cell }
     ensures word { (word : ℕ) → word < 4096 → octal_of 4 (octal4 word) ≡ Some word }
     ensures character { (character : ℕ) → character < 256 → character_of (character_text character) ≡ Some character }
+{}
+
+/// An `ASSEMBLE` is read as it is written, with `<` behind its target and commas between its sources.
+#[tactic(auto, using(crate::proofs::WrittenLemmas::assemble_as_written))]
+pub fn assemble_as_written()
+    ensures { AssembleAsWritten }
 {}

@@ -4,6 +4,7 @@
 #![tactic(auto)]
 
 mod answers;
+mod assembling;
 mod bytes;
 mod entries;
 mod faults;
@@ -11,8 +12,10 @@ mod file_lengths;
 mod items;
 pub mod laws;
 mod lines;
+mod names;
 mod operands;
 mod parsing;
+mod parts;
 mod refusals;
 mod replies;
 mod reports;
@@ -26,5 +29,6 @@ pub use faults::SessionFault;
 pub use file_lengths::FileLengths;
 pub use items::{Item, Next, next_item};
 pub use lines::Line;
+pub use names::Names;
 pub use parsing::parse_line;
 pub use replies::{Reply, Report, Said, Why};

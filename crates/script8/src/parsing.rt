@@ -1,9 +1,9 @@
-ghost use Rattle.std.specs.Prelude.{◌≡◌, ◌≤◌, ◌<◌, IfSome, if◌then◌else◌, [], ◌∷◌, length};
-ghost use Rattle.std.specs.List.{position};
-ghost use Rattle.script8.specs.Cuts.{word_of, is_blank};
+ghost use Rattle.std.specs.Prelude.{◌≡◌};
 ghost use Rattle.script8.specs.Lines.{says, Parses, form_of, command_of, words_of, bare, with_word, with_words, whole as whole_of, bare_entry, entry_with_word, entry_with_words};
 
+use crate::assembling::assemble;
 use crate::operands::{cell, character, name, number, octal_word, setting, steps, within};
+use crate::parts::first_part;
 use crate::{Entry, Line, SessionFault};
 use std::alloc::Global;
 
@@ -24,15 +24,15 @@ pub fn parse_line(alloc: Global, line: &[u8]) -> Result<Line, SessionFault>
 fn parse_words(alloc: Global, command: &[u8]) -> Result<Line, SessionFault>
     ensures { Parses (form_of (words_of command.now)) result }
 {
-    let (verb, is_last, rest) = first_word(command);
+    let (verb, is_last, rest) = first_part(command, b' ');
     if is_last {
         return parse_bare(verb);
     }
-    let (first, is_last, rest) = first_word(rest);
+    let (first, is_last, rest) = first_part(rest, b' ');
     if is_last {
         return parse_with_word(alloc, verb, first);
     }
-    let (second, is_last, _) = first_word(rest);
+    let (second, is_last, _) = first_part(rest, b' ');
     if is_last {
         return parse_with_words(alloc, verb, first, second);
     }
@@ -56,6 +56,13 @@ fn parse_with_word(alloc: Global, verb: &[u8], word: &[u8]) -> Result<Line, Sess
     if verb == b"DELETE".as_slice() {
         let name = name(alloc, word)?;
         return Ok(Line::Whole(Entry::Delete { name }));
+    }
+    if verb == b"LOAD".as_slice() {
+        let name = name(alloc, word)?;
+        return Ok(Line::Whole(Entry::Load { name }));
+    }
+    if verb == b"ASSEMBLE".as_slice() {
+        return assemble(alloc, word);
     }
     whole(parse_entry_with_word(verb, word))
 }
@@ -111,7 +118,7 @@ fn parse_bare_entry(verb: &[u8]) -> Option<Entry>
     None
 }
 
-/// The entries of two words, but those with a name.
+/// The entries of two words, but those with names.
 fn parse_entry_with_word(verb: &[u8], word: &[u8]) -> Option<Entry>
     ensures { result ≡ entry_with_word verb.now word.now }
 {
@@ -159,34 +166,6 @@ fn parse_entry_with_words(verb: &[u8], first: &[u8], second: &[u8]) -> Option<En
         return Some(Entry::Break { cell, is_on });
     }
     None
-}
-
-/// The first word of a command, whether it is the last, and what stands behind its blank.
-fn first_word(command: &[u8]) -> (&[u8], bool, &[u8])
-    ensures { words_of command.now ≡ result.0.now ∷ (if result.1 then [] else words_of result.2.now) }
-{
-    let (word, rest) = command.split_at(word_length(command));
-    match rest {
-        [] => (word, true, rest),
-        [_, behind @ ..] => (word, false, behind),
-    }
-}
-
-/// How many bytes stand before the first blank of a command.
-#[tactic(auto, using(crate::proofs::LineLemmas::before_blank))]
-fn word_length(command: &[u8]) -> usize
-    ensures place { result ≡ length (word_of command.now) }
-    ensures range { result ≤ length command.now }
-{
-    blank_in(command).unwrap_or(command.len())
-}
-
-/// The place of the first blank of a command.
-fn blank_in(command: &[u8]) -> Option<usize>
-    ensures place { result ≡ position is_blank command.now }
-    ensures range { IfSome result (λ place. place < length command.now) }
-{
-    command.iter().position(|byte| *byte == b' ')
 }
 
 /// A line without the one CR that may stand at its end.

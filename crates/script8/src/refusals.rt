@@ -1,7 +1,7 @@
 //! The texts of refusals.
 ghost use Rattle.std.specs.Prelude.{◌≡◌, ◌≤◌, ◌++◌};
 ghost use Rattle.arrayvec.specs.ArrayVec.{array_vec_len};
-ghost use Rattle.script8.specs.Faults.{fault_text, tape_fault_text, file_fault_text};
+ghost use Rattle.script8.specs.Faults.{fault_text, code_text, asm_fault_text, tape_fault_text, file_fault_text};
 ghost use Rattle.script8.specs.Replies.{lent, begin_text, end_text, job_of as the_job, job_of_entry as the_job_of};
 
 use crate::said::put_job;
@@ -10,6 +10,7 @@ use crate::{Entry, SessionFault};
 use arrayvec::ArrayVec;
 use bin_tape::TapeFault;
 use os8_files::FileFault;
+use pal_asm::{AsmFault, Code};
 
 /// Puts the text of a fault into an empty line.
 pub(crate) fn put_text(line: &mut ArrayVec<u8, 80>, fault: SessionFault)
@@ -22,6 +23,7 @@ pub(crate) fn put_text(line: &mut ArrayVec<u8, 80>, fault: SessionFault)
         SessionFault::NoJob => put(line, b"? 2 NO JOB"),
         SessionFault::TooManyJobs => put(line, b"? 3 TOO MANY JOBS"),
         SessionFault::File(file) => put_file_fault(line, file),
+        SessionFault::Asm(asm) => put_asm_fault(line, asm),
         SessionFault::Tape(tape) => put_tape_fault(line, tape),
         SessionFault::BadText => put(line, b"? 7 BAD TEXT"),
         SessionFault::Reader => put(line, b"? 8 READER"),
@@ -55,6 +57,42 @@ fn put_file_fault(line: &mut ArrayVec<u8, 80>, fault: FileFault)
         FileFault::Stopped => put(line, b"? 4.9 STOPPED"),
         FileFault::Memory => put(line, b"? 10 MEMORY"),
         FileFault::NothingWritten => put(line, b"? 4.11 NOTHING WRITTEN"),
+    }
+}
+
+/// Puts the text of a fault of the assembler into an empty line.
+fn put_asm_fault(line: &mut ArrayVec<u8, 80>, fault: AsmFault)
+    requires { array_vec_len line.old ≡ 0 }
+    ensures text { line.new.items ≡ line.old.items ++ asm_fault_text fault }
+    ensures short { array_vec_len line.new ≤ 50 }
+{
+    match fault {
+        AsmFault::At(code, number) => {
+            put(line, b"? 5 ");
+            put(line, &letters(code));
+            put(line, b" ");
+            put_number(line, number);
+        }
+        AsmFault::Memory => put(line, b"? 10 MEMORY"),
+    }
+}
+
+/// The two letters of a fault of the assembler.
+fn letters(code: Code) -> [u8; 2]
+    ensures { result ≡ code_text code }
+{
+    match code {
+        Code::IC => *b"IC",
+        Code::SY => *b"SY",
+        Code::NU => *b"NU",
+        Code::UA => *b"UA",
+        Code::DT => *b"DT",
+        Code::RD => *b"RD",
+        Code::IR => *b"IR",
+        Code::FD => *b"FD",
+        Code::PF => *b"PF",
+        Code::NE => *b"NE",
+        Code::NW => *b"NW",
     }
 }
 
@@ -100,6 +138,8 @@ fn job_of_entry(entry: &Entry) -> Option<u32>
         Entry::Store { .. }
         | Entry::Delete { .. }
         | Entry::Direct
+        | Entry::Assemble { .. }
+        | Entry::Load { .. }
         | Entry::Squeeze
         | Entry::Start(_)
         | Entry::Step(_)
@@ -133,7 +173,7 @@ fn put_end(line: &mut ArrayVec<u8, 80>, job: u32, fault: SessionFault)
     ensures text { line.new.items ≡ line.old.items ++ end_text job fault }
     ensures short { array_vec_len line.new ≤ 25 }
 {
-    if let SessionFault::File(_) | SessionFault::Tape(_) = fault {
+    if let SessionFault::File(_) | SessionFault::Asm(_) | SessionFault::Tape(_) = fault {
         put_job(line, job);
         put(line, b" ");
     }

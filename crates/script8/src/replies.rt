@@ -16,7 +16,10 @@ pub enum Reply {
 #[derive(Clone, Copy, PartialEq, Eq, Debug)]
 pub enum Said {
     /// A text was stored in a file of so many blocks.
-    Stored { name: Name, blocks: usize },
+    Stored {
+        name: Name,
+        blocks: usize,
+    },
 
     /// A file was taken out.
     Deleted(Name),
@@ -26,6 +29,19 @@ pub enum Said {
 
     /// A job took a turn, and is not at its end.
     Working(u32),
+
+    /// An assembling job is at its end: its tape was stored in a file of so many blocks.
+    Assembled {
+        number: u32,
+        name: Name,
+        blocks: usize,
+    },
+
+    /// A loading job is at its end: the tape of a file was laid over core.
+    Loaded {
+        number: u32,
+        name: Name,
+    },
 
     /// A squeezing job is at its end.
     Squeezed(u32),
@@ -37,7 +53,11 @@ pub enum Said {
     Started(Cell),
 
     /// So many steps were made, why they ended, and the cell of the instruction field and the program counter then.
-    Steps { steps: u32, why: Why, cell: Cell },
+    Steps {
+        steps: u32,
+        why: Why,
+        cell: Cell,
+    },
 
     /// The key of a character was struck.
     Key(u8),
@@ -49,10 +69,16 @@ pub enum Said {
     Switches(Word),
 
     /// A cell and its word.
-    Core { cell: Cell, word: Word },
+    Core {
+        cell: Cell,
+        word: Word,
+    },
 
     /// A break was set at a cell, or taken away.
-    Break { cell: Cell, is_on: bool },
+    Break {
+        cell: Cell,
+        is_on: bool,
+    },
 }
 
 /// What is shown in more than 80 bytes, or in more than one line.

@@ -1,25 +1,24 @@
 //! The text of what is said in one line.
 ghost use Rattle.std.specs.Prelude.{◌≡◌, ◌+◌, ◌≤◌, ◌++◌, [], ◌∷◌};
 ghost use Rattle.arrayvec.specs.ArrayVec.{array_vec_len};
-ghost use Rattle.script8.specs.Replies.{said_text, why_text, setting_text, cell_text, character_text, job_text};
+ghost use Rattle.script8.specs.Replies.{said_text, assembled_text, file_text, why_text, setting_text, cell_text, character_text, job_text};
 
 use crate::text_lines::{put, put_name, put_number};
 use crate::{Said, Why};
 use arrayvec::ArrayVec;
+use os8_dir::Name;
 use word12::Cell;
 
 /// Puts what is said in one line into an empty line.
 pub(crate) fn put_said(line: &mut ArrayVec<u8, 80>, said: &Said)
     requires { array_vec_len line.old ≡ 0 }
     ensures text { line.new.items ≡ line.old.items ++ said_text said.now }
-    ensures short { array_vec_len line.new ≤ 60 }
+    ensures short { array_vec_len line.new ≤ 70 }
 {
     match said {
         Said::Stored { name, blocks } => {
             put(line, b"STORED ");
-            put_name(line, *name);
-            put(line, b" ");
-            put_number(line, *blocks as u64);
+            put_file(line, *name, *blocks);
         }
         Said::Deleted(name) => {
             put(line, b"DELETED ");
@@ -29,6 +28,16 @@ pub(crate) fn put_said(line: &mut ArrayVec<u8, 80>, said: &Said)
         Said::Working(job) => {
             put(line, b"WORKING ");
             put_number(line, u64::from(*job));
+        }
+        Said::Assembled {
+            number,
+            name,
+            blocks,
+        } => put_assembled(line, *number, *name, *blocks),
+        Said::Loaded { number, name } => {
+            put_job(line, *number);
+            put(line, b" LOADED ");
+            put_name(line, *name);
         }
         Said::Squeezed(job) => {
             put_job(line, *job);
@@ -65,6 +74,28 @@ pub(crate) fn put_said(line: &mut ArrayVec<u8, 80>, said: &Said)
             put_setting(line, *is_on);
         }
     }
+}
+
+/// Puts the end of an assembling job into an empty line.
+fn put_assembled(line: &mut ArrayVec<u8, 80>, number: u32, name: Name, blocks: usize)
+    requires { array_vec_len line.old ≡ 0 }
+    ensures text { line.new.items ≡ line.old.items ++ assembled_text number name blocks }
+    ensures short { array_vec_len line.new ≤ 70 }
+{
+    put_job(line, number);
+    put(line, b" ASSEMBLED ");
+    put_file(line, name, blocks);
+}
+
+/// Puts the name of a file, and its blocks.
+fn put_file(line: &mut ArrayVec<u8, 80>, name: Name, blocks: usize)
+    requires { array_vec_len line.old ≤ 40 }
+    ensures text { line.new.items ≡ line.old.items ++ file_text name blocks }
+    ensures short { array_vec_len line.new ≤ array_vec_len line.old + 30 }
+{
+    put_name(line, name);
+    put(line, b" ");
+    put_number(line, blocks as u64);
 }
 
 /// Puts why steps ended, between blanks.

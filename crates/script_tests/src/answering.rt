@@ -4,6 +4,7 @@ use bin_tape::TapeFault;
 use monitor8::{ProgramLine, put_program};
 use os8_dir::{DirFault, Name};
 use os8_files::FileFault;
+use pal_asm::{AsmFault, Code};
 use script8::{Entry, FileLengths, Reply, Report, Said, SessionFault, Why, laws, put_reply};
 use std::alloc::{AllocError, Global};
 use std::test::Fail;
@@ -43,6 +44,7 @@ fn lines_of_faults(rt: HostRuntime) {
     let faults = [
         SessionFault::from(FileFault::Memory),
         SessionFault::from(TapeFault::Memory),
+        SessionFault::from(AsmFault::Memory),
         SessionFault::Writer,
         SessionFault::TooManyBreaks,
         SessionFault::File(FileFault::NoRoom(4088)),
@@ -52,25 +54,28 @@ fn lines_of_faults(rt: HostRuntime) {
         SessionFault::File(FileFault::Device),
         SessionFault::File(FileFault::Stopped),
         SessionFault::File(FileFault::NothingWritten),
+        SessionFault::from(AsmFault::At(Code::PF, u64::MAX)),
         SessionFault::from(TapeFault::BadFrame(u64::MAX)),
         SessionFault::Tape(sums),
     ];
     let others = [
         SessionFault::File(FileFault::Memory),
         SessionFault::Tape(TapeFault::Memory),
+        SessionFault::Asm(AsmFault::Memory),
     ];
     let mut out = Vec::new(rt.alloc());
     let is_put = put_faults(None, &faults, &mut out)
         && put_faults(Some(&Entry::Turn(u32::MAX)), &faults, &mut out)
         && put_faults(None, &others, &mut out);
-    let want: &[u8] = b"? 10 MEMORY\n? 10 MEMORY\n? 9 WRITER\n? 11 TOO MANY BREAKS\n\
+    let want: &[u8] = b"? 10 MEMORY\n? 10 MEMORY\n? 10 MEMORY\n? 9 WRITER\n? 11 TOO MANY BREAKS\n\
         ? 4.2 NO ROOM 4088\n? 4.4 BUSY A_ ?.!\n? 4.6 TOO LONG\n? 4.7 TENTATIVE OPEN\n? 4.8 DEVICE\n? 4.9 STOPPED\n\
-        ? 4.11 NOTHING WRITTEN\n? 6.1 BAD FRAME 18446744073709551615\n? 6.3 CHECK SUM 7776 0010\n\
-        ? 10 MEMORY\n? 10 MEMORY\n? 9 WRITER\n? 11 TOO MANY BREAKS\n\
+        ? 4.11 NOTHING WRITTEN\n? 5 PF 18446744073709551615\n? 6.1 BAD FRAME 18446744073709551615\n\
+        ? 6.3 CHECK SUM 7776 0010\n? 10 MEMORY\n? 10 MEMORY\n? 10 MEMORY\n? 9 WRITER\n? 11 TOO MANY BREAKS\n\
         JOB 4294967295 ? 4.2 NO ROOM 4088\nJOB 4294967295 ? 4.4 BUSY A_ ?.!\nJOB 4294967295 ? 4.6 TOO LONG\n\
         JOB 4294967295 ? 4.7 TENTATIVE OPEN\nJOB 4294967295 ? 4.8 DEVICE\nJOB 4294967295 ? 4.9 STOPPED\n\
-        JOB 4294967295 ? 4.11 NOTHING WRITTEN\nJOB 4294967295 ? 6.1 BAD FRAME 18446744073709551615\n\
-        JOB 4294967295 ? 6.3 CHECK SUM 7776 0010\n? 10 MEMORY\n? 10 MEMORY\n";
+        JOB 4294967295 ? 4.11 NOTHING WRITTEN\nJOB 4294967295 ? 5 PF 18446744073709551615\n\
+        JOB 4294967295 ? 6.1 BAD FRAME 18446744073709551615\n\
+        JOB 4294967295 ? 6.3 CHECK SUM 7776 0010\n? 10 MEMORY\n? 10 MEMORY\n? 10 MEMORY\n";
     assert!(rt; is_put && out.as_slice() == want, "{out:?}");
 }
 
@@ -93,11 +98,21 @@ fn lines_of_replies(rt: HostRuntime) -> Result<(), Fail> {
     laws::name_as_typed();
     laws::number_as_shown();
     laws::octal_as_shown();
+    laws::assemble_as_written();
     let name = odd_name();
     let said = [
         Said::Stored { name, blocks: 4088 },
         Said::Deleted(name),
         Said::Working(u32::MAX),
+        Said::Assembled {
+            number: u32::MAX,
+            name,
+            blocks: 4088,
+        },
+        Said::Loaded {
+            number: u32::MAX,
+            name,
+        },
         Said::Squeezed(u32::MAX),
         Said::Steps {
             steps: u32::MAX,
@@ -109,8 +124,8 @@ fn lines_of_replies(rt: HostRuntime) -> Result<(), Fail> {
     let mut out = Vec::new(rt.alloc());
     let direct = Reply::Report(Report::Direct { files, free: 4088 });
     let is_put = put_said(&said, &mut out) && put(None, Ok(direct), &mut out);
-    let front: &[u8] =
-        b"STORED A_ ?.! 4088\nDELETED A_ ?.!\nWORKING 4294967295\nJOB 4294967295 SQUEEZED\n\
+    let front: &[u8] = b"STORED A_ ?.! 4088\nDELETED A_ ?.!\nWORKING 4294967295\n\
+        JOB 4294967295 ASSEMBLED A_ ?.! 4088\nJOB 4294967295 LOADED A_ ?.!\nJOB 4294967295 SQUEEZED\n\
         STEPS 4294967295 UNASSIGNED 77777\nA_ ?.! 4095\n";
     let is_framed = out.starts_with(front) && out.ends_with(b"A_ ?.! 4095\nFREE 4088\n");
     assert_eq!(rt;

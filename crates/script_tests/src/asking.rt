@@ -15,8 +15,8 @@ fn names(alloc: Global, words: &[&str], creates: bool, image: &str) -> bool {
 #[test]
 fn names_of_images(rt: HostRuntime) {
     plain_words();
-    laws::job_numbers();
-    laws::job_put();
+    laws::refusals();
+    laws::interleavings();
     let alloc = rt.alloc();
     for name in [
         "",

@@ -3,6 +3,7 @@
 use bin_tape::TapeFault;
 use monitor8::{TaskFault, task};
 use os8_files::FileFault;
+use pal_asm::{AsmFault, Code};
 use script8::SessionFault;
 use std::alloc::{AllocError, Global};
 use std::test::Fail;
@@ -26,6 +27,7 @@ fn texts_of_session_faults(rt: HostRuntime) -> Result<(), Fail> {
         SessionFault::NoJob,
         SessionFault::TooManyJobs,
         SessionFault::File(FileFault::NoRoom(4088)),
+        SessionFault::Asm(AsmFault::At(Code::UA, 7)),
         SessionFault::Tape(sums),
         SessionFault::Tape(TapeFault::BadFrame(90)),
         SessionFault::BadText,
@@ -38,7 +40,7 @@ fn texts_of_session_faults(rt: HostRuntime) -> Result<(), Fail> {
     }
     let want =
         "the line has none of the forms\nthere is no job of the number\nthere are too many jobs\n\
-        no empty has so many blocks, the largest has 4088\ncheck sum 1320, computed 0317\nbad frame 90\n\
+        no empty has so many blocks, the largest has 4088\nundefined name in line 7\ncheck sum 1320, computed 0317\nbad frame 90\n\
         the text can't be kept in a file\nthe reader failed\nthe writer failed\nout of memory\nthere are too many breaks\n";
     assert_eq!(rt; out.as_str(), want);
     Ok(())

@@ -1,5 +1,6 @@
 -- What doing an entry comes to, by what happened to the volume: a lemma for each kind of answer, whatever the entry is.
-use Rattle.std.proofs.Common.{◌≡◌, ◌≢◌, ℕ, ◌<◌, ◌⊎◌, false, true, true≢false, List, Ok, Err, ap, sym, ◌∙◌, arith, inl, inr}
+use Rattle.std.proofs.Common.{◌≡◌, ◌≢◌, ℕ, ◌<◌, ◌≤◌, false, true, true≢false, List, Ok, Err, refl, ap, sym, ◌∙◌, arith, inl, inr}
+use Rattle.os8_files.specs.Failed.{Survives}
 use Rattle.os8_files.specs.Mounted.{Mounted}
 use Rattle.os8_files.specs.declared.faults.FileFault.{FileFault}
 use Rattle.script8.specs.declared.entries.Entry.{Entry}
@@ -9,7 +10,6 @@ use Rattle.script8.specs.declared.replies.Reply.{Reply}
 use Rattle.session8.specs.Console.{is_console}
 use Rattle.session8.specs.Refusals.{May, MayLack, after_refusal}
 use Rattle.session8.specs.Session.{Seen, state_of, IsQuiet, Does}
-use Rattle.session8.specs.Steps.{HasFailed, HasStopped}
 use Rattle.session8.specs.System.{Answer, Done}
 
 -- an answer that is a refusal, and one that is a reply
@@ -92,28 +92,45 @@ undone e old new may still same = record {
   done = tt;
 }
 
+-- no failure is forgotten
+pub record IsBehind (old new : Mounted) : Type 0 where
+  pub reads : old.failed_reads ≤ new.failed_reads
+  pub writes : old.failed_writes ≤ new.failed_writes
+
+pub behind_same : (old new : Mounted) → new ≡ old → IsBehind old new
+behind_same old new is = record {
+  reads = omega (arith, ap (λ (m : Mounted). m.failed_reads) is);
+  writes = omega (arith, ap (λ (m : Mounted). m.failed_writes) is);
+}
+
+-- a write failed, which left what it leaves of the volume
+pub record HasFailed (old new : Mounted) : Type 0 where
+  pub left : Survives old.blocks new.blocks
+  pub behind : IsBehind old new
+  pub more : old.failed_writes < new.failed_writes
+
 -- a block call failed
 pub failed : (e : Entry) (old new : Seen) (why : FileFault) → HasFailed old.volume new.volume → Does e old (Err (fault.File why)) new
 failed e old new why has = record {
-  step = λ quiet. absurd (loud quiet has.more);
+  step = λ quiet. absurd (loud quiet);
   later = record { reads = has.behind.reads; writes = has.behind.writes };
-  files = has.files;
-  running = λ quiet. absurd (loud quiet has.more);
+  files = λ running more. (old.volume.blocks, refl, has.left);
+  running = λ quiet. absurd (loud quiet);
   memory = λ is. absurd (not_memory why is);
   reply = tt;
   done = tt;
 }
   where
-    loud : IsQuiet old new → (old.volume.failed_reads < new.volume.failed_reads) ⊎ (old.volume.failed_writes < new.volume.failed_writes) → ⊥
-    loud quiet more = elim more [ inl h ↦ omega (arith, h, quiet.reads) | inr h ↦ omega (arith, h, quiet.writes) ]
+    loud : IsQuiet old new → ⊥
+    loud quiet = omega (arith, has.more, quiet.writes)
 
 -- a write had failed before
-pub stopped : (e : Entry) (old new : Seen) (why : FileFault) → HasStopped old.volume new.volume → Does e old (Err (fault.File why)) new
-stopped e old new why has = record {
-  step = λ quiet. absurd (true≢false (sym has.0 ∙ quiet.running));
-  later = record { reads = has.1.reads; writes = has.1.writes };
-  files = λ running more. absurd (true≢false (sym has.0 ∙ running));
-  running = λ quiet. absurd (true≢false (sym has.0 ∙ quiet.running));
+pub stopped : (e : Entry) (old new : Seen) (why : FileFault) → old.volume.stopped ≡ true → IsBehind old.volume new.volume → Does e old (Err (fault.File why)) new
+stopped e old new why halted behind = record {
+  step = λ quiet. absurd (true≢false (sym halted ∙ quiet.running));
+  later = record { reads = behind.reads; writes = behind.writes };
+  files = λ running more. absurd (true≢false (sym halted ∙ running));
+  running = λ quiet. absurd (true≢false (sym halted ∙ quiet.running));
   memory = λ is. absurd (not_memory why is);
   reply = tt;
   done = tt;

@@ -1,134 +1,381 @@
--- The numbers of jobs: the lowest free one, the lowest one that is taken, and what putting a job leaves.
-use Rattle.std.proofs.Common.{◌≡◌, ◌≢◌, ℕ, zero, suc, ◌+◌, ◌-◌, ◌<◌, ◌≤◌, Bool, true, false, true≢false, cond, List, [], ◌∷◌, ◌++◌, length, take, drop, get_or, slice_set, Option, Some, None, refl, ap, sym, subst, ◌∙◌, arith, add-one}
-use Rattle.std.proofs.lemmas.Grind.{common_steps}
-use Rattle.std.proofs.lemmas.List.Quantifiers.{position-Some}
-use Rattle.std.proofs.lemmas.List.Sums.{fails_before_first, sum_by-set}
-use Rattle.std.specs.List.{position, position_or_len}
-use Rattle.std.specs.Option.{is_some, is_none}
-use Rattle.session8.specs.Jobs.{IsLowest, IsOfNone, IsFree, IsTaken, number_at, job_of, with_job, least_free, lowest_job, job_count, disturbed, disturbed_job}
-use Rattle.session8.specs.declared.jobs.Job.{Job}
+-- What the entries of jobs come to.
+use Rattle.std.proofs.Common.{◌≡◌, ◌≢◌, ◌⊎◌, inl, inr, arith, ℕ, zero, suc, Bool, true, false, List, [], ◌∷◌, ◌++◌, get_or, slice_set, length, ◌<◌, IsErrOf, Option, Some, None, Ok, Err, refl, ap, sym, subst, ◌∙◌}
+use Rattle.os8_dir.specs.Names.{parsed_name}
+use Rattle.os8_files.specs.Mounted.{Mounted}
+use Rattle.os8_files.specs.declared.faults.FileFault.TheVariants as file
+use Rattle.jobs8.specs.Calls as calls
+use Rattle.jobs8.specs.Calls.{TakesTurn, StartsOver, StartsAssembling, StartsLoading, StartsSqueezing}
+use Rattle.jobs8.specs.Jobs.{Job, Work, Assembling, Loading, Squeezing, IsLowest, IsTaken, job_of, with_job, lowest_job, turns_left}
+use Rattle.jobs8.specs.Settled.{plain_jobs, state_over}
+use Rattle.jobs8.specs.Starts.{Begun, AssembleStarts, LoadStarts, SqueezeStarts}
+use Rattle.jobs8.specs.State as jobs
+use Rattle.jobs8.specs.Turns as turns
+use Rattle.jobs8.specs.Turns.{Turns, JobTurn, WorkTurn}
+use Rattle.jobs8.specs.declared.faults.JobFault.{JobFault}
+use Rattle.jobs8.specs.declared.faults.JobFault.TheVariants as job
+use Rattle.jobs8.specs.declared.kinds.Job as kept
+use Rattle.jobs8.specs.declared.turned.Turned.{Turned}
+use Rattle.script8.specs.declared.entries.Entry.{Entry}
+use Rattle.script8.specs.declared.entries.Entry.TheVariants as entry
+use Rattle.script8.specs.declared.faults.SessionFault.TheVariants as fault
+use Rattle.script8.specs.declared.replies.Reply.TheVariants.{Line}
+use Rattle.script8.specs.declared.replies.Said.TheVariants as said
+use Rattle.session8.specs.Files.{name_before, parsed_names}
+use Rattle.session8.specs.Refusals.{May, after_refusal}
+use Rattle.session8.specs.Session.{Seen, state_of, IsReply, Does}
+use Rattle.session8.specs.State.{State}
+use Rattle.session8.specs.System.{Answer, Done, Step}
+use Rattle.session8.specs.Work.{job_state, with_core, with_work, said_of, fault_of_job}
+use Rattle.session8.proofs.DoesLemmas.{IsSteady, replied, undone, behind_same, stopped}
+use Rattle.session8.proofs.SessionLemmas.{over_with}
 
--- ## Places
+bool_cases : (b : Bool) → (b ≡ true) ⊎ (b ≡ false)
+bool_cases true = inl refl
+bool_cases false = inr refl
 
--- where no item passes a test, none at a place does
-none_passes : {A : Type 0} (p : A → Bool) (xs : List A) (d : A) → position p xs ≡ None → (k : ℕ) → k < length xs → p (get_or xs k d) ≡ false
-none_passes p xs d none k low =
-    let all : length xs ≤ position_or_len p xs = grind (arith, common_steps) in
-    fails_before_first p xs k d (omega (arith, all, low))
+-- what is seen where the volume is another, the jobs, and core
+abbrev pub over_work : Seen → Mounted → List (Option Job) → List ℕ → Seen
+over_work s v js core = record { volume = v; jobs = js; console = with_core s.console core }
 
-is_there : {A : Type 0} (o : Option A) → is_some o ≡ true → (x : A) × (o ≡ Some x)
-is_there None some = cc
-is_there (Some x) some = (x, refl)
+-- ## Turns that end a job, or are not taken
 
-is_gone : {A : Type 0} (o : Option A) → is_none o ≡ true → o ≡ None
-is_gone None none = refl
-is_gone (Some x) none = cc
-
--- ## Numbers
-
--- a lowest place that passes a test is a lowest number
-lowest : (p : Option Job → Bool) (has : ℕ → Type 0) (jobs : List (Option Job)) (number : ℕ) → ((place : ℕ) → p (get_or jobs place None) ≡ true → has (suc place)) → ((place : ℕ) → has (suc place) → p (get_or jobs place None) ≡ true)
-    → number_at (position p jobs) ≡ Some number → IsLowest has (length jobs) number
-lowest p has jobs number to from is = of_place (position p jobs) refl is
-  where
-    below : (place : ℕ) → ((k : ℕ) → k < place → p (get_or jobs k None) ≡ false) → (lower : ℕ) → 1 ≤ lower → lower < suc place → has lower → ⊥
-    below place none zero some low it = omega (arith, some)
-    below place none (suc k) some low it = absurd (true≢false (sym (from k it) ∙ none k (omega (arith, low))))
-
-    of_place : (o : Option ℕ) → position p jobs ≡ o → number_at o ≡ Some number → IsLowest has (length jobs) number
-    of_place None found is = cc
-    of_place (Some place) found is =
-        let first = position-Some p jobs place None found in
-        subst (λ n. IsLowest has (length jobs) n) (number_is place is) (record {
-          least = omega arith;
-          most = omega (arith, first.0);
-          it = to place first.1;
-          below = below place first.2;
-        })
-      where
-        number_is : (place : ℕ) → number_at (Some place) ≡ Some number → suc place ≡ number
-        number_is place is = cc
-
--- where no place passes it, no number does
-of_none : (p : Option Job → Bool) (has : ℕ → Type 0) (jobs : List (Option Job)) → ((place : ℕ) → has (suc place) → p (get_or jobs place None) ≡ true) → number_at (position p jobs) ≡ None → IsOfNone has (length jobs)
-of_none p has jobs from is zero some most it = omega (arith, some)
-of_none p has jobs from is (suc place) some most it = absurd (true≢false (sym (from place it) ∙ none_passes p jobs None (not_some (position p jobs) is) place (omega (arith, most))))
-  where
-    not_some : (o : Option ℕ) → number_at o ≡ None → o ≡ None
-    not_some None is = refl
-    not_some (Some place) is = cc
-
-gone_from : (jobs : List (Option Job)) (place : ℕ) → IsFree jobs (suc place) → is_none (get_or jobs place None) ≡ true
-gone_from jobs place free = ap is_none free
-
-there_from : (jobs : List (Option Job)) (place : ℕ) → IsTaken jobs (suc place) → is_some (get_or jobs place None) ≡ true
-there_from jobs place taken = ap is_some taken.1
-
-pub lowest_free : (jobs : List (Option Job)) (number : ℕ) → least_free jobs ≡ Some number → IsLowest (IsFree jobs) (length jobs) number
-lowest_free jobs number is = lowest is_none (IsFree jobs) jobs number (λ place none. is_gone (get_or jobs place None) none) (gone_from jobs) is
-
-pub none_free : (jobs : List (Option Job)) → least_free jobs ≡ None → IsOfNone (IsFree jobs) (length jobs)
-none_free jobs is = of_none is_none (IsFree jobs) jobs (gone_from jobs) is
-
-pub lowest_taken : (jobs : List (Option Job)) (number : ℕ) → lowest_job jobs ≡ Some number → IsLowest (IsTaken jobs) (length jobs) number
-lowest_taken jobs number is = lowest is_some (IsTaken jobs) jobs number (λ place some. is_there (get_or jobs place None) some) (there_from jobs) is
-
-pub none_taken : (jobs : List (Option Job)) → lowest_job jobs ≡ None → IsOfNone (IsTaken jobs) (length jobs)
-none_taken jobs is = of_none is_some (IsTaken jobs) jobs (there_from jobs) is
-
--- ## Putting a job
-
-pub put_there : (jobs : List (Option Job)) (number : ℕ) (job : Option Job) → 1 ≤ number → number ≤ length jobs → job_of number (with_job number job jobs) ≡ job
-put_there jobs zero job some most = absurd (no_number some)
-  where
-    no_number : 1 ≤ 0 → ⊥
-    no_number some = omega (arith, some)
-put_there jobs (suc place) job some most = grind (arith, common_steps)
-
-pub put_beside : (jobs : List (Option Job)) (number other : ℕ) (job : Option Job) → number ≢ other → job_of other (with_job number job jobs) ≡ job_of other jobs
-put_beside jobs zero other job differ = refl
-put_beside jobs (suc place) zero job differ = refl
-put_beside jobs (suc place) (suc k) job differ = grind (arith, common_steps)
-
--- taking away a job where there is none
-unchanged : (place : ℕ) (jobs : List (Option Job)) → get_or jobs place None ≡ None → slice_set jobs place None ≡ jobs
+-- the jobs without one that isn't there
+unchanged : (place : ℕ) (js : List (Option Job)) → get_or js place None ≡ None → slice_set js place None ≡ js
 unchanged place [] none = refl
-unchanged zero (j ∷ jobs) none = ap (λ (o : Option Job). o ∷ jobs) (sym none)
-unchanged (suc place) (j ∷ jobs) none = ap (λ l. j ∷ l) (unchanged place jobs none)
+unchanged zero (j ∷ js) none = ap (λ (o : Option Job). o ∷ js) (sym none)
+unchanged (suc place) (j ∷ js) none = ap (λ l. j ∷ l) (unchanged place js none)
 
-pub ended_none : (number : ℕ) (jobs : List (Option Job)) → (number ≡ 0 → ⊥) → get_or jobs (number - 1) None ≡ None → jobs ≡ with_job number None jobs
-ended_none zero jobs some none = absurd (some refl)
-ended_none (suc place) jobs some none = sym (unchanged place jobs (subst (λ n. get_or jobs n None ≡ None) (same place) none))
-  where
-    same : (n : ℕ) → suc n - 1 ≡ n
-    same n = omega arith
+without_none : (number : ℕ) (js : List (Option Job)) → job_of number js ≡ None → with_job number None js ≡ js
+without_none zero js none = refl
+without_none (suc place) js none = unchanged place js none
 
--- no job is at the place of a number
-pub no_job : (number : ℕ) (jobs : List (Option Job)) → (number ≡ 0 → ⊥) → get_or jobs (number - 1) None ≡ None → job_of number jobs ≡ None
-no_job zero jobs some none = absurd (some refl)
-no_job (suc place) jobs some none = subst (λ n. get_or jobs n None ≡ None) (same place) none
+-- a turn that is refused ends its job, and changes nothing else
+ends : (old after : jobs.State) (number : ℕ) (why : JobFault) → why ≢ job.Memory → Turns old number (Err why) after → after ≡ record old { jobs = with_job number None old.jobs }
+ends old after number why other turn = of_job (job_of number old.jobs) refl turn
   where
-    same : (n : ℕ) → suc n - 1 ≡ n
-    same n = omega arith
+    of_work : (w : Work) (left : ℕ) (why : JobFault) → why ≢ job.Memory → WorkTurn old number w left (Err why) after → after ≡ record old { jobs = with_job number None old.jobs }
+    of_work w left job.Memory other turn = absurd (other refl)
+    of_work (Assembling to from) left (job.Asm why) other turn = turn.3
+    of_work (Assembling to from) left (job.File why) other turn = turn.3
+    of_work (Assembling to from) left (job.Tape why) other turn = absurd turn
+    of_work (Assembling to from) left job.NoJob other turn = absurd turn
+    of_work (Assembling to from) left job.TooManyJobs other turn = absurd turn
+    of_work (Loading from) left (job.Tape why) other turn = turn.2
+    of_work (Loading from) left (job.Asm why) other turn = absurd turn
+    of_work (Loading from) left (job.File why) other turn = absurd turn
+    of_work (Loading from) left job.NoJob other turn = absurd turn
+    of_work (Loading from) left job.TooManyJobs other turn = absurd turn
+    of_work (Squeezing clean) left (job.File file.DirectoryFull) other turn = turn.2
+    of_work (Squeezing clean) left (job.File file.NotFound) other turn = absurd turn
+    of_work (Squeezing clean) left (job.File (file.NoRoom n)) other turn = absurd turn
+    of_work (Squeezing clean) left (job.File (file.Busy n)) other turn = absurd turn
+    of_work (Squeezing clean) left (job.File file.BadName) other turn = absurd turn
+    of_work (Squeezing clean) left (job.File file.TooLong) other turn = absurd turn
+    of_work (Squeezing clean) left (job.File file.TentativeOpen) other turn = absurd turn
+    of_work (Squeezing clean) left (job.File file.Device) other turn = absurd turn
+    of_work (Squeezing clean) left (job.File file.Stopped) other turn = absurd turn
+    of_work (Squeezing clean) left (job.File file.Memory) other turn = absurd turn
+    of_work (Squeezing clean) left (job.File file.NothingWritten) other turn = absurd turn
+    of_work (Squeezing clean) left (job.Asm why) other turn = absurd turn
+    of_work (Squeezing clean) left (job.Tape why) other turn = absurd turn
+    of_work (Squeezing clean) left job.NoJob other turn = absurd turn
+    of_work (Squeezing clean) left job.TooManyJobs other turn = absurd turn
 
--- one job fewer
-pub fewer_jobs : (number : ℕ) (jobs : List (Option Job)) → lowest_job jobs ≡ Some number → job_count (with_job number None jobs) < job_count jobs
-fewer_jobs number jobs is = fewer number (lowest_taken jobs number is)
-  where
-    fewer : (number : ℕ) → IsLowest (IsTaken jobs) (length jobs) number → job_count (with_job number None jobs) < job_count jobs
-    fewer zero first = omega (arith, first.least)
-    fewer (suc place) first =
-        let count : (Option Job) → ℕ = λ job. cond (is_some job) 1 0 in
-        omega (arith, sum_by-set count jobs place None None (omega (arith, first.most)), ap count first.it.1)
+    of_none : (why : JobFault) → job_of number old.jobs ≡ None → JobTurn old number None (Err why) after → after ≡ record old { jobs = with_job number None old.jobs }
+    of_none job.NoJob none turn = turn ∙ ap (λ (l : List (Option Job)). record old { jobs = l }) (sym (without_none number old.jobs none))
+    of_none job.TooManyJobs none turn = absurd turn
+    of_none (job.File why) none turn = absurd turn
+    of_none (job.Asm why) none turn = absurd turn
+    of_none (job.Tape why) none turn = absurd turn
+    of_none job.Memory none turn = absurd turn
 
--- one more job is disturbed
-pub disturbed_more : (jobs old : List (Option Job)) (place : ℕ) (none : Option Job) → place < length old → jobs ≡ disturbed (take place old) ++ drop place old → slice_set jobs place (disturbed_job (get_or jobs place none)) ≡ disturbed (take (place + 1) old) ++ drop (place + 1) old
-disturbed_more jobs old place none short is = rw is (set_more old place short ∙ ap (λ n. disturbed (take n old) ++ drop n old) (sym (add-one place)))
+    of_job : (it : Option Job) → job_of number old.jobs ≡ it → JobTurn old number it (Err why) after → after ≡ record old { jobs = with_job number None old.jobs }
+    of_job None is turn = of_none why is turn
+    of_job (Some it) is turn = of_work it.work it.left why other turn
+
+-- want of memory comes only where there is a job, and changes nothing
+lacks : (old after : jobs.State) (number : ℕ) → Turns old number (Err job.Memory) after → ((it : Job) × (job_of number old.jobs ≡ Some it)) × (after ≡ old)
+lacks old after number turn = of_job (job_of number old.jobs) refl turn
   where
-    set_more : (old : List (Option Job)) (place : ℕ) → place < length old → slice_set (disturbed (take place old) ++ drop place old) place (disturbed_job (get_or (disturbed (take place old) ++ drop place old) place none)) ≡ disturbed (take (suc place) old) ++ drop (suc place) old
-    set_more [] place short = absurd (nothing place short)
-      where
-        nothing : (n : ℕ) → n < 0 → ⊥
-        nothing n h = omega (arith, h)
-    set_more (j ∷ old) zero short = refl
-    set_more (j ∷ old) (suc place) short = ap (λ l. disturbed_job j ∷ l) (set_more old place (omega (arith, short)))
+    of_work : (w : Work) (left : ℕ) → WorkTurn old number w left (Err job.Memory) after → after ≡ old
+    of_work (Assembling to from) left turn = turn
+    of_work (Loading from) left turn = turn
+    of_work (Squeezing clean) left turn = turn
+
+    of_job : (it : Option Job) → job_of number old.jobs ≡ it → JobTurn old number it (Err job.Memory) after → ((it : Job) × (job_of number old.jobs ≡ Some it)) × (after ≡ old)
+    of_job None is turn = absurd turn
+    of_job (Some it) is turn = ((it, is), of_work it.work it.left turn)
+
+-- ## Answers
+
+file_fault : (why : JobFault) → why ≢ job.Memory → fault_of_job why ≢ fault.Memory
+file_fault job.NoJob other is = cc
+file_fault job.TooManyJobs other is = cc
+file_fault (job.File why) other is = cc
+file_fault (job.Asm why) other is = cc
+file_fault (job.Tape why) other is = cc
+file_fault job.Memory other is = absurd (other refl)
+
+refused_step : (e : Entry) (old new : State) (why : JobFault) → why ≢ job.Memory → May old e (fault_of_job why) → new ≡ after_refusal old e → Step old e (Err (fault_of_job why)) new
+refused_step e old new job.NoJob other may after = (may, after)
+refused_step e old new job.TooManyJobs other may after = (may, after)
+refused_step e old new (job.File why) other may after = (may, after)
+refused_step e old new (job.Asm why) other may after = (may, after)
+refused_step e old new (job.Tape why) other may after = (may, after)
+refused_step e old new job.Memory other may after = absurd (other refl)
+
+is_reply : (why : JobFault) → IsReply (Err (fault_of_job why))
+is_reply job.NoJob = tt
+is_reply job.TooManyJobs = tt
+is_reply (job.File why) = tt
+is_reply (job.Asm why) = tt
+is_reply (job.Tape why) = tt
+is_reply job.Memory = tt
+
+abbrev answer_of : JobFault → Answer
+answer_of why = Err (fault_of_job why)
+
+err_is : (why : JobFault) → why ≢ job.Memory → answer_of why ≢ Err fault.Memory
+err_is job.NoJob other is = cc
+err_is job.TooManyJobs other is = cc
+err_is (job.File why) other is = cc
+err_is (job.Asm why) other is = cc
+err_is (job.Tape why) other is = cc
+err_is job.Memory other is = absurd (other refl)
+
+-- ## Turns
+
+-- a turn over what is seen, whose jobs are those of the table
+abbrev turned_on : Seen → List (Option kept.Job) → ℕ → turns.Answer → Mounted → List ℕ → List (Option kept.Job) → Type 0
+turned_on s js number answer v core js' = TakesTurn s.volume s.console.machine.core js number answer v core js'
+
+-- the turn over the state of the machine
+turns_on : (s : Seen) (js : List (Option kept.Job)) (number : ℕ) (answer : turns.Answer) (after : jobs.State) → s.jobs ≡ plain_jobs js → Turns (state_over s.volume s.console.machine.core (plain_jobs js)) number answer after → Turns (job_state (state_of s)) number answer after
+turns_on s js number answer after is turn = subst (λ (l : List (Option Job)). Turns (state_over s.volume s.console.machine.core l) number answer after) (sym is) turn
+
+still : (s : Seen) (v : Mounted) → calls.IsQuiet s.volume v → v.stopped ≡ false → IsSteady s.volume v
+still s v quiet running = record { stopped = running ∙ sym quiet.running; reads = quiet.reads; writes = quiet.writes }
+
+pub turn_done : (s : Seen) (v : Mounted) (core : List ℕ) (js js' : List (Option kept.Job)) (number : ℕ) (turned : Turned) → s.jobs ≡ plain_jobs js → turned_on s js number (Ok turned) v core js'
+    → Does (entry.Turn number) s (Ok (Line (said_of number turned))) (over_work s v (plain_jobs js') core)
+turn_done s v core js js' number turned is has =
+    replied _ _ _ _ has.volume.quiet.running (still s v has.volume.quiet (has.volume.running has.volume.quiet)) (turned, refl, (_, turns_on s js number _ _ is (has.step has.volume.quiet), refl))
+
+turn_undone : (s : Seen) (v : Mounted) (core : List ℕ) (js js' : List (Option kept.Job)) (number : ℕ) → s.jobs ≡ plain_jobs js → turned_on s js number (Err job.Memory) v core js'
+    → Does (entry.Turn number) s (Err fault.Memory) (over_work s v (plain_jobs js') core)
+turn_undone s v core js js' number is has = undone _ _ _ gone.0 (still s v quiet (has.volume.running quiet)) (ap (with_work (state_of s)) gone.1)
+  where
+    quiet : calls.IsQuiet s.volume v
+    quiet = has.volume.memory refl
+
+    gone : ((it : Job) × (job_of number s.jobs ≡ Some it)) × (state_over v core (plain_jobs js') ≡ job_state (state_of s))
+    gone = lacks _ _ number (turns_on s js number _ _ is (has.step quiet))
+
+turn_ended : (s : Seen) (v : Mounted) (core : List ℕ) (js js' : List (Option kept.Job)) (number : ℕ) (why : JobFault) → why ≢ job.Memory → s.jobs ≡ plain_jobs js → turned_on s js number (Err why) v core js'
+    → Does (entry.Turn number) s (Err (fault_of_job why)) (over_work s v (plain_jobs js') core)
+turn_ended s v core js js' number why other is has = record {
+  step = λ quiet.
+      let turn = turns_on s js number _ _ is (has.step quiet) in
+      refused_step (entry.Turn number) (state_of s) (state_of (over_work s v (plain_jobs js') core)) why other (why, refl, (_, turn)) (ap (with_work (state_of s)) (ends _ _ number why other turn));
+  later = record { reads = has.volume.reads; writes = has.volume.writes };
+  files = λ running more. has.volume.files more;
+  running = has.volume.running;
+  memory = λ memory. absurd (err_is why other memory);
+  reply = is_reply why;
+  done = tt;
+}
+
+-- a turn that is not answered by what it has done
+pub turn_refused : (s : Seen) (v : Mounted) (core : List ℕ) (js js' : List (Option kept.Job)) (number : ℕ) (why : JobFault) → s.jobs ≡ plain_jobs js → turned_on s js number (Err why) v core js'
+    → Does (entry.Turn number) s (Err (fault_of_job why)) (over_work s v (plain_jobs js') core)
+turn_refused s v core js js' number job.Memory is has = turn_undone s v core js js' number is has
+turn_refused s v core js js' number job.NoJob is has = turn_ended s v core js js' number _ (λ same. cc) is has
+turn_refused s v core js js' number job.TooManyJobs is has = turn_ended s v core js js' number _ (λ same. cc) is has
+turn_refused s v core js js' number (job.File why) is has = turn_ended s v core js js' number _ (λ same. cc) is has
+turn_refused s v core js js' number (job.Asm why) is has = turn_ended s v core js js' number _ (λ same. cc) is has
+turn_refused s v core js js' number (job.Tape why) is has = turn_ended s v core js js' number _ (λ same. cc) is has
+
+-- a turn of the lowest job leaves fewer turns, where memory suffices
+pub turn_fewer : ((js : List (Option Job)) (number : ℕ) → lowest_job js ≡ Some number → IsLowest (IsTaken js) (length js) number) → (v v' : Mounted) (core core' : List ℕ) (js js' : List (Option kept.Job)) (number : ℕ) (answer : turns.Answer)
+    → (answer ≡ Err job.Memory → ⊥) → lowest_job (plain_jobs js) ≡ Some number → TakesTurn v core js number answer v' core' js' → turns_left (plain_jobs js') < turns_left (plain_jobs js)
+turn_fewer law v v' core core' js js' number answer other low has = let taken = (law (plain_jobs js) number low).it in has.fewer taken.0 other taken.1
+
+abbrev turn_not : JobFault → turns.Answer
+turn_not why = Err why
+
+pub not_lacking : (r : Answer) (why : JobFault) → (IsErrOf r fault.Memory → ⊥) → r ≡ Err (fault_of_job why) → turn_not why ≡ Err job.Memory → ⊥
+not_lacking r job.Memory other is same = other (subst (λ (x : Answer). IsErrOf x fault.Memory) (sym is) refl)
+not_lacking r job.NoJob other is same = cc
+not_lacking r job.TooManyJobs other is same = cc
+not_lacking r (job.File why) other is same = cc
+not_lacking r (job.Asm why) other is same = cc
+not_lacking r (job.Tape why) other is same = cc
+
+-- ## Starts
+
+-- a refusal, behind which the volume is as steady as before
+pub declined : (e : Entry) (s new : Seen) (why : JobFault) → why ≢ job.Memory → IsSteady s.volume new.volume → May (state_of s) e (fault_of_job why) → state_of new ≡ after_refusal (state_of s) e → Does e s (Err (fault_of_job why)) new
+declined e s new why other still may after = record {
+  step = λ quiet. refused_step e (state_of s) (state_of new) why other may after;
+  later = record { reads = omega (arith, still.reads); writes = omega (arith, still.writes) };
+  files = λ running more. absurd (omega (arith, more, still.writes));
+  running = λ quiet. still.stopped ∙ quiet.running;
+  memory = λ is. absurd (err_is why other is);
+  reply = is_reply why;
+  done = tt;
+}
+
+-- a start changes nothing of the volume but its holds
+start_steady : (old new : Mounted) → new ≡ record old { holds = new.holds } → IsSteady old new
+start_steady old new is = record {
+  stopped = ap (λ (m : Mounted). m.stopped) is;
+  reads = ap (λ (m : Mounted). m.failed_reads) is;
+  writes = ap (λ (m : Mounted). m.failed_writes) is;
+}
+
+-- where a write had failed before, nothing is begun
+pub start_stopped : (e : Entry) (s new : Seen) (why : JobFault) → s.volume.stopped ≡ true → why ≡ job.File file.Stopped → new.volume ≡ s.volume → Does e s (Err (fault_of_job why)) new
+start_stopped e s new why halted is same = subst (λ w. Does e s (Err (fault_of_job w)) new) (sym is) (stopped e s new file.Stopped halted (behind_same _ _ same))
+
+pub never_number : {A E : Type 0} (number : A) (why : E) → Ok number ≡ Err why → ⊥
+never_number number why is = cc
+
+abbrev begun_not : JobFault → Begun
+begun_not why = Err why
+
+same_fault : (one two : JobFault) → begun_not one ≡ Err two → one ≡ two
+same_fault one two is = ap fault_in is
+  where
+    fault_in : Begun → JobFault
+    fault_in (Ok number) = job.NoJob
+    fault_in (Err why) = why
+
+-- a job is begun
+pub start_begun : (e : Entry) (s : Seen) (v : Mounted) (js js' : List (Option kept.Job)) (number : ℕ) → StartsOver s.volume js (Ok number) v js' → (s.volume.stopped ≡ false → Done (state_of s) e (Line (said.Job number)) (state_of (over_with s v (plain_jobs js'))))
+    → Does e s (Ok (Line (said.Job number))) (over_with s v (plain_jobs js'))
+start_begun e s v js js' number over done = elim (bool_cases s.volume.stopped) [
+  | inl halted ↦ absurd (never_number number _ (over.stopped halted).0)
+  | inr running ↦ replied _ _ _ _ running (start_steady _ _ over.others) (done running)
+]
+
+-- no job is begun
+pub start_refused : (e : Entry) (s : Seen) (v : Mounted) (js js' : List (Option kept.Job)) (why : JobFault) → StartsOver s.volume js (Err why) v js' → (s.volume.stopped ≡ false → Does e s (Err (fault_of_job why)) (over_with s v (plain_jobs js')))
+    → Does e s (Err (fault_of_job why)) (over_with s v (plain_jobs js'))
+start_refused e s v js js' why over does = elim (bool_cases s.volume.stopped) [
+  | inl halted ↦ start_stopped _ _ _ why halted (same_fault _ _ (over.stopped halted).0) (over.stopped halted).1
+  | inr running ↦ does running
+]
+
+-- ## Loading
+
+load_on : (s : Seen) (js : List (Option kept.Job)) (name : ℕ) (answer : Begun) (after : jobs.State) → s.jobs ≡ plain_jobs js → LoadStarts (state_over s.volume s.console.machine.core (plain_jobs js)) name answer after → LoadStarts (job_state (state_of s)) name answer after
+load_on s js name answer after is starts = subst (λ (l : List (Option Job)). LoadStarts (state_over s.volume s.console.machine.core l) name answer after) (sym is) starts
+
+pub load_begun : (s : Seen) (v : Mounted) (js js' : List (Option kept.Job)) (bytes : List ℕ) (name number : ℕ) → parsed_name bytes ≡ Some name → s.jobs ≡ plain_jobs js → StartsLoading s.volume js name (Ok number) v js'
+    → Does (entry.Load bytes) s (Ok (Line (said.Job number))) (over_with s v (plain_jobs js'))
+load_begun s v js js' bytes name number named is has =
+    start_begun _ s v js js' number has.over (λ running. (name, named, (_, load_on s js name (Ok number) _ is (has.step running s.console.machine.core), refl)))
+
+pub load_refused : (s : Seen) (v : Mounted) (js js' : List (Option kept.Job)) (bytes : List ℕ) (name : ℕ) (why : JobFault) → parsed_name bytes ≡ Some name → s.jobs ≡ plain_jobs js → StartsLoading s.volume js name (Err why) v js'
+    → Does (entry.Load bytes) s (Err (fault_of_job why)) (over_with s v (plain_jobs js'))
+load_refused s v js js' bytes name why named is has = start_refused _ s v js js' why has.over (λ running. by_fault why (load_on s js name (Err why) _ is (has.step running s.console.machine.core)))
+  where
+    still : IsSteady s.volume v
+    still = start_steady _ _ has.over.others
+
+    by_fault : (why : JobFault) → LoadStarts (job_state (state_of s)) name (Err why) (state_over v s.console.machine.core (plain_jobs js')) → Does (entry.Load bytes) s (Err (fault_of_job why)) (over_with s v (plain_jobs js'))
+    by_fault job.TooManyJobs starts = declined _ _ _ job.TooManyJobs (λ same. cc) still (name, named, (job.TooManyJobs, refl, (starts.0, refl))) (ap (with_work (state_of s)) starts.1)
+    by_fault (job.File file.NotFound) starts = declined _ _ _ (job.File file.NotFound) (λ same. cc) still (name, named, (job.File file.NotFound, refl, (starts.0, starts.1, refl))) (ap (with_work (state_of s)) starts.2)
+    by_fault job.Memory starts = undone _ _ _ (name, named, refl) still (ap (with_work (state_of s)) starts)
+    by_fault job.NoJob starts = absurd starts
+    by_fault (job.File (file.NoRoom n)) starts = absurd starts
+    by_fault (job.File file.DirectoryFull) starts = absurd starts
+    by_fault (job.File (file.Busy n)) starts = absurd starts
+    by_fault (job.File file.BadName) starts = absurd starts
+    by_fault (job.File file.TooLong) starts = absurd starts
+    by_fault (job.File file.TentativeOpen) starts = absurd starts
+    by_fault (job.File file.Device) starts = absurd starts
+    by_fault (job.File file.Stopped) starts = absurd starts
+    by_fault (job.File file.Memory) starts = absurd starts
+    by_fault (job.File file.NothingWritten) starts = absurd starts
+    by_fault (job.Asm why) starts = absurd starts
+    by_fault (job.Tape why) starts = absurd starts
+
+-- ## Assembling
+
+-- one more name
+pub parsed_more : (front : List (List ℕ)) (names : List ℕ) (bytes : List ℕ) (name : ℕ) → parsed_names front ≡ Some names → parsed_name bytes ≡ Some name → parsed_names (front ++ bytes ∷ []) ≡ Some (names ++ name ∷ [])
+parsed_more [] names bytes name is one = rw one (ap (λ (l : List ℕ). Some (l ++ name ∷ [])) (some_same is))
+  where
+    some_same : Some [] ≡ Some names → [] ≡ names
+    some_same is = cc
+parsed_more (first ∷ front) names bytes name is one = before (parsed_name first) (parsed_names front) (λ ns are. parsed_more front ns bytes name are one) refl is
+  where
+    same : (n : ℕ) (ns names : List ℕ) → Some (n ∷ ns) ≡ Some names → n ∷ ns ≡ names
+    same n ns names is = cc
+
+    before : (n : Option ℕ) (o : Option (List ℕ)) → ((ns : List ℕ) → parsed_names front ≡ Some ns → parsed_names (front ++ bytes ∷ []) ≡ Some (ns ++ name ∷ [])) → parsed_names front ≡ o → name_before n o ≡ Some names → name_before n (parsed_names (front ++ bytes ∷ [])) ≡ Some (names ++ name ∷ [])
+    before None o more are is = cc
+    before (Some n) None more are is = cc
+    before (Some n) (Some ns) more are is = rw (more ns are) (ap (λ (l : List ℕ). Some (l ++ name ∷ [])) (same n ns names is))
+
+-- no names, where one is none
+pub parsed_not : (front : List (List ℕ)) (bytes : List ℕ) (others : List (List ℕ)) → parsed_name bytes ≡ None → parsed_names (front ++ bytes ∷ others) ≡ None
+parsed_not [] bytes others none = rw none refl
+parsed_not (first ∷ front) bytes others none = rw (parsed_not front bytes others none) (before (parsed_name first))
+  where
+    before : (n : Option ℕ) → name_before n None ≡ None
+    before None = refl
+    before (Some n) = refl
+
+assemble_on : (s : Seen) (js : List (Option kept.Job)) (target : ℕ) (from : List ℕ) (answer : Begun) (after : jobs.State) → s.jobs ≡ plain_jobs js → AssembleStarts (state_over s.volume s.console.machine.core (plain_jobs js)) target from answer after → AssembleStarts (job_state (state_of s)) target from answer after
+assemble_on s js target from answer after is starts = subst (λ (l : List (Option Job)). AssembleStarts (state_over s.volume s.console.machine.core l) target from answer after) (sym is) starts
+
+pub assemble_begun : (s : Seen) (v : Mounted) (js js' : List (Option kept.Job)) (to : List ℕ) (from : List (List ℕ)) (target : ℕ) (sources : List ℕ) (number : ℕ) → parsed_name to ≡ Some target → parsed_names from ≡ Some sources → s.jobs ≡ plain_jobs js
+    → StartsAssembling s.volume js target sources (Ok number) v js' → Does (entry.Assemble to from) s (Ok (Line (said.Job number))) (over_with s v (plain_jobs js'))
+assemble_begun s v js js' to from target sources number named are is has =
+    start_begun _ s v js js' number has.over (λ running. (target, sources, named, are, (_, assemble_on s js target sources (Ok number) _ is (has.step running s.console.machine.core), refl)))
+
+pub assemble_refused : (s : Seen) (v : Mounted) (js js' : List (Option kept.Job)) (to : List ℕ) (from : List (List ℕ)) (target : ℕ) (sources : List ℕ) (why : JobFault) → parsed_name to ≡ Some target → parsed_names from ≡ Some sources → s.jobs ≡ plain_jobs js
+    → StartsAssembling s.volume js target sources (Err why) v js' → Does (entry.Assemble to from) s (Err (fault_of_job why)) (over_with s v (plain_jobs js'))
+assemble_refused s v js js' to from target sources why named are is has = start_refused _ s v js js' why has.over (λ running. by_fault why (assemble_on s js target sources (Err why) _ is (has.step running s.console.machine.core)))
+  where
+    still : IsSteady s.volume v
+    still = start_steady _ _ has.over.others
+
+    by_fault : (why : JobFault) → AssembleStarts (job_state (state_of s)) target sources (Err why) (state_over v s.console.machine.core (plain_jobs js')) → Does (entry.Assemble to from) s (Err (fault_of_job why)) (over_with s v (plain_jobs js'))
+    by_fault job.TooManyJobs starts = declined _ _ _ job.TooManyJobs (λ same. cc) still (target, sources, named, are, (job.TooManyJobs, refl, (starts.0, refl))) (ap (with_work (state_of s)) starts.1)
+    by_fault (job.File file.NotFound) starts = declined _ _ _ (job.File file.NotFound) (λ same. cc) still (target, sources, named, are, (job.File file.NotFound, refl, (starts.0, starts.1, refl))) (ap (with_work (state_of s)) starts.2)
+    by_fault (job.File (file.Busy n)) starts = declined _ _ _ (job.File (file.Busy n)) (λ same. cc) still (target, sources, named, are, (job.File (file.Busy n), refl, (starts.0, starts.1, starts.2, starts.3, refl))) (ap (with_work (state_of s)) starts.4)
+    by_fault job.Memory starts = undone _ _ _ (target, sources, named, are, refl) still (ap (with_work (state_of s)) starts)
+    by_fault job.NoJob starts = absurd starts
+    by_fault (job.File (file.NoRoom n)) starts = absurd starts
+    by_fault (job.File file.DirectoryFull) starts = absurd starts
+    by_fault (job.File file.BadName) starts = absurd starts
+    by_fault (job.File file.TooLong) starts = absurd starts
+    by_fault (job.File file.TentativeOpen) starts = absurd starts
+    by_fault (job.File file.Device) starts = absurd starts
+    by_fault (job.File file.Stopped) starts = absurd starts
+    by_fault (job.File file.Memory) starts = absurd starts
+    by_fault (job.File file.NothingWritten) starts = absurd starts
+    by_fault (job.Asm why) starts = absurd starts
+    by_fault (job.Tape why) starts = absurd starts
+
+-- ## Squeezing
+
+squeeze_on : (s : Seen) (js : List (Option kept.Job)) (answer : Begun) (after : jobs.State) → s.jobs ≡ plain_jobs js → SqueezeStarts (state_over s.volume s.console.machine.core (plain_jobs js)) answer after → SqueezeStarts (job_state (state_of s)) answer after
+squeeze_on s js answer after is starts = subst (λ (l : List (Option Job)). SqueezeStarts (state_over s.volume s.console.machine.core l) answer after) (sym is) starts
+
+pub squeeze_begun : (s : Seen) (v : Mounted) (js js' : List (Option kept.Job)) (number : ℕ) → s.jobs ≡ plain_jobs js → StartsSqueezing s.volume js (Ok number) v js' → Does entry.Squeeze s (Ok (Line (said.Job number))) (over_with s v (plain_jobs js'))
+squeeze_begun s v js js' number is has = start_begun _ s v js js' number has.over (λ running. (_, squeeze_on s js (Ok number) _ is (has.step running s.console.machine.core), refl))
+
+pub squeeze_refused : (s : Seen) (v : Mounted) (js js' : List (Option kept.Job)) (why : JobFault) → s.jobs ≡ plain_jobs js → StartsSqueezing s.volume js (Err why) v js' → Does entry.Squeeze s (Err (fault_of_job why)) (over_with s v (plain_jobs js'))
+squeeze_refused s v js js' why is has = start_refused _ s v js js' why has.over (λ running. by_fault why (squeeze_on s js (Err why) _ is (has.step running s.console.machine.core)))
+  where
+    by_fault : (why : JobFault) → SqueezeStarts (job_state (state_of s)) (Err why) (state_over v s.console.machine.core (plain_jobs js')) → Does entry.Squeeze s (Err (fault_of_job why)) (over_with s v (plain_jobs js'))
+    by_fault job.TooManyJobs starts = declined _ _ _ job.TooManyJobs (λ same. cc) (start_steady _ _ has.over.others) starts.0 (ap (with_work (state_of s)) starts.1)
+    by_fault job.Memory starts = absurd starts
+    by_fault job.NoJob starts = absurd starts
+    by_fault (job.File why) starts = absurd starts
+    by_fault (job.Asm why) starts = absurd starts
+    by_fault (job.Tape why) starts = absurd starts

@@ -1,10 +1,12 @@
 pub mod ByteLemmas
 pub mod JobLemmas
 pub mod QuietLemmas
-pub mod StoreLemmas
 pub mod DoesLemmas
 pub mod SessionLemmas
+pub mod LeavesLemmas
 pub mod ToldLemmas
 pub mod EntryLemmas
 pub mod TextLemmas
 pub mod RefusalLemmas
+pub mod SameLemmas
+pub mod OtherLemmas

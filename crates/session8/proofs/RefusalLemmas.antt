@@ -9,12 +9,13 @@ use Rattle.session8.specs.Refusals.{after_refusal}
 use Rattle.session8.specs.State.{State}
 use Rattle.session8.specs.System.{Step}
 
-left_by : (old new : State) (e : Entry) (why : SessionFault) → Step old e (Err why) new → (new ≡ old) ⊎ (new ≡ after_refusal old e)
+pub left_by : (old new : State) (e : Entry) (why : SessionFault) → Step old e (Err why) new → (new ≡ old) ⊎ (new ≡ after_refusal old e)
 left_by old new e fault.Memory step = inl step.1
 left_by old new e fault.BadLine step = inr step.1
 left_by old new e fault.NoJob step = inr step.1
 left_by old new e fault.TooManyJobs step = inr step.1
 left_by old new e (fault.File fault) step = inr step.1
+left_by old new e (fault.Asm fault) step = inr step.1
 left_by old new e (fault.Tape fault) step = inr step.1
 left_by old new e fault.BadText step = inr step.1
 left_by old new e fault.Reader step = inr step.1
@@ -25,6 +26,8 @@ after_is : (old : State) (e : Entry) → job_of_entry e ≡ None → after_refus
 after_is old (entry.Store name text) none = refl
 after_is old (entry.Delete name) none = refl
 after_is old entry.Direct none = refl
+after_is old (entry.Assemble to from) none = refl
+after_is old (entry.Load name) none = refl
 after_is old entry.Squeeze none = refl
 after_is old (entry.Turn number) none = cc
 after_is old (entry.Start cell) none = refl
@@ -44,6 +47,8 @@ after_others : (old : State) (e : Entry) → after_refusal old e ≡ record old 
 after_others old (entry.Store name text) = refl
 after_others old (entry.Delete name) = refl
 after_others old entry.Direct = refl
+after_others old (entry.Assemble to from) = refl
+after_others old (entry.Load name) = refl
 after_others old entry.Squeeze = refl
 after_others old (entry.Turn number) = refl
 after_others old (entry.Start cell) = refl

@@ -12,7 +12,7 @@ use Rattle.script8.specs.declared.faults.SessionFault.{SessionFault}
 use Rattle.script8.specs.declared.faults.SessionFault.TheVariants as fault
 use Rattle.script8.specs.declared.items.Item.{Item}
 use Rattle.script8.specs.declared.items.Item.TheVariants.{Do, Finish, Refused}
-use Rattle.session8.specs.Jobs.{lowest_job}
+use Rattle.jobs8.specs.Jobs.{lowest_job}
 use Rattle.session8.specs.State.{Console, State}
 use Rattle.session8.specs.System.{Answer, Step}
 use Rattle.session8.specs.declared.endings.Ending.{Ending}
@@ -118,6 +118,8 @@ unchanged entry (Ok (Line said)) old new step long = absurd (long tt)
 unchanged entry (Err why) old new step long = absurd (long tt)
 unchanged (kinds.Store name text) (Ok (Report shown)) old new step long = absurd step.0
 unchanged (kinds.Delete name) (Ok (Report shown)) old new step long = absurd step.0
+unchanged (kinds.Assemble to from) (Ok (Report shown)) old new step long = absurd step.0
+unchanged (kinds.Load name) (Ok (Report shown)) old new step long = absurd step.0
 unchanged kinds.Squeeze (Ok (Report shown)) old new step long = absurd step.0
 unchanged (kinds.Turn n) (Ok (Report shown)) old new step long = absurd step.0
 unchanged (kinds.Start cell) (Ok (Report shown)) old new step long = absurd step.0

@@ -25,6 +25,8 @@ abbrev pub is_console : Entry → Bool
 is_console (entry.Store name text) = false
 is_console (entry.Delete name) = false
 is_console entry.Direct = false
+is_console (entry.Assemble to from) = false
+is_console (entry.Load name) = false
 is_console entry.Squeeze = false
 is_console (entry.Turn number) = false
 is_console (entry.Start cell) = true

@@ -1,12 +1,12 @@
-pub mod Jobs
 pub mod State
 pub mod Console
+pub mod Work
 pub mod Files
-pub mod Turns
 pub mod Refusals
 pub mod System
+pub mod Same
 pub mod Session
-pub mod Steps
+pub mod Interleaving
 pub mod Reading
 pub mod Script
 pub mod RunSteps

@@ -10,7 +10,7 @@ use Rattle.script8.specs.declared.items.Item.{Item}
 use Rattle.script8.specs.declared.items.Item.TheVariants.{Do, Finish, Refused}
 use Rattle.script8.specs.declared.replies.Reply.TheVariants.{Line}
 use Rattle.script8.specs.declared.replies.Said.TheVariants.{Working, Finished}
-use Rattle.session8.specs.Jobs.{lowest_job}
+use Rattle.jobs8.specs.Jobs.{lowest_job}
 use Rattle.session8.specs.State.{State}
 use Rattle.session8.specs.System.{Answer, Step}
 use Rattle.session8.specs.Reading.{IsReadWithin, IsTaken}

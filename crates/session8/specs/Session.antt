@@ -1,15 +1,16 @@
 -- What is seen of a session, and the state of the system machine in it.
-use Rattle.std.specs.Prelude.{◌≡◌, ◌≤◌, ◌<◌, ◌⊎◌, true, false, nat_eq, OnOk, Option, List, [], None, Err}
+use Rattle.std.specs.Prelude.{◌≡◌, ◌≤◌, ◌<◌, ◌⊎◌, true, false, nat_eq, OnOk, Option, List, Err}
 use Rattle.os8_dir.specs.Files.{files_of, capacity_of, limit_of, above_of}
 use Rattle.os8_files.specs.Calls.{info_of}
 use Rattle.os8_files.specs.Mounted.{Mounted}
+use Rattle.jobs8.specs.Calls as calls
+use Rattle.jobs8.specs.Calls.{Outlives}
+use Rattle.jobs8.specs.Jobs.{Job}
 use Rattle.script8.specs.declared.entries.Entry.{Entry}
 use Rattle.script8.specs.declared.faults.SessionFault.TheVariants.{Reader, Writer, Memory}
 use Rattle.session8.specs.Console.{is_console}
 use Rattle.session8.specs.State.{State, Console}
-use Rattle.session8.specs.Steps.{Outlives}
 use Rattle.session8.specs.System.{Answer, Step}
-use Rattle.session8.specs.declared.jobs.Job.{Job}
 
 pub record Seen : Type 0 where
   pub volume : Mounted
@@ -30,10 +31,8 @@ state_of s = record {
 }
 
 -- no block call failed between, and no write before
-pub record IsQuiet (old new : Seen) : Type 0 where
-  pub running : old.volume.stopped ≡ false
-  pub reads : new.volume.failed_reads ≡ old.volume.failed_reads
-  pub writes : new.volume.failed_writes ≡ old.volume.failed_writes
+abbrev pub IsQuiet : Seen → Seen → Type 0
+IsQuiet old new = calls.IsQuiet old.volume new.volume
 
 -- failures are never forgotten
 pub record IsLater (old new : Seen) : Type 0 where
@@ -67,8 +66,3 @@ pub record Does (entry : Entry) (old : Seen) (answer : Answer) (new : Seen) : Ty
   pub memory : answer ≡ Err Memory → IsSame old new
   pub reply : IsReply answer
   pub done : OnOk answer (Step (state_of old) entry answer (state_of new) × IsSteadied entry old new)
-
--- between entries no file is being written, and no file is held
-pub record IsSettled (volume : Mounted) : Type 0 where
-  pub none : volume.tentative ≡ None
-  pub free : volume.holds ≡ []

@@ -2,7 +2,7 @@
 use Rattle.std.specs.Prelude.{ℕ, Bool, Option, List}
 use Rattle.cpu8.specs.State as cpu
 use Rattle.os8_dir.specs.Files.{Files}
-use Rattle.session8.specs.declared.jobs.Job.{Job}
+use Rattle.jobs8.specs.Jobs.{Job}
 
 -- what stands at the operator's console
 pub record Console : Type 0 where

@@ -1,7 +1,10 @@
 -- The system machine: its steps and its runs.
-use Rattle.std.specs.Prelude.{◌≡◌, ◌≢◌, ℕ, ◌+◌, ◌-◌, ◌≤◌, Bool, true, false, Some, None, List, [], ◌∷◌, Result, Ok, Err}
+use Rattle.std.specs.Prelude.{◌≡◌, ◌≢◌, ℕ, ◌+◌, Bool, true, false, Some, List, [], ◌∷◌, Result, Ok, Err}
 use Rattle.os8_dir.specs.Names.{parsed_name}
 use Rattle.os8_files.specs.Service.{lengths_of, used_of}
+use Rattle.jobs8.specs.Starts.{AssembleStarts, LoadStarts, SqueezeStarts}
+use Rattle.jobs8.specs.Turns.{Turns}
+use Rattle.jobs8.specs.declared.turned.Turned.{Turned}
 use Rattle.script8.specs.declared.entries.Entry.{Entry}
 use Rattle.script8.specs.declared.entries.Entry.TheVariants as entry
 use Rattle.script8.specs.declared.faults.SessionFault.{SessionFault}
@@ -9,13 +12,12 @@ use Rattle.script8.specs.declared.faults.SessionFault.TheVariants.{Memory}
 use Rattle.script8.specs.declared.replies.Reply.{Reply}
 use Rattle.script8.specs.declared.replies.Reply.TheVariants.{Line, Report}
 use Rattle.script8.specs.declared.replies.Report.TheVariants.{Direct}
-use Rattle.script8.specs.declared.replies.Said.TheVariants.{Stored, Deleted, Job, Working, Squeezed}
+use Rattle.script8.specs.declared.replies.Said.TheVariants.{Stored, Deleted, Job}
 use Rattle.session8.specs.Console.{Shows}
 use Rattle.session8.specs.Files.{HasStored, HasDeleted, text_blocks}
-use Rattle.session8.specs.Jobs.{with_job, least_free}
-use Rattle.session8.specs.Refusals.{May, MayLack, after_refusal}
+use Rattle.session8.specs.Refusals.{Named, May, MayLack, after_refusal}
 use Rattle.session8.specs.State.{State}
-use Rattle.session8.specs.Turns.{IsSqueezing, HasTurned, squeezing, new_squeezing}
+use Rattle.session8.specs.Work.{Works, said_of}
 
 -- what is answered to an entry
 abbrev pub Answer : Type 0
@@ -26,14 +28,15 @@ abbrev pub is_memory : Answer → Bool
 is_memory (Err Memory) = true
 is_memory answer = false
 
--- What the machine may do and reply. A clean squeezing turn that is the last leaves no free block below a file.
+-- What the machine may do and reply.
 abbrev pub Done : State → Entry → Reply → State → Type 0
-Done old (entry.Store name text) (Line (Stored other blocks)) new = (parsed_name name ≡ Some other) × (blocks ≡ text_blocks text) × HasStored old other text new
-Done old (entry.Delete name) (Line (Deleted other)) new = (parsed_name name ≡ Some other) × HasDeleted old other new
+Done old (entry.Store name text) (Line (Stored other blocks)) new = (parsed_name name ≡ Some other) × (blocks ≡ text_blocks text) × Works (HasStored other text) old new
+Done old (entry.Delete name) (Line (Deleted other)) new = (parsed_name name ≡ Some other) × Works (HasDeleted other) old new
 Done old entry.Direct (Report (Direct files free)) new = (files ≡ lengths_of old.files) × (free + used_of old.files ≡ old.capacity) × (new ≡ old)
-Done old entry.Squeeze (Line (Job number)) new = (least_free old.jobs ≡ Some number) × (new ≡ record old { jobs = with_job number (Some (new_squeezing old)) old.jobs })
-Done old (entry.Turn number) (Line (Working other)) new = (other ≡ number) × (clean : Bool) × (left : ℕ) × IsSqueezing old number clean left × (2 ≤ left) × HasTurned old number (Some (squeezing clean (left - 1))) new
-Done old (entry.Turn number) (Line (Squeezed other)) new = (other ≡ number) × (clean : Bool) × (left : ℕ) × IsSqueezing old number clean left × (clean ≡ true → new.tight ≡ true) × HasTurned old number None new
+Done old (entry.Assemble to from) (Line (Job number)) new = Named to from (λ target sources. Works (λ before after. AssembleStarts before target sources (Ok number) after) old new)
+Done old (entry.Load name) (Line (Job number)) new = (n : ℕ) × (parsed_name name ≡ Some n) × Works (λ before after. LoadStarts before n (Ok number) after) old new
+Done old entry.Squeeze (Line (Job number)) new = Works (λ before after. SqueezeStarts before (Ok number) after) old new
+Done old (entry.Turn number) (Line said) new = (turned : Turned) × (said ≡ said_of number turned) × Works (λ before after. Turns before number (Ok turned) after) old new
 Done old entry reply new = Shows old.console entry reply new.console × (new ≡ record old { console = new.console })
 
 -- From old, the machine may answer the entry so, and go on to new.

@@ -3,6 +3,9 @@ ghost use Rattle.std.specs.Prelude.{◌≡◌, ◌≤◌, [], true, false, IfOk}
 ghost use Rattle.core_load.specs.Core.{zeros};
 ghost use Rattle.cpu8.specs.State.{stopped, next_cell};
 ghost use Rattle.debug8.specs.Breaks.{no_breaks};
+ghost use Rattle.jobs8.specs.Calls.{TakesTurn};
+ghost use Rattle.jobs8.specs.Settled.{IsSettled};
+ghost use Rattle.session8.specs.Work.{with_core};
 ghost use Rattle.session8.specs.Console.{is_console, ConsoleDoes, Shows, why_of};
 ghost use Rattle.script8.specs.declared.entries.Entry.TheVariants as entry;
 ghost use Rattle.script8.specs.declared.replies.Reply.TheVariants.{Line};
@@ -11,9 +14,12 @@ ghost use Rattle.script8.specs.declared.replies.Said.TheVariants as said;
 use core_load::Core;
 use cpu8::{Gone, Machine};
 use debug8::{DebugFault, Debugger};
+use jobs8::{JobFault, Jobs, Turned};
+use os8_files::FileService;
 use script8::{Bytes, Entry, Reply, Report, Said, Why};
 use std::alloc::Global;
 use std::marker::Model;
+use volume_image::BlockStore;
 use word12::{Cell, Word};
 
 /// The processor with its core and Teletype, the breaks, and what was printed.
@@ -71,9 +77,26 @@ impl Console {
             Entry::Store { .. }
             | Entry::Delete { .. }
             | Entry::Direct
+            | Entry::Assemble { .. }
+            | Entry::Load { .. }
             | Entry::Squeeze
             | Entry::Turn(_) => unreachable!(),
         }
+    }
+
+    /// Lets the job of a number take a turn over core, whose words alone it may change.
+    pub(crate) fn turn<S: BlockStore>(
+        &mut self,
+        alloc: Global,
+        jobs: &mut Jobs,
+        files: &mut FileService<S>,
+        number: u32,
+    ) -> Result<Turned, JobFault>
+        requires { IsSettled files.old jobs.old }
+        ensures turn { TakesTurn files.old self.old.machine.core jobs.old number result files.new self.new.machine.core jobs.new }
+        ensures others { self.new ≡ with_core self.old self.new.machine.core }
+    {
+        jobs.turn(alloc, files, self.machine.core_mut(), number)
     }
 
     fn start(&mut self, cell: Cell) -> Reply

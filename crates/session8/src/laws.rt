@@ -1,12 +1,13 @@
-//! What holds of refusals, and of the numbers of jobs. Each function does nothing: its contract is the law.
-ghost use Rattle.std.specs.Prelude.{◌≡◌, ◌≢◌, ℕ, ◌≤◌, List, Option, Some, None, Err, length};
+//! What holds of refusals, and of the turns of squeezing jobs. Each function does nothing: its contract is the law.
+ghost use Rattle.std.specs.Prelude.{◌≡◌, ℕ, Bool, false, Some, None, Err};
+ghost use Rattle.jobs8.specs.Jobs.{squeezing, job_of, with_job};
 ghost use Rattle.script8.specs.Replies.{job_of_entry};
 ghost use Rattle.script8.specs.declared.entries.Entry.{Entry};
+ghost use Rattle.script8.specs.declared.entries.Entry.TheVariants as entry;
 ghost use Rattle.script8.specs.declared.faults.SessionFault.{SessionFault};
-ghost use Rattle.session8.specs.Jobs.{IsLowest, IsOfNone, IsFree, IsTaken, least_free, lowest_job, job_of, with_job};
+ghost use Rattle.session8.specs.Same.{IsAlike, IsApart, speaks_of_room};
 ghost use Rattle.session8.specs.State.{State};
-ghost use Rattle.session8.specs.System.{Step};
-ghost use Rattle.session8.specs.declared.jobs.Job.{Job};
+ghost use Rattle.session8.specs.System.{Answer, Step};
 
 /// A refused entry changes no file, no word of core, no register, no break and no character printed; and where it is no turn of a
 /// job, it changes nothing at all (this project's profile).
@@ -15,17 +16,12 @@ pub fn refusals()
     ensures all { (old new : State) (entry : Entry) (why : SessionFault) → job_of_entry entry ≡ None → Step old entry (Err why) new → new ≡ old }
 {}
 
-/// The number that a new job gets is the lowest that no job has, and there is none where each number has a job. The job that
-/// FINISH gives a turn is that of the lowest number that has one, and there is none where no number has a job.
-pub fn job_numbers()
-    ensures free { (jobs : List (Option Job)) (number : ℕ) → least_free jobs ≡ Some number → IsLowest (IsFree jobs) (length jobs) number }
-    ensures full { (jobs : List (Option Job)) → least_free jobs ≡ None → IsOfNone (IsFree jobs) (length jobs) }
-    ensures lowest { (jobs : List (Option Job)) (number : ℕ) → lowest_job jobs ≡ Some number → IsLowest (IsTaken jobs) (length jobs) number }
-    ensures none { (jobs : List (Option Job)) → lowest_job jobs ≡ None → IsOfNone (IsTaken jobs) (length jobs) }
-{}
-
-/// Where a job is put, or taken away, its number has it or no job, and no other number is changed.
-pub fn job_put()
-    ensures it { (jobs : List (Option Job)) (number : ℕ) (job : Option Job) → 1 ≤ number → number ≤ length jobs → job_of number (with_job number job jobs) ≡ job }
-    ensures others { (jobs : List (Option Job)) (number other : ℕ) (job : Option Job) → number ≢ other → job_of other (with_job number job jobs) ≡ job_of other jobs }
+/// When the turns of squeezing jobs fall matters to nothing but the refusals that speak of room and the numbers of new jobs (this
+/// project's profile). Such a turn changes its own job alone, and what is known of free blocks below files. In two states that are
+/// the same but for those, any other entry may get the same answer, and leaves them so, where the answer is no refusal for want of
+/// free blocks or of room in the directory, and a job that it begins gets the same number in both.
+pub fn interleavings()
+    ensures own { (old new : State) (number : ℕ) (clean : Bool) (left : ℕ) (answer : Answer) → job_of number old.jobs ≡ Some (squeezing clean left) → Step old (entry.Turn number) answer new → new ≡ record old { tight = new.tight; jobs = with_job number (job_of number new.jobs) old.jobs } }
+    ensures turn { (old new : State) (number : ℕ) (clean : Bool) (left : ℕ) (answer : Answer) → job_of number old.jobs ≡ Some (squeezing clean left) → Step old (entry.Turn number) answer new → IsAlike old new }
+    ensures others { (one two one' : State) (e : Entry) (answer : Answer) → IsAlike one two → IsApart e one two → speaks_of_room answer ≡ false → Step one e answer one' → (two' : State) × Step two e answer two' × IsAlike one' two' }
 {}

@@ -3,11 +3,9 @@
 
 mod consoles;
 mod endings;
-mod jobs;
 pub mod laws;
 mod readings;
 mod sessions;
 
-pub use jobs::{Job, Work};
 pub use readings::{MOST, read_all};
 pub use sessions::{Ran, Session};

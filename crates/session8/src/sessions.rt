@@ -1,10 +1,11 @@
 ghost use Rattle.std.specs.Prelude.{◌≡◌, ◌+◌, ◌<◌, ◌≤◌, ◌↔◌, [], false, true, None, OnOk, IfOk, IfErr, IsErrOf, ◌++◌, ◌∷◌, vec_len, vec_capacity, Err};
 ghost use Rattle.os8_dir.specs.Reading.{Sound, Meets, directory_of};
 ghost use Rattle.os8_dir.specs.declared.faults.DirFault.TheVariants.{Device};
-ghost use Rattle.session8.specs.Jobs.{no_jobs};
+ghost use Rattle.jobs8.specs.Jobs.{no_jobs};
+ghost use Rattle.jobs8.specs.Calls.{Outlives};
 ghost use Rattle.session8.specs.Console.{is_console};
 ghost use Rattle.session8.specs.System.{Step, Run, is_memory};
-ghost use Rattle.session8.specs.Steps.{Outlives};
+ghost use Rattle.session8.specs.Interleaving.{EntryReads, EntryPlaces, Leaves};
 ghost use Rattle.session8.specs.Session.{state_of, IsQuiet, IsLater, IsSame, IsReply, IsSteadied, Does};
 ghost use Rattle.core_load.specs.Core.{zeros};
 ghost use Rattle.cpu8.specs.State.{stopped};
@@ -13,8 +14,8 @@ ghost use Rattle.script8.specs.declared.entries.Entry.TheVariants as entry;
 ghost use Rattle.script8.specs.declared.faults.SessionFault.TheVariants.{Memory};
 
 use crate::consoles::Console;
-use crate::jobs::{JOBS, Job};
 use debug8::DebugFault;
+use jobs8::Jobs;
 use os8_dir::DirFault;
 use os8_files::FileService;
 use script8::{Entry, Reply, SessionFault};
@@ -24,7 +25,6 @@ use volume_image::BlockStore;
 
 mod files;
 mod scripts;
-mod storing;
 mod turns;
 
 /// How many bytes a line that takes no memory may have.
@@ -34,20 +34,21 @@ const LINE: usize = 80;
 /// jobs hold files.
 pub struct Session<S: BlockStore> {
     files: FileService<S>,
-    jobs: [Option<Job>; JOBS],
+    jobs: Jobs,
     console: Console,
     line: Vec<u8>,
 }
 
 impl<S: BlockStore> Model for Session<S> {
     ghost use Rattle.std.specs.Prelude.{◌≤◌, vec_capacity};
-    ghost use Rattle.session8.specs.Session.{Seen, IsSettled};
+    ghost use Rattle.jobs8.specs.Settled.{IsSettled, plain_jobs};
+    ghost use Rattle.session8.specs.Session.{Seen};
 
     ghost Value = { Seen };
 
-    ghost view = { λ s. record { volume = s.files; jobs = s.jobs; console = s.console } };
+    ghost view = { λ s. record { volume = s.files; jobs = plain_jobs s.jobs; console = s.console } };
 
-    ghost invariant = { λ s. IsSettled s.files × (80 ≤ vec_capacity s.line) };
+    ghost invariant = { λ s. IsSettled s.files s.jobs × (80 ≤ vec_capacity s.line) };
 }
 
 /// The answers to the entries of a run that were done, and whether want of memory ended it.
@@ -77,7 +78,7 @@ impl<S: BlockStore> Session<S> {
         match FileService::mount(alloc, store) {
             Ok(files) => Ok(Session {
                 files,
-                jobs: [None; JOBS],
+                jobs: Jobs::new(),
                 console,
                 line,
             }),
@@ -91,13 +92,14 @@ impl<S: BlockStore> Session<S> {
         ensures counts { (S.reads result ≡ self.volume.reads) × (S.failed_reads result ≡ self.volume.failed_reads) × (S.failed_writes result ≡ self.volume.failed_writes) }
     {
         let Session {
-            files,
-            jobs: _,
+            mut files,
+            jobs,
             console,
             line,
         } = self;
         drop(line);
         drop(console);
+        jobs.end(&mut files);
         files.into_store()
     }
 
@@ -111,6 +113,8 @@ impl<S: BlockStore> Session<S> {
         ensures memory { IsErrOf result Memory → IsSame self.old self.new }
         ensures reply { IsReply result }
         ensures done { OnOk result (Step (state_of self.old) entry result (state_of self.new) × IsSteadied entry self.old self.new) }
+        ensures reads { EntryReads entry self.old self.new }
+        ensures places { EntryPlaces entry self.old self.new }
     {
         self.step(alloc, &entry)
     }
@@ -146,12 +150,15 @@ impl<S: BlockStore> Session<S> {
 
     /// Does an entry that is lent.
     fn step(&mut self, alloc: Global, entry: &Entry) -> Result<Reply, SessionFault>
-        ensures { Does entry.now self.old result self.new }
+        ensures does { Does entry.now self.old result self.new }
+        ensures leaves { Leaves entry.now self.old self.new }
     {
         match entry {
             Entry::Store { name, text } => self.store(alloc, name.as_slice(), text.as_slice()),
             Entry::Delete { name } => self.delete(alloc, name.as_slice()),
             Entry::Direct => self.direct(alloc),
+            Entry::Assemble { to, from } => self.assemble(alloc, to.as_slice(), from.as_slice()),
+            Entry::Load { name } => self.load(alloc, name.as_slice()),
             Entry::Squeeze => self.squeeze(),
             Entry::Turn(number) => self.turn(alloc, *number),
             Entry::Start(_)
@@ -172,7 +179,8 @@ impl<S: BlockStore> Session<S> {
     /// Does an entry of the console.
     fn console(&mut self, alloc: Global, entry: &Entry) -> Result<Reply, SessionFault>
         requires { is_console entry.now ≡ true }
-        ensures { Does entry.now self.old result self.new }
+        ensures does { Does entry.now self.old result self.new }
+        ensures leaves { Leaves entry.now self.old self.new }
     {
         match self.console.enter(alloc, entry) {
             Ok(reply) => Ok(reply),

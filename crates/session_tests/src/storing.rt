@@ -56,6 +56,30 @@ fn reads_and_writes(rt: HostRuntime) -> Result<(), Fail> {
     Ok(())
 }
 
+/// Jobs that assemble two blocks, and load one: each turn reads a block but the last, and only a job's end writes.
+#[test]
+fn reads_of_turns(rt: HostRuntime) -> Result<(), Fail> {
+    let alloc = rt.alloc();
+    let back =
+        b"1;$\nASSEMBLE B.BN<S.PA\nTURN 1\nTURN 1\nTURN 1\nTURN 1\nTURN 1\nLOAD B.BN\nTURN 1\nTURN 1\n";
+    let script = long_text(alloc, b"STORE S.PA 1\n", b' ', 400, back)?;
+    for (bytes, reads, writes) in [
+        (436, 7, 3),
+        (443, 8, 3),
+        (450, 9, 3),
+        (457, 10, 3),
+        (464, 11, 3),
+        (471, 11, 5),
+        (481, 11, 5),
+        (488, 12, 5),
+        (495, 12, 5),
+    ] {
+        let found = counted(alloc, &script[..script.len().min(bytes)]);
+        assert_eq!(rt; found, (reads, writes), "of {bytes} bytes");
+    }
+    Ok(())
+}
+
 /// What a script writes on a fresh volume of 20 blocks that fails at the read and at the write of these numbers, counted
 /// from 0; or else the fault of its directory, where the whole store is given back.
 fn failing(alloc: Global, read: u32, write: u32, out: &mut Vec<u8>) -> Option<DirFault> {
@@ -102,10 +126,13 @@ fn failing_stores(rt: HostRuntime) {
     }
 }
 
-/// Whether the job 1 of a session comes to its end at a turn.
+/// Whether the job 1 of a session moves a file at a turn, and comes to its end at the next.
 fn squeezes(alloc: Global, session: &mut Session<MemoryVolume>) -> bool {
     match session.enter(alloc, Entry::Turn(1)) {
-        Ok(Reply::Line(Said::Squeezed(job))) => job == 1,
+        Ok(Reply::Line(Said::Working(1))) => match session.enter(alloc, Entry::Turn(1)) {
+            Ok(Reply::Line(Said::Squeezed(job))) => job == 1,
+            _ => false,
+        },
         _ => false,
     }
 }

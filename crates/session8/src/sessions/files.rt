@@ -3,14 +3,15 @@ ghost use Rattle.std.specs.Prelude.{◌≡◌, ℕ, List, Some};
 ghost use Rattle.os8_dir.specs.Entries.{IsNamed};
 ghost use Rattle.os8_dir.specs.Names.{parsed_name};
 ghost use Rattle.script8.specs.declared.entries.Entry.TheVariants as entry;
+ghost use Rattle.session8.specs.Interleaving.{Leaves};
 ghost use Rattle.session8.specs.Session.{Does};
 
 use super::Session;
-use super::storing::store_file;
-use crate::jobs::disturb;
 use char_pack::{TextFault, store};
+use jobs8::laws::{disturbed_jobs, held_names, settled_calls};
 use os8_dir::Name;
 use os8_files::FileFault;
+use os8_files::laws::{block_reads, file_places, kept_holds};
 use script8::{FileLengths, Reply, Report, Said, SessionFault};
 use std::alloc::Global;
 use volume_image::BlockStore;
@@ -23,7 +24,8 @@ impl<S: BlockStore> Session<S> {
         name: &[u8],
         text: &[u8],
     ) -> Result<Reply, SessionFault>
-        ensures { Does (entry.Store name.now text.now) self.old result self.new }
+        ensures does { Does (entry.Store name.now text.now) self.old result self.new }
+        ensures leaves { Leaves (entry.Store name.now text.now) self.old self.new }
     {
         match Name::parse(name) {
             None => Err(SessionFault::File(FileFault::BadName)),
@@ -34,15 +36,22 @@ impl<S: BlockStore> Session<S> {
     /// Makes a file of a text under a name.
     fn store_named(&mut self, alloc: Global, name: Name, text: &[u8]) -> Result<Reply, SessionFault>
         requires { IsNamed name }
-        ensures { (bytes : List ℕ) → parsed_name bytes ≡ Some name → Does (entry.Store bytes text.now) self.old result self.new }
+        ensures does { (bytes : List ℕ) → parsed_name bytes ≡ Some name → Does (entry.Store bytes text.now) self.old result self.new }
+        ensures leaves { (bytes : List ℕ) → parsed_name bytes ≡ Some name → Leaves (entry.Store bytes text.now) self.old self.new }
     {
+        block_reads();
+        disturbed_jobs();
+        file_places();
+        held_names();
+        kept_holds();
+        settled_calls();
         match store(alloc, text) {
             Err(TextFault::BadText) => Err(SessionFault::BadText),
             Err(TextFault::Memory) => Err(SessionFault::Memory),
             Ok(words) => {
+                self.files.put(alloc, name, &words)?;
+                self.jobs.disturb();
                 let blocks = words.len() / 256;
-                store_file(&mut self.files, alloc, name, &words, blocks)?;
-                disturb(&mut self.jobs);
                 Ok(Reply::Line(Said::Stored { name, blocks }))
             }
         }
@@ -50,13 +59,20 @@ impl<S: BlockStore> Session<S> {
 
     /// Takes a file out.
     pub(super) fn delete(&mut self, alloc: Global, name: &[u8]) -> Result<Reply, SessionFault>
-        ensures { Does (entry.Delete name.now) self.old result self.new }
+        ensures does { Does (entry.Delete name.now) self.old result self.new }
+        ensures leaves { Leaves (entry.Delete name.now) self.old self.new }
     {
+        block_reads();
+        disturbed_jobs();
+        file_places();
+        held_names();
+        kept_holds();
+        settled_calls();
         match Name::parse(name) {
             None => Err(SessionFault::File(FileFault::BadName)),
             Some(name) => {
                 self.files.delete(alloc, &name)?;
-                disturb(&mut self.jobs);
+                self.jobs.disturb();
                 Ok(Reply::Line(Said::Deleted(name)))
             }
         }
@@ -64,7 +80,8 @@ impl<S: BlockStore> Session<S> {
 
     /// The files in name order, and the free blocks.
     pub(super) fn direct(&mut self, alloc: Global) -> Result<Reply, SessionFault>
-        ensures { Does entry.Direct self.old result self.new }
+        ensures does { Does entry.Direct self.old result self.new }
+        ensures leaves { Leaves entry.Direct self.old self.new }
     {
         let files = self.files.listing(alloc)?;
         let free = self.files.free();

@@ -6,8 +6,7 @@ ghost use Rattle.script8.specs.Items.{script_of};
 ghost use Rattle.script8.specs.Replies.{answer_lines, lent, fault_line, IsShort};
 ghost use Rattle.script8.specs.declared.faults.SessionFault.TheVariants as fault;
 ghost use Rattle.script8.specs.declared.items.Item.TheVariants.{Do, Finish};
-ghost use Rattle.session8.specs.Jobs.{job_count};
-ghost use Rattle.session8.specs.Jobs as jobs;
+ghost use Rattle.jobs8.specs.Jobs.{lowest_job, turns_left};
 ghost use Rattle.session8.specs.Reading.{Takes};
 ghost use Rattle.session8.specs.RunSteps.{RunsItems, RunsTurn, RunsNext, RunsFront, RunsRead, RunsFull, RunsCut, IsEnded, fault_of};
 ghost use Rattle.session8.specs.Script.{RunsText};
@@ -16,7 +15,6 @@ ghost use Rattle.session8.specs.Session.{state_of, IsQuiet, IsLater};
 
 use super::{Session, is_memory};
 use crate::endings::Ending;
-use crate::jobs::lowest_place;
 use crate::readings::{ends, read_within};
 use script8::{Entry, Item, Next, Reply, Said, SessionFault, next_item, put_reply};
 use std::alloc::Global;
@@ -216,8 +214,8 @@ impl<S: BlockStore> Session<S> {
         ensures later { IsLater self.old self.new }
         ensures running { IsQuiet self.old self.new → self.new.volume.stopped ≡ false }
     {
-        while let Some(place) = lowest_place(&self.jobs) {
-            self.run_turn(alloc, place as u32 + 1, writer)?;
+        while let Some(number) = self.jobs.lowest() {
+            self.run_turn(alloc, number, writer)?;
         }
         self.tell(None, &Ok(Reply::Line(Said::Finished)), writer)
     }
@@ -229,9 +227,9 @@ impl<S: BlockStore> Session<S> {
         number: u32,
         writer: &mut W,
     ) -> Result<(), Ending>
-        requires { jobs.lowest_job self.old.jobs ≡ Some number }
+        requires { lowest_job self.old.jobs ≡ Some number }
         ensures told { IsQuiet self.old self.new → RunsTurn number (state_of self.old) (state_of self.new) (W.contents writer.old) (W.contents writer.new) result }
-        ensures fewer { OnOk result (job_count self.new.jobs < job_count self.old.jobs) }
+        ensures fewer { OnOk result (turns_left self.new.jobs < turns_left self.old.jobs) }
         ensures later { IsLater self.old self.new }
         ensures running { IsQuiet self.old self.new → self.new.volume.stopped ≡ false }
     {

@@ -1,78 +1,137 @@
 //! The entries of jobs.
-ghost use Rattle.std.specs.Prelude.{◌≡◌, ◌+◌, ◌<◌, ℕ, Bool, None, Some, get_or, IsErrOf};
+ghost use Rattle.std.specs.Prelude.{◌≡◌, ◌<◌, ◌≤◌, Some, None, IfSome, IsErrOf, length, take};
+ghost use Rattle.jobs8.specs.Jobs.{lowest_job, turns_left};
 ghost use Rattle.script8.specs.declared.entries.Entry.TheVariants as entry;
 ghost use Rattle.script8.specs.declared.faults.SessionFault.TheVariants.{Memory};
-ghost use Rattle.session8.specs.Jobs.{with_job};
+ghost use Rattle.session8.specs.Files.{parsed_names};
+ghost use Rattle.session8.specs.Interleaving.{Leaves};
 ghost use Rattle.session8.specs.Session.{Does};
-ghost use Rattle.session8.specs.Turns.{squeezing};
+ghost use Rattle.session8.specs.Work.{said_of, fault_of_job};
 
 use super::Session;
-use super::storing::squeeze_all;
-use crate::jobs::{Job, Work, free_place, job_at};
+use jobs8::laws::{job_calls, job_numbers};
+use jobs8::{JobFault, Turned};
+use os8_dir::Name;
 use os8_files::FileFault;
-use script8::{Reply, Said, SessionFault};
+use script8::{Bytes, Reply, Said, SessionFault};
 use std::alloc::Global;
 use volume_image::BlockStore;
 
+/// How many sources an `ASSEMBLE` has at most.
+const SOURCES: usize = 8;
+
 impl<S: BlockStore> Session<S> {
+    /// Begins a job that assembles sources to a file. It has two turns for each of their blocks, and one more.
+    pub(super) fn assemble(
+        &mut self,
+        alloc: Global,
+        to: &[u8],
+        from: &[Bytes],
+    ) -> Result<Reply, SessionFault>
+        ensures does { Does (entry.Assemble to.now from.now) self.old result self.new }
+        ensures leaves { Leaves (entry.Assemble to.now from.now) self.old self.new }
+    {
+        if from.is_empty() || from.len() > SOURCES {
+            return Err(SessionFault::BadLine);
+        }
+        let Some(target) = Name::parse(to) else {
+            return Err(SessionFault::File(FileFault::BadName));
+        };
+        let Some(names) = parse_names(from, target) else {
+            return Err(SessionFault::File(FileFault::BadName));
+        };
+        let sources = &names[..from.len()];
+        match self.jobs.assemble(alloc, &mut self.files, target, sources) {
+            Ok(number) => Ok(Reply::Line(Said::Job(number))),
+            Err(fault) => Err(fault_of_job(fault)),
+        }
+    }
+
+    /// Begins a job that loads a file. It has a turn for each of its blocks, and one more.
+    pub(super) fn load(&mut self, alloc: Global, name: &[u8]) -> Result<Reply, SessionFault>
+        ensures does { Does (entry.Load name.now) self.old result self.new }
+        ensures leaves { Leaves (entry.Load name.now) self.old self.new }
+    {
+        let Some(name) = Name::parse(name) else {
+            return Err(SessionFault::File(FileFault::BadName));
+        };
+        match self.jobs.load(alloc, &mut self.files, name) {
+            Ok(number) => Ok(Reply::Line(Said::Job(number))),
+            Err(fault) => Err(fault_of_job(fault)),
+        }
+    }
+
     /// Begins a job that squeezes. It has a turn for each file, and one more.
     pub(super) fn squeeze(&mut self) -> Result<Reply, SessionFault>
-        ensures { Does entry.Squeeze self.old result self.new }
+        ensures does { Does entry.Squeeze self.old result self.new }
+        ensures leaves { Leaves entry.Squeeze self.old self.new }
     {
-        if self.files.stopped() {
-            return Err(SessionFault::File(FileFault::Stopped));
+        match self.jobs.squeeze(&self.files) {
+            Ok(number) => Ok(Reply::Line(Said::Job(number))),
+            Err(fault) => Err(fault_of_job(fault)),
         }
-        let Some(place) = free_place(&self.jobs) else {
-            return Err(SessionFault::TooManyJobs);
-        };
-        self.jobs[place] = Some(Job {
-            work: Work::Squeezing { clean: true },
-            left: self.files.count() + 1,
-        });
-        Ok(Reply::Line(Said::Job(place as u32 + 1)))
     }
 
     /// Lets the job of a number take a turn.
     pub(super) fn turn(&mut self, alloc: Global, number: u32) -> Result<Reply, SessionFault>
-        ensures turn { Does (entry.Turn number) self.old result self.new }
-        ensures ended { (IsErrOf result Memory → ⊥) → self.new.jobs ≡ with_job number None self.old.jobs }
+        ensures does { Does (entry.Turn number) self.old result self.new }
+        ensures leaves { Leaves (entry.Turn number) self.old self.new }
+        ensures fewer { (IsErrOf result Memory → ⊥) → lowest_job self.old.jobs ≡ Some number → turns_left self.new.jobs < turns_left self.old.jobs }
     {
-        if number == 0 {
-            return Err(SessionFault::NoJob);
-        }
-        let place = (number - 1) as usize;
-        match job_at(&self.jobs, place) {
-            None => Err(SessionFault::NoJob),
-            Some(job) => {
-                let Work::Squeezing { clean: _ } = job.work;
-                self.squeezing_turn(alloc, number, place)
-            }
+        job_calls();
+        job_numbers();
+        match self
+            .console
+            .turn(alloc, &mut self.jobs, &mut self.files, number)
+        {
+            Ok(turned) => Ok(Reply::Line(said_of(number, turned))),
+            Err(fault) => Err(fault_of_job(fault)),
         }
     }
+}
 
-    /// The one turn of a squeezing job.
-    fn squeezing_turn(
-        &mut self,
-        alloc: Global,
-        number: u32,
-        place: usize,
-    ) -> Result<Reply, SessionFault>
-        requires range { place < 8 }
-        requires number { number ≡ place + 1 }
-        requires squeezes { (clean : Bool) × (left : ℕ) × (get_or self.old.jobs place None ≡ Some (squeezing clean left)) }
-        ensures turn { Does (entry.Turn number) self.old result self.new }
-        ensures ended { (IsErrOf result Memory → ⊥) → self.new.jobs ≡ with_job number None self.old.jobs }
-    {
-        match squeeze_all(&mut self.files, alloc) {
-            Err(FileFault::Memory) => Err(SessionFault::Memory),
-            Err(fault) => {
-                self.jobs[place] = None;
-                Err(SessionFault::File(fault))
-            }
-            Ok(()) => {
-                self.jobs[place] = None;
-                Ok(Reply::Line(Said::Squeezed(number)))
-            }
+/// The names that several are, where each is one. Another name stands behind them.
+fn parse_names(from: &[Bytes], behind: Name) -> Option<[Name; SOURCES]>
+    requires { length from.now ≤ 8 }
+    ensures names { IfSome result (λ names. parsed_names from.now ≡ Some (take (length from.now) names)) }
+    ensures none { result ≡ None → parsed_names from.now ≡ None }
+{
+    let mut names = [behind; SOURCES];
+    for place in 0..from.len() {
+        match Name::parse(from[place].as_slice()) {
+            None => return None,
+            Some(name) => names[place] = name,
         }
+    }
+    Some(names)
+}
+
+/// What is said of a turn.
+fn said_of(number: u32, turned: Turned) -> Said
+    ensures { result ≡ said_of number turned }
+{
+    match turned {
+        Turned::Working => Said::Working(number),
+        Turned::Assembled { name, blocks } => Said::Assembled {
+            number,
+            name,
+            blocks,
+        },
+        Turned::Loaded(name) => Said::Loaded { number, name },
+        Turned::Squeezed => Said::Squeezed(number),
+    }
+}
+
+/// A job's fault among those of a session.
+fn fault_of_job(fault: JobFault) -> SessionFault
+    ensures { result ≡ fault_of_job fault }
+{
+    match fault {
+        JobFault::NoJob => SessionFault::NoJob,
+        JobFault::TooManyJobs => SessionFault::TooManyJobs,
+        JobFault::File(why) => SessionFault::File(why),
+        JobFault::Asm(why) => SessionFault::Asm(why),
+        JobFault::Tape(why) => SessionFault::Tape(why),
+        JobFault::Memory => SessionFault::Memory,
     }
 }

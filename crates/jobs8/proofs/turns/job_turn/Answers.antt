@@ -1,8 +1,22 @@
-use Rattle.std.proofs.Common.{sym, subst}
+use Rattle.std.proofs.Common.{◌≤◌, sym, subst}
+use Rattle.os8_files.specs.Holds.{times}
+use Rattle.jobs8.specs.Jobs.{held_by_work}
 use Rattle.jobs8.specs.Calls.{TurnsJob}
-use Rattle.jobs8.specs.Settled.{Fits, Stands}
+use Rattle.jobs8.specs.Settled.{Fits, Stands, work_of}
 use Rattle.jobs8.proofs.SqueezeLemmas.{squeezed_turn}
+use Rattle.jobs8.proofs.JobLemmas.{loading_job}
 use Rattle.jobs8.proofs.turns.job_turn.Goals as goal
+
+pub returns-in-Loading : goal.returns-in-Loading
+returns-in-Loading g c =
+    subst (λ w. TurnsJob c.args.files.now c.args.core.now (record { work = w; left = c.args.job.left }) c.loading_turn.result.0 c.loading_turn.result.1 c.loading_turn.new.files c.loading_turn.new.core) (sym c.in-Loading.is)
+    (loading_job c.counted_holds.ensures.released c.args.files.now c.loading_turn.new.files c.args.core.now c.loading_turn.new.core c.in-Loading.loading c.args.job.left c.loading_turn.result.0 c.loading_turn.result.1 c.requires.none
+    (λ name. subst (λ w. times name (held_by_work (work_of w)) ≤ times name c.args.files.now.holds) c.in-Loading.is (c.requires.held name)) c.loading_turn.ensures)
+
+pub returns-in-Assembling : goal.returns-in-Assembling
+returns-in-Assembling g c =
+    subst (λ w. TurnsJob c.args.files.now c.args.core.now (record { work = w; left = c.args.job.left }) c.assembling_turn.result.0 c.assembling_turn.result.1 c.assembling_turn.new.files c.args.core.now) (sym c.in-Assembling.is)
+    (c.assembling_turn.ensures c.args.core.now)
 
 pub returns-in-Squeezing : goal.returns-in-Squeezing
 returns-in-Squeezing g c =

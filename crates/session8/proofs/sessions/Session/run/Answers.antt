@@ -11,8 +11,8 @@ use Rattle.session8.proofs.sessions.Session.run.Goals as goal
 
 pub returns-then-is_memory-clause-run : goal.returns-then-is_memory-clause-run
 returns-then-is_memory-clause-run g c quiet =
-    let same = c.step-answer.ensures.memory (memory_is _ (sym c.if-is_memory.ensures)) in
-    let before = quiet_same _ _ _ quiet same in
+    let same = c.step-answer.ensures.does.memory (memory_is _ (sym c.if-is_memory.ensures)) in
+    let before = quiet_same c.args.self.now _ _ quiet same in
     let count = c.loop-entry.entry-index in
     let entries = c.args.entries.now in
     let parts : take count entries ++ get_or entries count kinds.Direct ∷ drop (count + 1) entries ≡ entries = ap (λ l. take count entries ++ l) (ap (λ n. get_or entries count kinds.Direct ∷ drop n entries) (add-one count) ∙ sym (drop-cons entries count kinds.Direct c.loop-entry-test.true)) ∙ take-append-drop count entries in
@@ -23,17 +23,17 @@ returns-then-is_memory-clause-run g c quiet =
 pub loop-entry-preserved : goal.loop-entry-preserved
 loop-entry-preserved g c = record {
   told = λ quiet.
-      let before = quiet_first _ c.loop-entry.self _ quiet c.loop-entry.invariant.later c.step-answer.ensures.later in
-      let behind = quiet_second _ c.loop-entry.self _ quiet c.loop-entry.invariant.later c.step-answer.ensures.later (c.loop-entry.invariant.running before) in
+      let before = quiet_first _ c.loop-entry.self _ quiet c.loop-entry.invariant.later c.step-answer.ensures.does.later in
+      let behind = quiet_second _ c.loop-entry.self _ quiet c.loop-entry.invariant.later c.step-answer.ensures.does.later (c.loop-entry.invariant.running before) in
       let count = c.loop-entry.entry-index in
       let entries = c.args.entries.now in
       let more : take count entries ++ get_or entries count c.entry-item.result ∷ [] ≡ take (count + 1) entries = sym (take-suc entries count c.entry-item.result c.loop-entry-test.true) ∙ ap (λ n. take n entries) (sym (add-one count)) in
       rw (← more, c.push_reserved.ensures.items)
-      (run_more (take count entries) c.loop-entry.replies.items _ _ _ _ c.step-answer.result (c.loop-entry.invariant.told before) (subst (λ (e : Entry). Step (state_of c.loop-entry.self) e c.step-answer.result (state_of c.step-answer.new.self)) c.entry-item.is (c.step-answer.ensures.step behind)) (no_memory _ (sym c.if-is_memory.ensures)));
-  later = later_trans _ _ _ c.loop-entry.invariant.later c.step-answer.ensures.later;
+      (run_more (take count entries) c.loop-entry.replies.items _ _ _ _ c.step-answer.result (c.loop-entry.invariant.told before) (subst (λ (e : Entry). Step (state_of c.loop-entry.self) e c.step-answer.result (state_of c.step-answer.new.self)) c.entry-item.is (c.step-answer.ensures.does.step behind)) (no_memory _ (sym c.if-is_memory.ensures)));
+  later = later_trans _ _ _ c.loop-entry.invariant.later c.step-answer.ensures.does.later;
   running = λ quiet.
-      let before = quiet_first _ c.loop-entry.self _ quiet c.loop-entry.invariant.later c.step-answer.ensures.later in
-      c.step-answer.ensures.running (quiet_second _ c.loop-entry.self _ quiet c.loop-entry.invariant.later c.step-answer.ensures.later (c.loop-entry.invariant.running before));
+      let before = quiet_first _ c.loop-entry.self _ quiet c.loop-entry.invariant.later c.step-answer.ensures.does.later in
+      c.step-answer.ensures.does.running (quiet_second _ c.loop-entry.self _ quiet c.loop-entry.invariant.later c.step-answer.ensures.does.later (c.loop-entry.invariant.running before));
   count = omega (arith, c.push_reserved.ensures.len, c.loop-entry.invariant.count);
   room = omega (arith, c.loop-entry.invariant.room, c.push_reserved.ensures.capacity);
   first = λ none. absurd (not_first _ none);

@@ -7,13 +7,13 @@ use Rattle.session8.proofs.EntryLemmas.{memory_is, no_memory}
 use Rattle.session8.proofs.sessions.Session.run_entry.Goals as goal
 
 pub returns-then-is_memory-clause-told : goal.returns-then-is_memory-clause-told
-returns-then-is_memory-clause-told g c quiet = entry_undone c.args.entry.now _ _ _ (c.step-answer.ensures.memory (memory_is _ (sym c.if-is_memory.ensures))).state (Appends-nil _)
+returns-then-is_memory-clause-told g c quiet = entry_undone c.args.entry.now _ _ _ (c.step-answer.ensures.does.memory (memory_is _ (sym c.if-is_memory.ensures))).state (Appends-nil _)
 
 pub returns-clause-told : goal.returns-clause-told
 returns-clause-told g c quiet =
     let before = subst (λ (s : Seen). IsQuiet c.args.self.now s) c.tell.ensures.same quiet in
     entry_told _ c.step-answer.result _ _ _ _ c.tell.result
-    (subst (λ (s : Seen). Step (state_of c.args.self.now) c.args.entry.now c.step-answer.result (state_of s)) (sym c.tell.ensures.same) (c.step-answer.ensures.step before))
+    (subst (λ (s : Seen). Step (state_of c.args.self.now) c.args.entry.now c.step-answer.result (state_of s)) (sym c.tell.ensures.same) (c.step-answer.ensures.does.step before))
     (no_memory _ (sym c.if-is_memory.ensures))
     c.tell.ensures.ok
     c.tell.ensures.err

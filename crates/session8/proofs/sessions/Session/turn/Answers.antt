@@ -1,16 +1,31 @@
-use Rattle.std.proofs.Common.{◌-◌, ◌∙◌, ap, sym, get_or, None, Some, arith}
-use Rattle.session8.specs.Session.{Seen}
-use Rattle.session8.proofs.JobLemmas.{ended_none}
-use Rattle.session8.proofs.SessionLemmas.{squeezing_job, turn_none}
+use Rattle.std.proofs.Common.{◌<◌, Err, refl, sym, subst, ap, ◌∙◌}
+use Rattle.jobs8.specs.Calls.{TakesTurn}
+use Rattle.jobs8.specs.Jobs.{lowest_job, turns_left}
+use Rattle.jobs8.specs.Settled.{plain_jobs}
+use Rattle.script8.specs.declared.entries.Entry.TheVariants as entry
+use Rattle.session8.specs.Session.{Seen, Does}
+use Rattle.session8.specs.State.{Console}
+use Rattle.session8.proofs.LeavesLemmas.{turn_leaves}
+use Rattle.session8.proofs.JobLemmas.{turn_done, turn_refused, turn_fewer, never_number, not_lacking}
+use Rattle.session8.proofs.sessions.Session.turn.Goals.{in-Ok, in-Err}
 use Rattle.session8.proofs.sessions.Session.turn.Goals as goal
 
-pub squeezing_turn-requires-clause-squeezes : goal.squeezing_turn-requires-clause-squeezes
-squeezing_turn-requires-clause-squeezes g c =
-    let s = squeezing_job c.in-Some.job in
-    (s.0, s.1, ap (λ (x : Seen). get_or x.jobs (c.args.number - 1) None) (sym c.self.view_is) ∙ sym c.job_at.ensures.job ∙ c.in-Some.is ∙ ap Some s.2)
+pub returns-clause-does : goal.returns-clause-does
+returns-clause-does g c =
+    subst (λ (k : Console). Does (entry.Turn c.args.number) c.args.self.now c.match-turn.result (record { volume = c.turn.new.files; jobs = plain_jobs c.turn.new.jobs; console = k })) (sym c.turn.ensures.others) (elim c.match-turn.branch [
+      | in-Ok w ↦ rw (w.result-is, w.said_of.ensures, ← c.self.view_is)
+          (turn_done _ _ _ c.self.inside.jobs c.turn.new.jobs _ w.in-Ok.turned refl (subst (λ r. TakesTurn c.self.inside.files c.self.inside.console.machine.core c.self.inside.jobs c.args.number r c.turn.new.files c.turn.new.self.machine.core c.turn.new.jobs) w.in-Ok.is c.turn.ensures.turn))
+      | in-Err w ↦ rw (w.result-is, w.fault_of_job.ensures, ← c.self.view_is)
+          (turn_refused _ _ _ c.self.inside.jobs c.turn.new.jobs _ w.in-Err.fault refl (subst (λ r. TakesTurn c.self.inside.files c.self.inside.console.machine.core c.self.inside.jobs c.args.number r c.turn.new.files c.turn.new.self.machine.core c.turn.new.jobs) w.in-Err.is c.turn.ensures.turn))
+    ])
 
-pub returns-in-None-clause-ended : goal.returns-in-None-clause-ended
-returns-in-None-clause-ended g c other = ended_none c.args.number _ (λ zero. omega (arith, zero, c.if-number-eq0.false)) (ap (λ (x : Seen). get_or x.jobs (c.args.number - 1) None) (sym c.self.view_is) ∙ sym c.job_at.ensures.job ∙ c.in-None.is)
+pub returns-clause-fewer : goal.returns-clause-fewer
+returns-clause-fewer g c other low =
+    subst (λ (s : Seen). turns_left (plain_jobs c.turn.new.jobs) < turns_left s.jobs) c.self.view_is (turn_fewer c.job_numbers.ensures.lowest c.self.inside.files c.turn.new.files c.self.inside.console.machine.core c.turn.new.self.machine.core c.self.inside.jobs c.turn.new.jobs c.args.number c.turn.result
+    (elim c.match-turn.branch [
+      | in-Ok w ↦ (λ is. never_number _ _ (sym w.in-Ok.is ∙ is))
+      | in-Err w ↦ (λ is. not_lacking c.match-turn.result w.in-Err.fault other (w.result-is ∙ ap Err w.fault_of_job.ensures) (sym w.in-Err.is ∙ is))
+    ]) (ap (λ (s : Seen). lowest_job s.jobs) c.self.view_is ∙ low) c.turn.ensures.turn)
 
-pub returns-in-None-clause-turn : goal.returns-in-None-clause-turn
-returns-in-None-clause-turn g c = turn_none c.args.self.now c.args.number (λ zero. omega (arith, zero, c.if-number-eq0.false)) (ap (λ (x : Seen). get_or x.jobs (c.args.number - 1) None) (sym c.self.view_is) ∙ sym c.job_at.ensures.job ∙ c.in-None.is)
+pub returns-clause-leaves : goal.returns-clause-leaves
+returns-clause-leaves g c = rw (← c.self.view_is) (turn_leaves c.job_calls.ensures.places c.job_calls.ensures.reads c.args.number _ _ c.self.inside.jobs refl c.turn.ensures.turn.calls)

@@ -1,0 +1,41 @@
+use Rattle.std.proofs.Common.{◌∙◌, Ok, Err, ap, subst, arith}
+use Rattle.os8_dir.specs.Files.{files_of}
+use Rattle.os8_files.specs.Mounted.{Mounted}
+use Rattle.jobs8.specs.Sources.{HoldsFirst, TakesNext}
+use Rattle.jobs8.proofs.HoldLemmas.{none_taken, first_none, free_next, held_next, not_held, take_whole}
+use Rattle.jobs8.proofs.places.hold_all.Goals as goal
+
+pub loop-place-init : goal.loop-place-init
+loop-place-init g c = record {
+  size = c.requires.size;
+  first = first_none _ c.args.places.now c.args.blocks.now.items c.requires.free c.requires.none;
+  held = none_taken c.args.files.now c.args.places.now c.requires.free;
+}
+
+pub hold_next-requires-clause-running : goal.hold_next-requires-clause-running
+hold_next-requires-clause-running g c = ap (λ (m : Mounted). m.stopped) c.loop-place.invariant.held.others ∙ c.requires.running
+
+pub hold_next-requires-clause-free : goal.hold_next-requires-clause-free
+hold_next-requires-clause-free g c = free_next (files_of c.args.files.now.blocks) c.args.names.now c.loop-place.places c.loop-place.blocks.items c.loop-place.place c.loop-place.total c.loop-place.invariant.first c.loop-place-test.true
+
+pub loop-place-preserved : goal.loop-place-preserved
+loop-place-preserved g c =
+    let i = c.loop-place.invariant in
+    record {
+      size = c.in-Ok.ensures.size ∙ i.size;
+      first = held_next (files_of c.args.files.now.blocks) c.args.names.now c.index-names-place.result c.loop-place.places c.hold_next.new.places c.loop-place.blocks.items c.hold_next.new.blocks.items c.loop-place.place c.loop-place.total c.in-Ok.count i.first c.loop-place-test.true
+          (omega (arith, c.loop-place-test.true, c.requires.few, i.size)) c.index-names-place.is
+          (subst (λ (m : Mounted). TakesNext (files_of m.blocks) c.index-names-place.result c.loop-place.places c.loop-place.place c.loop-place.blocks.items (Ok c.in-Ok.count) c.hold_next.new.places c.hold_next.new.blocks.items) i.held.others c.in-Ok.ensures.next);
+      held = c.in-Ok.ensures.held c.args.files.now i.held;
+    }
+
+pub returns-in-Err-clause-all : goal.returns-in-Err-clause-all
+returns-in-Err-clause-all g c =
+    not_held (files_of c.args.files.now.blocks) c.args.names.now c.index-names-place.result c.loop-place.places c.hold_next.new.places c.loop-place.blocks.items c.hold_next.new.blocks.items c.loop-place.place c.in-Err.fault c.loop-place-test.true c.index-names-place.is
+    (subst (λ (m : Mounted). TakesNext (files_of m.blocks) c.index-names-place.result c.loop-place.places c.loop-place.place c.loop-place.blocks.items (Err c.in-Err.fault) c.hold_next.new.places c.hold_next.new.blocks.items) c.loop-place.invariant.held.others c.in-Err.ensures.next)
+
+pub returns-in-Err-clause-held : goal.returns-in-Err-clause-held
+returns-in-Err-clause-held g c = c.in-Err.ensures.held c.args.files.now c.loop-place.invariant.held
+
+pub returns-clause-all : goal.returns-clause-all
+returns-clause-all g c = subst (λ l. HoldsFirst (files_of c.args.files.now.blocks) l c.loop-place.places c.loop-place.blocks.items c.loop-place.total) (take_whole c.args.names.now c.loop-place.place c.loop-place-test.false) c.loop-place.invariant.first

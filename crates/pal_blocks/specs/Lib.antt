@@ -1,0 +1,6 @@
+pub mod Blocks
+pub mod Sources
+pub mod Schedule
+pub mod Passing
+pub mod Progress
+pub mod Turns

@@ -1,0 +1,33 @@
+-- What a turn of an assembling comes to.
+use Rattle.std.specs.Prelude.{◌≡◌, ℕ, ◌-◌, None, Some, List, Result, Ok, Err}
+use Rattle.std.specs.Global.{Vec}
+use Rattle.char_pack.specs.Packing.{packed_blocks, IsBlockPacking}
+use Rattle.bin_tape.specs.Pairs.{ArePairs}
+use Rattle.bin_tape.specs.Writing.{tape_of}
+use Rattle.pal_asm.specs.Faults.{fault_of}
+use Rattle.pal_asm.specs.declared.faults.AsmFault.{AsmFault}
+use Rattle.pal_asm.specs.declared.faults.AsmFault.TheVariants.{At, Memory}
+use Rattle.pal_blocks.specs.declared.assembling.Assembling.{Assembling}
+use Rattle.pal_blocks.specs.Blocks.{blocks_among, assembling_turns, turn_of}
+use Rattle.pal_blocks.specs.Sources.{newest_first, assembled_words, IsTapeOfSources}
+use Rattle.pal_blocks.specs.Schedule.{known_at, IsFirstKnown}
+use Rattle.pal_blocks.specs.Progress.{IsAssembling}
+
+-- What a turn that reads a block comes to, where so many are left. Want of memory takes no turn.
+abbrev pub TakesBlock : List (List ℕ) → ℕ → Result (Unit {0}) AsmFault → Assembling → Type 0
+TakesBlock sources left (Ok done) new =
+    IsAssembling sources new (left - 1) × (known_at (turn_of (assembling_turns (blocks_among sources)) left) sources ≡ None)
+TakesBlock sources left (Err Memory) new = IsAssembling sources new left
+TakesBlock sources left (Err (At code line)) new =
+    IsFirstKnown sources (turn_of (assembling_turns (blocks_among sources)) left) (At code line) × (fault_of (newest_first sources) ≡ Some (At code line))
+
+-- words are the fewest blocks that hold the tape of pairs
+abbrev pub HoldsTape : List (ℕ × ℕ) → List ℕ → Type 0
+HoldsTape pairs words = ArePairs pairs × (words ≡ packed_blocks (tape_of pairs)) × IsBlockPacking (tape_of pairs) words
+
+-- what the last turn makes of sources
+abbrev pub MakesTarget : List (List ℕ) → Result (Vec ℕ) AsmFault → Type 0
+MakesTarget sources (Ok target) =
+    (target.items ≡ assembled_words sources) × (fault_of (newest_first sources) ≡ None) × IsTapeOfSources sources target.items
+MakesTarget sources (Err Memory) = Unit {0}
+MakesTarget sources (Err (At code line)) = ⊥

@@ -1,0 +1,214 @@
+ghost use Rattle.std.specs.Prelude.{◌≡◌, ◌<◌, ◌≤◌, ℕ, ◌+◌, IfOk, IfErr, nat_lt, true, false, List, [], length, get_or};
+ghost use Rattle.pal_lex.specs.Reading.{HasRead};
+ghost use Rattle.pal_asm.specs.declared.faults.AsmFault.TheVariants.{Memory};
+ghost use Rattle.pal_blocks.specs.Blocks.{blocks_among, blocks_of_each, AreFiles, assembling_turns};
+ghost use Rattle.pal_blocks.specs.Progress.{due_of, block_of, IsBlockOf, IsAssembling};
+ghost use Rattle.pal_blocks.specs.Turns.{TakesBlock, HoldsTape, MakesTarget};
+
+use crate::making::make_block;
+use crate::passing::{Pass, end_source, pass_block, turn_pass};
+use bin_tape::laws::written_tape;
+use bin_tape::write_tape;
+use char_pack::laws::joined_text;
+use char_pack::pack_blocks;
+use pal_asm::laws::{has_words, no_lexical_fault, no_word_is_told};
+use pal_asm::{AsmFault, Assembler};
+use pal_lex::Lexer;
+use pal_lex::laws::source_ends_join;
+use std::alloc::Global;
+use word12::{Cell, Word};
+
+/// A block of a source, both counted from 0.
+#[derive(Clone, Copy, PartialEq, Eq, Debug)]
+pub struct Due {
+    pub source: usize,
+    pub block: usize,
+}
+
+/// Files that are assembled as one source, of which each block is handed over twice: all of them in their order, and all
+/// of them again. It keeps no text of them.
+#[derive(Drop)]
+pub struct Assembling {
+    /// How many blocks each source has.
+    blocks: Vec<usize>,
+    /// The source that the next block is of.
+    source: usize,
+    /// That block.
+    block: usize,
+    /// How many characters of it were taken, before want of memory broke off.
+    offset: usize,
+    /// Whether the blocks are read for the second time.
+    again: bool,
+    pass: Pass,
+    /// What the second pass handed out.
+    pairs: Vec<(Cell, Word)>,
+}
+
+impl Assembling {
+    /// Begins to assemble files, of which each has so many blocks, at least one. It takes no memory.
+    pub fn new(alloc: Global, blocks: Vec<usize>) -> Assembling
+        ensures { (sources : List (List ℕ)) → 0 < length sources → AreFiles sources → blocks.items ≡ blocks_of_each sources → IsAssembling sources result (assembling_turns (blocks_among sources)) }
+    {
+        let lexer = lexer_of(alloc, &blocks);
+        Assembling {
+            blocks,
+            source: 0,
+            block: 0,
+            offset: 0,
+            again: false,
+            pass: Pass {
+                lexer,
+                assembler: Assembler::new(alloc),
+                waiting: None,
+                ended: false,
+            },
+            pairs: Vec::new(alloc),
+        }
+    }
+
+    /// The block that comes next, where at least two turns are left.
+    pub fn due(&self) -> Due
+        ensures due { result ≡ due_of self.now }
+        ensures inside { (sources : List (List ℕ)) (left : ℕ) → IsAssembling sources self.now left → 2 ≤ left → IsBlockOf sources result }
+    {
+        Due {
+            source: self.source,
+            block: self.block,
+        }
+    }
+
+    /// Takes the next block, and answers the first fault that is known by it, with its line, 1 and up: at each turn that of
+    /// the statements that end in the blocks so far, once a source was read the `$` that is missing at its end, at the last
+    /// block of the first reading that there is no word, and from then on that of a word in the blocks read again (this
+    /// project's profile of PAL III). Where memory runs out no turn is taken, and the same block is due again.
+    pub fn take(&mut self, alloc: Global, block: &[Word]) -> Result<(), AsmFault>
+        requires { length block.now ≡ 256 }
+        ensures { (sources : List (List ℕ)) (left : ℕ) → IsAssembling sources self.old left → 2 ≤ left → block.now ≡ block_of sources (due_of self.old) → TakesBlock sources left result self.new }
+    {
+        if self.again {
+            return self.take_again(block);
+        }
+        self.take_first(alloc, block)
+    }
+
+    /// The words of the file that the sources are assembled to, where one turn is left: the fewest blocks that hold the tape
+    /// of their words. The only fault is want of memory. Before any word was made they are none.
+    pub fn target(&self, alloc: Global) -> Result<Vec<Word>, AsmFault>
+        ensures { (sources : List (List ℕ)) → IsAssembling sources self.now 1 → MakesTarget sources result }
+    {
+        written_tape();
+        has_words();
+        tape_words(alloc, &self.pairs)
+    }
+
+    /// Takes the next block in the first pass. At the last one the passes turn.
+    fn take_first(&mut self, alloc: Global, block: &[Word]) -> Result<(), AsmFault>
+        requires block { length block.now ≡ 256 }
+        requires first { self.old.again ≡ false }
+        ensures { (sources : List (List ℕ)) (left : ℕ) → IsAssembling sources self.old left → 2 ≤ left → block.now ≡ block_of sources (due_of self.old) → TakesBlock sources left result self.new }
+    {
+        joined_text();
+        no_lexical_fault();
+        source_ends_join();
+        no_word_is_told();
+        match pass_block(&mut self.pass, block, &mut self.offset) {
+            Ok(()) => {}
+            Err(fault) => return Err(fault),
+        }
+        self.offset = 0;
+        if follows(self.block, blocks_at(&self.blocks, self.source)) {
+            self.block += 1;
+            return Ok(());
+        }
+        self.block = 0;
+        let sources = count(&self.blocks);
+        if follows(self.source, sources) {
+            self.source += 1;
+            return end_source(&mut self.pass, !follows(self.source, sources));
+        }
+        self.source = 0;
+        self.again = true;
+        let lexer = lexer_of(alloc, &self.blocks);
+        turn_pass(&mut self.pass, lexer)
+    }
+
+    /// Takes the next block in the second pass.
+    fn take_again(&mut self, block: &[Word]) -> Result<(), AsmFault>
+        requires block { length block.now ≡ 256 }
+        requires second { self.old.again ≡ true }
+        ensures { (sources : List (List ℕ)) (left : ℕ) → IsAssembling sources self.old left → 2 ≤ left → block.now ≡ block_of sources (due_of self.old) → TakesBlock sources left result self.new }
+    {
+        joined_text();
+        no_lexical_fault();
+        source_ends_join();
+        match make_block(&mut self.pass, &mut self.pairs, block, &mut self.offset) {
+            Ok(()) => {}
+            Err(fault) => return Err(fault),
+        }
+        self.offset = 0;
+        if follows(self.block, blocks_at(&self.blocks, self.source)) {
+            self.block += 1;
+            return Ok(());
+        }
+        self.block = 0;
+        let sources = count(&self.blocks);
+        if follows(self.source, sources) {
+            self.source += 1;
+            return end_source(&mut self.pass, !follows(self.source, sources));
+        }
+        Ok(())
+    }
+}
+
+/// The words of the fewest blocks that hold the tape of pairs; none for no pair.
+fn tape_words(alloc: Global, pairs: &[(Cell, Word)]) -> Result<Vec<Word>, AsmFault>
+    ensures words { IfOk result (λ words. 0 < length pairs.now → HoldsTape pairs.now words.items) }
+    ensures fault { IfErr result (λ fault. fault ≡ Memory) }
+{
+    match pairs {
+        [] => Ok(Vec::new(alloc)),
+        _ => match write_tape(alloc, pairs) {
+            Ok(frames) => match pack_blocks(alloc, &frames) {
+                Ok(words) => Ok(words),
+                Err(_) => Err(AsmFault::Memory),
+            },
+            Err(_) => Err(AsmFault::Memory),
+        },
+    }
+}
+
+/// How many blocks a source has.
+fn blocks_at(blocks: &[usize], source: usize) -> usize
+    ensures { result ≡ get_or blocks.now source 0 }
+{
+    match blocks.get(source) {
+        Some(count) => *count,
+        None => 0,
+    }
+}
+
+/// How many sources there are.
+fn count(blocks: &[usize]) -> usize
+    ensures { result ≡ length blocks.now }
+{
+    blocks.len()
+}
+
+/// Whether of so many another comes behind this one, counted from 0.
+fn follows(place: usize, count: usize) -> bool
+    ensures follows { result ≡ nat_lt (place + 1) count }
+    ensures range { result ≡ true → place < 18446744073709551615 }
+{
+    count > 1 && place < count - 1
+}
+
+/// A lexer of no byte of as many sources as this tells the blocks of.
+fn lexer_of(alloc: Global, blocks: &[usize]) -> Lexer
+    ensures read { HasRead result 0 [] }
+    ensures several { result.may_pause ≡ nat_lt 1 (length blocks.now) }
+{
+    if blocks.len() > 1 {
+        return Lexer::several_without_tokens(alloc);
+    }
+    Lexer::without_tokens(alloc)
+}

@@ -1,0 +1,145 @@
+//! The second pass.
+ghost use Rattle.std.specs.Prelude.{◌≡◌, ◌≤◌, ◌<◌, ◌++◌, ◌∷◌, ℕ, Bool, true, false, None, OnOk, Ok, List, length, take, vec_len, vec_capacity};
+ghost use Rattle.char_pack.specs.Packing.{frames};
+ghost use Rattle.char_pack.specs.Texts.{is_ended};
+ghost use Rattle.pal_lex.specs.Text.{text_from};
+ghost use Rattle.pal_asm.specs.Places.{Source};
+ghost use Rattle.pal_asm.specs.Passes.{with_handed};
+ghost use Rattle.pal_blocks.specs.Passing.{text_in, added, HasMade, IsWithin, MakesAnswer, MakesByte, MakesTo, MakesBlock};
+
+use crate::passing::{Pass, is_pause_body, lay_characters, read_on};
+use char_pack::laws::joined_text;
+use pal_asm::AsmFault;
+use pal_asm::laws::{no_fault_before, no_lexical_fault};
+use pal_lex::Statement;
+use pal_lex::laws::{byte_goes_on, pause_is_bad, pause_joins};
+use word12::{Cell, Word};
+
+/// The frames of a block.
+const BLOCK_FRAMES: usize = 384;
+
+/// Puts a pair behind others, if there is one, where there is room.
+fn put_handed(pairs: &mut Vec<(Cell, Word)>, handed: Option<(Cell, Word)>)
+    requires { vec_len pairs.old < vec_capacity pairs.old }
+    ensures { pairs.new.items ≡ with_handed pairs.old.items handed }
+{
+    if let Some(pair) = handed {
+        pairs.push_reserved(pair);
+    }
+}
+
+/// Takes the statement that was handed out, if one was, where there is room for a pair; at PAUSE nothing more of the source
+/// is read.
+fn make_answer(
+    pass: &mut Pass,
+    pairs: &mut Vec<(Cell, Word)>,
+    answer: &Option<Statement>,
+) -> Result<(), AsmFault>
+    requires { vec_len pairs.old < vec_capacity pairs.old }
+    ensures { MakesAnswer answer.now result pass.old pairs.old.items pass.new pairs.new.items }
+{
+    match answer {
+        None => Ok(()),
+        Some(statement) => {
+            if is_pause_body(&statement.body) {
+                pass.ended = true;
+                return Ok(());
+            }
+            match pass.assembler.second(statement) {
+                Ok(handed) => {
+                    put_handed(pairs, handed);
+                    Ok(())
+                }
+                Err(fault) => Err(fault),
+            }
+        }
+    }
+}
+
+/// Takes the next character in the second pass.
+fn make_byte(pass: &mut Pass, pairs: &mut Vec<(Cell, Word)>, byte: u8) -> Result<(), AsmFault>
+    ensures { (whole : Source) (front here : List ℕ) (several : Bool) → HasMade whole pass.old pairs.old.items front several here false → IsWithin whole front several (byte ∷ here) → MakesByte whole front several here byte result pass.new pairs.new.items }
+{
+    byte_goes_on();
+    pause_joins();
+    pause_is_bad();
+    no_lexical_fault();
+    no_fault_before();
+    match pairs.reserve(1) {
+        Ok(()) => match pass.lexer.push(byte) {
+            Ok(answer) => make_answer(pass, pairs, &answer),
+            Err(fault) => Err(AsmFault::from(fault)),
+        },
+        Err(_) => Err(AsmFault::Memory),
+    }
+}
+
+/// Takes characters from a place on up to the end of a statement in the second pass.
+fn make_statement(
+    pass: &mut Pass,
+    pairs: &mut Vec<(Cell, Word)>,
+    text: &[u8],
+    offset: &mut usize,
+) -> Result<(), AsmFault>
+    requires { offset.old < length text.now }
+    ensures more { OnOk result (offset.old < offset.new) }
+    ensures makes { (whole : Source) (front here : List ℕ) (several : Bool) → HasMade whole pass.old pairs.old.items front several (text_from here (take offset.old text.now)) false → IsWithin whole front several (text_from here text.now) → MakesTo whole front several here text.now offset.new result pass.new pairs.new.items }
+{
+    *offset = read_on(&mut pass.lexer, text, *offset);
+    if *offset < text.len() {
+        match make_byte(pass, pairs, text[*offset]) {
+            Ok(()) => *offset += 1,
+            Err(fault) => return Err(fault),
+        }
+    }
+    Ok(())
+}
+
+/// Takes characters from a place on in the second pass. Where memory runs out the place tells how many were taken.
+fn make_text(
+    pass: &mut Pass,
+    pairs: &mut Vec<(Cell, Word)>,
+    text: &[u8],
+    offset: &mut usize,
+) -> Result<(), AsmFault>
+    ensures range { OnOk result (length text.now ≤ offset.new) }
+    ensures makes { (whole : Source) (front here : List ℕ) (several : Bool) → HasMade whole pass.old pairs.old.items front several (text_from here (take offset.old text.now)) false → IsWithin whole front several (text_from here text.now) → MakesTo whole front several here text.now offset.new result pass.new pairs.new.items }
+{
+    while *offset < text.len() {
+        match make_statement(pass, pairs, text, offset) {
+            Ok(()) => {}
+            Err(fault) => return Err(fault),
+        }
+    }
+    Ok(())
+}
+
+/// Takes a block from a place in its characters on in the second pass. Where memory runs out the place tells how many were
+/// taken.
+pub(crate) fn make_block(
+    pass: &mut Pass,
+    pairs: &mut Vec<(Cell, Word)>,
+    block: &[Word],
+    offset: &mut usize,
+) -> Result<(), AsmFault>
+    requires { length block.now ≡ 256 }
+    ensures makes { (whole : Source) (front given : List ℕ) (several : Bool) → HasMade whole pass.old pairs.old.items front several (text_from (text_in given) (take offset.old (added given block.now))) (is_ended given) → IsWithin whole front several (text_in (given ++ frames block.now)) → MakesBlock whole front several given block.now offset.new result pass.new pairs.new.items }
+    ensures ended { pass.old.ended ≡ true → (result ≡ Ok tt) × (pass.new ≡ pass.old) × (pairs.new ≡ pairs.old) }
+{
+    joined_text();
+    if pass.ended {
+        return Ok(());
+    }
+    let mut bytes = [0; BLOCK_FRAMES];
+    let count = lay_characters(block, &mut bytes);
+    let (text, _) = bytes.split_at(count);
+    match make_text(pass, pairs, text, offset) {
+        Ok(()) => {
+            if count < BLOCK_FRAMES {
+                pass.ended = true;
+            }
+            Ok(())
+        }
+        Err(fault) => Err(fault),
+    }
+}

@@ -1,0 +1,68 @@
+//! What `ASSEMBLE` is said of: a target and its sources.
+ghost use Rattle.std.specs.Prelude.{◌≡◌, ◌≤◌, ◌&&◌, ◌⊎◌, ◌++◌, OnOk, IfOk, nat_le, length, Ok, Err};
+ghost use Rattle.std.specs.List.{list_all};
+ghost use Rattle.script8.specs.Lines.{Parses, whole, assemble_of, lists_names, listed, is_name};
+ghost use Rattle.script8.specs.declared.entries.Entry.TheVariants as entry;
+ghost use Rattle.script8.specs.declared.faults.SessionFault.TheVariants.{Memory};
+ghost use Rattle.script8.specs.declared.lines.Line.TheVariants.{Whole};
+
+use crate::parts::first_part;
+use crate::{Bytes, Entry, Line, Names, SessionFault};
+use std::alloc::{AllocError, Global};
+
+/// What `ASSEMBLE` of a word says: a target, `<`, and 1 to 8 sources with commas between.
+pub(crate) fn assemble(alloc: Global, word: &[u8]) -> Result<Line, SessionFault>
+    ensures { Parses (whole (assemble_of word.now)) result }
+{
+    let (to, is_last, rest) = first_part(word, b'<');
+    if is_last {
+        return Err(SessionFault::BadLine);
+    }
+    let (from, is_last, _) = first_part(rest, b'<');
+    if !is_last {
+        return Err(SessionFault::BadLine);
+    }
+    if !are_names(to, 1) || !are_names(from, 8) {
+        return Err(SessionFault::BadLine);
+    }
+    target_and_sources(alloc, to, from)
+}
+
+/// Whether a list is one of names, so many at most.
+fn are_names(list: &[u8], most: usize) -> bool
+    ensures { result ≡ lists_names most list.now }
+{
+    if most == 0 {
+        return false;
+    }
+    let (name, is_last, others) = first_part(list, b',');
+    if name.is_empty() {
+        return false;
+    }
+    is_last || are_names(others, most - 1)
+}
+
+/// The `ASSEMBLE` of a target and of the sources of a list.
+fn target_and_sources(alloc: Global, to: &[u8], from: &[u8]) -> Result<Line, SessionFault>
+    ensures { (result ≡ Ok (Whole (entry.Assemble to.now (listed from.now)))) ⊎ (result ≡ Err Memory) }
+{
+    let to = Vec::from_slice(alloc, to)?;
+    let mut names = Vec::new(alloc);
+    put_names(alloc, from, &mut names)?;
+    Ok(Line::Whole(Entry::Assemble {
+        to: Bytes::new(to),
+        from: Names::new(names),
+    }))
+}
+
+/// Puts the names of a list behind others.
+fn put_names(alloc: Global, list: &[u8], names: &mut Vec<Bytes>) -> Result<(), AllocError>
+    ensures { OnOk result (names.new.items ≡ names.old.items ++ listed list.now) }
+{
+    let (name, is_last, others) = first_part(list, b',');
+    names.push(Bytes::new(Vec::from_slice(alloc, name)?))?;
+    if is_last {
+        return Ok(());
+    }
+    put_names(alloc, others, names)
+}

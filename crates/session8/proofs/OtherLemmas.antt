@@ -1,0 +1,611 @@
+-- What entries come to in states that are the same but for their squeezing jobs.
+use Rattle.std.proofs.Common.{◌≡◌, ◌∙◌, inl, inr, ℕ, zero, suc, Bool, true, false, true≢false, Option, Some, None, List, [], ◌∷◌, ◌++◌, ◌-◌, get_or, Ok, Err, refl, ap, sym, subst}
+use Rattle.std.specs.FinMap.{insert, remove}
+use Rattle.char_pack.specs.Texts.{stored}
+use Rattle.os8_dir.specs.Entries.{contains}
+use Rattle.os8_dir.specs.Names.{parsed_name}
+use Rattle.os8_files.specs.declared.faults.FileFault.{FileFault}
+use Rattle.os8_files.specs.declared.faults.FileFault.TheVariants as file
+use Rattle.jobs8.specs.Jobs.{Job, Work, Assembling, Loading, Squeezing, assembling, loading, job_of, with_job, least_free, held_by, held_by_work, disturbed, disturbed_job}
+use Rattle.jobs8.specs.Starts.{AssembleStarts, LoadStarts, IsBusy, new_assembling, new_loading, new_squeezing}
+use Rattle.jobs8.specs.State as jobs
+use Rattle.jobs8.specs.State.{HasPut, PutRefused, plain_file}
+use Rattle.jobs8.specs.Turns as turns
+use Rattle.jobs8.specs.Turns.{JobTurn, WorkTurn}
+use Rattle.jobs8.specs.declared.faults.JobFault.{JobFault}
+use Rattle.jobs8.specs.declared.faults.JobFault.TheVariants as job
+use Rattle.jobs8.specs.declared.turned.Turned.TheVariants as turned
+use Rattle.script8.specs.declared.entries.Entry.{Entry}
+use Rattle.script8.specs.declared.entries.Entry.TheVariants as entry
+use Rattle.script8.specs.declared.faults.SessionFault.{SessionFault}
+use Rattle.script8.specs.declared.faults.SessionFault.TheVariants as fault
+use Rattle.script8.specs.declared.replies.Reply.{Reply}
+use Rattle.script8.specs.declared.replies.Reply.TheVariants.{Line, Report}
+use Rattle.script8.specs.declared.replies.Report.TheVariants as report
+use Rattle.script8.specs.declared.replies.Said.TheVariants as said
+use Rattle.session8.specs.Console.{Shows}
+use Rattle.session8.specs.Files.{HasDeleted, DeleteRefused}
+use Rattle.session8.specs.Refusals.{Named, May, MayLack, after_refusal}
+use Rattle.session8.specs.Same.{lasting_job, lasting_jobs, lasting_work, unsqueezed, IsAlike, IsApart, speaks_of_room}
+use Rattle.session8.specs.State.{State}
+use Rattle.session8.specs.System.{Answer, Done, Step}
+use Rattle.session8.specs.Work.{Works, job_state, with_work, fault_of_job}
+use Rattle.session8.proofs.SameLemmas.{lasting_put, alike}
+
+-- ## Jobs
+
+abbrev Jobs : Type 0
+Jobs = List (Option Job)
+
+-- jobs are the same but for those that squeeze
+abbrev AreAlike : Jobs → Jobs → Type 0
+AreAlike one two = lasting_jobs one ≡ lasting_jobs two
+
+lasting_at : (place : ℕ) (js : Jobs) → get_or (lasting_jobs js) place None ≡ lasting_job (get_or js place None)
+lasting_at place [] = refl
+lasting_at zero (o ∷ js) = refl
+lasting_at (suc place) (o ∷ js) = lasting_at place js
+
+lasting_of : (number : ℕ) (js : Jobs) → job_of number (lasting_jobs js) ≡ lasting_job (job_of number js)
+lasting_of zero js = refl
+lasting_of (suc place) js = lasting_at place js
+
+-- squeezing jobs hold no name
+held_before : (w : Work) (left : ℕ) (js : Jobs) → held_by (lasting_jobs js) ≡ held_by js → held_by (lasting_work w left ∷ lasting_jobs js) ≡ held_by_work w ++ held_by js
+held_before (Assembling to from) left js same = ap (λ l. from ++ l) same
+held_before (Loading from) left js same = ap (λ l. from ∷ l) same
+held_before (Squeezing clean) left js same = same
+
+lasting_holds : (js : Jobs) → held_by (lasting_jobs js) ≡ held_by js
+lasting_holds [] = refl
+lasting_holds (None ∷ js) = lasting_holds js
+lasting_holds (Some it ∷ js) = held_before it.work it.left js (lasting_holds js)
+
+-- no other job is told that the directory has changed
+disturbed_job_lasts : (w : Work) (left : ℕ) → lasting_job (disturbed_job (Some (record { work = w; left = left }))) ≡ lasting_work w left
+disturbed_job_lasts (Assembling to from) left = refl
+disturbed_job_lasts (Loading from) left = refl
+disturbed_job_lasts (Squeezing clean) left = refl
+
+lasting_disturbed : (js : Jobs) → lasting_jobs (disturbed js) ≡ lasting_jobs js
+lasting_disturbed [] = refl
+lasting_disturbed (None ∷ js) = ap (λ (l : Jobs). None ∷ l) (lasting_disturbed js)
+lasting_disturbed (Some it ∷ js) = ap (λ (o : Option Job). o ∷ lasting_jobs (disturbed js)) (disturbed_job_lasts it.work it.left) ∙ ap (λ (l : Jobs). lasting_work it.work it.left ∷ l) (lasting_disturbed js)
+
+same_holds : (one two : Jobs) → AreAlike one two → held_by one ≡ held_by two
+same_holds one two same = sym (lasting_holds one) ∙ ap held_by same ∙ lasting_holds two
+
+same_put : (number : ℕ) (j : Option Job) (one two : Jobs) → AreAlike one two → AreAlike (with_job number j one) (with_job number j two)
+same_put number j one two same = lasting_put number j one ∙ ap (with_job number (lasting_job j)) same ∙ sym (lasting_put number j two)
+
+same_disturbed : (one two : Jobs) → AreAlike one two → AreAlike (disturbed one) (disturbed two)
+same_disturbed one two same = lasting_disturbed one ∙ same ∙ sym (lasting_disturbed two)
+
+same_held : (one two : Jobs) (name : ℕ) (is : Bool) → AreAlike one two → contains (held_by one) name ≡ is → contains (held_by two) name ≡ is
+same_held one two name is same held = sym (ap (λ l. contains l name) (same_holds one two same)) ∙ held
+
+same_job : (one two : Jobs) (number : ℕ) → AreAlike one two → lasting_job (job_of number one) ≡ job_of number one → lasting_job (job_of number two) ≡ job_of number two → job_of number one ≡ job_of number two
+same_job one two number same first second = sym first ∙ sym (lasting_of number one) ∙ ap (job_of number) same ∙ lasting_of number two ∙ second
+
+-- ## States
+
+-- a state with other jobs
+abbrev over : State → Bool → Jobs → State
+over s t js = record s { tight = t; jobs = js }
+
+-- what jobs do their work on, without those that squeeze
+abbrev plain : jobs.State → jobs.State
+plain s = record s { tight = false; jobs = lasting_jobs s.jobs }
+
+-- work on other jobs comes to the same but for those that squeeze
+same_work : (base after : jobs.State) (u t : Bool) (first second : Jobs) → AreAlike first second → after ≡ record base { tight = u; jobs = first } → plain after ≡ plain (record base { tight = t; jobs = second })
+same_work base after u t first second same is = ap plain is ∙ ap (λ (l : Jobs). record base { tight = false; jobs = l }) same
+
+worked : (one one' : State) (t : Bool) (js : Jobs) (after other : jobs.State) → plain after ≡ plain other → one' ≡ with_work one after → IsAlike one' (with_work (over one t js) other)
+worked one one' t js after other same is = ap unsqueezed is ∙ ap (with_work one) same
+
+-- two states may answer the same, and the second goes on to one that is the same but for its squeezing jobs
+abbrev Follows : State → Entry → Answer → State → Type 0
+Follows two e answer one' = (two' : State) × Step two e answer two' × IsAlike one' two'
+
+-- ## The console
+
+shown : (one one' : State) (t : Bool) (js : Jobs) (e : Entry) (reply : Reply) → AreAlike one.jobs js → Shows one.console e reply one'.console × (one' ≡ record one { console = one'.console })
+    → (two' : State) × (Shows one.console e reply two'.console × (two' ≡ record (over one t js) { console = two'.console })) × IsAlike one' two'
+shown one one' t js e reply same step = (over one' t js, (step.0, ap (λ (s : State). over s t js) step.1), alike one' t js (sym same ∙ sym (ap (λ (s : State). lasting_jobs s.jobs) step.1)))
+
+-- ## Refusals
+
+put_refused : (one : State) (t : Bool) (js : Jobs) (name : ℕ) (words : List ℕ) (why : FileFault) → AreAlike one.jobs js → speaks_of_room (Err (fault.File why)) ≡ false → PutRefused (job_state one) name words why → PutRefused (job_state (over one t js)) name words why
+put_refused one t js name words file.NotFound same room refused = absurd refused
+put_refused one t js name words (file.NoRoom n) same room refused = absurd (true≢false room)
+put_refused one t js name words file.DirectoryFull same room refused = absurd (true≢false room)
+put_refused one t js name words (file.Busy n) same room refused = (refused.0, same_held one.jobs js name true same refused.1)
+put_refused one t js name words file.BadName same room refused = absurd refused
+put_refused one t js name words file.TooLong same room refused = absurd refused
+put_refused one t js name words file.TentativeOpen same room refused = absurd refused
+put_refused one t js name words file.Device same room refused = absurd refused
+put_refused one t js name words file.Stopped same room refused = absurd refused
+put_refused one t js name words file.Memory same room refused = absurd refused
+put_refused one t js name words file.NothingWritten same room refused = absurd refused
+
+delete_refused : (one : State) (t : Bool) (js : Jobs) (name : ℕ) (why : FileFault) → AreAlike one.jobs js → speaks_of_room (Err (fault.File why)) ≡ false → DeleteRefused (job_state one) name why → DeleteRefused (job_state (over one t js)) name why
+delete_refused one t js name file.NotFound same room refused = refused
+delete_refused one t js name (file.NoRoom n) same room refused = absurd (true≢false room)
+delete_refused one t js name file.DirectoryFull same room refused = absurd (true≢false room)
+delete_refused one t js name (file.Busy n) same room refused = (refused.0, refused.1, same_held one.jobs js name true same refused.2)
+delete_refused one t js name file.BadName same room refused = absurd refused
+delete_refused one t js name file.TooLong same room refused = absurd refused
+delete_refused one t js name file.TentativeOpen same room refused = absurd refused
+delete_refused one t js name file.Device same room refused = absurd refused
+delete_refused one t js name file.Stopped same room refused = absurd refused
+delete_refused one t js name file.Memory same room refused = absurd refused
+delete_refused one t js name file.NothingWritten same room refused = absurd refused
+
+same_number : (one : State) (t : Bool) (js : Jobs) → least_free one.jobs ≡ least_free js → (number : ℕ) × (least_free one.jobs ≡ Some number) → (number : ℕ) × (least_free js ≡ Some number)
+same_number one t js free number = (number.0, sym free ∙ number.1)
+
+busy : (one : State) (t : Bool) (js : Jobs) (to : ℕ) (from : List ℕ) → AreAlike one.jobs js → IsBusy (job_state one) to from → IsBusy (job_state (over one t js)) to from
+busy one t js to from same (inl held) = inl (same_held one.jobs js to true same held)
+busy one t js to from same (inr among) = inr among
+
+assemble_refused : (one : State) (t : Bool) (js : Jobs) (to : ℕ) (from : List ℕ) (why : JobFault) → AreAlike one.jobs js → least_free one.jobs ≡ least_free js → AssembleStarts (job_state one) to from (Err why) (job_state one) → AssembleStarts (job_state (over one t js)) to from (Err why) (job_state (over one t js))
+assemble_refused one t js to from job.TooManyJobs same free starts = (sym free ∙ starts.0, refl)
+assemble_refused one t js to from job.Memory same free starts = refl
+assemble_refused one t js to from job.NoJob same free starts = absurd starts
+assemble_refused one t js to from (job.Asm why) same free starts = absurd starts
+assemble_refused one t js to from (job.Tape why) same free starts = absurd starts
+assemble_refused one t js to from (job.File file.NotFound) same free starts = (same_number one t js free starts.0, starts.1, refl)
+assemble_refused one t js to from (job.File (file.NoRoom n)) same free starts = absurd starts
+assemble_refused one t js to from (job.File file.DirectoryFull) same free starts = absurd starts
+assemble_refused one t js to from (job.File (file.Busy n)) same free starts = (same_number one t js free starts.0, starts.1, starts.2, busy one t js to from same starts.3, refl)
+assemble_refused one t js to from (job.File file.BadName) same free starts = absurd starts
+assemble_refused one t js to from (job.File file.TooLong) same free starts = absurd starts
+assemble_refused one t js to from (job.File file.TentativeOpen) same free starts = absurd starts
+assemble_refused one t js to from (job.File file.Device) same free starts = absurd starts
+assemble_refused one t js to from (job.File file.Stopped) same free starts = absurd starts
+assemble_refused one t js to from (job.File file.Memory) same free starts = absurd starts
+assemble_refused one t js to from (job.File file.NothingWritten) same free starts = absurd starts
+
+load_refused : (one : State) (t : Bool) (js : Jobs) (from : ℕ) (why : JobFault) → least_free one.jobs ≡ least_free js → LoadStarts (job_state one) from (Err why) (job_state one) → LoadStarts (job_state (over one t js)) from (Err why) (job_state (over one t js))
+load_refused one t js from job.TooManyJobs free starts = (sym free ∙ starts.0, refl)
+load_refused one t js from job.Memory free starts = refl
+load_refused one t js from job.NoJob free starts = absurd starts
+load_refused one t js from (job.Asm why) free starts = absurd starts
+load_refused one t js from (job.Tape why) free starts = absurd starts
+load_refused one t js from (job.File file.NotFound) free starts = (same_number one t js free starts.0, starts.1, refl)
+load_refused one t js from (job.File (file.NoRoom n)) free starts = absurd starts
+load_refused one t js from (job.File file.DirectoryFull) free starts = absurd starts
+load_refused one t js from (job.File (file.Busy n)) free starts = absurd starts
+load_refused one t js from (job.File file.BadName) free starts = absurd starts
+load_refused one t js from (job.File file.TooLong) free starts = absurd starts
+load_refused one t js from (job.File file.TentativeOpen) free starts = absurd starts
+load_refused one t js from (job.File file.Device) free starts = absurd starts
+load_refused one t js from (job.File file.Stopped) free starts = absurd starts
+load_refused one t js from (job.File file.Memory) free starts = absurd starts
+load_refused one t js from (job.File file.NothingWritten) free starts = absurd starts
+
+-- ## Turns
+
+-- a turn over other jobs
+abbrev TurnFollows : State → State → ℕ → Option Job → turns.Answer → jobs.State → Type 0
+TurnFollows one two number it answer after = (other : jobs.State) × JobTurn (job_state two) number it answer other × (plain after ≡ plain other)
+
+-- a turn's answer speaks of no room
+abbrev is_of_room : turns.Answer → Bool
+is_of_room (Ok turned) = false
+is_of_room (Err why) = speaks_of_room (Err (fault_of_job why))
+
+has_put : (one : State) (t : Bool) (js : Jobs) (name : ℕ) (words : List ℕ) (first second : Jobs) (after : jobs.State) → AreAlike one.jobs js → AreAlike first second → HasPut (job_state one) name words first after
+    → (other : jobs.State) × HasPut (job_state (over one t js)) name words second other × (plain after ≡ plain other)
+has_put one t js name words first second after same jobs put = (
+  record (job_state one) { files = insert one.files name (plain_file (job_state one) words); tight = t; jobs = disturbed second },
+  record { free = same_held one.jobs js name false same put.free; tight = λ none tight. tight; others = refl },
+  same_work (record (job_state one) { files = insert one.files name (plain_file (job_state one) words) }) after after.tight t (disturbed first) (disturbed second) (same_disturbed first second jobs) put.others,
+)
+
+turn_follows : (one : State) (t : Bool) (js : Jobs) (number : ℕ) (it : Option Job) (answer : turns.Answer) (after : jobs.State) → AreAlike one.jobs js → lasting_job it ≡ it → is_of_room answer ≡ false → JobTurn (job_state one) number it answer after → TurnFollows one (over one t js) number it answer after
+turn_follows one t js number it answer after same lasting room turn = of_job it answer lasting room turn
+  where
+    -- the job is put back with a turn less, or taken away
+    put : (j : Option Job) → after ≡ record (job_state one) { jobs = with_job number j one.jobs } → plain after ≡ plain (record (job_state (over one t js)) { jobs = with_job number j js })
+    put j is = same_work (job_state one) after one.tight t (with_job number j one.jobs) (with_job number j js) (same_put number j one.jobs js same) is
+
+    stays : after ≡ job_state one → plain after ≡ plain (job_state (over one t js))
+    stays is = same_work (job_state one) after one.tight t one.jobs js same is
+
+    of_none : (answer : turns.Answer) → JobTurn (job_state one) number None answer after → TurnFollows one (over one t js) number None answer after
+    of_none (Ok turned) turn = absurd turn
+    of_none (Err job.NoJob) turn = (job_state (over one t js), refl, stays turn)
+    of_none (Err job.TooManyJobs) turn = absurd turn
+    of_none (Err (job.File why)) turn = absurd turn
+    of_none (Err (job.Asm why)) turn = absurd turn
+    of_none (Err (job.Tape why)) turn = absurd turn
+    of_none (Err job.Memory) turn = absurd turn
+
+    assembles : (to : ℕ) (from : List ℕ) (left : ℕ) (answer : turns.Answer) → is_of_room answer ≡ false → JobTurn (job_state one) number (Some (assembling to from left)) answer after → TurnFollows one (over one t js) number (Some (assembling to from left)) answer after
+    assembles to from left (Ok turned.Working) room turn = (_, (turn.0, record { more = turn.1.more; others = refl }), put (Some (assembling to from (left - 1))) turn.1.others)
+    assembles to from left (Ok (turned.Assembled name blocks)) room turn =
+        let done = has_put one t js to _ (with_job number None one.jobs) (with_job number None js) after same (same_put number None one.jobs js same) turn.3.put in
+        (done.0, (turn.0, turn.1, turn.2, record { no_fault = turn.3.no_fault; means = turn.3.means; put = done.1 }), done.2)
+    assembles to from left (Ok (turned.Loaded name)) room turn = absurd turn
+    assembles to from left (Ok turned.Squeezed) room turn = absurd turn
+    assembles to from left (Err (job.Asm why)) room turn = (_, (turn.0, turn.1, turn.2, refl), put None turn.3)
+    assembles to from left (Err (job.File why)) room turn = (_, (turn.0, turn.1, put_refused one t js to _ why same room turn.2, refl), put None turn.3)
+    assembles to from left (Err job.Memory) room turn = (job_state (over one t js), refl, stays turn)
+    assembles to from left (Err (job.Tape why)) room turn = absurd turn
+    assembles to from left (Err job.NoJob) room turn = absurd turn
+    assembles to from left (Err job.TooManyJobs) room turn = absurd turn
+
+    loads : (from : ℕ) (left : ℕ) (answer : turns.Answer) → JobTurn (job_state one) number (Some (loading from left)) answer after → TurnFollows one (over one t js) number (Some (loading from left)) answer after
+    loads from left (Ok turned.Working) turn = (_, (turn.0, record { more = turn.1.more; others = refl }), put (Some (loading from (left - 1))) turn.1.others)
+    loads from left (Ok (turned.Loaded name)) turn = (
+      record (job_state (over one t js)) { core = after.core; jobs = with_job number None js },
+      (turn.0, turn.1, record { laid = turn.2.laid; others = refl }),
+      same_work (record (job_state one) { core = after.core }) after one.tight t (with_job number None one.jobs) (with_job number None js) (same_put number None one.jobs js same) turn.2.others,
+    )
+    loads from left (Ok (turned.Assembled name blocks)) turn = absurd turn
+    loads from left (Ok turned.Squeezed) turn = absurd turn
+    loads from left (Err (job.Tape why)) turn = (_, (turn.0, turn.1, refl), put None turn.2)
+    loads from left (Err job.Memory) turn = (job_state (over one t js), refl, stays turn)
+    loads from left (Err (job.Asm why)) turn = absurd turn
+    loads from left (Err (job.File why)) turn = absurd turn
+    loads from left (Err job.NoJob) turn = absurd turn
+    loads from left (Err job.TooManyJobs) turn = absurd turn
+
+    of_work : (w : Work) (left : ℕ) (answer : turns.Answer) → lasting_work w left ≡ Some (record { work = w; left = left }) → is_of_room answer ≡ false → JobTurn (job_state one) number (Some (record { work = w; left = left })) answer after → TurnFollows one (over one t js) number (Some (record { work = w; left = left })) answer after
+    of_work (Assembling to from) left answer lasting room turn = assembles to from left answer room turn
+    of_work (Loading from) left answer lasting room turn = loads from left answer turn
+    of_work (Squeezing clean) left answer lasting room turn = cc
+
+    of_job : (it : Option Job) (answer : turns.Answer) → lasting_job it ≡ it → is_of_room answer ≡ false → JobTurn (job_state one) number it answer after → TurnFollows one (over one t js) number it answer after
+    of_job None answer lasting room turn = of_none answer turn
+    of_job (Some it) answer lasting room turn = of_work it.work it.left answer lasting room turn
+
+-- the turn of a number
+number_follows : (one : State) (t : Bool) (js : Jobs) (number : ℕ) (answer : turns.Answer) (after : jobs.State) → AreAlike one.jobs js → IsApart (entry.Turn number) one (over one t js) → is_of_room answer ≡ false → turns.Turns (job_state one) number answer after
+    → (other : jobs.State) × turns.Turns (job_state (over one t js)) number answer other × (plain after ≡ plain other)
+number_follows one t js number answer after same apart room turn =
+    subst (λ (o : Option Job). TurnFollows one (over one t js) number o answer after) (same_job one.jobs js number same apart.0 apart.1) (turn_follows one t js number (job_of number one.jobs) answer after same apart.0 room turn)
+
+-- ## Replies
+
+begins : (one one' : State) (t : Bool) (js : Jobs) (number : ℕ) (it : Job) (after : jobs.State) → AreAlike one.jobs js → after ≡ record (job_state one) { jobs = with_job number (Some it) one.jobs } → one' ≡ with_work one after
+    → IsAlike one' (with_work (over one t js) (record (job_state (over one t js)) { jobs = with_job number (Some it) js }))
+begins one one' t js number it after same begun is =
+    worked one one' t js after (record (job_state (over one t js)) { jobs = with_job number (Some it) js }) (same_work (job_state one) after one.tight t (with_job number (Some it) one.jobs) (with_job number (Some it) js) (same_put number (Some it) one.jobs js same) begun) is
+
+deleted : (one one' : State) (t : Bool) (js : Jobs) (name : ℕ) → AreAlike one.jobs js → Works (HasDeleted name) one one' → (two' : State) × Works (HasDeleted name) (over one t js) two' × IsAlike one' two'
+deleted one one' t js name same step = (with_work (over one t js) left, (left, has, refl), worked one one' t js step.0 left (same_work (record (job_state one) { files = remove one.files name }) step.0 step.0.tight t (disturbed one.jobs) (disturbed js) (same_disturbed one.jobs js same) step.1.others) step.2)
+  where
+    left : jobs.State
+    left = record (job_state one) { files = remove one.files name; tight = t; jobs = disturbed js }
+
+    has : HasDeleted name (job_state (over one t js)) left
+    has = record { file = step.1.file; there = step.1.there; free = same_held one.jobs js name false same step.1.free; others = refl }
+
+replies : (one one' : State) (t : Bool) (js : Jobs) (e : Entry) (reply : Reply) → AreAlike one.jobs js → IsApart e one (over one t js) → Done one e reply one' → Follows (over one t js) e (Ok reply) one'
+replies one one' t js (entry.Store name text) (Line (said.Stored other blocks)) same apart step =
+    let put = has_put one t js other (stored text) one.jobs js step.2.0 same same step.2.1.1 in
+    (with_work (over one t js) put.0, (step.0, step.1, (put.0, (step.2.1.0, put.1), refl)), worked one one' t js step.2.0 put.0 put.2 step.2.2)
+replies one one' t js (entry.Store name text) (Line (said.Deleted a)) same apart step = absurd step.0
+replies one one' t js (entry.Store name text) (Line (said.Job a)) same apart step = absurd step.0
+replies one one' t js (entry.Store name text) (Line (said.Working a)) same apart step = absurd step.0
+replies one one' t js (entry.Store name text) (Line (said.Assembled a b c)) same apart step = absurd step.0
+replies one one' t js (entry.Store name text) (Line (said.Loaded a b)) same apart step = absurd step.0
+replies one one' t js (entry.Store name text) (Line (said.Squeezed a)) same apart step = absurd step.0
+replies one one' t js (entry.Store name text) (Line said.Finished) same apart step = absurd step.0
+replies one one' t js (entry.Store name text) (Line (said.Started a)) same apart step = absurd step.0
+replies one one' t js (entry.Store name text) (Line (said.Steps a b c)) same apart step = absurd step.0
+replies one one' t js (entry.Store name text) (Line (said.Key a)) same apart step = absurd step.0
+replies one one' t js (entry.Store name text) (Line said.Done) same apart step = absurd step.0
+replies one one' t js (entry.Store name text) (Line (said.Switches a)) same apart step = absurd step.0
+replies one one' t js (entry.Store name text) (Line (said.Core a b)) same apart step = absurd step.0
+replies one one' t js (entry.Store name text) (Line (said.Break a b)) same apart step = absurd step.0
+replies one one' t js (entry.Store name text) (Report report) same apart step = absurd step.0
+replies one one' t js (entry.Delete name) (Line (said.Deleted other)) same apart step = let left = deleted one one' t js other same step.1 in (left.0, (step.0, left.1), left.2)
+replies one one' t js (entry.Delete name) (Line (said.Stored a b)) same apart step = absurd step.0
+replies one one' t js (entry.Delete name) (Line (said.Job a)) same apart step = absurd step.0
+replies one one' t js (entry.Delete name) (Line (said.Working a)) same apart step = absurd step.0
+replies one one' t js (entry.Delete name) (Line (said.Assembled a b c)) same apart step = absurd step.0
+replies one one' t js (entry.Delete name) (Line (said.Loaded a b)) same apart step = absurd step.0
+replies one one' t js (entry.Delete name) (Line (said.Squeezed a)) same apart step = absurd step.0
+replies one one' t js (entry.Delete name) (Line said.Finished) same apart step = absurd step.0
+replies one one' t js (entry.Delete name) (Line (said.Started a)) same apart step = absurd step.0
+replies one one' t js (entry.Delete name) (Line (said.Steps a b c)) same apart step = absurd step.0
+replies one one' t js (entry.Delete name) (Line (said.Key a)) same apart step = absurd step.0
+replies one one' t js (entry.Delete name) (Line said.Done) same apart step = absurd step.0
+replies one one' t js (entry.Delete name) (Line (said.Switches a)) same apart step = absurd step.0
+replies one one' t js (entry.Delete name) (Line (said.Core a b)) same apart step = absurd step.0
+replies one one' t js (entry.Delete name) (Line (said.Break a b)) same apart step = absurd step.0
+replies one one' t js (entry.Delete name) (Report report) same apart step = absurd step.0
+replies one one' t js entry.Direct (Report (report.Direct files free)) same apart step = (over one t js, (step.0, step.1, refl), ap unsqueezed step.2 ∙ alike one t js (sym same))
+replies one one' t js entry.Direct (Report (report.Registers text)) same apart step = absurd step.0
+replies one one' t js entry.Direct (Report (report.Printed characters)) same apart step = absurd step.0
+replies one one' t js entry.Direct (Line said) same apart step = absurd step.0
+replies one one' t js (entry.Assemble to from) (Line (said.Job number)) same apart step = (
+  _,
+  (step.0, step.1, step.2, step.3, (_, (step.4.1.0, record { unheld = same_held one.jobs js step.0 false same step.4.1.1.unheld; other = step.4.1.1.other }, record { least = sym apart ∙ step.4.1.2.least; others = refl }), refl)),
+  begins one one' t js number (new_assembling (job_state one) step.0 step.1) step.4.0 same step.4.1.2.others step.4.2,
+)
+replies one one' t js (entry.Assemble to from) (Line (said.Stored a b)) same apart step = absurd step.0
+replies one one' t js (entry.Assemble to from) (Line (said.Deleted a)) same apart step = absurd step.0
+replies one one' t js (entry.Assemble to from) (Line (said.Working a)) same apart step = absurd step.0
+replies one one' t js (entry.Assemble to from) (Line (said.Assembled a b c)) same apart step = absurd step.0
+replies one one' t js (entry.Assemble to from) (Line (said.Loaded a b)) same apart step = absurd step.0
+replies one one' t js (entry.Assemble to from) (Line (said.Squeezed a)) same apart step = absurd step.0
+replies one one' t js (entry.Assemble to from) (Line said.Finished) same apart step = absurd step.0
+replies one one' t js (entry.Assemble to from) (Line (said.Started a)) same apart step = absurd step.0
+replies one one' t js (entry.Assemble to from) (Line (said.Steps a b c)) same apart step = absurd step.0
+replies one one' t js (entry.Assemble to from) (Line (said.Key a)) same apart step = absurd step.0
+replies one one' t js (entry.Assemble to from) (Line said.Done) same apart step = absurd step.0
+replies one one' t js (entry.Assemble to from) (Line (said.Switches a)) same apart step = absurd step.0
+replies one one' t js (entry.Assemble to from) (Line (said.Core a b)) same apart step = absurd step.0
+replies one one' t js (entry.Assemble to from) (Line (said.Break a b)) same apart step = absurd step.0
+replies one one' t js (entry.Assemble to from) (Report report) same apart step = absurd step.0
+replies one one' t js (entry.Load name) (Line (said.Job number)) same apart step = (
+  _,
+  (step.0, step.1, (_, (step.2.1.0, record { least = sym apart ∙ step.2.1.1.least; others = refl }), refl)),
+  begins one one' t js number (new_loading (job_state one) step.0) step.2.0 same step.2.1.1.others step.2.2,
+)
+replies one one' t js (entry.Load name) (Line (said.Stored a b)) same apart step = absurd step.0
+replies one one' t js (entry.Load name) (Line (said.Deleted a)) same apart step = absurd step.0
+replies one one' t js (entry.Load name) (Line (said.Working a)) same apart step = absurd step.0
+replies one one' t js (entry.Load name) (Line (said.Assembled a b c)) same apart step = absurd step.0
+replies one one' t js (entry.Load name) (Line (said.Loaded a b)) same apart step = absurd step.0
+replies one one' t js (entry.Load name) (Line (said.Squeezed a)) same apart step = absurd step.0
+replies one one' t js (entry.Load name) (Line said.Finished) same apart step = absurd step.0
+replies one one' t js (entry.Load name) (Line (said.Started a)) same apart step = absurd step.0
+replies one one' t js (entry.Load name) (Line (said.Steps a b c)) same apart step = absurd step.0
+replies one one' t js (entry.Load name) (Line (said.Key a)) same apart step = absurd step.0
+replies one one' t js (entry.Load name) (Line said.Done) same apart step = absurd step.0
+replies one one' t js (entry.Load name) (Line (said.Switches a)) same apart step = absurd step.0
+replies one one' t js (entry.Load name) (Line (said.Core a b)) same apart step = absurd step.0
+replies one one' t js (entry.Load name) (Line (said.Break a b)) same apart step = absurd step.0
+replies one one' t js (entry.Load name) (Report report) same apart step = absurd step.0
+replies one one' t js entry.Squeeze (Line (said.Job number)) same apart step = (
+  _,
+  (_, record { least = sym apart ∙ step.1.least; others = refl }, refl),
+  begins one one' t js number (new_squeezing (job_state one)) step.0 same step.1.others step.2,
+)
+replies one one' t js entry.Squeeze (Line (said.Stored a b)) same apart step = absurd step.0
+replies one one' t js entry.Squeeze (Line (said.Deleted a)) same apart step = absurd step.0
+replies one one' t js entry.Squeeze (Line (said.Working a)) same apart step = absurd step.0
+replies one one' t js entry.Squeeze (Line (said.Assembled a b c)) same apart step = absurd step.0
+replies one one' t js entry.Squeeze (Line (said.Loaded a b)) same apart step = absurd step.0
+replies one one' t js entry.Squeeze (Line (said.Squeezed a)) same apart step = absurd step.0
+replies one one' t js entry.Squeeze (Line said.Finished) same apart step = absurd step.0
+replies one one' t js entry.Squeeze (Line (said.Started a)) same apart step = absurd step.0
+replies one one' t js entry.Squeeze (Line (said.Steps a b c)) same apart step = absurd step.0
+replies one one' t js entry.Squeeze (Line (said.Key a)) same apart step = absurd step.0
+replies one one' t js entry.Squeeze (Line said.Done) same apart step = absurd step.0
+replies one one' t js entry.Squeeze (Line (said.Switches a)) same apart step = absurd step.0
+replies one one' t js entry.Squeeze (Line (said.Core a b)) same apart step = absurd step.0
+replies one one' t js entry.Squeeze (Line (said.Break a b)) same apart step = absurd step.0
+replies one one' t js entry.Squeeze (Report report) same apart step = absurd step.0
+replies one one' t js (entry.Turn number) (Line said) same apart step =
+    let done = number_follows one t js number (Ok step.0) step.2.0 same apart refl step.2.1 in
+    (with_work (over one t js) done.0, (step.0, step.1, (done.0, done.1, refl)), worked one one' t js step.2.0 done.0 done.2 step.2.2)
+replies one one' t js (entry.Turn number) (Report report) same apart step = absurd step.0
+replies one one' t js (entry.Start cell) reply same apart step = shown one one' t js (entry.Start cell) reply same step
+replies one one' t js (entry.Step n) reply same apart step = shown one one' t js (entry.Step n) reply same step
+replies one one' t js (entry.Go n) reply same apart step = shown one one' t js (entry.Go n) reply same step
+replies one one' t js (entry.Run cell n) reply same apart step = shown one one' t js (entry.Run cell n) reply same step
+replies one one' t js (entry.Key character) reply same apart step = shown one one' t js (entry.Key character) reply same step
+replies one one' t js entry.Done reply same apart step = shown one one' t js entry.Done reply same step
+replies one one' t js (entry.Switches word) reply same apart step = shown one one' t js (entry.Switches word) reply same step
+replies one one' t js (entry.Examine cell) reply same apart step = shown one one' t js (entry.Examine cell) reply same step
+replies one one' t js (entry.Deposit cell word) reply same apart step = shown one one' t js (entry.Deposit cell word) reply same step
+replies one one' t js (entry.Break cell is_on) reply same apart step = shown one one' t js (entry.Break cell is_on) reply same step
+replies one one' t js entry.Registers reply same apart step = shown one one' t js entry.Registers reply same step
+replies one one' t js entry.Printed reply same apart step = shown one one' t js entry.Printed reply same step
+
+-- ## Refusals of entries
+
+assemble_may : (one : State) (t : Bool) (js : Jobs) (to : List ℕ) (from : List (List ℕ)) (why : SessionFault) → AreAlike one.jobs js → least_free one.jobs ≡ least_free js
+    → Named to from (λ target sources. (fault : JobFault) × (why ≡ fault_of_job fault) × AssembleStarts (job_state one) target sources (Err fault) (job_state one))
+    → Named to from (λ target sources. (fault : JobFault) × (why ≡ fault_of_job fault) × AssembleStarts (job_state (over one t js)) target sources (Err fault) (job_state (over one t js)))
+assemble_may one t js to from why same free may = (may.0, may.1, may.2, may.3, (may.4.0, may.4.1, assemble_refused one t js may.0 may.1 may.4.0 same free may.4.2))
+
+load_may : (one : State) (t : Bool) (js : Jobs) (name : List ℕ) (why : SessionFault) → least_free one.jobs ≡ least_free js
+    → (n : ℕ) × (parsed_name name ≡ Some n) × ((fault : JobFault) × (why ≡ fault_of_job fault) × LoadStarts (job_state one) n (Err fault) (job_state one))
+    → (n : ℕ) × (parsed_name name ≡ Some n) × ((fault : JobFault) × (why ≡ fault_of_job fault) × LoadStarts (job_state (over one t js)) n (Err fault) (job_state (over one t js)))
+load_may one t js name why free may = (may.0, may.1, (may.2.0, may.2.1, load_refused one t js may.0 may.2.0 free may.2.2))
+
+refuses : (one : State) (t : Bool) (js : Jobs) (e : Entry) (why : SessionFault) → AreAlike one.jobs js → IsApart e one (over one t js) → speaks_of_room (Err why) ≡ false → May one e why → May (over one t js) e why
+refuses one t js (entry.Store name text) (fault.File file.NotFound) same apart room may = (may.0, may.1, may.2, put_refused one t js may.0 (stored text) file.NotFound same room may.3)
+refuses one t js (entry.Store name text) (fault.File (file.NoRoom n)) same apart room may = (may.0, may.1, may.2, put_refused one t js may.0 (stored text) (file.NoRoom n) same room may.3)
+refuses one t js (entry.Store name text) (fault.File file.DirectoryFull) same apart room may = (may.0, may.1, may.2, put_refused one t js may.0 (stored text) file.DirectoryFull same room may.3)
+refuses one t js (entry.Store name text) (fault.File (file.Busy n)) same apart room may = (may.0, may.1, may.2, put_refused one t js may.0 (stored text) (file.Busy n) same room may.3)
+refuses one t js (entry.Store name text) (fault.File file.BadName) same apart room may = may
+refuses one t js (entry.Store name text) (fault.File file.TooLong) same apart room may = (may.0, may.1, may.2, put_refused one t js may.0 (stored text) file.TooLong same room may.3)
+refuses one t js (entry.Store name text) (fault.File file.TentativeOpen) same apart room may = (may.0, may.1, may.2, put_refused one t js may.0 (stored text) file.TentativeOpen same room may.3)
+refuses one t js (entry.Store name text) (fault.File file.Device) same apart room may = (may.0, may.1, may.2, put_refused one t js may.0 (stored text) file.Device same room may.3)
+refuses one t js (entry.Store name text) (fault.File file.Stopped) same apart room may = (may.0, may.1, may.2, put_refused one t js may.0 (stored text) file.Stopped same room may.3)
+refuses one t js (entry.Store name text) (fault.File file.Memory) same apart room may = (may.0, may.1, may.2, put_refused one t js may.0 (stored text) file.Memory same room may.3)
+refuses one t js (entry.Store name text) (fault.File file.NothingWritten) same apart room may = (may.0, may.1, may.2, put_refused one t js may.0 (stored text) file.NothingWritten same room may.3)
+refuses one t js (entry.Store name text) fault.BadLine same apart room may = absurd may
+refuses one t js (entry.Store name text) fault.NoJob same apart room may = absurd may
+refuses one t js (entry.Store name text) fault.TooManyJobs same apart room may = absurd may
+refuses one t js (entry.Store name text) (fault.Asm a) same apart room may = absurd may
+refuses one t js (entry.Store name text) (fault.Tape a) same apart room may = absurd may
+refuses one t js (entry.Store name text) fault.BadText same apart room may = may
+refuses one t js (entry.Store name text) fault.Reader same apart room may = absurd may
+refuses one t js (entry.Store name text) fault.Writer same apart room may = absurd may
+refuses one t js (entry.Store name text) fault.Memory same apart room may = absurd may
+refuses one t js (entry.Store name text) fault.TooManyBreaks same apart room may = absurd may
+refuses one t js (entry.Delete name) (fault.File file.NotFound) same apart room may = (may.0, may.1, delete_refused one t js may.0 file.NotFound same room may.2)
+refuses one t js (entry.Delete name) (fault.File (file.NoRoom n)) same apart room may = (may.0, may.1, delete_refused one t js may.0 (file.NoRoom n) same room may.2)
+refuses one t js (entry.Delete name) (fault.File file.DirectoryFull) same apart room may = (may.0, may.1, delete_refused one t js may.0 file.DirectoryFull same room may.2)
+refuses one t js (entry.Delete name) (fault.File (file.Busy n)) same apart room may = (may.0, may.1, delete_refused one t js may.0 (file.Busy n) same room may.2)
+refuses one t js (entry.Delete name) (fault.File file.BadName) same apart room may = may
+refuses one t js (entry.Delete name) (fault.File file.TooLong) same apart room may = (may.0, may.1, delete_refused one t js may.0 file.TooLong same room may.2)
+refuses one t js (entry.Delete name) (fault.File file.TentativeOpen) same apart room may = (may.0, may.1, delete_refused one t js may.0 file.TentativeOpen same room may.2)
+refuses one t js (entry.Delete name) (fault.File file.Device) same apart room may = (may.0, may.1, delete_refused one t js may.0 file.Device same room may.2)
+refuses one t js (entry.Delete name) (fault.File file.Stopped) same apart room may = (may.0, may.1, delete_refused one t js may.0 file.Stopped same room may.2)
+refuses one t js (entry.Delete name) (fault.File file.Memory) same apart room may = (may.0, may.1, delete_refused one t js may.0 file.Memory same room may.2)
+refuses one t js (entry.Delete name) (fault.File file.NothingWritten) same apart room may = (may.0, may.1, delete_refused one t js may.0 file.NothingWritten same room may.2)
+refuses one t js (entry.Delete name) fault.BadLine same apart room may = absurd may
+refuses one t js (entry.Delete name) fault.NoJob same apart room may = absurd may
+refuses one t js (entry.Delete name) fault.TooManyJobs same apart room may = absurd may
+refuses one t js (entry.Delete name) (fault.Asm a) same apart room may = absurd may
+refuses one t js (entry.Delete name) (fault.Tape a) same apart room may = absurd may
+refuses one t js (entry.Delete name) fault.BadText same apart room may = absurd may
+refuses one t js (entry.Delete name) fault.Reader same apart room may = absurd may
+refuses one t js (entry.Delete name) fault.Writer same apart room may = absurd may
+refuses one t js (entry.Delete name) fault.Memory same apart room may = absurd may
+refuses one t js (entry.Delete name) fault.TooManyBreaks same apart room may = absurd may
+refuses one t js entry.Direct why same apart room may = absurd may
+refuses one t js (entry.Assemble to from) (fault.File file.NotFound) same apart room may = assemble_may one t js to from (fault.File file.NotFound) same apart may
+refuses one t js (entry.Assemble to from) (fault.File (file.NoRoom n)) same apart room may = assemble_may one t js to from (fault.File (file.NoRoom n)) same apart may
+refuses one t js (entry.Assemble to from) (fault.File file.DirectoryFull) same apart room may = assemble_may one t js to from (fault.File file.DirectoryFull) same apart may
+refuses one t js (entry.Assemble to from) (fault.File (file.Busy n)) same apart room may = assemble_may one t js to from (fault.File (file.Busy n)) same apart may
+refuses one t js (entry.Assemble to from) (fault.File file.BadName) same apart room may = may
+refuses one t js (entry.Assemble to from) (fault.File file.TooLong) same apart room may = assemble_may one t js to from (fault.File file.TooLong) same apart may
+refuses one t js (entry.Assemble to from) (fault.File file.TentativeOpen) same apart room may = assemble_may one t js to from (fault.File file.TentativeOpen) same apart may
+refuses one t js (entry.Assemble to from) (fault.File file.Device) same apart room may = assemble_may one t js to from (fault.File file.Device) same apart may
+refuses one t js (entry.Assemble to from) (fault.File file.Stopped) same apart room may = assemble_may one t js to from (fault.File file.Stopped) same apart may
+refuses one t js (entry.Assemble to from) (fault.File file.Memory) same apart room may = assemble_may one t js to from (fault.File file.Memory) same apart may
+refuses one t js (entry.Assemble to from) (fault.File file.NothingWritten) same apart room may = assemble_may one t js to from (fault.File file.NothingWritten) same apart may
+refuses one t js (entry.Assemble to from) fault.BadLine same apart room may = may
+refuses one t js (entry.Assemble to from) fault.NoJob same apart room may = assemble_may one t js to from fault.NoJob same apart may
+refuses one t js (entry.Assemble to from) fault.TooManyJobs same apart room may = assemble_may one t js to from fault.TooManyJobs same apart may
+refuses one t js (entry.Assemble to from) (fault.Asm a) same apart room may = assemble_may one t js to from (fault.Asm a) same apart may
+refuses one t js (entry.Assemble to from) (fault.Tape a) same apart room may = assemble_may one t js to from (fault.Tape a) same apart may
+refuses one t js (entry.Assemble to from) fault.BadText same apart room may = assemble_may one t js to from fault.BadText same apart may
+refuses one t js (entry.Assemble to from) fault.Reader same apart room may = assemble_may one t js to from fault.Reader same apart may
+refuses one t js (entry.Assemble to from) fault.Writer same apart room may = assemble_may one t js to from fault.Writer same apart may
+refuses one t js (entry.Assemble to from) fault.Memory same apart room may = assemble_may one t js to from fault.Memory same apart may
+refuses one t js (entry.Assemble to from) fault.TooManyBreaks same apart room may = assemble_may one t js to from fault.TooManyBreaks same apart may
+refuses one t js (entry.Load name) (fault.File file.NotFound) same apart room may = load_may one t js name (fault.File file.NotFound) apart may
+refuses one t js (entry.Load name) (fault.File (file.NoRoom n)) same apart room may = load_may one t js name (fault.File (file.NoRoom n)) apart may
+refuses one t js (entry.Load name) (fault.File file.DirectoryFull) same apart room may = load_may one t js name (fault.File file.DirectoryFull) apart may
+refuses one t js (entry.Load name) (fault.File (file.Busy n)) same apart room may = load_may one t js name (fault.File (file.Busy n)) apart may
+refuses one t js (entry.Load name) (fault.File file.BadName) same apart room may = may
+refuses one t js (entry.Load name) (fault.File file.TooLong) same apart room may = load_may one t js name (fault.File file.TooLong) apart may
+refuses one t js (entry.Load name) (fault.File file.TentativeOpen) same apart room may = load_may one t js name (fault.File file.TentativeOpen) apart may
+refuses one t js (entry.Load name) (fault.File file.Device) same apart room may = load_may one t js name (fault.File file.Device) apart may
+refuses one t js (entry.Load name) (fault.File file.Stopped) same apart room may = load_may one t js name (fault.File file.Stopped) apart may
+refuses one t js (entry.Load name) (fault.File file.Memory) same apart room may = load_may one t js name (fault.File file.Memory) apart may
+refuses one t js (entry.Load name) (fault.File file.NothingWritten) same apart room may = load_may one t js name (fault.File file.NothingWritten) apart may
+refuses one t js (entry.Load name) fault.BadLine same apart room may = load_may one t js name fault.BadLine apart may
+refuses one t js (entry.Load name) fault.NoJob same apart room may = load_may one t js name fault.NoJob apart may
+refuses one t js (entry.Load name) fault.TooManyJobs same apart room may = load_may one t js name fault.TooManyJobs apart may
+refuses one t js (entry.Load name) (fault.Asm a) same apart room may = load_may one t js name (fault.Asm a) apart may
+refuses one t js (entry.Load name) (fault.Tape a) same apart room may = load_may one t js name (fault.Tape a) apart may
+refuses one t js (entry.Load name) fault.BadText same apart room may = load_may one t js name fault.BadText apart may
+refuses one t js (entry.Load name) fault.Reader same apart room may = load_may one t js name fault.Reader apart may
+refuses one t js (entry.Load name) fault.Writer same apart room may = load_may one t js name fault.Writer apart may
+refuses one t js (entry.Load name) fault.Memory same apart room may = load_may one t js name fault.Memory apart may
+refuses one t js (entry.Load name) fault.TooManyBreaks same apart room may = load_may one t js name fault.TooManyBreaks apart may
+refuses one t js entry.Squeeze fault.BadLine same apart room may = absurd may
+refuses one t js entry.Squeeze fault.NoJob same apart room may = absurd may
+refuses one t js entry.Squeeze fault.TooManyJobs same apart room may = sym apart ∙ may
+refuses one t js entry.Squeeze (fault.Asm a) same apart room may = absurd may
+refuses one t js entry.Squeeze (fault.Tape a) same apart room may = absurd may
+refuses one t js entry.Squeeze fault.BadText same apart room may = absurd may
+refuses one t js entry.Squeeze fault.Reader same apart room may = absurd may
+refuses one t js entry.Squeeze fault.Writer same apart room may = absurd may
+refuses one t js entry.Squeeze fault.Memory same apart room may = absurd may
+refuses one t js entry.Squeeze fault.TooManyBreaks same apart room may = absurd may
+refuses one t js entry.Squeeze (fault.File why) same apart room may = absurd may
+refuses one t js (entry.Turn number) why same apart room may =
+    let ended = number_follows one t js number (Err may.0) may.2.0 same apart (sym (ap (λ (f : SessionFault). speaks_of_room (Err f)) may.1) ∙ room) may.2.1 in
+    (may.0, may.1, (ended.0, ended.1))
+refuses one t js (entry.Start cell) why same apart room may = absurd may
+refuses one t js (entry.Step n) why same apart room may = absurd may
+refuses one t js (entry.Go n) why same apart room may = absurd may
+refuses one t js (entry.Run cell n) why same apart room may = absurd may
+refuses one t js (entry.Key character) why same apart room may = absurd may
+refuses one t js entry.Done why same apart room may = absurd may
+refuses one t js (entry.Switches word) why same apart room may = absurd may
+refuses one t js (entry.Examine cell) why same apart room may = absurd may
+refuses one t js (entry.Deposit cell word) why same apart room may = absurd may
+refuses one t js (entry.Break cell is_on) fault.BadLine same apart room may = absurd may
+refuses one t js (entry.Break cell is_on) fault.NoJob same apart room may = absurd may
+refuses one t js (entry.Break cell is_on) fault.TooManyJobs same apart room may = absurd may
+refuses one t js (entry.Break cell is_on) (fault.Asm a) same apart room may = absurd may
+refuses one t js (entry.Break cell is_on) (fault.Tape a) same apart room may = absurd may
+refuses one t js (entry.Break cell is_on) fault.BadText same apart room may = absurd may
+refuses one t js (entry.Break cell is_on) fault.Reader same apart room may = absurd may
+refuses one t js (entry.Break cell is_on) fault.Writer same apart room may = absurd may
+refuses one t js (entry.Break cell is_on) fault.Memory same apart room may = absurd may
+refuses one t js (entry.Break cell is_on) fault.TooManyBreaks same apart room may = may
+refuses one t js (entry.Break cell is_on) (fault.File why) same apart room may = absurd may
+refuses one t js entry.Registers why same apart room may = absurd may
+refuses one t js entry.Printed why same apart room may = absurd may
+
+-- what a refusal leaves
+refused_alike : (one : State) (t : Bool) (js : Jobs) (e : Entry) → AreAlike one.jobs js → IsAlike (after_refusal one e) (after_refusal (over one t js) e)
+refused_alike one t js (entry.Store name text) same = alike one t js (sym same)
+refused_alike one t js (entry.Delete name) same = alike one t js (sym same)
+refused_alike one t js entry.Direct same = alike one t js (sym same)
+refused_alike one t js (entry.Assemble to from) same = alike one t js (sym same)
+refused_alike one t js (entry.Load name) same = alike one t js (sym same)
+refused_alike one t js entry.Squeeze same = alike one t js (sym same)
+refused_alike one t js (entry.Turn number) same = ap (λ (l : Jobs). record one { tight = false; jobs = l }) (same_put number None one.jobs js same)
+refused_alike one t js (entry.Start cell) same = alike one t js (sym same)
+refused_alike one t js (entry.Step n) same = alike one t js (sym same)
+refused_alike one t js (entry.Go n) same = alike one t js (sym same)
+refused_alike one t js (entry.Run cell n) same = alike one t js (sym same)
+refused_alike one t js (entry.Key character) same = alike one t js (sym same)
+refused_alike one t js entry.Done same = alike one t js (sym same)
+refused_alike one t js (entry.Switches word) same = alike one t js (sym same)
+refused_alike one t js (entry.Examine cell) same = alike one t js (sym same)
+refused_alike one t js (entry.Deposit cell word) same = alike one t js (sym same)
+refused_alike one t js (entry.Break cell is_on) same = alike one t js (sym same)
+refused_alike one t js entry.Registers same = alike one t js (sym same)
+refused_alike one t js entry.Printed same = alike one t js (sym same)
+
+-- ## Want of memory
+
+lacks : (one : State) (t : Bool) (js : Jobs) (e : Entry) → AreAlike one.jobs js → IsApart e one (over one t js) → MayLack one e → MayLack (over one t js) e
+lacks one t js (entry.Store name text) same apart lack = lack
+lacks one t js (entry.Delete name) same apart lack = (lack.0, lack.1, lack.2, same_held one.jobs js lack.0 false same lack.3)
+lacks one t js entry.Direct same apart lack = lack
+lacks one t js (entry.Assemble to from) same apart lack = (lack.0, lack.1, lack.2, lack.3, refl)
+lacks one t js (entry.Load name) same apart lack = (lack.0, lack.1, refl)
+lacks one t js entry.Squeeze same apart lack = lack
+lacks one t js (entry.Turn number) same apart lack = (lack.0, sym (same_job one.jobs js number same apart.0 apart.1) ∙ lack.1)
+lacks one t js (entry.Start cell) same apart lack = lack
+lacks one t js (entry.Step n) same apart lack = lack
+lacks one t js (entry.Go n) same apart lack = lack
+lacks one t js (entry.Run cell n) same apart lack = lack
+lacks one t js (entry.Key character) same apart lack = lack
+lacks one t js entry.Done same apart lack = lack
+lacks one t js (entry.Switches word) same apart lack = lack
+lacks one t js (entry.Examine cell) same apart lack = lack
+lacks one t js (entry.Deposit cell word) same apart lack = lack
+lacks one t js (entry.Break cell is_on) same apart lack = lack
+lacks one t js entry.Registers same apart lack = lack
+lacks one t js entry.Printed same apart lack = lack
+
+-- ## Entries
+
+refusal : (one one' : State) (t : Bool) (js : Jobs) (e : Entry) (why : SessionFault) → AreAlike one.jobs js → IsApart e one (over one t js) → speaks_of_room (Err why) ≡ false
+    → May one e why × (one' ≡ after_refusal one e) → (two' : State) × (May (over one t js) e why × (two' ≡ after_refusal (over one t js) e)) × IsAlike one' two'
+refusal one one' t js e why same apart room step = (after_refusal (over one t js) e, (refuses one t js e why same apart room step.0, refl), ap unsqueezed step.1 ∙ refused_alike one t js e same)
+
+entry_follows : (one one' : State) (t : Bool) (js : Jobs) (e : Entry) (answer : Answer) → AreAlike one.jobs js → IsApart e one (over one t js) → speaks_of_room answer ≡ false → Step one e answer one' → Follows (over one t js) e answer one'
+entry_follows one one' t js e (Ok reply) same apart room step = replies one one' t js e reply same apart step
+entry_follows one one' t js e (Err fault.Memory) same apart room step = (over one t js, (lacks one t js e same apart step.0, refl), ap unsqueezed step.1 ∙ alike one t js (sym same))
+entry_follows one one' t js e (Err fault.BadLine) same apart room step = refusal one one' t js e fault.BadLine same apart room step
+entry_follows one one' t js e (Err fault.NoJob) same apart room step = refusal one one' t js e fault.NoJob same apart room step
+entry_follows one one' t js e (Err fault.TooManyJobs) same apart room step = refusal one one' t js e fault.TooManyJobs same apart room step
+entry_follows one one' t js e (Err (fault.Asm a)) same apart room step = refusal one one' t js e (fault.Asm a) same apart room step
+entry_follows one one' t js e (Err (fault.Tape a)) same apart room step = refusal one one' t js e (fault.Tape a) same apart room step
+entry_follows one one' t js e (Err fault.BadText) same apart room step = refusal one one' t js e fault.BadText same apart room step
+entry_follows one one' t js e (Err fault.Reader) same apart room step = refusal one one' t js e fault.Reader same apart room step
+entry_follows one one' t js e (Err fault.Writer) same apart room step = refusal one one' t js e fault.Writer same apart room step
+entry_follows one one' t js e (Err fault.TooManyBreaks) same apart room step = refusal one one' t js e fault.TooManyBreaks same apart room step
+entry_follows one one' t js e (Err (fault.File why)) same apart room step = refusal one one' t js e (fault.File why) same apart room step
+
+-- a state is another one with its own squeezing jobs, where they are the same but for those
+over_is : (one two : State) → IsAlike one two → two ≡ over one two.tight two.jobs
+over_is one two same = sym (ap (λ (s : State). over s two.tight two.jobs) same)
+
+pub others_follow : (one two one' : State) (e : Entry) (answer : Answer) → IsAlike one two → IsApart e one two → speaks_of_room answer ≡ false → Step one e answer one' → (two' : State) × Step two e answer two' × IsAlike one' two'
+others_follow one two one' e answer same apart room step = subst (λ (s : State). Follows s e answer one') (sym is) (entry_follows one one' two.tight two.jobs e answer (ap (λ (s : State). s.jobs) same) (subst (λ (s : State). IsApart e one s) is apart) room step)
+  where
+    is : two ≡ over one two.tight two.jobs
+    is = over_is one two same

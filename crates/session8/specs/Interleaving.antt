@@ -1,0 +1,46 @@
+-- What an entry leaves alone that jobs rest on between their turns: the blocks that it reads, and the places of files.
+use Rattle.std.specs.Prelude.{◌≡◌, ℕ, Option, Some, None}
+use Rattle.os8_dir.specs.Names.{parsed_name}
+use Rattle.os8_files.specs.Laws.{KeepsPlaces, KeepsOtherPlaces}
+use Rattle.os8_files.specs.Mounted.{Mounted}
+use Rattle.jobs8.specs.Calls.{ReadsFew, MovesFew}
+use Rattle.jobs8.specs.Jobs.{Job, job_of}
+use Rattle.script8.specs.declared.entries.Entry.{Entry}
+use Rattle.script8.specs.declared.entries.Entry.TheVariants as entry
+use Rattle.session8.specs.Session.{Seen}
+
+-- ## Reads
+
+-- what the turn of a job, where there is one, may read of the store
+abbrev pub TurnReads : Option Job → Mounted → Mounted → Type 0
+TurnReads None old new = new.reads ≡ old.reads
+TurnReads (Some it) old new = ReadsFew it.work old new
+
+-- an entry that gives no turn reads no block
+abbrev pub EntryReads : Entry → Seen → Seen → Type 0
+EntryReads (entry.Turn number) old new = TurnReads (job_of number old.jobs) old.volume new.volume
+EntryReads entry old new = new.volume.reads ≡ old.volume.reads
+
+-- ## Places
+
+-- the places of all files stay, but for that of a name
+abbrev pub KeepsPlacesBut : Option ℕ → Mounted → Mounted → Type 0
+KeepsPlacesBut None old new = KeepsPlaces old new
+KeepsPlacesBut (Some name) old new = KeepsOtherPlaces name old new
+
+-- which places the turn of a job may change
+abbrev pub TurnPlaces : Option Job → Mounted → Mounted → Type 0
+TurnPlaces None old new = KeepsPlaces old new
+TurnPlaces (Some it) old new = MovesFew it.work old new
+
+-- an entry that gives no turn changes the place of the file alone that it stores or deletes
+abbrev pub EntryPlaces : Entry → Seen → Seen → Type 0
+EntryPlaces (entry.Store name text) old new = KeepsPlacesBut (parsed_name name) old.volume new.volume
+EntryPlaces (entry.Delete name) old new = KeepsPlacesBut (parsed_name name) old.volume new.volume
+EntryPlaces (entry.Turn number) old new = TurnPlaces (job_of number old.jobs) old.volume new.volume
+EntryPlaces entry old new = KeepsPlaces old.volume new.volume
+
+-- what an entry leaves alone
+pub record Leaves (entry : Entry) (old new : Seen) : Type 0 where
+  pub reads : EntryReads entry old new
+  pub places : EntryPlaces entry old new
