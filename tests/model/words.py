@@ -1,0 +1,62 @@
+"""Words of twelve bits, names in sixbit, and three characters in two words, as OS/8 has them."""
+import re
+from typing import Optional
+
+Name = tuple[int, int, int, int]
+"""The name of a file: six characters and two of extension, two sixbit codes in a word."""
+
+BLOCK_WORDS = 256
+BLOCK_FRAMES = 384
+
+
+def octal(number: int, digits: int) -> str:
+    return format(number, f"0{digits}o")
+
+
+def parsed_name(typed: bytes) -> Optional[Name]:
+    """The name that was typed: 1 to 6 capital letters or digits, then nothing, or a dot and 1 or 2 more."""
+    parts = re.fullmatch(rb"([A-Z0-9]{1,6})(?:\.([A-Z0-9]{1,2}))?", typed)
+    if not parts:
+        return None
+    codes = [letter & 0o77 for letter in parts[1].ljust(6, b"\0") + (parts[2] or b"").ljust(2, b"\0")]
+    return (64 * codes[0] + codes[1], 64 * codes[2] + codes[3], 64 * codes[4] + codes[5], 64 * codes[6] + codes[7])
+
+
+def shown_word(word: int) -> str:
+    return "".join(chr(code + 0o100 if code < 0o40 else code) for code in (word // 64, word % 64) if code)
+
+
+def shown_name(name: Name) -> str:
+    return "".join(map(shown_word, name[:3])) + ("." + shown_word(name[3]) if name[3] else "")
+
+
+def frames_of(words: list[int]) -> list[int]:
+    """Three frames for each two words."""
+    frames = []
+    for first, second in zip(words[::2], words[1::2]):
+        frames += [first % 256, second % 256, 16 * (first // 256) + second // 256]
+    return frames
+
+
+def packed(frames: list[int]) -> list[int]:
+    """The fewest whole blocks whose frames begin with these, zeros behind."""
+    words = []
+    frames = frames + [0] * (-len(frames) % BLOCK_FRAMES)
+    for first, second, third in zip(frames[::3], frames[1::3], frames[2::3]):
+        words += [first + 256 * (third // 16), second + 256 * (third % 16)]
+    return words
+
+
+def stored_text(lines: bytes) -> Optional[list[int]]:
+    """The words of a host's text as a file: CR is dropped, LF becomes CR LF, control Z ends it. A byte above 0177, and control Z
+    itself, can't be kept."""
+    if any(byte > 0o177 or byte == 0o32 for byte in lines):
+        return None
+    text = lines.replace(b"\r", b"").replace(b"\n", b"\r\n")
+    return packed([0o200 + byte for byte in text] + [0o232])
+
+
+def text_of(words: list[int]) -> bytes:
+    """The text of a file: its frames without the top bit, up to the first control Z."""
+    text = bytes(frame % 128 for frame in frames_of(words))
+    return text.split(b"\x1a")[0]
