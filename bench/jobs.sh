@@ -1,0 +1,48 @@
+#!/usr/bin/env bash
+# Assembles and loads a source of 45,000 lines by the jobs of a script, on a volume of 4095 blocks that it half fills, and assembles
+# the same source as one text, in one run: prints lines a second of processor time, less that of a script of one DIRECT and of a
+# source of one word, and what part of the rate the jobs keep. Then the processor time of a turn that reads a block, of a source of
+# 10 blocks and of one of 1000. Of ten alternate runs the least counts.
+set -eu
+top=$(cd "$(dirname "${BASH_SOURCE[0]}")/.." && pwd)
+. "$top/bench/seconds.sh"
+. "$top/bench/sources.sh"
+ours=$top/crates/asm_bench/out/asm_bench
+(cd "$top/crates/asm_bench" && rt run <stdin >/dev/null) 2>/dev/null
+"$top/pdp8" --version >/dev/null
+pdp8=$top/crates/pdp8/out/pdp8
+
+folder=$(mktemp -d)
+trap 'rm -rf "$folder"' EXIT
+cd "$folder"
+
+# A volume that holds a source of so many lines as S.PA.
+volume_of() {
+    source_of "$2" >"$1.pal"
+    "$pdp8" create "$1" 4095 >/dev/null
+    { echo "STORE S.PA $(wc -l <"$1.pal")"; cat "$1.pal"; } | "$pdp8" run "$1" | tail -1
+}
+
+# Scripts over copies of a volume, each so many times.
+run_script() { for _ in $(seq "$3"); do cp "$1" copy && "$pdp8" run copy <"$2" >/dev/null; done; }
+run_text() { for _ in $(seq "$2"); do "$ours" <"$1" >/dev/null; done; }
+
+printf 'DIRECT\n' >direct
+printf 'ASSEMBLE B.BN<S.PA\nFINISH\n' >assemble
+printf 'ASSEMBLE B.BN<S.PA\nFINISH\nLOAD B.BN\nFINISH\n' >road
+printf '1\r\n$\r\n' >one.pal
+
+lines=45000
+volume_of half $lines
+alternate 10 "run_script half road 4" "run_script half direct 4" "run_text half.pal 4" "run_text one.pal 4" |
+    awk -v lines=$lines '{
+        jobs = $1 - $2
+        text = $3 - $4
+        printf "%d lines: %.0f lines a second by jobs, %.0f as one text, part %.2f\n", lines, 4 * lines / jobs, 4 * lines / text, text / jobs
+    }'
+
+for lines in 270 27000; do
+    volume_of "of$lines" $lines
+done
+alternate 10 "run_script of270 assemble 8" "run_script of270 direct 8" "run_script of27000 assemble 8" "run_script of27000 direct 8" |
+    awk '{ printf "seconds of eight jobs: %.4f of the small source, %.4f of the large one\n", $1 - $2, $3 - $4 }'
