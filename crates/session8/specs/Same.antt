@@ -34,8 +34,8 @@ IsAlike one two = unsqueezed one ≡ unsqueezed two
 abbrev pub IsLasting : ℕ → State → Type 0
 IsLasting number s = lasting_job (job_of number s.jobs) ≡ job_of number s.jobs
 
--- An entry has nothing to do with squeezing jobs in two states: the job of a turn squeezes in neither, and a job that is begun
--- gets the same number in both.
+-- An entry has nothing to do with squeezing jobs in two states: the job of a turn squeezes in neither, and where a job is to be
+-- begun, or refused, the least free number is the same in both.
 abbrev pub IsApart : Entry → State → State → Type 0
 IsApart (entry.Assemble to from) one two = least_free one.jobs ≡ least_free two.jobs
 IsApart (entry.Load name) one two = least_free one.jobs ≡ least_free two.jobs

@@ -16,10 +16,11 @@ pub fn refusals()
     ensures all { (old new : State) (entry : Entry) (why : SessionFault) → job_of_entry entry ≡ None → Step old entry (Err why) new → new ≡ old }
 {}
 
-/// When the turns of squeezing jobs fall matters to nothing but the refusals that speak of room and the numbers of new jobs (this
-/// project's profile). Such a turn changes its own job alone, and what is known of free blocks below files. In two states that are
-/// the same but for those, any other entry may get the same answer, and leaves them so, where the answer is no refusal for want of
-/// free blocks or of room in the directory, and a job that it begins gets the same number in both.
+/// When the turns of squeezing jobs fall matters to nothing but the refusals that speak of room and the numbers free for new jobs
+/// (this project's profile). Such a turn changes its own job alone, and what is known of free blocks below files. In two states
+/// that are the same but for those, an entry that is a turn of a squeezing job in neither may get the same answer, and leaves them
+/// so, but for a refusal for want of free blocks or of room in the directory; where it is to begin a job, the least free number
+/// must be the same in both.
 pub fn interleavings()
     ensures own { (old new : State) (number : ℕ) (clean : Bool) (left : ℕ) (answer : Answer) → job_of number old.jobs ≡ Some (squeezing clean left) → Step old (entry.Turn number) answer new → new ≡ record old { tight = new.tight; jobs = with_job number (job_of number new.jobs) old.jobs } }
     ensures turn { (old new : State) (number : ℕ) (clean : Bool) (left : ℕ) (answer : Answer) → job_of number old.jobs ≡ Some (squeezing clean left) → Step old (entry.Turn number) answer new → IsAlike old new }
