@@ -133,8 +133,8 @@ refused_load old new jobs name place why answer settled running free is begins =
       step = λ still core. ((place + 1, free_is jobs place free), b.1, ap (λ (m : Mounted). state_over m core (plain_jobs jobs)) b.2);
     }
     by_fault file.Memory b = record {
-      over = refused_by old new jobs _ settled running b.1;
-      step = λ still core. ap (λ (m : Mounted). state_over m core (plain_jobs jobs)) b.1;
+      over = refused_by old new jobs _ settled running b.2;
+      step = λ still core. ((place + 1, free_is jobs place free), b.1, ap (λ (m : Mounted). state_over m core (plain_jobs jobs)) b.2);
     }
     by_fault file.Stopped b = absurd (true≢false (sym b.0 ∙ running))
     by_fault (file.NoRoom n) b = absurd b
@@ -243,7 +243,7 @@ refused_assembly law old new jobs target from place (fault.File (file.Busy other
 }
 refused_assembly law old new jobs target from place fault.Memory settled running free b = record {
   over = over_again old new jobs _ settled running b;
-  step = λ still core. again_state old new core jobs b;
+  step = λ still core. ((place + 1, free_is jobs place free), again_state old new core jobs b);
 }
 refused_assembly law old new jobs target from place (fault.File (file.NoRoom n)) settled running free b = absurd b
 refused_assembly law old new jobs target from place (fault.File file.DirectoryFull) settled running free b = absurd b

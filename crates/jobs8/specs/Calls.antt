@@ -25,6 +25,7 @@ use Rattle.pal_blocks.specs.Blocks.{blocks_in}
 use Rattle.jobs8.specs.Schedule.{loading_turns}
 use Rattle.jobs8.specs.Settled.{LoadingFits, IsSettled, state_over, work_of, plain_job, plain_jobs, StandsIn, FitsIn, FitsAfter, names_in, left_of, plain_after, AreNamed}
 use Rattle.jobs8.specs.Sources.{without_holds}
+use Rattle.jobs8.specs.State.{IsIn}
 use Rattle.jobs8.specs.Starts.{Begun, AssembleStarts, LoadStarts, SqueezeStarts}
 use Rattle.jobs8.specs.Turns.{Answer, is_assembled, LoadingTurn, WorkTurn, Turns}
 
@@ -138,7 +139,7 @@ abbrev pub BeginsLoading : Mounted → ℕ → Result (Loading × ℕ) FileFault
 BeginsLoading old name (Ok begun) new = HasBegunLoading old name begun.0 begun.1 new
 BeginsLoading old name (Err file.NotFound) new = (old.stopped ≡ false) × (get (files_of old.blocks) name ≡ None) × (new ≡ old)
 BeginsLoading old name (Err file.Stopped) new = (old.stopped ≡ true) × (new ≡ old)
-BeginsLoading old name (Err file.Memory) new = (old.stopped ≡ false) × (new ≡ old)
+BeginsLoading old name (Err file.Memory) new = (old.stopped ≡ false) × IsIn (files_of old.blocks) name × (new ≡ old)
 BeginsLoading old name (Err why) new = ⊥
 
 -- what the one call of a squeezing turn makes of its job, with so many turns left

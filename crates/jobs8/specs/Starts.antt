@@ -49,7 +49,7 @@ AssembleStarts old to from (Ok number) new = AreThere old from × IsIdle old to 
 AssembleStarts old to from (Err TooManyJobs) new = (least_free old.jobs ≡ None) × (new ≡ old)
 AssembleStarts old to from (Err (File file.NotFound)) new = HasNumber old × IsOneMissing old from × (new ≡ old)
 AssembleStarts old to from (Err (File (file.Busy other))) new = HasNumber old × AreThere old from × (other ≡ to) × IsBusy old to from × (new ≡ old)
-AssembleStarts old to from (Err Memory) new = new ≡ old
+AssembleStarts old to from (Err Memory) new = HasNumber old × (new ≡ old)
 AssembleStarts old to from (Err fault) new = ⊥
 
 -- The refusals come in this order: too many jobs, a source that isn't there.
@@ -57,7 +57,7 @@ abbrev pub LoadStarts : State → ℕ → Begun → State → Type 0
 LoadStarts old from (Ok number) new = IsThere old from × HasBegun old number (new_loading old from) new
 LoadStarts old from (Err TooManyJobs) new = (least_free old.jobs ≡ None) × (new ≡ old)
 LoadStarts old from (Err (File file.NotFound)) new = HasNumber old × (get old.files from ≡ None) × (new ≡ old)
-LoadStarts old from (Err Memory) new = new ≡ old
+LoadStarts old from (Err Memory) new = HasNumber old × IsThere old from × (new ≡ old)
 LoadStarts old from (Err fault) new = ⊥
 
 -- The one refusal is that there are too many jobs.

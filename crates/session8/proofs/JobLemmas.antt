@@ -286,7 +286,7 @@ load_refused s v js js' bytes name why named is has = start_refused _ s v js js'
     by_fault : (why : JobFault) → LoadStarts (job_state (state_of s)) name (Err why) (state_over v s.console.machine.core (plain_jobs js')) → Does (entry.Load bytes) s (Err (fault_of_job why)) (over_with s v (plain_jobs js'))
     by_fault job.TooManyJobs starts = declined _ _ _ job.TooManyJobs (λ same. cc) still (name, named, (job.TooManyJobs, refl, (starts.0, refl))) (ap (with_work (state_of s)) starts.1)
     by_fault (job.File file.NotFound) starts = declined _ _ _ (job.File file.NotFound) (λ same. cc) still (name, named, (job.File file.NotFound, refl, (starts.0, starts.1, refl))) (ap (with_work (state_of s)) starts.2)
-    by_fault job.Memory starts = undone _ _ _ (name, named, refl) still (ap (with_work (state_of s)) starts)
+    by_fault job.Memory starts = undone _ _ _ (name, named, (starts.0, starts.1, refl)) still (ap (with_work (state_of s)) starts.2)
     by_fault job.NoJob starts = absurd starts
     by_fault (job.File (file.NoRoom n)) starts = absurd starts
     by_fault (job.File file.DirectoryFull) starts = absurd starts
@@ -347,7 +347,7 @@ assemble_refused s v js js' to from target sources why named are is has = start_
     by_fault job.TooManyJobs starts = declined _ _ _ job.TooManyJobs (λ same. cc) still (target, sources, named, are, (job.TooManyJobs, refl, (starts.0, refl))) (ap (with_work (state_of s)) starts.1)
     by_fault (job.File file.NotFound) starts = declined _ _ _ (job.File file.NotFound) (λ same. cc) still (target, sources, named, are, (job.File file.NotFound, refl, (starts.0, starts.1, refl))) (ap (with_work (state_of s)) starts.2)
     by_fault (job.File (file.Busy n)) starts = declined _ _ _ (job.File (file.Busy n)) (λ same. cc) still (target, sources, named, are, (job.File (file.Busy n), refl, (starts.0, starts.1, starts.2, starts.3, refl))) (ap (with_work (state_of s)) starts.4)
-    by_fault job.Memory starts = undone _ _ _ (target, sources, named, are, refl) still (ap (with_work (state_of s)) starts)
+    by_fault job.Memory starts = undone _ _ _ (target, sources, named, are, (starts.0, refl)) still (ap (with_work (state_of s)) starts.1)
     by_fault job.NoJob starts = absurd starts
     by_fault (job.File (file.NoRoom n)) starts = absurd starts
     by_fault (job.File file.DirectoryFull) starts = absurd starts

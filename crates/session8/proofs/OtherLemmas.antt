@@ -151,7 +151,7 @@ busy one t js to from same (inr among) = inr among
 
 assemble_refused : (one : State) (t : Bool) (js : Jobs) (to : ℕ) (from : List ℕ) (why : JobFault) → AreAlike one.jobs js → least_free one.jobs ≡ least_free js → AssembleStarts (job_state one) to from (Err why) (job_state one) → AssembleStarts (job_state (over one t js)) to from (Err why) (job_state (over one t js))
 assemble_refused one t js to from job.TooManyJobs same free starts = (sym free ∙ starts.0, refl)
-assemble_refused one t js to from job.Memory same free starts = refl
+assemble_refused one t js to from job.Memory same free starts = (same_number one t js free starts.0, refl)
 assemble_refused one t js to from job.NoJob same free starts = absurd starts
 assemble_refused one t js to from (job.Asm why) same free starts = absurd starts
 assemble_refused one t js to from (job.Tape why) same free starts = absurd starts
@@ -169,7 +169,7 @@ assemble_refused one t js to from (job.File file.NothingWritten) same free start
 
 load_refused : (one : State) (t : Bool) (js : Jobs) (from : ℕ) (why : JobFault) → least_free one.jobs ≡ least_free js → LoadStarts (job_state one) from (Err why) (job_state one) → LoadStarts (job_state (over one t js)) from (Err why) (job_state (over one t js))
 load_refused one t js from job.TooManyJobs free starts = (sym free ∙ starts.0, refl)
-load_refused one t js from job.Memory free starts = refl
+load_refused one t js from job.Memory free starts = (same_number one t js free starts.0, starts.1, refl)
 load_refused one t js from job.NoJob free starts = absurd starts
 load_refused one t js from (job.Asm why) free starts = absurd starts
 load_refused one t js from (job.Tape why) free starts = absurd starts
@@ -563,8 +563,8 @@ lacks : (one : State) (t : Bool) (js : Jobs) (e : Entry) → AreAlike one.jobs j
 lacks one t js (entry.Store name text) same apart lack = lack
 lacks one t js (entry.Delete name) same apart lack = (lack.0, lack.1, lack.2, same_held one.jobs js lack.0 false same lack.3)
 lacks one t js entry.Direct same apart lack = lack
-lacks one t js (entry.Assemble to from) same apart lack = (lack.0, lack.1, lack.2, lack.3, refl)
-lacks one t js (entry.Load name) same apart lack = (lack.0, lack.1, refl)
+lacks one t js (entry.Assemble to from) same apart lack = (lack.0, lack.1, lack.2, lack.3, (same_number one t js apart lack.4.0, refl))
+lacks one t js (entry.Load name) same apart lack = (lack.0, lack.1, (same_number one t js apart lack.2.0, lack.2.1, refl))
 lacks one t js entry.Squeeze same apart lack = lack
 lacks one t js (entry.Turn number) same apart lack = (lack.0, sym (same_job one.jobs js number same apart.0 apart.1) ∙ lack.1)
 lacks one t js (entry.Start cell) same apart lack = lack

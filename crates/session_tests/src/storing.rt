@@ -80,6 +80,30 @@ fn reads_of_turns(rt: HostRuntime) -> Result<(), Fail> {
     Ok(())
 }
 
+/// A script that assembles 180 words to a tape of two blocks, and loads it.
+fn load_of_two_blocks(alloc: Global) -> Result<Vec<u8>, AllocError> {
+    let mut script = Vec::new(alloc);
+    script.extend_from_slice(b"STORE S.PA 2\n")?;
+    for _ in 0..180 {
+        script.extend_from_slice(b"1;")?;
+    }
+    script.extend_from_slice(
+        b"\n$\nASSEMBLE B.BN<S.PA\nFINISH\nLOAD B.BN\nTURN 1\nTURN 1\nTURN 1\n",
+    )?;
+    Ok(script)
+}
+
+#[test]
+fn reads_of_a_load(rt: HostRuntime) -> Result<(), Fail> {
+    let alloc = rt.alloc();
+    let script = load_of_two_blocks(alloc)?;
+    for (bytes, reads) in [(402, 9), (412, 9), (419, 10), (426, 11), (433, 11)] {
+        let found = counted(alloc, &script[..script.len().min(bytes)]);
+        assert_eq!(rt; found, (reads, 5), "of {bytes} bytes");
+    }
+    Ok(())
+}
+
 /// What a script writes on a fresh volume of 20 blocks that fails at the read and at the write of these numbers, counted
 /// from 0; or else the fault of its directory, where the whole store is given back.
 fn failing(alloc: Global, read: u32, write: u32, out: &mut Vec<u8>) -> Option<DirFault> {
