@@ -1,8 +1,8 @@
 #!/usr/bin/env bash
 # Assembles and loads a source of 45,000 lines by the jobs of a script, on a volume of 4095 blocks that it half fills, and assembles
 # the same source as one text, in one run: prints lines a second of processor time, less that of a script of one DIRECT and of a
-# source of one word, and what part of the rate the jobs keep. Then the processor time of a turn that reads a block, of a source of
-# 10 blocks and of one of 1000. Of ten alternate runs the least counts.
+# source of one word, and what part of the rate the jobs keep. Then the processor time of a turn, of a source of some 10 blocks and
+# of one of some 1000. Of ten alternate runs the least counts.
 set -eu
 top=$(cd "$(dirname "${BASH_SOURCE[0]}")/.." && pwd)
 . "$top/bench/seconds.sh"
@@ -33,7 +33,7 @@ printf 'ASSEMBLE B.BN<S.PA\nFINISH\nLOAD B.BN\nFINISH\n' >road
 printf '1\r\n$\r\n' >one.pal
 
 lines=45000
-volume_of half $lines
+volume_of half $lines >/dev/null
 alternate 10 "run_script half road 4" "run_script half direct 4" "run_text half.pal 4" "run_text one.pal 4" |
     awk -v lines=$lines '{
         jobs = $1 - $2
@@ -41,8 +41,17 @@ alternate 10 "run_script half road 4" "run_script half direct 4" "run_text half.
         printf "%d lines: %.0f lines a second by jobs, %.0f as one text, part %.2f\n", lines, 4 * lines / jobs, 4 * lines / text, text / jobs
     }'
 
-for lines in 270 27000; do
-    volume_of "of$lines" $lines
+# The blocks of the source of a volume.
+blocks_of() { printf 'DIRECT\n' | "$pdp8" run "$1" | awk '$1 == "S.PA" { print $2 }'; }
+
+for lines in 250 26000; do
+    volume_of "of$lines" $lines >/dev/null
 done
-alternate 10 "run_script of270 assemble 8" "run_script of270 direct 8" "run_script of27000 assemble 8" "run_script of27000 direct 8" |
-    awk '{ printf "seconds of eight jobs: %.4f of the small source, %.4f of the large one\n", $1 - $2, $3 - $4 }'
+for _ in $(seq 100); do cat assemble; done >many
+small=$(blocks_of of250)
+large=$(blocks_of of26000)
+alternate 10 "run_script of250 many 8" "run_script of250 direct 8" "run_script of26000 assemble 8" "run_script of26000 direct 8" |
+    awk -v small="$small" -v large="$large" '{
+        printf "microseconds a turn: %.1f of a source of %d blocks, %.1f of one of %d\n",
+            1000000 * ($1 - $2) / (800 * (2 * small + 1)), small, 1000000 * ($3 - $4) / (8 * (2 * large + 1)), large
+    }'
