@@ -7,16 +7,13 @@ ghost use Rattle.pal_asm.specs.Places.{Source};
 ghost use Rattle.pal_asm.specs.Passes.{with_handed};
 ghost use Rattle.pal_blocks.specs.Passing.{text_in, added, HasMade, IsWithin, MakesAnswer, MakesByte, MakesTo, MakesBlock};
 
-use crate::passing::{Pass, is_pause_body, lay_characters, read_on};
+use crate::passing::{BLOCK_FRAMES, Pass, is_pause_body, lay_characters, read_on};
 use char_pack::laws::joined_text;
 use pal_asm::AsmFault;
 use pal_asm::laws::{no_fault_before, no_lexical_fault};
 use pal_lex::Statement;
 use pal_lex::laws::{byte_goes_on, pause_is_bad, pause_joins};
 use word12::{Cell, Word};
-
-/// The frames of a block.
-const BLOCK_FRAMES: usize = 384;
 
 /// Puts a pair behind others, if there is one, where there is room.
 fn put_handed(pairs: &mut Vec<(Cell, Word)>, handed: Option<(Cell, Word)>)

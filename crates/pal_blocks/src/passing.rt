@@ -19,7 +19,7 @@ use pal_lex::{Body, Lexer, Statement};
 use word12::Word;
 
 /// The frames of a block.
-const BLOCK_FRAMES: usize = 384;
+pub(crate) const BLOCK_FRAMES: usize = 384;
 
 /// A pass over sources that are read in parts.
 #[derive(Drop)]
