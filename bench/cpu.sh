@@ -1,8 +1,9 @@
 #!/usr/bin/env bash
-# Runs six programs of 100,000,000 steps and more on this processor, by the debugger's go, and on SIMH's pdp8, unthrottled, in one
-# run. Both load the same tape; both must end in the same registers. Prints the processor seconds of each less those of a program
-# that stops at once, and how many times as fast this processor is, without a break and with one that is never met; then the
-# geometric means. Takes simh and palbart from Debian's packages where they are missing.
+# Runs six programs of 100,000,000 steps and more on this processor and on SIMH's pdp8, unthrottled, in one run: by scripts of the
+# program `pdp8`, their words deposited and GO 1000000 again and again, without a break and with 64 breaks that are never met, and
+# by the debugger's go alone. Both load the same tape; both must end in the same registers. Prints the processor seconds of each
+# less those of a program that stops at once, and how many times as fast as SIMH each is; then the geometric means and the least.
+# Takes simh and palbart from Debian's packages where they are missing.
 set -eu
 top=$(cd "$(dirname "${BASH_SOURCE[0]}")/.." && pwd)
 . "$top/bench/seconds.sh"
@@ -10,6 +11,7 @@ for package in simh palbart; do
     dpkg -s $package >/dev/null 2>&1 || { apt-get update && apt-get install -y $package; } >&2
 done
 simh=/usr/bin/pdp8
+program=$top/crates/pdp8/out/pdp8
 ours=$top/crates/cpu_bench/out/cpu_bench
 (cd "$top/crates/cpu_bench" && rt run <stdin >/dev/null) 2>/dev/null
 
@@ -17,33 +19,37 @@ folder=$(mktemp -d)
 trap 'rm -rf "$folder"' EXIT
 cp "$top"/bench/cpu/*.pal "$folder"
 cd "$folder"
+"$top/pdp8" create V 20 >/dev/null
 
-least() { printf '%s\n%s\n' "${1:-$2}" "$2" | sort -g | head -n 1; }
 run_ours() { "$ours" <"$1.bin"; }
-run_break() { "$ours" break <"$1.bin"; }
+run_script() { "$program" run V <"$1"; }
 run_simh() { "$simh" "$1.sim" </dev/null; }
+
+# A program's words as a script, with its start.
+deposits() {
+    "$program" tape <"$1.bin" | sed 's/^\(.\) /DEPOSIT \1/'
+    echo START 00200
+}
 
 for source in *.pal; do
     name=${source%.pal}
     palbart "$source" >/dev/null
     printf 'load %s.bin\ngo 200\nex ac\nex l\nex pc\nquit\n' "$name" >"$name.sim"
+    { deposits "$name"; yes 'GO 1000000' | head -n 400; echo REGISTERS; } >"$name.go"
+    { for k in $(seq 64); do printf 'BREAK 7%04o ON\n' "$k"; done; cat "$name.go"; } >"$name.breaks"
 done
-idle_ours=$(seconds run_ours stop)
-idle_simh=$(seconds run_simh stop)
-printf '%-10s %8s %8s %8s %6s %6s\n' program ours break simh ratio break
+read -r idle_go idle_breaks idle_ours idle_simh <<<"$(alternate 3 'run_script stop.go >/dev/null' 'run_script stop.breaks >/dev/null' 'run_ours stop >/dev/null' 'run_simh stop >/dev/null')"
+printf '%-10s %8s %8s %8s %8s %6s %6s %6s\n' program GO breaks alone simh GO breaks alone
 for name in isz copy multiply operate indirect wait; do
     want=$(run_simh $name | awk '/^(AC|L|PC):/ { printf "%s%s", gap, $2; gap = " " }')
     got=$(run_ours $name)
     [ "$want" = "$got" ] || { echo "$name: simh ends with $want, we with $got" >&2; exit 1; }
-    [ "$want" = "$(run_break $name)" ] || { echo "$name: with a break we end otherwise" >&2; exit 1; }
-    ours_best= break_best= simh_best=
-    for _ in 1 2 3; do # alternately, since the machine's own speed may change
-        ours_best=$(least "$ours_best" "$(seconds run_ours $name)")
-        break_best=$(least "$break_best" "$(seconds run_break $name)")
-        simh_best=$(least "$simh_best" "$(seconds run_simh $name)")
-    done
-    awk -v name=$name -v ours="$ours_best" -v with="$break_best" -v simh="$simh_best" -v idle_ours="$idle_ours" -v idle_simh="$idle_simh" \
-        'BEGIN { ours -= idle_ours; with -= idle_ours; simh -= idle_simh
-                 printf "%-10s %8.3f %8.3f %8.3f %6.2f %6.2f\n", name, ours, with, simh, simh / ours, simh / with }'
+    [ "$(run_script $name.go | tail -n 1)" = "$(run_script $name.breaks | tail -n 1)" ] || { echo "$name: with breaks we end otherwise" >&2; exit 1; }
+    read -r a b c d <<<"$(alternate 3 "run_script $name.go >/dev/null" "run_script $name.breaks >/dev/null" "run_ours $name >/dev/null" "run_simh $name >/dev/null")"
+    awk -v name=$name -v a="$a" -v b="$b" -v c="$c" -v d="$d" -v idle_go="$idle_go" -v idle_breaks="$idle_breaks" -v idle_ours="$idle_ours" -v idle_simh="$idle_simh" \
+        'BEGIN { a -= idle_go; b -= idle_breaks; c -= idle_ours; d -= idle_simh
+                 printf "%-10s %8.3f %8.3f %8.3f %8.3f %6.2f %6.2f %6.2f\n", name, a, b, c, d, d / a, d / b, d / c }'
 done | tee ratios
-awk '{ a += log($5); b += log($6) } END { printf "%-37s %6.2f %6.2f\n", "geometric mean", exp(a / NR), exp(b / NR) }' ratios
+awk '{ for (k = 6; k <= 8; k++) { sum[k] += log($k); if (NR == 1 || $k < least[k]) least[k] = $k } }
+     END { printf "%-46s %6.2f %6.2f %6.2f\n", "geometric mean", exp(sum[6] / NR), exp(sum[7] / NR), exp(sum[8] / NR)
+           printf "%-46s %6.2f %6.2f %6.2f\n", "least", least[6], least[7], least[8] }' ratios

@@ -4,3 +4,4 @@ pub mod FrontLemmas
 pub mod ReaderLemmas
 pub mod Scan
 pub mod WritingLemmas
+pub mod MapLemmas

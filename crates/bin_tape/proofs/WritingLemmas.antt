@@ -192,7 +192,7 @@ tape_is items rest front begun = record {
     whole : IsFront (word_item (check_sum items) ∷ items)
     whole = (omega arith, omega arith, begun, front)
 
-last_one : (pairs : List (ℕ × ℕ)) (pair : ℕ × ℕ) (cell : ℕ)
+pub last_one : (pairs : List (ℕ × ℕ)) (pair : ℕ × ℕ) (cell : ℕ)
     → last_word (pairs ++ pair ∷ []) cell ≡ (if nat_eq pair.0 cell then Some pair.1 else last_word pairs cell)
 last_one [] pair cell = refl
 last_one (p ∷ ps) pair cell =

@@ -9,3 +9,4 @@ pub mod Reading
 pub mod Laws
 pub mod Pairs
 pub mod Writing
+pub mod Map

@@ -1,8 +1,11 @@
-ghost use Rattle.std.specs.Prelude.{◌≡◌, ◌≢◌, ℕ, ◌+◌, ◌*◌, ◌<◌, List, [], ◌∷◌, true};
+ghost use Rattle.std.specs.Prelude.{◌≡◌, ◌≢◌, ℕ, ◌+◌, ◌*◌, ◌<◌, ◌≤◌, ◌↔◌, List, [], ◌∷◌, None, true, length};
+ghost use Rattle.std.specs.Bool.{MatchBool};
 ghost use Rattle.bin_tape.specs.Items as item;
 ghost use Rattle.bin_tape.specs.Items.{Item, Leader, Field, Origin, IsFront, has_origin};
 ghost use Rattle.bin_tape.specs.Tape.{IsPart};
-ghost use Rattle.bin_tape.specs.Front.{Reads, Takes, TakesWord};
+ghost use Rattle.bin_tape.specs.Front.{Reads, IsLast, Takes, TakesWord};
+ghost use Rattle.bin_tape.specs.Map.{IsTable, Holds, ReadsTo};
+ghost use Rattle.bin_tape.specs.Items.{words_of, words_but_last};
 
 use crate::TapeFault;
 use word12::{Cell, Word};
@@ -63,6 +66,59 @@ impl Front {
             Some(first) => self.take_second(first, frame, place),
             None => self.take_first(frame, place),
         }
+    }
+
+    /// Whether the frame that comes next may begin a word: there is an origin, and no pair is begun.
+    #[inline(always)]
+    pub fn is_between_pairs(&self) -> bool
+        ensures first { result ≡ true → self.now.first ≡ None }
+        ensures origin { result ≡ true → self.now.has_origin ≡ true }
+    {
+        match self.first {
+            Some(_) => false,
+            None => self.has_origin,
+        }
+    }
+
+    /// Takes words and origins from the front of these frames, and answers the frames that are left. Each word is put into
+    /// its cell once a later one shows that it is no check sum.
+    pub fn take_pairs<'a>(&mut self, frames: &'a [u8], words: &mut [Option<Word>]) -> &'a [u8]
+        requires { IsTable words.old }
+        ensures reads { (whole : List ℕ) → ReadsTo whole frames.now self.old words.old → ReadsTo whole result.now self.new words.new }
+        ensures left { length result.now ≤ length frames.now }
+    {
+        let mut front = *self;
+        let mut rest = frames;
+        while let [first, second, later @ ..] = rest {
+            if !front.take_pair(*first, *second, words) {
+                break;
+            }
+            rest = later;
+        }
+        *self = front;
+        rest
+    }
+
+    /// Takes a word or an origin, if these two frames are one.
+    #[inline(always)]
+    fn take_pair(&mut self, first: u8, second: u8, words: &mut [Option<Word>]) -> bool
+        requires { IsTable words.old }
+        ensures { (whole later : List ℕ) → ReadsTo whole (first ∷ second ∷ later) self.old words.old
+            → MatchBool result (ReadsTo whole later self.new words.new) (ReadsTo whole (first ∷ second ∷ later) self.new words.new) }
+    {
+        if second >= 64 {
+            return false;
+        }
+        if first < 64 {
+            put_last(self.last, words);
+            *self = self.with_word(first, second);
+            return true;
+        }
+        if first < 128 {
+            *self = self.with_origin(first - 64, second);
+            return true;
+        }
+        false
     }
 
     /// Takes the second frame of a pair.
@@ -173,6 +229,7 @@ impl Front {
     }
 
     /// One origin more, by the low six bits of its frames.
+    #[inline(always)]
     fn with_origin(self, high: u8, low: u8) -> Front
         requires high { high < 64 }
         requires low { low < 64 }
@@ -191,6 +248,7 @@ impl Front {
     }
 
     /// One word more, by its two frames.
+    #[inline(always)]
     fn with_word(self, high: u8, low: u8) -> Front
         requires high { high < 64 }
         requires low { low < 64 }
@@ -213,7 +271,19 @@ impl Front {
     }
 }
 
+/// Puts the last word into its cell.
+#[inline(always)]
+fn put_last(last: Option<LastWord>, words: &mut [Option<Word>])
+    requires { IsTable words.old }
+    ensures { (items : List Item) → IsLast last items → Holds words.old (words_but_last items) → Holds words.new (words_of items) }
+{
+    if let Some(last) = last {
+        words[last.cell.index()] = Some(last.word);
+    }
+}
+
 /// The word of twelve bits that two frames of six bits spell.
+#[inline(always)]
 fn pair(high: u8, low: u8) -> Word
     requires high { high < 64 }
     requires low { low < 64 }

@@ -7,9 +7,11 @@
 mod faults;
 mod fronts;
 pub mod laws;
+mod maps;
 mod readers;
 mod writing;
 
 pub use faults::TapeFault;
+pub use maps::TapeMap;
 pub use readers::{Tape, TapeReader};
 pub use writing::write_tape;

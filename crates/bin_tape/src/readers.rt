@@ -1,4 +1,4 @@
-ghost use Rattle.std.specs.Prelude.{◌≡◌, ℕ, ◌%◌, List, [], ◌∷◌, ◌++◌, nat_eq, if◌then◌else◌, ◌≢◌, MatchResult};
+ghost use Rattle.std.specs.Prelude.{◌≡◌, ℕ, ◌%◌, ◌≤◌, length, List, [], ◌∷◌, ◌++◌, nat_eq, if◌then◌else◌, ◌≢◌, MatchResult};
 ghost use Rattle.std.specs.Bool.{OnTrue};
 ghost use Rattle.bin_tape.specs.Frames.{kept, ignore_count};
 ghost use Rattle.bin_tape.specs.Items.{Item};
@@ -74,6 +74,7 @@ impl Model for TapeReader {
 
 impl TapeReader {
     ghost use Rattle.bin_tape.specs.Reading.{HasRead, Counts, Answers, IsWhole, Comes, words_in};
+    ghost use Rattle.bin_tape.specs.Map.{IsTable, HasReadTo};
 
     /// A reader of no frame.
     pub fn new() -> TapeReader
@@ -120,6 +121,36 @@ impl TapeReader {
             State::Reading(_) => Err(TapeFault::NoTrailer),
             State::Ended => Ok(()),
             State::Failed(fault) => Err(fault),
+        }
+    }
+
+    /// Takes words and origins from the front of these frames, and answers the frames that are left. Each word is put into
+    /// its cell once a later one shows that it is no check sum.
+    pub(crate) fn take_pairs<'a>(
+        &mut self,
+        frames: &'a [u8],
+        words: &mut [Option<Word>],
+    ) -> &'a [u8]
+        requires { IsTable words.old }
+        ensures read { (whole : List ℕ) → HasReadTo whole frames.now self.old words.old → HasReadTo whole result.now self.new words.new }
+        ensures left { length result.now ≤ length frames.now }
+    {
+        if self.ignoring {
+            return frames;
+        }
+        match self.state {
+            State::Failed(_) | State::Ended => frames,
+            State::Reading(mut front) => {
+                if !front.is_between_pairs() {
+                    return frames;
+                }
+                let rest = front.take_pairs(frames, words);
+                self.place = self
+                    .place
+                    .saturating_add((frames.len() - rest.len()) as u64);
+                self.state = State::Reading(front);
+                rest
+            }
         }
     }
 

@@ -1,6 +1,6 @@
 -- A stored text reads back.
 use Rattle.std.proofs.Common.{◌≡◌, ◌≢◌, ℕ, ◌+◌, ◌-◌, ◌*◌, ◌%◌, ◌<◌, List, [], ◌∷◌, ◌++◌, length, map, replicate, true, false, not, nat_lt, nat_eq, if◌then◌else◌, refl, ap, sym, ◌∙◌, arith}
-use Rattle.std.proofs.lemmas.List.{append_assoc}
+use Rattle.std.proofs.lemmas.List.{append_assoc, length-append, length-map}
 use Rattle.std.proofs.lemmas.Bool.{and_parts, ltb-true, eqb-false, not-true, ne_eqb, eq-eqb}
 use Rattle.char_pack.specs.Packing.{block_frames, block_count}
 use Rattle.char_pack.specs.Texts.{characters, is_ended, text, line_ends, host_text, may_stand, is_storable, text_frames, stored}
@@ -89,3 +89,6 @@ is_ended-append (frame ∷ frames) others =
       | true ↦ refl
       | false ↦ is_ended-append frames others
     ]
+
+pub length-text_frames : (chars : List ℕ) → length (text_frames chars) ≡ length chars + 1
+length-text_frames chars = omega (arith, length-append (map (λ character. 128 + character) chars) ((128 + 26) ∷ []), length-map chars (λ character. 128 + character))

@@ -1,3 +1,4 @@
 pub mod Packing
 pub mod Texts
 pub mod Reading
+pub mod Storing

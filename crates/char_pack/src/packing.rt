@@ -6,10 +6,10 @@ use std::alloc::{AllocError, Global};
 use word12::Word;
 
 /// The words of a block.
-const BLOCK_WORDS: usize = 256;
+pub(crate) const BLOCK_WORDS: usize = 256;
 
 /// The frames of a block.
-const BLOCK_FRAMES: usize = 384;
+pub(crate) const BLOCK_FRAMES: usize = 384;
 
 /// The words of bytes, three in two words, zeros behind the last byte (OS/8 Software Support Manual).
 ///
@@ -40,7 +40,7 @@ pub fn pack_blocks(alloc: Global, bytes: &[u8]) -> Result<Vec<Word>, PackFault>
 }
 
 /// Appends so many zeros.
-fn push_zeros(words: &mut Vec<Word>, count: usize) -> Result<(), AllocError>
+pub(crate) fn push_zeros(words: &mut Vec<Word>, count: usize) -> Result<(), AllocError>
     ensures { OnOk result (words.new.items ≡ words.old.items ++ replicate count 0) }
 {
     for _ in 0..count {
@@ -66,15 +66,23 @@ fn push_packed(words: &mut Vec<Word>, bytes: &[u8]) -> Result<(), AllocError>
 }
 
 /// Appends the two words of three bytes.
-fn push_group(words: &mut Vec<Word>, first: u8, second: u8, third: u8) -> Result<(), AllocError>
+#[inline(always)]
+pub(crate) fn push_group(
+    words: &mut Vec<Word>,
+    first: u8,
+    second: u8,
+    third: u8,
+) -> Result<(), AllocError>
     ensures { OnOk result (words.new.items ≡ words.old.items ++ group first second third) }
 {
-    words.push(word_of(first, third / 16))?;
-    words.push(word_of(second, third % 16))?;
+    words.reserve(2)?;
+    words.push_reserved(word_of(first, third / 16));
+    words.push_reserved(word_of(second, third % 16));
     Ok(())
 }
 
 /// The word of a byte and four bits above it.
+#[inline(always)]
 fn word_of(byte: u8, high: u8) -> Word
     requires { high < 16 }
     ensures { result ≡ 256 * high + byte }

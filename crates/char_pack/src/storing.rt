@@ -1,10 +1,13 @@
-ghost use Rattle.std.specs.Prelude.{◌≡◌, ◌+◌, ◌*◌, ◌++◌, ◌↔◌, true, false, map, length, IfOk, OnOk, IsErrOf, vec_len};
-ghost use Rattle.char_pack.specs.Packing.{block_count};
+ghost use Rattle.std.specs.Prelude.{◌≡◌, ◌+◌, ◌*◌, ◌++◌, ◌∷◌, ◌↔◌, ◌≤◌, ℕ, List, [], true, false, map, length, IfOk, OnOk, IsErrOf, vec_len};
+ghost use Rattle.char_pack.specs.Packing.{packed, block_count};
+ghost use Rattle.char_pack.specs.Storing.{held_bytes, packed_text, is_plain};
 ghost use Rattle.char_pack.specs.Texts as spec;
 ghost use Rattle.char_pack.specs.declared.faults.TextFault.TheVariants.{BadText};
+ghost use Rattle.char_pack.specs.declared.storing.Held.TheVariants.{Nothing};
 
+use crate::TextFault;
+use crate::packing::{BLOCK_FRAMES, BLOCK_WORDS, push_group, push_zeros};
 use crate::texts::CONTROL_Z;
-use crate::{TextFault, pack_blocks};
 use std::alloc::{AllocError, Global};
 use word12::Word;
 
@@ -15,11 +18,18 @@ const LF: u8 = 0o012;
 /// The top bit, which a stored character has set.
 const TOP_BIT: u8 = 0o200;
 
+/// The frame that ends a text.
+const END: u8 = TOP_BIT + CONTROL_Z;
+
 /// Whether a host text can be stored: no byte is above 0177 or control Z (this project's profile).
 pub fn is_storable(host: &[u8]) -> bool
     ensures { result ≡ spec.is_storable host.now }
 {
-    host.iter().all(|byte| *byte < 128 && *byte != CONTROL_Z)
+    let mut refused = false;
+    for byte in host {
+        refused |= *byte >= 128 || *byte == CONTROL_Z;
+    }
+    !refused
 }
 
 /// The number of characters of a host text in a file, where CR is dropped and LF is CR LF (this project's profile).
@@ -41,7 +51,7 @@ pub fn character_count(host: &[u8]) -> usize
 pub fn stored_block_count(host: &[u8]) -> usize
     ensures { result ≡ block_count (length (spec.host_text host.now) + 1) }
 {
-    character_count(host) / 384 + 1
+    character_count(host) / BLOCK_FRAMES + 1
 }
 
 /// The words of a host text in a file, whole blocks of 256 words: its characters with 0200 set on each, control Z as
@@ -54,37 +64,125 @@ pub fn store(alloc: Global, host: &[u8]) -> Result<Vec<Word>, TextFault>
     if !is_storable(host) {
         return Err(TextFault::BadText);
     }
-    let frames = text_frames(alloc, host)?;
-    let words = pack_blocks(alloc, &frames)?;
+    let words = stored_words(alloc, host)?;
     Ok(words)
 }
 
-/// The frames of a host text in a file.
-fn text_frames(alloc: Global, host: &[u8]) -> Result<Vec<u8>, AllocError>
+/// The words of a host text that can be stored.
+fn stored_words(alloc: Global, host: &[u8]) -> Result<Vec<Word>, AllocError>
     requires { spec.is_storable host.now ≡ true }
-    ensures { IfOk result (λ frames. frames.items ≡ spec.text_frames (spec.host_text host.now)) }
+    ensures words { IfOk result (λ words. words.items ≡ spec.stored host.now) }
+    ensures length { IfOk result (λ words. vec_len words ≡ 256 * block_count (length (spec.host_text host.now) + 1)) }
 {
-    let mut frames = Vec::with_capacity(alloc, character_count(host).saturating_add(1))?;
-    for byte in host {
-        push_byte(&mut frames, *byte)?;
-    }
-    frames.push(TOP_BIT + CONTROL_Z)?;
-    Ok(frames)
+    let count = BLOCK_WORDS * (character_count(host) / BLOCK_FRAMES + 1);
+    let mut words = Vec::with_capacity(alloc, count)?;
+    push_text(&mut words, host)?;
+    let left = count.saturating_sub(words.len());
+    push_zeros(&mut words, left)?;
+    Ok(words)
 }
 
-/// Appends the characters of a host byte, each with its top bit set.
-fn push_byte(frames: &mut Vec<u8>, byte: u8) -> Result<(), AllocError>
+/// The first frames of a group that has not yet three.
+#[derive(Clone, Copy)]
+enum Held {
+    Nothing,
+    One(u8),
+    Two(u8, u8),
+}
+
+/// Appends the words of the frames of a host text, and of the control Z behind them.
+fn push_text(words: &mut Vec<Word>, host: &[u8]) -> Result<(), AllocError>
+    requires { spec.is_storable host.now ≡ true }
+    ensures { OnOk result (words.new.items ≡ words.old.items ++ packed (spec.text_frames (spec.host_text host.now))) }
+{
+    let mut held = Held::Nothing;
+    let mut rest = host;
+    while let [byte, others @ ..] = rest {
+        held = put_byte(words, held, *byte)?;
+        rest = push_run(words, held, others)?;
+    }
+    push_end(words, held)
+}
+
+/// Appends the words of groups of plain characters from the front of a host text where no frame is held, and answers what
+/// is left of it.
+fn push_run<'a>(words: &mut Vec<Word>, held: Held, host: &'a [u8]) -> Result<&'a [u8], AllocError>
+    requires { spec.is_storable host.now ≡ true }
+    ensures words { IfOk result (λ left. words.new.items ++ packed_text held left.now ≡ words.old.items ++ packed_text held host.now) }
+    ensures storable { IfOk result (λ left. spec.is_storable left.now ≡ true) }
+    ensures shorter { IfOk result (λ left. length left.now ≤ length host.now) }
+{
+    match held {
+        Held::Nothing => push_groups(words, host),
+        _ => Ok(host),
+    }
+}
+
+/// Appends the words of groups of plain characters from the front of a host text, and answers what is left of it.
+fn push_groups<'a>(words: &mut Vec<Word>, host: &'a [u8]) -> Result<&'a [u8], AllocError>
+    requires { spec.is_storable host.now ≡ true }
+    ensures words { IfOk result (λ left. words.new.items ++ packed_text Nothing left.now ≡ words.old.items ++ packed_text Nothing host.now) }
+    ensures storable { IfOk result (λ left. spec.is_storable left.now ≡ true) }
+    ensures shorter { IfOk result (λ left. length left.now ≤ length host.now) }
+{
+    let mut rest = host;
+    while let [first, second, third, others @ ..] = rest {
+        if !is_plain(*first) || !is_plain(*second) || !is_plain(*third) {
+            return Ok(rest);
+        }
+        push_group(words, TOP_BIT + *first, TOP_BIT + *second, TOP_BIT + *third)?;
+        rest = others;
+    }
+    Ok(rest)
+}
+
+/// Whether a byte is a character as it stands.
+#[inline(always)]
+fn is_plain(byte: u8) -> bool
+    ensures { result ≡ is_plain byte }
+{
+    byte != CR && byte != LF
+}
+
+/// Appends the characters of a host byte behind what is held, each with its top bit set, and answers what is held then.
+fn put_byte(words: &mut Vec<Word>, held: Held, byte: u8) -> Result<Held, AllocError>
     requires { spec.may_stand byte ≡ true }
-    ensures { OnOk result
-        (frames.new.items ≡ frames.old.items ++ map (λ character. 128 + character) (spec.line_ends byte)) }
+    ensures { IfOk result (λ next. (later : List ℕ) → words.new.items ++ packed (held_bytes next ++ later)
+        ≡ words.old.items ++ packed (held_bytes held ++ (map (λ character. 128 + character) (spec.line_ends byte) ++ later))) }
 {
     match byte {
-        CR => {}
+        CR => Ok(held),
         LF => {
-            frames.push(TOP_BIT + CR)?;
-            frames.push(TOP_BIT + LF)?;
+            let held = put_frame(words, held, TOP_BIT + CR)?;
+            put_frame(words, held, TOP_BIT + LF)
         }
-        _ => frames.push(TOP_BIT + byte)?,
+        _ => put_frame(words, held, TOP_BIT + byte),
     }
-    Ok(())
+}
+
+/// Appends a frame behind what is held, and answers what is held then.
+#[inline(always)]
+fn put_frame(words: &mut Vec<Word>, held: Held, frame: u8) -> Result<Held, AllocError>
+    ensures { IfOk result (λ next. (later : List ℕ) → words.new.items ++ packed (held_bytes next ++ later)
+        ≡ words.old.items ++ packed (held_bytes held ++ frame ∷ later)) }
+{
+    match held {
+        Held::Nothing => Ok(Held::One(frame)),
+        Held::One(first) => Ok(Held::Two(first, frame)),
+        Held::Two(first, second) => {
+            push_group(words, first, second, frame)?;
+            Ok(Held::Nothing)
+        }
+    }
+}
+
+/// Appends control Z behind what is held, and fills its group with zeros.
+fn push_end(words: &mut Vec<Word>, held: Held) -> Result<(), AllocError>
+    ensures { OnOk result (words.new.items ≡ words.old.items ++ packed (held_bytes held ++ 154 ∷ [])) }
+{
+    match held {
+        Held::Nothing => push_group(words, END, 0, 0),
+        Held::One(first) => push_group(words, first, END, 0),
+        Held::Two(first, second) => push_group(words, first, second, END),
+    }
 }

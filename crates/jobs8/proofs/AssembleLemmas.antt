@@ -24,7 +24,7 @@ use Rattle.jobs8.specs.declared.turned.Turned.TheVariants.{Working}
 use Rattle.jobs8.specs.declared.faults.JobFault.{JobFault}
 use Rattle.jobs8.specs.declared.faults.JobFault.TheVariants as fault
 use Rattle.jobs8.proofs.PlaceLemmas.{ReleasedLaw, times_without}
-use Rattle.jobs8.proofs.StepLemmas.{state_same, same_put, quiet_over, failed_over, memory_is}
+use Rattle.jobs8.proofs.StepLemmas.{state_same, same_put, quiet_over, missed_over, stood_over, memory_is}
 
 -- a job of the code that assembles
 abbrev pub the_assembly : Assembly → ℕ → Job
@@ -54,6 +54,7 @@ ended_by law old mid new core a left answer keeps none is enough some volume ste
   step = step;
   jobs = leaves;
   volume = volume;
+  same_core = λ why told. refl;
   stands = λ running. tt;
   fits = tt;
   holds = λ name. omega (arith, ap (λ (m : Mounted). times name m.holds) is, ap (λ h. times name (without_holds a.holds h)) keeps.holds, times_without law a.holds old.holds name enough);
@@ -72,6 +73,7 @@ on_by old new core a b left rest answer kind keeps none to holds fits some volum
   step = step;
   jobs = leaves;
   volume = volume;
+  same_core = λ why told. refl;
   stands = stands;
   fits = record {
     more = some;
@@ -113,7 +115,7 @@ pub working_on : (old new : Mounted) (core : List ℕ) (a b : Assembly) (left : 
     → ReadsSource (sources_of old a) old left (Ok tt) new b → TurnsJob old core (the_assembly a left) (Ok Working) (Some (the_assembly b (left - 1))) new core
 working_on old new core a b left none fits is more to holds on =
     on_by old new core a b left (left - 1) (Ok Working) refl (reads_keep old new (counted old.reads) old.failed_reads on.0.1) (ap (λ (m : Mounted). m.tentative) on.0.1 ∙ none) to holds fits (omega (arith, more))
-    (quiet_over old new (Ok Working) (counted old.reads) old.holds on.0.0 on.0.1)
+    (quiet_over old new (Ok Working) (counted old.reads) old.holds (λ quiet. quiet) on.0.0 on.0.1)
     (λ number l there named quiet. (
       on.1.1,
       record {
@@ -144,7 +146,7 @@ memory_on old new core a b left why memory none fits is to holds reads =
     told : ReadsSource (sources_of old a) old left (Err fault.Memory) new b → TurnsJob old core (the_assembly a left) (Err fault.Memory) (Some (the_assembly b left)) new core
     told on =
         on_by old new core a b left left (Err fault.Memory) refl (reads_keep old new (counted old.reads) old.failed_reads on.0.1) (ap (λ (m : Mounted). m.tentative) on.0.1 ∙ none) to holds fits fits.more
-        (quiet_over old new (Err fault.Memory) (counted old.reads) old.holds on.0.0 on.0.1)
+        (quiet_over old new (Err fault.Memory) (counted old.reads) old.holds (λ quiet. quiet) on.0.0 on.0.1)
         (λ number l there named quiet. state_same old new core _ (ap (λ (m : Mounted). m.blocks) on.0.1) ∙ ap (state_over old core) (same_job a b left number l to holds there))
         (λ number l there. same_job a b left number l to holds there)
         (λ running. stands_read old new a b left (ap (λ (m : Mounted). m.blocks) on.0.1) holds is.there on.1)
@@ -161,7 +163,7 @@ pub refused_on : ReleasedLaw → (old mid new : Mounted) (core : List ℕ) (a b 
     → ReadsSource (sources_of old a) old left (Err why) mid b → new ≡ record mid { holds = without_holds a.holds mid.holds } → TurnsJob old core (the_assembly a left) (Err why) None new core
 refused_on law old mid new core a b left (fault.Asm (asm.At code line)) memory none more enough on gone =
     ended_by law old mid new core a left (Err (fault.Asm (asm.At code line))) (reads_keep old mid (counted old.reads) old.failed_reads on.0.1) (ap (λ (m : Mounted). m.tentative) on.0.1 ∙ none) gone enough (omega (arith, more))
-    (quiet_over old new _ (counted old.reads) _ on.0.0 all)
+    (quiet_over old new _ (counted old.reads) _ (λ quiet. quiet) on.0.0 all)
     (λ number l there named quiet. (more, on.1.1, on.1.0, state_same old new core _ (ap (λ (m : Mounted). m.blocks) all)))
     (λ number l there. refl)
     (λ kind running. omega (arith, ap (λ (m : Mounted). above_of m.blocks) on.0.1))
@@ -171,7 +173,7 @@ refused_on law old mid new core a b left (fault.Asm (asm.At code line)) memory n
     all = gone_from old mid new a.holds (counted old.reads) old.failed_reads on.0.1 gone
 refused_on law old mid new core a b left (fault.File file.Device) memory none more enough on gone =
     ended_by law old mid new core a left (Err (fault.File file.Device)) (reads_keep old mid (counted old.reads) (old.failed_reads + 1) on.1) (ap (λ (m : Mounted). m.tentative) on.1 ∙ none) gone enough (omega (arith, more))
-    (failed_over old new file.Device (counted old.reads) (old.failed_reads + 1) _ (omega arith) all)
+    (missed_over old new (counted old.reads) _ on.0 all)
     (λ number l there named quiet. absurd (never quiet.reads))
     (λ number l there. refl)
     (λ kind running. omega (arith, ap (λ (m : Mounted). above_of m.blocks) on.1))
@@ -202,7 +204,7 @@ refused_on law old mid new core a b left fault.Memory memory none more enough on
 pub stopped_at : ReleasedLaw → (old new : Mounted) (core : List ℕ) (a : Assembly) (left : ℕ) → old.stopped ≡ true → old.tentative ≡ None → 1 ≤ left → IsEnough old a → new ≡ record old { holds = without_holds a.holds old.holds } → TurnsJob old core (the_assembly a left) (Err (fault.File file.Stopped)) None new core
 stopped_at law old new core a left stopped none some enough gone =
     ended_by law old old new core a left (Err (fault.File file.Stopped)) (reads_keep old old old.reads old.failed_reads refl) none gone enough some
-    (failed_over old new file.Stopped old.reads old.failed_reads _ (omega arith) gone)
+    (stood_over old new _ stopped gone)
     (λ number l there named quiet. absurd (true≢false (sym stopped ∙ quiet.running)))
     (λ number l there. refl)
     (λ kind running. omega arith)

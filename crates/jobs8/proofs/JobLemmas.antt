@@ -39,6 +39,7 @@ loading_job law old new core core2 it left answer after none held t = record {
   step = λ number l there named quiet. subst (λ b. LoadingTurn (state_over old core l) number it.hold left answer (state_over new core2 (plain_after b (plain.with_job number (plain_job after) l)))) (sym t.kind) (t.step number l there quiet);
   jobs = t.jobs;
   volume = t.volume;
+  same_core = t.same_core;
   stands = t.stands;
   fits = fits_in it.hold after t.fits;
   holds = λ name. ap (λ (m : Mounted). times name m.holds + times name (it.hold ∷ [])) t.kept.others ∙ holds_after law it.hold after old.holds name (omega (arith, held it.hold, self_once it.hold)) t.fits;

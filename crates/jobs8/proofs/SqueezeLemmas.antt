@@ -1,5 +1,5 @@
 -- Turns of a job that squeezes.
-use Rattle.std.proofs.Common.{◌≡◌, ◌∙◌, inl, inr, ℕ, ◌+◌, ◌-◌, ◌<◌, ◌≤◌, Bool, nat_eq, true, false, true≢false, Option, Some, None, List, [], Result, Ok, Err, refl, ap, sym, subst, arith}
+use Rattle.std.proofs.Common.{◌≡◌, ◌∙◌, inl, inr, ℕ, ◌-◌, ◌<◌, ◌≤◌, Bool, nat_eq, true, false, true≢false, Option, Some, None, List, [], Result, Ok, Err, refl, ap, sym, subst, arith}
 use Rattle.std.proofs.lemmas.Bool.Decides.{eqb_tells}
 use Rattle.os8_dir.specs.Files.{Files, files_of, capacity_of, limit_of, above_of}
 use Rattle.os8_files.specs.Calls.{Squeezes, HasMoved, HasMissed, MoveFailed, info_of}
@@ -21,7 +21,7 @@ use Rattle.jobs8.specs.declared.kinds.Job.{Job}
 use Rattle.jobs8.specs.declared.kinds.Work.TheVariants as work
 use Rattle.jobs8.specs.declared.turned.Turned.TheVariants.{Working, Squeezed}
 use Rattle.jobs8.specs.declared.faults.JobFault.TheVariants as fault
-use Rattle.jobs8.proofs.StepLemmas.{moved_over, quiet_over, failed_over, file_not_memory, same_put}
+use Rattle.jobs8.proofs.StepLemmas.{moved_over, quiet_over, missed_over, stood_over, same_put}
 
 -- a squeezing job of the code
 abbrev pub the_job : Bool → ℕ → Job
@@ -61,6 +61,7 @@ turn_by old new core clean left call answer after other keeps squeezes none abov
   step = λ number l there named quiet. subst (λ b. SqueezingTurn (state_over old core l) number clean left answer (state_over new core (plain_after b (with_job number (plain_job after) l)))) (sym other) (step number l there quiet);
   jobs = jobs;
   volume = volume;
+  same_core = λ why told. refl;
   stands = stands;
   fits = fits;
   holds = λ name. omega (arith, ap (times name) keeps.holds, names name);
@@ -93,12 +94,12 @@ moved_on old new core clean left name is keeps moved more =
       },
     ))
     (λ number jobs there. tt)
-    (quiet_moved old new (Ok Working) name moved)
+    (quiet_moved old new name moved)
     (λ running. record { more = omega (arith, more); enough = λ it_is. omega (arith, moved.above, (is moved.ready.running).enough it_is) })
     (omega (arith, more)) no_names (λ other. omega (arith, more))
   where
-    quiet_moved : (old new : Mounted) (answer : Answer) (name : ℕ) → HasMoved old name new → TurnsOver old answer new
-    quiet_moved old new answer name moved = moved_over old new answer moved.ready.running
+    quiet_moved : (old new : Mounted) (name : ℕ) → HasMoved old name new → TurnsOver old (Ok Working) new
+    quiet_moved old new name moved = moved_over old new (Ok Working) (λ quiet. quiet) moved.ready.running
         (ap (λ (m : Mounted). m.failed_reads) moved.others) (ap (λ (m : Mounted). m.failed_writes) moved.others) (ap (λ (m : Mounted). m.stopped) moved.others ∙ moved.ready.running)
 
 -- a file was moved at the last turn
@@ -115,7 +116,7 @@ moved_last old new core clean left name is keeps moved one =
       },
     ))
     (λ number jobs there. tt)
-    (moved_over old new (Ok Squeezed) moved.ready.running
+    (moved_over old new (Ok Squeezed) (λ quiet. quiet) moved.ready.running
     (ap (λ (m : Mounted). m.failed_reads) moved.others) (ap (λ (m : Mounted). m.failed_writes) moved.others) (ap (λ (m : Mounted). m.stopped) moved.others ∙ moved.ready.running))
     (λ running. tt) tt no_names (λ other. omega (arith, one))
   where
@@ -152,24 +153,24 @@ squeezed_turn old new core clean left (Ok token.Nothing) answer after none some 
             ∙ ap (λ (m : Mounted). record (state_over old core jobs) { tight = nat_eq (above_of m.blocks) 0; jobs = with_job number None jobs }) (sym call.2);
       },
     ))
-    (λ number jobs there. tt) (quiet_over old new (Ok Squeezed) old.reads old.holds call.0.running call.2) (λ running. tt) tt no_names (λ other. omega (arith, some)))
+    (λ number jobs there. tt) (quiet_over old new (Ok Squeezed) old.reads old.holds (λ quiet. quiet) call.0.running call.2) (λ running. tt) tt no_names (λ other. omega (arith, some)))
 squeezed_turn old new core clean left (Err file.Memory) answer after none some is keeps survives call turns =
     told old new core (the_job clean left) (Err fault.Memory) answer (Some (the_job clean left)) after turns.0 turns.1
     (same_by old new core clean left (Err file.Memory) (Err fault.Memory) (Some (the_job clean left)) refl keeps call none call.2
     (λ number jobs there quiet. ap (λ (m : Mounted). state_over m core (with_job number (Some (squeezing clean left)) jobs)) call.2 ∙ ap (state_over old core) (same_put number (squeezing clean left) jobs there))
     (λ number jobs there. same_put number (squeezing clean left) jobs there)
-    (quiet_over old new (Err fault.Memory) old.reads old.holds call.0.running call.2)
+    (quiet_over old new (Err fault.Memory) old.reads old.holds (λ quiet. quiet) call.0.running call.2)
     (λ running. subst (λ (m : Mounted). IsSqueezing m.blocks clean left) (sym call.2) (is call.0.running)) some no_names (λ other. absurd (other refl)))
 squeezed_turn old new core clean left (Err file.DirectoryFull) answer after none some is keeps survives call turns =
     told old new core (the_job clean left) (Err (fault.File file.DirectoryFull)) answer None after turns.0 turns.1
     (same_by old new core clean left (Err file.DirectoryFull) (Err (fault.File file.DirectoryFull)) None refl keeps call none call.7
     (λ number jobs there quiet. (some_above (above_of old.blocks) call.5, call.6.files, ap (λ (m : Mounted). state_over m core (with_job number None jobs)) call.7))
-    (λ number jobs there. refl) (quiet_over old new _ old.reads old.holds call.0.running call.7) (λ running. tt) tt no_names (λ other. omega (arith, some)))
+    (λ number jobs there. refl) (quiet_over old new _ old.reads old.holds (λ quiet. quiet) call.0.running call.7) (λ running. tt) tt no_names (λ other. omega (arith, some)))
 squeezed_turn old new core clean left (Err file.Stopped) answer after none some is keeps survives call turns =
     told old new core (the_job clean left) (Err (fault.File file.Stopped)) answer None after turns.0 turns.1
     (same_by old new core clean left (Err file.Stopped) (Err (fault.File file.Stopped)) None refl keeps call none call.1
     (λ number jobs there quiet. absurd (true≢false (sym call.0 ∙ quiet.running)))
-    (λ number jobs there. refl) (failed_over old new file.Stopped old.reads old.failed_reads old.holds (omega arith) call.1) (λ running. tt) tt no_names (λ other. omega (arith, some)))
+    (λ number jobs there. refl) (stood_over old new old.holds call.0 call.1) (λ running. tt) tt no_names (λ other. omega (arith, some)))
 squeezed_turn old new core clean left (Err file.Device) answer after none some is keeps survives call turns =
     told old new core (the_job clean left) (Err (fault.File file.Device)) answer None after turns.0 turns.1
     (elim call [
@@ -177,15 +178,14 @@ squeezed_turn old new core clean left (Err file.Device) answer after none some i
           (λ running. omega (arith, ap (λ (m : Mounted). above_of m.blocks) missed.1))
           (λ number jobs there quiet. absurd (more_reads missed.1 quiet.reads))
           (λ number jobs there. refl)
-          (failed_over old new file.Device new.reads (old.failed_reads + 1) old.holds (omega arith) missed.1)
+          (missed_over old new new.reads old.holds missed.0.running missed.1)
           (λ running. tt) tt no_names (λ other. omega (arith, some))
       | inr failed ↦ turn_by old new core clean left (Err file.Device) (Err (fault.File file.Device)) None refl keeps (inr failed) (ap (λ (m : Mounted). m.tentative) failed.others ∙ none)
           (λ running. absurd (true≢false (sym (ap (λ (m : Mounted). m.stopped) failed.others) ∙ running)))
           (λ number jobs there quiet. absurd (more_writes failed quiet.writes))
           (λ number jobs there. refl)
           (record {
-            quiet = tt;
-            memory = λ memory. absurd (file_not_memory file.Device memory);
+            tells = inr (record { running = failed.ready.running; writes = omega (arith, ap (λ (m : Mounted). m.failed_writes) failed.others); stopped = ap (λ (m : Mounted). m.stopped) failed.others });
             reads = omega (arith, ap (λ (m : Mounted). m.failed_reads) failed.others);
             writes = omega (arith, ap (λ (m : Mounted). m.failed_writes) failed.others);
             running = λ quiet. absurd (more_writes failed quiet.writes);

@@ -9,7 +9,7 @@ use Rattle.os8_files.specs.Mounted.{Mounted}
 use Rattle.os8_files.specs.Service.{count_of}
 use Rattle.os8_files.specs.declared.faults.FileFault.{FileFault}
 use Rattle.os8_files.specs.declared.faults.FileFault.TheVariants as file
-use Rattle.jobs8.specs.Calls.{HasBegunLoading, BeginsLoading, StartsOver, StartsAssembling, StartsLoading, StartsSqueezing, TurnsJob, TakesTurn, CallsOf, LeavesJobs}
+use Rattle.jobs8.specs.Calls.{HasBegunLoading, BeginsLoading, StartsOver, StartsAssembling, StartsLoading, StartsSqueezing, TurnsJob, TakesTurn, NumberTurnsOver, CallsOf, LeavesJobs}
 use Rattle.jobs8.specs.Faults.{fault_of_file}
 use Rattle.jobs8.specs.Jobs as plain
 use Rattle.pal_blocks.specs.Blocks.{blocks_in}
@@ -40,7 +40,8 @@ takes_turn law old new core core2 jobs number place it answer after settled next
       subst (λ j. JobTurn (state_over old core (plain_jobs jobs)) number j answer (state_over new core2 (plain_jobs (jobs_after (is_assembled answer) (slice_set jobs place after))))) (sym here)
       (subst (λ l. WorkTurn (state_over old core (plain_jobs jobs)) number (work_of it.work) it.left answer (state_over new core2 l)) (ap (plain_after (is_assembled answer)) put ∙ plain_is_after (is_assembled answer) (slice_set jobs place after))
       (turns.step number (plain_jobs jobs) here (λ name. held_same law old jobs name settled) quiet));
-  volume = turns.volume;
+  volume = subst (λ o. NumberTurnsOver o old answer new) (sym here) turns.volume;
+  same_core = turns.same_core;
   left = leaves answer (subst (λ l. LeavesJobs number answer (plain_jobs jobs) l) put (turns.jobs number (plain_jobs jobs) here));
   fewer = λ it not_memory there. omega (arith, turns_put jobs place after inside, turns.fewer not_memory, ap left_of is, turns_after (is_assembled answer) (slice_set jobs place after));
   calls = subst (λ o. CallsOf o old new) (sym (number_at_place jobs number place next ∙ is)) turns.calls;
@@ -64,14 +65,8 @@ pub no_turn : (old : Mounted) (core : List ℕ) (jobs : List (Option Job)) (numb
 no_turn old core jobs number place settled next none = record {
   settled = settled;
   step = λ quiet. subst (λ j. JobTurn (state_over old core (plain_jobs jobs)) number j (Err fault.NoJob) (state_over old core (plain_jobs jobs))) (sym here) refl;
-  volume = record {
-    quiet = tt;
-    memory = λ memory. absurd (not_memory memory);
-    reads = omega arith;
-    writes = omega arith;
-    running = λ quiet. quiet.running;
-    files = λ more. absurd (never more);
-  };
+  volume = subst (λ o. NumberTurnsOver o old (Err fault.NoJob) old) (sym here) (refl, refl);
+  same_core = λ why told. refl;
   left = sym (number_put jobs number place None next ∙ ap plain_jobs (unchanged place jobs none));
   fewer = λ it other there. absurd (no_job it (sym here ∙ there));
   calls = subst (λ o. CallsOf o old old) (sym (number_at_place jobs number place next ∙ none)) refl;
@@ -82,15 +77,6 @@ no_turn old core jobs number place settled next none = record {
 
     no_job : (it : plain.Job) → None ≡ Some it → ⊥
     no_job it is = cc
-
-    an_answer : JobFault → Answer
-    an_answer why = Err why
-
-    not_memory : an_answer fault.NoJob ≡ Err fault.Memory → ⊥
-    not_memory e = cc
-
-    never : old.failed_writes < old.failed_writes → ⊥
-    never more = omega (arith, more)
 
 -- ## Starts
 

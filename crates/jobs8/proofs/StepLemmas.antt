@@ -1,5 +1,5 @@
 -- Turns of jobs as steps.
-use Rattle.std.proofs.Common.{◌≡◌, ◌∙◌, inl, inr, ℕ, ◌+◌, ◌-◌, ◌<◌, ◌≤◌, true, false, true≢false, suc, zero, Option, Some, None, List, OnOk, Ok, Err, refl, ap, sym, subst, arith, slice_set}
+use Rattle.std.proofs.Common.{◌≡◌, ◌∙◌, inl, inr, ℕ, ◌+◌, ◌-◌, ◌<◌, ◌≤◌, true, false, true≢false, suc, zero, Option, Some, None, List, Ok, Err, refl, ap, sym, subst, arith, slice_set}
 use Rattle.std.proofs.lemmas.List.{set-get_or}
 use Rattle.std.specs.FinMap.{get}
 use Rattle.volume_image.specs.Volume.{counted}
@@ -10,7 +10,7 @@ use Rattle.os8_files.specs.Mounted.{Mounted}
 use Rattle.os8_files.specs.Holds.{without_hold}
 use Rattle.os8_files.specs.declared.faults.FileFault.{FileFault}
 use Rattle.os8_files.specs.declared.faults.FileFault.TheVariants as file
-use Rattle.jobs8.specs.Calls.{IsQuiet, LeavesHold, TurnsOver, TurnsLoading}
+use Rattle.jobs8.specs.Calls.{IsQuiet, LeavesHold, Tells, TurnsOver, TurnsLoading}
 use Rattle.jobs8.specs.Faults.{is_memory}
 use Rattle.jobs8.specs.Jobs as plain
 use Rattle.jobs8.specs.Jobs.{job_of, with_job, loading}
@@ -47,15 +47,10 @@ file_not_memory why is = cc
 others : (old new : Mounted) (reads failed : ℕ) (holds : List ℕ) → new ≡ record old { reads = reads; failed_reads = failed; holds = holds } → new ≡ record old { reads = new.reads; failed_reads = new.failed_reads; holds = holds }
 others old new reads failed holds is = is ∙ ap (λ (m : Mounted). record old { reads = m.reads; failed_reads = m.failed_reads; holds = holds }) (sym is)
 
-quiet_then : (old new : Mounted) (answer : Answer) → IsQuiet old new → OnOk answer (IsQuiet old new)
-quiet_then old new (Ok turned) quiet = quiet
-quiet_then old new (Err why) quiet = tt
-
 -- no block call failed
-pub moved_over : (old new : Mounted) (answer : Answer) → old.stopped ≡ false → new.failed_reads ≡ old.failed_reads → new.failed_writes ≡ old.failed_writes → new.stopped ≡ false → TurnsOver old answer new
-moved_over old new answer running reads writes still = record {
-  quiet = quiet_then old new answer quiet;
-  memory = λ memory. quiet;
+pub moved_over : (old new : Mounted) (answer : Answer) → (IsQuiet old new → Tells old answer new) → old.stopped ≡ false → new.failed_reads ≡ old.failed_reads → new.failed_writes ≡ old.failed_writes → new.stopped ≡ false → TurnsOver old answer new
+moved_over old new answer tells running reads writes still = record {
+  tells = tells quiet;
   reads = omega (arith, reads);
   writes = omega (arith, writes);
   running = λ again. still;
@@ -65,20 +60,38 @@ moved_over old new answer running reads writes still = record {
     quiet : IsQuiet old new
     quiet = record { running = running; reads = reads; writes = writes }
 
-pub quiet_over : (old new : Mounted) (answer : Answer) (reads : ℕ) (holds : List ℕ) → old.stopped ≡ false → new ≡ record old { reads = reads; holds = holds } → TurnsOver old answer new
-quiet_over old new answer reads holds running is =
-    moved_over old new answer running (ap (λ (m : Mounted). m.failed_reads) is) (ap (λ (m : Mounted). m.failed_writes) is) (ap (λ (m : Mounted). m.stopped) is ∙ running)
+pub quiet_over : (old new : Mounted) (answer : Answer) (reads : ℕ) (holds : List ℕ) → (IsQuiet old new → Tells old answer new) → old.stopped ≡ false → new ≡ record old { reads = reads; holds = holds } → TurnsOver old answer new
+quiet_over old new answer reads holds tells running is =
+    moved_over old new answer tells running (ap (λ (m : Mounted). m.failed_reads) is) (ap (λ (m : Mounted). m.failed_writes) is) (ap (λ (m : Mounted). m.stopped) is ∙ running)
 
--- a read failed, or a write had failed before
-pub failed_over : (old new : Mounted) (why : FileFault) (reads failed : ℕ) (holds : List ℕ) → old.failed_reads ≤ failed → new ≡ record old { reads = reads; failed_reads = failed; holds = holds } → TurnsOver old (Err (fault.File why)) new
-failed_over old new why reads failed holds more is = record {
-  quiet = tt;
-  memory = λ memory. absurd (file_not_memory why memory);
+failed_over : (old new : Mounted) (answer : Answer) (reads failed : ℕ) (holds : List ℕ) → Tells old answer new → old.failed_reads ≤ failed → new ≡ record old { reads = reads; failed_reads = failed; holds = holds } → TurnsOver old answer new
+failed_over old new answer reads failed holds tells more is = record {
+  tells = tells;
   reads = omega (arith, more, ap (λ (m : Mounted). m.failed_reads) is);
   writes = omega (arith, ap (λ (m : Mounted). m.failed_writes) is);
   running = λ quiet. ap (λ (m : Mounted). m.stopped) is ∙ quiet.running;
   files = λ more. absurd (omega (arith, more, ap (λ (m : Mounted). m.failed_writes) is));
 }
+
+-- a read failed
+pub missed_over : (old new : Mounted) (reads : ℕ) (holds : List ℕ) → old.stopped ≡ false → new ≡ record old { reads = reads; failed_reads = old.failed_reads + 1; holds = holds } → TurnsOver old (Err (fault.File file.Device)) new
+missed_over old new reads holds running is = failed_over old new (Err (fault.File file.Device)) reads (old.failed_reads + 1) holds (inl (record {
+  running = running;
+  reads = omega (arith, ap (λ (m : Mounted). m.failed_reads) is);
+  writes = ap (λ (m : Mounted). m.failed_writes) is;
+  blocks = ap (λ (m : Mounted). m.blocks) is;
+  still = ap (λ (m : Mounted). m.stopped) is ∙ running;
+})) (omega arith) is
+
+-- a write had failed before
+pub stood_over : (old new : Mounted) (holds : List ℕ) → old.stopped ≡ true → new ≡ record old { holds = holds } → TurnsOver old (Err (fault.File file.Stopped)) new
+stood_over old new holds before is = failed_over old new (Err (fault.File file.Stopped)) old.reads old.failed_reads holds (record {
+  before = before;
+  stopped = ap (λ (m : Mounted). m.stopped) is ∙ before;
+  reads = ap (λ (m : Mounted). m.failed_reads) is;
+  writes = ap (λ (m : Mounted). m.failed_writes) is;
+  blocks = ap (λ (m : Mounted). m.blocks) is;
+}) (omega arith) is
 
 -- ## Turns
 
@@ -96,7 +109,8 @@ laid_turn words old new core core2 job left name has stands low running same loa
     },
   );
   jobs = λ number jobs there. tt;
-  volume = quiet_over old new _ old.reads _ running is;
+  volume = quiet_over old new _ old.reads _ (λ quiet. quiet) running is;
+  same_core = λ why told. cc;
   stands = λ still. tt;
   kept = record { reads = inl (ap (λ (m : Mounted). m.reads) is); others = others old new old.reads old.failed_reads _ is };
   fits = tt;
@@ -137,7 +151,8 @@ working_turn words old new core job job2 left has is fits more done loads = reco
     },
   );
   jobs = λ number jobs there. tt;
-  volume = quiet_over old new _ (counted old.reads) old.holds loads.0.0 loads.0.1;
+  volume = quiet_over old new _ (counted old.reads) old.holds (λ quiet. quiet) loads.0.0 loads.0.1;
+  same_core = λ why told. refl;
   stands = λ running. goes_on old new words job job2 (left - 1) has loads.0 loads.1.1 loads.1.0;
   kept = kept_on old new job _ loads.0;
   fits = (record { more = omega (arith, more); offset = omega (arith, loads.1.0.offset); turns = omega (arith, fits.turns, done, more) }, loads.1.1);
@@ -172,7 +187,8 @@ memory_turn words old new core job job2 left why memory has fits done loads =
           state_same old new core _ (ap (λ (m : Mounted). m.blocks) on.0.1)
           ∙ ap (state_over old core) (put number jobs there);
       jobs = put;
-      volume = quiet_over old new _ (counted old.reads) old.holds on.0.0 on.0.1;
+      volume = quiet_over old new _ (counted old.reads) old.holds (λ quiet. quiet) on.0.0 on.0.1;
+      same_core = λ why told. refl;
       stands = λ running. goes_on old new words job job2 left has on.0 on.1.1 on.1.0;
       kept = kept_on old new job _ on.0;
       fits = (record { more = fits.more; offset = omega (arith, on.1.0.offset); turns = omega (arith, fits.turns, done this) }, on.1.1);
@@ -197,7 +213,8 @@ refused_turn words old mid new core job job2 left (fault.Tape why) memory has is
     state_same old new core _ (ap (λ (m : Mounted). m.blocks) all),
   );
   jobs = λ number jobs there. refl;
-  volume = quiet_over old new _ (counted old.reads) _ loads.0.0 all;
+  volume = quiet_over old new _ (counted old.reads) _ (λ quiet. quiet) loads.0.0 all;
+  same_core = λ why told. refl;
   stands = λ running. tt;
   kept = record { reads = inr (ap (λ (m : Mounted). m.reads) all); others = others old new (counted old.reads) old.failed_reads _ all };
   fits = tt;
@@ -210,7 +227,8 @@ refused_turn words old mid new core job job2 left (fault.File file.Device) memor
   kind = refl;
   step = λ number jobs there quiet. absurd (never quiet.reads);
   jobs = λ number jobs there. refl;
-  volume = failed_over old new file.Device (counted old.reads) (old.failed_reads + 1) _ (omega arith) all;
+  volume = missed_over old new (counted old.reads) _ loads.0 all;
+  same_core = λ why told. refl;
   stands = λ running. tt;
   kept = record { reads = inr (ap (λ (m : Mounted). m.reads) all); others = others old new (counted old.reads) (old.failed_reads + 1) _ all };
   fits = tt;

@@ -26,7 +26,7 @@ use Rattle.jobs8.specs.declared.turned.Turned.TheVariants.{Assembled}
 use Rattle.jobs8.specs.declared.faults.JobFault.TheVariants as fault
 use Rattle.jobs8.proofs.AssembleLemmas.{the_assembly, sources_of, IsEnough, ended_by, on_by, reads_keep}
 use Rattle.jobs8.proofs.PlaceLemmas.{ReleasedLaw}
-use Rattle.jobs8.proofs.StepLemmas.{same_put, quiet_over, moved_over, file_not_memory}
+use Rattle.jobs8.proofs.StepLemmas.{same_put, quiet_over, moved_over}
 
 -- ## Numbers of the directory
 
@@ -71,7 +71,7 @@ full old core jobs after is = record { files = is.files; tight = λ low. is.tigh
 pub no_target : (old : Mounted) (core : List ℕ) (a : Assembly) (left : ℕ) → old.stopped ≡ false → old.tentative ≡ None → AssemblyFits a left → AssemblyStands old.blocks a left → TurnsJob old core (the_assembly a left) (Err fault.Memory) (Some (the_assembly a left)) old core
 no_target old core a left running none fits is =
     on_by old old core a a left left (Err fault.Memory) refl (reads_keep old old old.reads old.failed_reads refl) none refl refl fits fits.more
-    (quiet_over old old (Err fault.Memory) old.reads old.holds running refl)
+    (quiet_over old old (Err fault.Memory) old.reads old.holds (λ quiet. quiet) running refl)
     (λ number l there named quiet. ap (state_over old core) (same_put number (plain.assembling a.to (names_of a.holds) left) l there))
     (λ number l there. same_put number (plain.assembling a.to (names_of a.holds) left) l there)
     (λ still. is) (λ still. omega arith) (λ other. absurd (other refl))
@@ -94,7 +94,7 @@ memory_of_file file.NothingWritten is = absurd (true≢false (sym is))
 pub put_memory : (old new : Mounted) (core : List ℕ) (a : Assembly) (left : ℕ) (words : List ℕ) → left ≡ 1 → AssemblyFits a left → AssemblyStands old.blocks a left → KeepsHolds old new → new.tentative ≡ None → Puts old a.to words (Err file.Memory) new → TurnsJob old core (the_assembly a left) (Err fault.Memory) (Some (the_assembly a left)) new core
 put_memory old new core a left words one fits is keeps none put =
     on_by old new core a a left left (Err fault.Memory) refl keeps none refl refl fits fits.more
-    (moved_over old new (Err fault.Memory) put.0.running (ap (λ (m : Mounted). m.failed_reads) put.2.others) (ap (λ (m : Mounted). m.failed_writes) put.2.others) (ap (λ (m : Mounted). m.stopped) put.2.others ∙ put.0.running))
+    (moved_over old new (Err fault.Memory) (λ quiet. quiet) put.0.running (ap (λ (m : Mounted). m.failed_reads) put.2.others) (ap (λ (m : Mounted). m.failed_writes) put.2.others) (ap (λ (m : Mounted). m.stopped) put.2.others ∙ put.0.running))
     (λ number l there named quiet. kept_state old new (blocks_filled words) core _ put.2 ∙ ap (state_over old core) (same_put number (plain.assembling a.to (names_of a.holds) left) l there))
     (λ number l there. same_put number (plain.assembling a.to (names_of a.holds) left) l there)
     (λ still. record {
@@ -110,7 +110,7 @@ pub put_done : ReleasedLaw → (old mid new : Mounted) (core : List ℕ) (a : As
     → Puts old a.to words (Ok tt) mid → new ≡ record mid { holds = without_holds a.holds mid.holds } → TurnsJob old core (the_assembly a left) (Ok (Assembled name blocks)) None new core
 put_done law old mid new core a left name blocks words one enough keeps none named count is no_fault means put gone =
     ended_by law old mid new core a left (Ok (Assembled name blocks)) keeps none gone enough (omega (arith, one))
-    (moved_over old new (Ok (Assembled name blocks)) put.ready.running
+    (moved_over old new (Ok (Assembled name blocks)) (λ quiet. quiet) put.ready.running
     (ap (λ (m : Mounted). m.failed_reads) gone ∙ ap (λ (m : Mounted). m.failed_reads) put.others) (ap (λ (m : Mounted). m.failed_writes) gone ∙ ap (λ (m : Mounted). m.failed_writes) put.others)
     (ap (λ (m : Mounted). m.stopped) gone ∙ ap (λ (m : Mounted). m.stopped) put.others ∙ put.ready.running))
     (λ number l there held quiet. (
@@ -141,7 +141,7 @@ pub put_refused : ReleasedLaw → (old mid new : Mounted) (core : List ℕ) (a :
     → Puts old a.to words (Err why) mid → new ≡ record mid { holds = without_holds a.holds mid.holds } → TurnsJob old core (the_assembly a left) (Err (fault_of_file why)) None new core
 put_refused law old mid new core a left words (file.Busy other) memory one enough keeps none running is no_fault survives put gone =
     ended_by law old mid new core a left (Err (fault.File (file.Busy other))) keeps none gone enough (omega (arith, one))
-    (quiet_over old new _ old.reads _ running all)
+    (quiet_over old new _ old.reads _ (λ quiet. quiet) running all)
     (λ number l there held quiet. (one, no_fault, (put.1, sym (held a.to) ∙ put.2), let_go_state old new _ core (plain.with_job number None l) all))
     (λ number l there. refl)
     (λ kind still. omega (arith, ap (λ (m : Mounted). above_of m.blocks) put.3))
@@ -151,7 +151,7 @@ put_refused law old mid new core a left words (file.Busy other) memory one enoug
     all = gone ∙ ap (λ (m : Mounted). record m { holds = without_holds a.holds m.holds }) put.3
 put_refused law old mid new core a left words (file.NoRoom n) memory one enough keeps none running is no_fault survives put gone =
     ended_by law old mid new core a left (Err (fault.File (file.NoRoom n))) keeps none gone enough (omega (arith, one))
-    (quiet_over old new _ old.reads _ running all)
+    (quiet_over old new _ old.reads _ (λ quiet. quiet) running all)
     (λ number l there held quiet. (one, no_fault, (sym (held a.to) ∙ put.1, subst (λ w. IsCrowded (state_over old core l) (blocks_in w) n) is (crowded old core l (blocks_in words) n put.2 put.3)), let_go_state old new _ core (plain.with_job number None l) all))
     (λ number l there. refl)
     (λ kind still. omega (arith, ap (λ (m : Mounted). above_of m.blocks) put.4))
@@ -161,7 +161,7 @@ put_refused law old mid new core a left words (file.NoRoom n) memory one enough 
     all = gone ∙ ap (λ (m : Mounted). record m { holds = without_holds a.holds m.holds }) put.4
 put_refused law old mid new core a left words file.DirectoryFull memory one enough keeps none running is no_fault survives put gone =
     ended_by law old mid new core a left (Err (fault.File file.DirectoryFull)) keeps none gone enough (omega (arith, one))
-    (moved_over old new _ running
+    (moved_over old new _ (λ quiet. quiet) running
     (ap (λ (m : Mounted). m.failed_reads) gone ∙ ap (λ (m : Mounted). m.failed_reads) put.3.others) (ap (λ (m : Mounted). m.failed_writes) gone ∙ ap (λ (m : Mounted). m.failed_writes) put.3.others)
     (ap (λ (m : Mounted). m.stopped) gone ∙ ap (λ (m : Mounted). m.stopped) put.3.others ∙ running))
     (λ number l there held quiet. (
@@ -176,8 +176,7 @@ put_refused law old mid new core a left words file.DirectoryFull memory one enou
 put_refused law old mid new core a left words file.Device memory one enough keeps none running is no_fault survives put gone =
     ended_by law old mid new core a left (Err (fault.File file.Device)) keeps none gone enough (omega (arith, one))
     (record {
-      quiet = tt;
-      memory = λ m. absurd (file_not_memory file.Device m);
+      tells = inr (record { running = running; writes = omega (arith, risen); stopped = ap (λ (m : Mounted). m.stopped) gone ∙ ap (λ (m : Mounted). m.stopped) put.others });
       reads = omega (arith, ap (λ (m : Mounted). m.failed_reads) gone, ap (λ (m : Mounted). m.failed_reads) put.others);
       writes = omega (arith, risen);
       running = λ quiet. absurd (more quiet.writes);

@@ -1,5 +1,5 @@
 -- What jobs do to a volume and to the table of jobs, whatever fails.
-use Rattle.std.specs.Prelude.{◌≡◌, ◌≤◌, ◌<◌, ◌⊎◌, ℕ, zero, suc, get_or, ◌+◌, ◌-◌, OnOk, false, true, Bool, Option, Some, None, Result, Ok, Err, List, [], ◌∷◌}
+use Rattle.std.specs.Prelude.{◌≡◌, ◌≤◌, ◌<◌, ◌⊎◌, ℕ, zero, suc, get_or, ◌+◌, ◌-◌, false, true, Bool, Option, Some, None, Result, Ok, Err, List, [], ◌∷◌}
 use Rattle.std.specs.FinMap.{get}
 use Rattle.os8_dir.specs.Files.{files_of, above_of}
 use Rattle.os8_files.specs.Calls.{Squeezes}
@@ -12,6 +12,7 @@ use Rattle.os8_files.specs.declared.faults.FileFault.{FileFault}
 use Rattle.os8_files.specs.declared.faults.FileFault.TheVariants as file
 use Rattle.os8_files.specs.declared.tokens.Squeezed.TheVariants as token
 use Rattle.os8_files.specs.declared.tokens.Squeezed as tokens
+use Rattle.jobs8.specs.declared.faults.JobFault.{JobFault}
 use Rattle.jobs8.specs.declared.faults.JobFault.TheVariants as fault
 use Rattle.jobs8.specs.declared.turned.Turned.TheVariants.{Working, Squeezed}
 use Rattle.jobs8.specs.declared.loading.Loading.{Loading}
@@ -39,15 +40,47 @@ pub record IsQuiet (old new : Mounted) : Type 0 where
 abbrev pub Outlives : List (List ℕ) → List (List ℕ) → Type 0
 Outlives old new = (mid : List (List ℕ)) × (files_of mid ≡ files_of old) × Survives mid new
 
--- What a turn leaves of a volume: of one that goes on or ends as it should no block call failed, nor where memory ran out. No
--- failure is forgotten.
+-- a read failed, and no block was written
+pub record ReadFailed (old new : Mounted) : Type 0 where
+  pub running : old.stopped ≡ false
+  pub reads : old.failed_reads < new.failed_reads
+  pub writes : new.failed_writes ≡ old.failed_writes
+  pub blocks : new.blocks ≡ old.blocks
+  pub still : new.stopped ≡ false
+
+-- a write failed, and from now on none is made
+pub record WriteFailed (old new : Mounted) : Type 0 where
+  pub running : old.stopped ≡ false
+  pub writes : old.failed_writes < new.failed_writes
+  pub stopped : new.stopped ≡ true
+
+-- a write had failed before, and no block call was made
+pub record StoodStopped (old new : Mounted) : Type 0 where
+  pub before : old.stopped ≡ true
+  pub stopped : new.stopped ≡ true
+  pub reads : new.failed_reads ≡ old.failed_reads
+  pub writes : new.failed_writes ≡ old.failed_writes
+  pub blocks : new.blocks ≡ old.blocks
+
+-- What an answer tells of the block calls. `Device` comes just where one failed, and `Stopped` just where a write had failed before;
+-- behind any other answer none failed.
+abbrev pub Tells : Mounted → Answer → Mounted → Type 0
+Tells old (Err (fault.File file.Device)) new = ReadFailed old new ⊎ WriteFailed old new
+Tells old (Err (fault.File file.Stopped)) new = StoodStopped old new
+Tells old answer new = IsQuiet old new
+
+-- What a turn leaves of a volume. No failure is forgotten.
 pub record TurnsOver (old : Mounted) (answer : Answer) (new : Mounted) : Type 0 where
-  pub quiet : OnOk answer (IsQuiet old new)
-  pub memory : answer ≡ Err fault.Memory → IsQuiet old new
+  pub tells : Tells old answer new
   pub reads : old.failed_reads ≤ new.failed_reads
   pub writes : old.failed_writes ≤ new.failed_writes
   pub running : IsQuiet old new → new.stopped ≡ false
   pub files : old.failed_writes < new.failed_writes → Outlives old.blocks new.blocks
+
+-- what the turn of a number leaves of it: where it has no job nothing is done, whatever failed before
+abbrev pub NumberTurnsOver : Option plain.Job → Mounted → Answer → Mounted → Type 0
+NumberTurnsOver None old answer new = (answer ≡ Err fault.NoJob) × (new ≡ old)
+NumberTurnsOver (Some it) old answer new = TurnsOver old answer new
 
 -- what a turn leaves of the jobs where it is refused: memory that runs out changes nothing, and all else ends the job
 abbrev pub LeavesJobs : ℕ → Answer → List (Option plain.Job) → List (Option plain.Job) → Type 0
@@ -101,6 +134,7 @@ pub record TurnsLoading (old : Mounted) (core : List ℕ) (job : Loading) (left 
       → LoadingTurn (state_over old core jobs) number job.hold left answer (state_over new core' (plain.with_job number (plain_job after) jobs))
   pub jobs : (number : ℕ) (jobs : List (Option plain.Job)) → plain.job_of number jobs ≡ Some (plain.loading job.hold left) → LeavesJobs number answer jobs (plain.with_job number (plain_job after) jobs)
   pub volume : TurnsOver old answer new
+  pub same_core : (why : JobFault) → answer ≡ Err why → core' ≡ core
   pub stands : new.stopped ≡ false → StandsIn new.blocks after
   pub kept : LeavesHold old job.hold after new
   pub fits : FitsAfter job.hold after
@@ -114,6 +148,7 @@ pub record TurnsJob (old : Mounted) (core : List ℕ) (job : Job) (answer : Answ
       → WorkTurn (state_over old core jobs) number (work_of job.work) job.left answer (state_over new core' (plain_after (is_assembled answer) (plain.with_job number (plain_job after) jobs)))
   pub jobs : (number : ℕ) (jobs : List (Option plain.Job)) → plain.job_of number jobs ≡ plain_job (Some job) → LeavesJobs number answer jobs (plain.with_job number (plain_job after) jobs)
   pub volume : TurnsOver old answer new
+  pub same_core : (why : JobFault) → answer ≡ Err why → core' ≡ core
   pub stands : new.stopped ≡ false → StandsIn new.blocks after
   pub fits : FitsIn after
   pub holds : (name : ℕ) → times name new.holds + times name (names_in (Some job)) ≡ times name old.holds + times name (names_in after)
@@ -167,7 +202,8 @@ CallsOf (Some it) old new = WorkCalls it.work it.left old new
 pub record TakesTurn (old : Mounted) (core : List ℕ) (jobs : List (Option Job)) (number : ℕ) (answer : Answer) (new : Mounted) (core' : List ℕ) (jobs' : List (Option Job)) : Type 0 where
   pub settled : IsSettled new jobs'
   pub step : IsQuiet old new → Turns (state_over old core (plain_jobs jobs)) number answer (state_over new core' (plain_jobs jobs'))
-  pub volume : TurnsOver old answer new
+  pub volume : NumberTurnsOver (plain.job_of number (plain_jobs jobs)) old answer new
+  pub same_core : (why : JobFault) → answer ≡ Err why → core' ≡ core
   pub left : LeavesJobs number answer (plain_jobs jobs) (plain_jobs jobs')
   pub fewer : (it : plain.Job) → (answer ≡ Err fault.Memory → ⊥) → plain.job_of number (plain_jobs jobs) ≡ Some it → plain.turns_left (plain_jobs jobs') < plain.turns_left (plain_jobs jobs)
   pub calls : CallsOf (job_at number jobs) old new

@@ -1,5 +1,4 @@
 pub mod LineLemmas
-pub mod MarkLemmas
 pub mod WalkLemmas
 pub mod NumberLemmas
 pub mod TaskLemmas

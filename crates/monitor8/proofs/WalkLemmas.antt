@@ -1,5 +1,5 @@
 -- What the walk of `clap` over the words leaves where it meets no fault.
-use Rattle.std.proofs.Common.{◌≡◌, ◌∙◌, ◌<◌, ◌&&◌, ℕ, Bool, cond, codes, true, false, not, zero, suc, refl, sym, ap, subst, arith, true≢false, List, [], ◌∷◌, ◌++◌, length, drop, Option, Some, None, is_some}
+use Rattle.std.proofs.Common.{◌≡◌, ◌∙◌, ◌⊎◌, inl, inr, if◌then◌else◌, ◌<◌, ◌&&◌, ℕ, Bool, cond, codes, true, false, not, zero, suc, refl, sym, ap, subst, arith, true≢false, List, [], ◌∷◌, ◌++◌, length, drop, Option, Some, None, is_some}
 use Rattle.std.specs.Prelude.{⊤, encode_utf8, find, fold, option_and_then, option_map, slice_get}
 use Rattle.std.specs.List.{list_any}
 use Rattle.std.specs.Option.{option_map_or}
@@ -10,15 +10,17 @@ use Rattle.clap.specs.Values.{read_as}
 use Rattle.clap.specs.Facts.{explicit_source, parser_of_value}
 use Rattle.clap.specs.Walk.{Held, Names, Outcome, Row, Rule, Step, Text, Waiting, Walk}
 use Rattle.clap.specs.Walk.{idle, option, positional, next, trailing, subcommand, value, done, waits, plain, refused}
-use Rattle.clap.specs.Walk.{action_of, after_flag, after_step, arg_by_id, arg_by_index, arg_by_long, arg_by_short, at_row, bundle, bundle_met, default_rows, finished, first_of, has_row, is_pending, long_or_other, more_values, one_of, option_word, plain_word, positional_held, pushed, reading_by, row_text, settled, settled_rows, short_or_plain, started, subcommand_met, subcommand_or_other, takes_several, to_positional, used, used_as, used_by_id, values_or_missing, walk, walk_from, walked, walked_from, with_default, with_values, without, word_met}
+use Rattle.clap.specs.Walk.{action_of, after_flag, after_step, arg_by_id, arg_by_index, arg_by_long, arg_by_short, at_row, bundle, bundle_met, default_rows, finished, first_of, flag_met, has_row, long_met, option_met, takes_values, is_pending, long_or_other, more_values, one_of, option_word, plain_word, positional_held, pushed, reading_by, row_text, settled, settled_rows, short_or_plain, started, subcommand_met, subcommand_or_other, takes_several, to_positional, used, used_as, used_by_id, values_or_missing, walk, walk_from, walked, walked_from, with_default, with_values, without, word_met}
 use Rattle.clap.specs.Simple.{Shape}
 use Rattle.clap.specs.Takes.{is_given}
 use Rattle.clap.specs.Kinds.{Kinds, check_kinds, or_else, value_kinds}
-use Rattle.clap.specs.Faults.{action_fault, bundle_fault, check_fault, defaults_fault, flag_word_fault, flags_fault, level_fault, long_fault, other_fault, positional_fault, settle_fault, short_fault, step_fault, turn_fault, use_fault, values_fault, walk_fault, word_fault}
-use Rattle.clap.specs.declared.builder.action.ArgAction.TheVariants.{Set}
+use Rattle.clap.specs.Faults.{action_fault, bundle_fault, check_fault, defaults_fault, flag_word_fault, flags_fault, level_fault, long_fault, option_fault, other_fault, react_fault, positional_fault, settle_fault, short_fault, step_fault, turn_fault, use_fault, values_fault, walk_fault, word_fault}
+use Rattle.clap.specs.declared.builder.action.ArgAction.{ArgAction}
+use Rattle.clap.specs.declared.builder.action.ArgAction.TheVariants.{Set, SetTrue}
 use Rattle.clap.specs.declared.parser.matches.ValueSource.{ValueSource}
-use Rattle.clap.specs.declared.parser.matches.ValueSource.TheVariants.{CommandLine}
+use Rattle.clap.specs.declared.parser.matches.ValueSource.TheVariants.{CommandLine, DefaultValue}
 use Rattle.clap.specs.declared.error.kind.ErrorKind.{ErrorKind}
+use Rattle.clap.specs.declared.error.kind.ErrorKind.TheVariants.{TooManyValues}
 
 -- ## Kinds of fault
 
@@ -35,9 +37,9 @@ not_none k ks none = cc
 
 -- ## Rows
 
--- the row has a first value, which its argument takes, and is read as its argument says
+-- the row of an argument with a value has a first value, which its argument takes, and is read as its argument says
 abbrev pub Good : List Rule → Row → Type 0
-Good c r = (a : Rule) → arg_by_id c r.id ≡ Some a
+Good c r = (a : Rule) → arg_by_id c r.id ≡ Some a → action_of a ≡ Set
     → (v : Text) × (slice_get r.values 0 ≡ Some v) × (value_kinds a.ignore_case (parser_of_value a.parser) v ≡ []) × (r.reading ≡ reading_by a)
 
 abbrev pub AllGood : List Rule → List Row → Type 0
@@ -64,42 +66,27 @@ first_kept : (xs ys : List Text) (v : Text) → slice_get xs 0 ≡ Some v → sl
 first_kept [] ys v first = absurd (cc)
 first_kept (x ∷ xs) ys v first = first
 
--- values that the argument takes join its row
-joined_good : (c : List Rule) (a : Rule) (s : ValueSource) (v : Text) (vs : List Text) (rows : List Row) → arg_by_id c a.id ≡ Some a
-    → value_kinds a.ignore_case (parser_of_value a.parser) v ≡ [] → AllGood c rows → AllGood c (with_values a.id (reading_by a) s (v ∷ vs) rows)
-joined_good c a s v vs rows own passes all =
-    at_row_good c a.id (more_values s (v ∷ vs)) _ rows (λ r good. (more r good, tt)) (fresh, tt) all
+-- values join the row of an argument, which takes the first of them where it is one with a value
+joined_good : (c : List Rule) (a : Rule) (s : ValueSource) (values : List Text) (rows : List Row) → arg_by_id c a.id ≡ Some a
+    → (action_of a ≡ Set → (v : Text) × (slice_get values 0 ≡ Some v) × (value_kinds a.ignore_case (parser_of_value a.parser) v ≡ []))
+    → AllGood c rows → AllGood c (with_values a.id (reading_by a) s values rows)
+joined_good c a s values rows own first all =
+    at_row_good c a.id (more_values s values) _ rows (λ r good. (more r good, tt)) (fresh, tt) all
   where
-    more : (r : Row) → Good c r → (b : Rule) → arg_by_id c r.id ≡ Some b
-        → (w : Text) × (slice_get (r.values ++ (v ∷ vs)) 0 ≡ Some w) × (value_kinds b.ignore_case (parser_of_value b.parser) w ≡ []) × (r.reading ≡ reading_by b)
-    more r good b is =
-        let had = good b is in
-        (had.0, first_kept r.values (v ∷ vs) had.0 had.1, had.2, had.3)
+    more : (r : Row) → Good c r → (b : Rule) → arg_by_id c r.id ≡ Some b → action_of b ≡ Set
+        → (w : Text) × (slice_get (r.values ++ values) 0 ≡ Some w) × (value_kinds b.ignore_case (parser_of_value b.parser) w ≡ []) × (r.reading ≡ reading_by b)
+    more r good b is set =
+        let had = good b is set in
+        (had.0, first_kept r.values values had.0 had.1, had.2, had.3)
 
-    fresh : (b : Rule) → arg_by_id c a.id ≡ Some b
-        → (w : Text) × (slice_get (v ∷ vs) 0 ≡ Some w) × (value_kinds b.ignore_case (parser_of_value b.parser) w ≡ []) × (reading_by a ≡ reading_by b)
-    fresh b is =
+    fresh : (b : Rule) → arg_by_id c a.id ≡ Some b → action_of b ≡ Set
+        → (w : Text) × (slice_get values 0 ≡ Some w) × (value_kinds b.ignore_case (parser_of_value b.parser) w ≡ []) × (reading_by a ≡ reading_by b)
+    fresh b is set =
         let same : a ≡ b = some_eq a b (sym own ∙ is) in
-        (v, refl, subst (λ (x : Rule). value_kinds x.ignore_case (parser_of_value x.parser) v ≡ []) same passes, ap reading_by same)
+        let had = first (subst (λ (x : Rule). action_of x ≡ Set) (sym same) set) in
+        (had.0, had.1, subst (λ (x : Rule). value_kinds x.ignore_case (parser_of_value x.parser) had.0 ≡ []) same had.2, ap reading_by same)
 
--- ## A subcommand whose options all ask for help
-
-pub record IsPlainLeaf (c : List Rule) : Type 0 where
-  pub long : (again : Bool) (name : Text) (v : Option Text) (h : Held) → long_fault c again (arg_by_long c name) v h ≡ [] → ⊥
-  pub short : (again : Bool) (x : ℕ) (rest : Text) (h : Held) (following : Held → Kinds) → short_fault c again (arg_by_short c x) rest h following ≡ [] → ⊥
-  pub usage : (id : Text) (a : Rule) (again : Bool) (vs : List Text) (rows : List Row) → arg_by_id c id ≡ Some a → use_fault again a vs rows ≡ []
-      → (action_of a ≡ Set) × (arg_by_id c a.id ≡ Some a)
-
-used_good : (c : List Rule) (a : Rule) (again : Bool) (vs : List Text) (rows : List Row) → (action_of a ≡ Set) → arg_by_id c a.id ≡ Some a
-    → use_fault again a vs rows ≡ [] → 0 < length vs → AllGood c rows → AllGood c (used a vs rows)
-used_good c a again [] rows set own none some all = absurd (omega arith)
-used_good c a again (v ∷ vs) rows set own none some all =
-    let acted : action_fault (action_of a) again a (v ∷ vs) rows ≡ [] = or_second _ _ none in
-    let as_set : action_fault Set again a (v ∷ vs) rows ≡ [] = subst (λ x. action_fault x again a (v ∷ vs) rows ≡ []) set acted in
-    let passes : value_kinds a.ignore_case (parser_of_value a.parser) v ≡ [] = or_first _ _ (or_second _ _ as_set) in
-    let rest : AllGood c (without a.id rows) = at_row_good c a.id (λ r. []) [] rows (λ r good. tt) tt all in
-    subst (λ x. AllGood c (used_as x a.id (reading_by a) (v ∷ vs) rows)) (sym set)
-    (joined_good c a CommandLine v vs (without a.id rows) own passes rest)
+-- ## A subcommand whose options take no value
 
 abbrev pub HasPending : Option (Text × List Text) → Type 0
 HasPending None = ⊤
@@ -109,22 +96,73 @@ HasPending (Some p) = 0 < length p.1
 abbrev pub HeldGood : List Rule → Held → Type 0
 HeldGood c h = AllGood c h.rows × HasPending h.pending
 
-settled_good : (c : List Rule) (leaf : IsPlainLeaf c) (again : Bool) (h : Held) → settle_fault c again h ≡ [] → HeldGood c h
+-- a use with no fault is of an argument with a value, or of an option without one
+abbrev pub IsUsage : List Rule → Type 0
+IsUsage c = (id : Text) (a : Rule) (again : Bool) (vs : List Text) (rows : List Row) → arg_by_id c id ≡ Some a → use_fault again a vs rows ≡ []
+    → ((action_of a ≡ Set) ⊎ (action_of a ≡ SetTrue)) × (arg_by_id c a.id ≡ Some a)
+
+-- an option that is met with no fault leaves what is held good; a short one asks for help
+pub record IsPlainLeaf (c : List Rule) : Type 0 where
+  pub usage : IsUsage c
+  pub long : (again : Bool) (name : Text) (v : Option Text) (h : Held) → long_fault c again (arg_by_long c name) v h ≡ [] → HeldGood c h
+      → HeldGood c (long_met c (arg_by_long c name) v h).0
+  pub short : (again : Bool) (x : ℕ) (rest : Text) (h : Held) (following : Held → Kinds) → short_fault c again (arg_by_short c x) rest h following ≡ [] → ⊥
+
+without_good : (c : List Rule) (id : Text) (rows : List Row) → AllGood c rows → AllGood c (without id rows)
+without_good c id rows all = at_row_good c id (λ r. []) [] rows (λ r good. tt) tt all
+
+used_good : (c : List Rule) (a : Rule) (again : Bool) (vs : List Text) (rows : List Row) → (action_of a ≡ Set) → arg_by_id c a.id ≡ Some a
+    → use_fault again a vs rows ≡ [] → 0 < length vs → AllGood c rows → AllGood c (used a vs rows)
+used_good c a again [] rows set own none some all = absurd (omega arith)
+used_good c a again (v ∷ vs) rows set own none some all =
+    let acted : action_fault (action_of a) again a (v ∷ vs) rows ≡ [] = or_second _ _ none in
+    let as_set : action_fault Set again a (v ∷ vs) rows ≡ [] = subst (λ x. action_fault x again a (v ∷ vs) rows ≡ []) set acted in
+    let passes : value_kinds a.ignore_case (parser_of_value a.parser) v ≡ [] = or_first _ _ (or_second _ _ as_set) in
+    subst (λ x. AllGood c (used_as x a.id (reading_by a) (v ∷ vs) rows)) (sym set)
+    (joined_good c a CommandLine (v ∷ vs) (without a.id rows) own (λ is. (v, refl, passes)) (without_good c a.id rows all))
+
+set_not : (action : ArgAction) → action ≡ SetTrue → action ≡ Set → ⊥
+set_not action one two = cc
+
+-- an option without a value
+flag_good : (c : List Rule) (a : Rule) (vs : List Text) (rows : List Row) → action_of a ≡ SetTrue → arg_by_id c a.id ≡ Some a → AllGood c rows
+    → AllGood c (used a vs rows)
+flag_good c a vs rows flag own all =
+    subst (λ x. AllGood c (used_as x a.id (reading_by a) (values_or_missing a vs) rows)) (sym flag)
+    (joined_good c a CommandLine (values_or_missing a vs) (without a.id rows) own (λ set. absurd (set_not (action_of a) flag set)) (without_good c a.id rows all))
+
+settled_good : (c : List Rule) (usage : IsUsage c) (again : Bool) (h : Held) → settle_fault c again h ≡ [] → HeldGood c h
     → AllGood c (settled_rows c h.pending h.rows)
-settled_good c leaf again h none good = go h.pending none good.1
+settled_good c usage again h none good = go h.pending none good.1
   where
+    by_kind : (p : Text × List Text) (a : Rule) → ((action_of a ≡ Set) ⊎ (action_of a ≡ SetTrue)) → arg_by_id c a.id ≡ Some a → 0 < length p.1
+        → use_fault again a p.1 h.rows ≡ [] → AllGood c (used a p.1 h.rows)
+    by_kind p a (inl set) own some none = used_good c a again p.1 h.rows set own none some good.0
+    by_kind p a (inr flag) own some none = flag_good c a p.1 h.rows flag own good.0
+
     by_id : (p : Text × List Text) (found : Option Rule) → arg_by_id c p.0 ≡ found → 0 < length p.1
         → option_map_or (λ a. use_fault again a p.1 h.rows) found [] ≡ [] → AllGood c (used_by_id found p.1 h.rows)
     by_id p None is some none = good.0
     by_id p (Some a) is some none =
-        let facts = leaf.usage p.0 a again p.1 h.rows is none in
-        used_good c a again p.1 h.rows facts.0 facts.1 none some good.0
+        let facts = usage p.0 a again p.1 h.rows is none in
+        by_kind p a facts.0 facts.1 some none
 
     go : (o : Option (Text × List Text))
         → option_map_or (λ p. option_map_or (λ a. use_fault again a p.1 h.rows) (arg_by_id c p.0) []) o [] ≡ [] → HasPending o
         → AllGood c (settled_rows c o h.rows)
     go None none some = good.0
     go (Some p) none some = by_id p (arg_by_id c p.0) refl some none
+
+-- an option without a value that is met with no fault
+pub flag_met_good : (c : List Rule) (usage : IsUsage c) (again : Bool) (a : Rule) (v : Option Text) (h : Held) → takes_values a ≡ false → action_of a ≡ SetTrue
+    → arg_by_id c a.id ≡ Some a → long_fault c again (Some a) v h ≡ [] → HeldGood c h → HeldGood c (long_met c (Some a) v h).0
+flag_met_good c usage again a v h bare flag own none good =
+    subst (λ b. HeldGood c (if b then option_met c a v h else flag_met c a v h).0) (sym bare)
+    (met v (subst (λ b. (if b then option_fault c again a v h else (if is_some v then TooManyValues ∷ [] else react_fault c again a [] h)) ≡ []) bare none))
+  where
+    met : (v : Option Text) → (if is_some v then TooManyValues ∷ [] else react_fault c again a [] h) ≡ [] → HeldGood c (flag_met c a v h).0
+    met (Some text) none = good
+    met None none = (flag_good c a [] (settled c h).rows flag own (settled_good c usage again h (or_first (settle_fault c again h) _ none) good), tt)
 
 one_more : (xs : List Text) (x : Text) → 0 < length (xs ++ x ∷ [])
 one_more [] x = omega arith
@@ -180,7 +218,8 @@ met_good s leaf names false waiting position word h none good = go (subcommand_m
     long : (o : Option (Text × Option Text)) → flag_word_fault s.rules s.args_override_self o word h ≡ []
         → HeldGood s.rules (long_or_other s.rules waiting word o h).0
     long None none = short (short_of word) none
-    long (Some p) none = absurd (leaf.long s.args_override_self p.0 p.1 h none)
+    long (Some p) none = after_good s.rules waiting word _ (long_met s.rules (arg_by_long s.rules p.0) p.1 h).1
+        (leaf.long s.args_override_self p.0 p.1 h none good)
 
     dashes : (b : Bool) → cond b [] (flag_word_fault s.rules s.args_override_self (long_of word) word h) ≡ []
         → HeldGood s.rules (cond b (h, trailing position) (long_or_other s.rules waiting word (long_of word) h)).0
@@ -201,7 +240,7 @@ step_good s leaf word w h value none good = go (arg_by_index s.rules w.position)
     placed : (a : Rule) (b : Bool) → cond b [] (settle_fault s.rules s.args_override_self h) ≡ []
         → HeldGood s.rules (pushed a.id word (cond b h (settled s.rules h)))
     placed a true none = pushed_good s.rules a.id word h good.0
-    placed a false none = pushed_good s.rules a.id word (settled s.rules h) (settled_good s.rules leaf s.args_override_self h none good)
+    placed a false none = pushed_good s.rules a.id word (settled s.rules h) (settled_good s.rules leaf.usage s.args_override_self h none good)
 
     go : (o : Option Rule) → option_map_or (λ a. positional_fault s.rules s.args_override_self a h) o (Rattle.clap.specs.Faults.stray_fault s) ≡ []
         → HeldGood s.rules (to_positional s.rules o word w h).held
@@ -239,9 +278,9 @@ Gives c a rows = (v : Text) × (first_of a.id rows ≡ Some v) × (one_of a.id r
 row_read : (a : Rule) (r : Row) (v : Text) → slice_get r.values 0 ≡ Some v → r.reading ≡ reading_by a → row_text r ≡ Some (read_as (reading_by a) v)
 row_read a r v first reading = ap (option_map (read_as r.reading)) first ∙ ap (λ how. Some (read_as how v)) reading
 
-pub found_value : (c : List Rule) (a : Rule) (rows : List Row) → arg_by_id c a.id ≡ Some a → AllGood c rows → is_given a.id rows ≡ true → Gives c a rows
-found_value c a [] own all given = absurd (true≢false (sym given))
-found_value c a (r ∷ rs) own all given = go (λ later. found_value c a rs own all.1 later) (bytes_eq r.id a.id) refl given
+pub found_value : (c : List Rule) (a : Rule) (rows : List Row) → arg_by_id c a.id ≡ Some a → action_of a ≡ Set → AllGood c rows → is_given a.id rows ≡ true → Gives c a rows
+found_value c a [] own set all given = absurd (true≢false (sym given))
+found_value c a (r ∷ rs) own set all given = go (λ later. found_value c a rs own set all.1 later) (bytes_eq r.id a.id) refl given
   where
     go : (is_given a.id rs ≡ true → Gives c a rs) → (b : Bool) → bytes_eq r.id a.id ≡ b
         → option_map_or (λ (x : Row). explicit_source x.source) (cond b (Some r) (find (λ x. bytes_eq x.id a.id) rs)) false ≡ true
@@ -249,25 +288,31 @@ found_value c a (r ∷ rs) own all given = go (λ later. found_value c a rs own 
         × (option_and_then row_text (cond b (Some r) (find (λ x. bytes_eq x.id a.id) rs)) ≡ Some (read_as (reading_by a) v))
         × (value_kinds a.ignore_case (parser_of_value a.parser) v ≡ [])
     go later true is given =
-        let had = all.0 a (ap (arg_by_id c) ((bytes_eq-Decides r.id a.id).0 is) ∙ own) in
+        let had = all.0 a (ap (arg_by_id c) ((bytes_eq-Decides r.id a.id).0 is) ∙ own) set in
         (had.0, had.1, row_read a r had.0 had.1 had.3, had.2)
     go later false is given = later given
 
--- no argument has a default
-abbrev pub NoDefaults : List Rule → Type 0
-NoDefaults [] = ⊤
-NoDefaults (a ∷ rest) = (a.defaults ≡ []) × NoDefaults rest
+-- an argument with a value has no default
+abbrev pub FitDefaults : List Rule → List Rule → Type 0
+FitDefaults c [] = ⊤
+FitDefaults c (a ∷ rest) = ((a.defaults ≡ []) ⊎ ((action_of a ≡ SetTrue) × (arg_by_id c a.id ≡ Some a))) × FitDefaults c rest
 
-no_default : (a : Rule) (rows : List Row) → a.defaults ≡ [] → with_default rows a ≡ rows
-no_default a rows none = go (has_row a.id rows)
+default_good : (c : List Rule) (a : Rule) (rows : List Row) → ((a.defaults ≡ []) ⊎ ((action_of a ≡ SetTrue) × (arg_by_id c a.id ≡ Some a)))
+    → AllGood c rows → AllGood c (with_default rows a)
+default_good c a rows fit all = go (has_row a.id rows)
   where
-    go : (b : Bool) → cond b rows (default_rows a.id (reading_by a) a.defaults rows) ≡ rows
-    go true = refl
-    go false = ap (λ values. default_rows a.id (reading_by a) values rows) none
+    by_values : (values : List Text) → ((values ≡ []) ⊎ ((action_of a ≡ SetTrue) × (arg_by_id c a.id ≡ Some a))) → AllGood c (default_rows a.id (reading_by a) values rows)
+    by_values [] kind = all
+    by_values (v ∷ vs) (inl none) = absurd (cc)
+    by_values (v ∷ vs) (inr flag) = joined_good c a DefaultValue (v ∷ vs) rows flag.1 (λ set. absurd (set_not (action_of a) flag.0 set)) all
 
-no_defaults : (c : List Rule) (rows : List Row) → NoDefaults c → fold with_default rows c ≡ rows
-no_defaults [] rows none = refl
-no_defaults (a ∷ rest) rows none = ap (λ x. fold with_default x rest) (no_default a rows none.0) ∙ no_defaults rest rows none.1
+    go : (b : Bool) → AllGood c (cond b rows (default_rows a.id (reading_by a) a.defaults rows))
+    go true = all
+    go false = by_values a.defaults fit
+
+defaults_good : (c list : List Rule) (rows : List Row) → FitDefaults c list → AllGood c rows → AllGood c (fold with_default rows list)
+defaults_good c [] rows fit all = all
+defaults_good c (a ∷ rest) rows fit all = defaults_good c rest (with_default rows a) fit.1 (default_good c a rows fit.0 all)
 
 -- the parts of a level with no fault
 pub record IsFaultless (s : Shape) (names : Names) (h : Held) (words : List Text) (has : Bool) (below : Kinds) : Type 0 where
@@ -295,13 +340,13 @@ faultless s names h words has below none =
     }
 
 -- the rows of a subcommand with no fault are good
-pub leaf_good : (s : Shape) (leaf : IsPlainLeaf s.rules) → NoDefaults s.rules → (names : Names) (h : Held) (words : List Text) (has : Bool) (below : Kinds)
+pub leaf_good : (s : Shape) (leaf : IsPlainLeaf s.rules) → FitDefaults s.rules s.rules → (names : Names) (h : Held) (words : List Text) (has : Bool) (below : Kinds)
     → HeldGood s.rules h → level_fault s names h words has below ≡ [] → AllGood s.rules (finished s.rules (walk s.rules names h words).held)
 leaf_good s leaf defaults names h words has below good none =
     let parts = faultless s names h words has below none in
     let end = (walk s.rules names h words).held in
-    subst (AllGood s.rules) (sym (no_defaults s.rules (settled s.rules end).rows defaults))
-    (settled_good s.rules leaf s.args_override_self end parts.settles (walk_good s leaf names (walk_from h) words parts.walks good))
+    defaults_good s.rules s.rules (settled s.rules end).rows defaults
+    (settled_good s.rules leaf.usage s.args_override_self end parts.settles (walk_good s leaf names (walk_from h) words parts.walks good))
 
 last_test : (a b c : Bool) → check_kinds a b c ≡ [] → (b ≡ false) × (c ≡ false)
 last_test true b c none = absurd (cc)

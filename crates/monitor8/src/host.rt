@@ -8,9 +8,15 @@ use session8::{MOST, Session};
 use std::alloc::{AllocError, Global};
 use std::env::{self, Env};
 use std::fs::{self, Files};
-use std::io::{self, ErrorKind, Input, Read, Write};
+use std::io::{self, BufWriter, ErrorKind, Input, Read, Write};
 use std::process::ExitCode;
 use volume_image::{ImageFault, MemoryVolume};
+
+mod archives;
+mod image_files;
+
+use archives::{check_volume, get_file, list_files, put_file};
+use image_files::{Unwritten, name_beside, write_file};
 
 /// Why the program ends before its work is done.
 #[derive(Drop)]
@@ -20,6 +26,7 @@ enum Ended {
     Words(clap::Error),
     NoText,
     Told,
+    Unwritten(Unwritten),
 }
 
 impl From<AllocError> for Ended {
@@ -34,8 +41,8 @@ impl From<AllocError> for Ended {
     }
 }
 
-/// Does what the words of the command line ask for: `pdp8 tape`, `pdp8 source`, `pdp8 run IMAGE` or
-/// `pdp8 create IMAGE BLOCKS`. The exit status is 0, 1 after a fault, whose line is on standard output, and 2 for words that are refused (this project's
+/// Does what the words of the command line ask for: `pdp8 tape`, `pdp8 source`, `pdp8 run IMAGE`, `pdp8 create IMAGE BLOCKS`,
+/// `pdp8 list IMAGE`, `pdp8 get IMAGE NAME`, `pdp8 put IMAGE NAME` or `pdp8 check IMAGE`. The exit status is 0, 1 after a fault, whose line is on standard output, and 2 for words that are refused (this project's
 /// profile).
 pub fn program<R: Env + Files + Input + Print + Eprint + AllocGlobal>(rt: &R) -> ExitCode {
     match asked(rt) {
@@ -50,6 +57,10 @@ fn asked<R: Env + Files + Input + Print + AllocGlobal>(rt: &R) -> Result<(), End
         Task::Source => write_source(rt),
         Task::Run(image) => run_image(rt, &image),
         Task::Create(image, blocks) => create_image(rt, &image, blocks),
+        Task::List(image) => list_files(rt, &image),
+        Task::Get(image, name, form) => get_file(rt, &image, &name, form),
+        Task::Put(image, name, form) => put_file(rt, &image, &name, form),
+        Task::Check(image) => check_volume(rt, &image),
     }
 }
 
@@ -68,6 +79,10 @@ fn told<R: Print + Eprint + AllocGlobal>(rt: &R, ended: Ended) -> ExitCode {
             let _ = rt.eprint("error: a word of the command line is not UTF-8 text\n");
             return ExitCode::from(2);
         }
+        Ended::Unwritten(held) => {
+            let _ = rt.eprint(words_on(held));
+            put_program(&ProgramLine::HostWrite, &mut line)
+        }
     };
     let mut writer = io::writer(rt);
     let _ = match put {
@@ -76,6 +91,15 @@ fn told<R: Print + Eprint + AllocGlobal>(rt: &R, ended: Ended) -> ExitCode {
     };
     let _ = writer.flush();
     ExitCode::FAILURE
+}
+
+/// What is said on standard error of a file that could not be written.
+fn words_on(held: Unwritten) -> &'static str {
+    match held {
+        Unwritten::AsItWas => "error: the image is not written: the file is as it was\n",
+        Unwritten::InPart =>
+            "error: the image is not written whole: the file may hold a part of it\n",
+    }
 }
 
 /// What the words of the command line ask for.
@@ -139,7 +163,8 @@ fn create_image<R: Files + Print + AllocGlobal>(
         Ok(bytes) => bytes,
         Err(fault) => return Err(Ended::Line(ProgramLine::Image(fault))),
     };
-    write_image(rt, image, &bytes)?;
+    let beside = name_beside(rt.alloc(), image)?;
+    write_image(rt, image, &beside, &bytes)?;
     let mut line = Vec::new(rt.alloc());
     match put_program(&ProgramLine::Created(blocks), &mut line) {
         Ok(()) => print_line(rt, &line),
@@ -160,12 +185,18 @@ fn print_line<R: Print>(rt: &R, line: &[u8]) -> Result<(), Ended> {
     Ok(())
 }
 
-/// Runs the script on standard input over the volume of an image file, and writes the image back.
+/// Runs the script on standard input over the volume of an image file, and writes the image back. The memory for that is taken before
+/// the script: the bytes that were read are written over.
 fn run_image<R: Files + Input + Print + AllocGlobal>(rt: &R, image: &str) -> Result<(), Ended> {
-    let mut session = mounted(rt, image)?;
-    let run = session.run_text(rt.alloc(), &mut rt.reader(), &mut io::writer(rt));
-    match session.into_store().to_bytes(rt.alloc()) {
-        Ok(bytes) => write_image(rt, image, &bytes)?,
+    let mut bytes = read_image(rt, image)?;
+    let beside = name_beside(rt.alloc(), image)?;
+    let Ok(mut writer) = BufWriter::new(rt.alloc(), io::writer(rt)) else {
+        return Err(Ended::Fault(SessionFault::Memory));
+    };
+    let mut session = mounted(rt, &bytes)?;
+    let run = session.run_text(rt.alloc(), &mut rt.reader(), &mut writer);
+    match session.into_store().put_bytes(&mut bytes) {
+        Ok(()) => write_image(rt, image, &beside, &bytes)?,
         Err(fault) => return Err(Ended::Line(ProgramLine::Image(fault))),
     }
     match run {
@@ -174,16 +205,9 @@ fn run_image<R: Files + Input + Print + AllocGlobal>(rt: &R, image: &str) -> Res
     }
 }
 
-/// A session over the volume of an image file.
-fn mounted<R: Files + AllocGlobal>(rt: &R, image: &str) -> Result<Session<MemoryVolume>, Ended> {
-    let bytes = match read_image(rt, image) {
-        Ok(bytes) => bytes,
-        Err(error) => return Err(unread(&error)),
-    };
-    if bytes.len() > MOST {
-        return Err(Ended::Line(ProgramLine::HostRead));
-    }
-    let volume = match MemoryVolume::from_bytes(rt.alloc(), &bytes) {
+/// A session over the volume of an image.
+fn mounted<R: AllocGlobal>(rt: &R, bytes: &[u8]) -> Result<Session<MemoryVolume>, Ended> {
+    let volume = match MemoryVolume::from_bytes(rt.alloc(), bytes) {
         Ok(volume) => volume,
         Err(fault) => return Err(Ended::Line(ProgramLine::Image(fault))),
     };
@@ -193,10 +217,23 @@ fn mounted<R: Files + AllocGlobal>(rt: &R, image: &str) -> Result<Session<Memory
     }
 }
 
-/// The bytes of an image file, or one byte more than are read at most.
-fn read_image<R: Files + AllocGlobal>(rt: &R, image: &str) -> io::Result<Vec<u8>> {
+/// The bytes of an image file.
+fn read_image<R: Files + AllocGlobal>(rt: &R, image: &str) -> Result<Vec<u8>, Ended> {
+    match read_file(rt, image) {
+        Ok(bytes) => {
+            if bytes.len() > MOST {
+                return Err(Ended::Line(ProgramLine::HostRead));
+            }
+            Ok(bytes)
+        }
+        Err(error) => Err(unread(&error)),
+    }
+}
+
+/// The bytes of a file, or one byte more than are read at most.
+fn read_file<R: Files + AllocGlobal>(rt: &R, name: &str) -> io::Result<Vec<u8>> {
     let mut bytes = Vec::new(rt.alloc());
-    let file = fs::open(rt, image)?;
+    let file = fs::open(rt, name)?;
     file.take(MOST as u64 + 1).read_to_end(&mut bytes)?;
     Ok(bytes)
 }
@@ -208,9 +245,9 @@ fn unread(error: &io::Error) -> Ended {
     }
 }
 
-fn write_image<R: Files>(rt: &R, image: &str, bytes: &[u8]) -> Result<(), Ended> {
-    match fs::write(rt, image, bytes) {
+fn write_image<R: Files>(rt: &R, image: &str, beside: &str, bytes: &[u8]) -> Result<(), Ended> {
+    match write_file(rt, image, beside, bytes) {
         Ok(()) => Ok(()),
-        Err(_) => Err(Ended::Line(ProgramLine::HostWrite)),
+        Err(held) => Err(Ended::Unwritten(held)),
     }
 }

@@ -1,6 +1,7 @@
 ghost use Rattle.std.specs.Prelude.{◌≡◌};
 ghost use Rattle.monitor8.specs.declared.kinds.TaskFault.TheVariants.{Memory};
 
+use archive8::{GetForm, PutForm};
 use std::alloc::AllocError;
 use thiserror::Error;
 
@@ -18,6 +19,18 @@ pub enum Task {
 
     /// Write an empty volume of so many blocks, 8 to 4095, to the file of this name.
     Create(String, usize),
+
+    /// List the files of the volume in the file of this name.
+    List(String),
+
+    /// Write what the file of the second name has, on the volume in the file of the first.
+    Get(String, String, GetForm),
+
+    /// Make the bytes on standard input the file of the second name, on the volume in the file of the first.
+    Put(String, String, PutForm),
+
+    /// Tell of the volume in the file of this name, its directory and where its files lie.
+    Check(String),
 }
 
 /// Why a command line asks for nothing.

@@ -2,6 +2,7 @@
 //! the program is told to do, over the session of `session8`.
 #![tactic(auto)]
 
+mod file_commands;
 mod host;
 mod kinds;
 mod listings;

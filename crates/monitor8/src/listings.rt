@@ -1,16 +1,12 @@
-ghost use Rattle.std.specs.Prelude.{◌≡◌, ℕ, ◌<◌, ◌≤◌, [], ◌∷◌, ◌++◌, List, false, length, replicate, vec_len, IfOk, OnOk, IfErr, MatchResult};
+ghost use Rattle.std.specs.Prelude.{◌≡◌, ℕ, ◌≤◌, ◌++◌, List, Option, IfOk, OnOk, IfErr, MatchResult};
 ghost use Rattle.std.specs.Io.KnownBytes.{Appends};
-ghost use Rattle.bin_tape.specs.Items.{Item};
-ghost use Rattle.bin_tape.specs.Tape.{IsTape};
-ghost use Rattle.core_load.specs.Load.{IsOverlaid};
+ghost use Rattle.bin_tape.specs.Map.{IsMapOf};
 ghost use Rattle.session8.specs.Reading.{Takes};
-ghost use Rattle.monitor8.specs.Listing.{cell_line, lines_below, Marks, IsMarked};
+ghost use Rattle.monitor8.specs.Listing.{cell_line, line_of, lines_below};
 ghost use Rattle.monitor8.specs.Lists.{IsListed, IsListingFault, ListsTape};
 ghost use Rattle.script8.specs.declared.faults.SessionFault.TheVariants as fault;
 
-use bin_tape::TapeReader;
-use bin_tape::laws::handed_words;
-use core_load::{Core, load};
+use bin_tape::TapeMap;
 use script8::SessionFault;
 use session8::read_all;
 use std::alloc::{AllocError, Global};
@@ -39,64 +35,31 @@ pub fn tape_text<R: Read, W: Write>(
 fn text_of(alloc: Global, frames: &[u8]) -> Result<Vec<u8>, SessionFault>
     ensures { MatchResult result (λ text. IsListed frames.now text.items) (λ fault. IsListingFault frames.now fault) }
 {
-    let mut core = Core::new(alloc)?;
-    load(alloc, frames, &mut core)?;
-    let named = named_cells(alloc, frames)?;
-    let text = listing(alloc, &named, &core)?;
+    let map = TapeMap::read(alloc, frames)?;
+    let text = listing(alloc, &map)?;
     Ok(text)
 }
 
-/// Which cells the words of a tape name.
-fn named_cells(alloc: Global, frames: &[u8]) -> Result<Vec<bool>, AllocError>
-    ensures len { IfOk result (λ named. vec_len named ≡ 32768) }
-    ensures named { IfOk result (λ named. (items : List Item) → IsTape frames.now items → Marks items named.items) }
-{
-    handed_words();
-    let mut named = unnamed(alloc, CELLS)?;
-    let mut reader = TapeReader::new();
-    mark_all(&mut reader, frames, &mut named);
-    Ok(named)
-}
-
-/// Marks the cells of the words that frames bring to a new reader.
-fn mark_all(reader: &mut TapeReader, frames: &[u8], named: &mut [bool])
-    requires { length named.old ≡ 32768 }
-    ensures { IsMarked reader.old [] named.old → IsMarked reader.new frames.now named.new }
-{
-    for frame in frames {
-        mark(reader, *frame, named);
-    }
-}
-
-/// Marks the cell of the word that one more frame brings.
-fn mark(reader: &mut TapeReader, frame: u8, named: &mut [bool])
-    requires { length named.old ≡ 32768 }
-    ensures { (frames : List ℕ) → IsMarked reader.old frames named.old → IsMarked reader.new (frames ++ frame ∷ []) named.new }
-{
-    match reader.push(frame) {
-        Ok(tape) => {
-            if let Some(word) = tape.word() {
-                named[word.0.index()] = true;
-            }
-        }
-        Err(_) => {}
-    }
-}
-
-/// The lines of the cells that are named, by rising cell.
-fn listing(alloc: Global, named: &[bool], core: &Core) -> Result<Vec<u8>, AllocError>
-    requires { length named.now ≡ 32768 }
-    ensures { IfOk result (λ text. (items : List Item) (old : List ℕ) → Marks items named.now
-        → IsOverlaid items old core.now → text.items ≡ lines_below items 32768) }
+/// The lines of the cells that have a word, by rising cell.
+fn listing(alloc: Global, map: &TapeMap) -> Result<Vec<u8>, AllocError>
+    ensures { IfOk result (λ text. (frames : List ℕ) → (of : IsMapOf frames map.now) → text.items ≡ lines_below of.items 32768) }
 {
     let mut text = Vec::new(alloc);
-    for number in 0u16..32768 {
-        if named[number as usize] {
-            let cell = Cell::at((number / 4096) as u8, Word::low(number));
-            put_line(&mut text, cell, core.get(cell))?;
-        }
+    for number in 0u32..32768 {
+        let cell = Cell::of(number);
+        put_cell(&mut text, cell, map.get(cell))?;
     }
     Ok(text)
+}
+
+/// Appends the line of a cell, if it has a word.
+fn put_cell(text: &mut Vec<u8>, cell: Cell, word: Option<Word>) -> Result<(), AllocError>
+    ensures { OnOk result (text.new.items ≡ text.old.items ++ line_of word cell) }
+{
+    match word {
+        Some(word) => put_line(text, cell, word),
+        None => Ok(()),
+    }
 }
 
 /// Appends the line of a cell with its word.
@@ -121,15 +84,6 @@ fn put_line(text: &mut Vec<u8>, cell: Cell, word: Word) -> Result<(), AllocError
     ];
     text.extend_from_slice(&line)?;
     Ok(())
-}
-
-const CELLS: usize = 32768;
-
-fn unnamed(alloc: Global, count: usize) -> Result<Vec<bool>, AllocError>
-    ensures { IfOk result (λ named. named.items ≡ replicate count false) }
-{
-    let named = vec![in alloc; false; count]?;
-    Ok(named)
 }
 
 pub(crate) fn write_out<W: Write>(writer: &mut W, text: &[u8]) -> Result<(), SessionFault>

@@ -2,18 +2,24 @@ ghost use Rattle.std.specs.Prelude.{◌≡◌, ◌≤◌, [], ◌∷◌, ℕ, Li
 ghost use Rattle.clap.specs.Words.{app_of, first_of, found_of, one_of, rows_of, rule_of, subcommand_rows_of, takes, IsUnsignedIn};
 ghost use Rattle.clap.specs.declared.builder.command.Command.TheViews.{out-Command as fields_of};
 ghost use Rattle.monitor8.specs.declared.kinds.TaskFault.TheVariants.{Memory};
-ghost use Rattle.monitor8.specs.Tasks.{IsCreateOf, IsPlain, IsRunOf, IsSource, IsTakenAs, IsTape};
-ghost use Rattle.monitor8.specs.Tasks.{Answers, Asks, AsksFor, HasBlocks, HasFitBlocks, HasImage, HasMet, IsFaultOf, IsWhole};
-ghost use Rattle.monitor8.specs.Tasks.{bare_app, blocks_rule, create_app, image_rule, number_of, pdp8, run_app, source_app, tape_app, tapes_app};
+ghost use Rattle.archive8.specs.declared.forms.GetForm.TheVariants as get_as;
+ghost use Rattle.archive8.specs.declared.forms.PutForm.TheVariants as put_as;
+ghost use Rattle.monitor8.specs.Tasks.{IsCheckOf, IsCreateOf, IsGetOf, IsListOf, IsPlain, IsPutOf, IsRunOf, IsSource, IsTakenAs, IsTape};
+ghost use Rattle.monitor8.specs.Tasks.{Answers, Asks, AsksFor, HasBlocks, HasFiles, HasFitBlocks, HasImage, HasMet, HasName, IsFaultOf, IsWhole};
+ghost use Rattle.monitor8.specs.Tasks.{bare_app, blocks_rule, create_app, files_app, image_rule, number_of, pdp8, run_app, source_app, tape_app, tapes_app, volumes_app};
+ghost use Rattle.monitor8.specs.Tasks as spec;
 
+use crate::file_commands::{check, get, list, put};
 use crate::{Task, TaskFault};
+use archive8::{GetForm, PutForm};
 use clap::error::ErrorKind;
 use clap::{Arg, ArgMatches, Command};
 use std::alloc::{AllocError, Global};
 
 /// What the words of a command line ask for, the program's own name first: `tape`, `source`, `run IMAGE`,
-/// or `create IMAGE BLOCKS` with 8 to 4095 blocks of 512 bytes (this project's profile). A request for help or the version
-/// comes back as an error of `clap`, as it gives it.
+/// `create IMAGE BLOCKS` with 8 to 4095 blocks of 512 bytes, `list IMAGE`, `get IMAGE NAME` with `--text` or `--tape`, which goes
+/// before it, `put IMAGE NAME` with `--text`, or `check IMAGE` (this project's profile). A request for help or the version comes
+/// back as an error of `clap`, as it gives it.
 pub fn task(alloc: Global, words: &[&str]) -> Result<Task, TaskFault>
     ensures answer { Answers (map (λ word. word.now) words.now) result }
     ensures taken { takes pdp8 (map (λ word. word.now) words.now) ≡ true → IfErr result (λ fault. fault ≡ Memory) }
@@ -33,11 +39,49 @@ pub fn plain_words()
     ensures run { (name image : List ℕ) → IsPlain image → IsTakenAs (name ∷ codes "run" ∷ image ∷ []) (IsRunOf image) }
     ensures create { (name image blocks : List ℕ) → IsPlain image → IsPlain blocks → IsUnsignedIn 8 4095 blocks
         → IsTakenAs (name ∷ codes "create" ∷ image ∷ blocks ∷ []) (IsCreateOf image (number_of blocks)) }
+    ensures list { (name image : List ℕ) → IsPlain image → IsTakenAs (name ∷ codes "list" ∷ image ∷ []) (IsListOf image) }
+    ensures get { (name image file : List ℕ) → IsPlain image → IsPlain file
+        → IsTakenAs (name ∷ codes "get" ∷ image ∷ file ∷ []) (IsGetOf image file get_as.Frames) }
+    ensures get_text { (name image file : List ℕ) → IsPlain image → IsPlain file
+        → IsTakenAs (name ∷ codes "get" ∷ image ∷ file ∷ codes "--text" ∷ []) (IsGetOf image file get_as.Text) }
+    ensures get_tape { (name image file : List ℕ) → IsPlain image → IsPlain file
+        → IsTakenAs (name ∷ codes "get" ∷ image ∷ file ∷ codes "--tape" ∷ []) (IsGetOf image file get_as.Tape) }
+    ensures put { (name image file : List ℕ) → IsPlain image → IsPlain file
+        → IsTakenAs (name ∷ codes "put" ∷ image ∷ file ∷ []) (IsPutOf image file put_as.Frames) }
+    ensures put_text { (name image file : List ℕ) → IsPlain image → IsPlain file
+        → IsTakenAs (name ∷ codes "put" ∷ image ∷ file ∷ codes "--text" ∷ []) (IsPutOf image file put_as.Text) }
+    ensures check { (name image : List ℕ) → IsPlain image → IsTakenAs (name ∷ codes "check" ∷ image ∷ []) (IsCheckOf image) }
 {}
 
 /// The command `pdp8` with its subcommands.
 fn command_line<'a>(alloc: Global) -> Result<Command<'a>, AllocError>
     ensures app { IfOk result (λ command. app_of command ≡ pdp8) }
+{
+    let put = put(alloc)?;
+    let check = check(alloc)?;
+    let files = command_line_of_files(alloc)?;
+    let one = files.subcommand(put)?;
+    let command = one.subcommand(check)?;
+    Ok(command)
+}
+
+/// The command `pdp8` with its subcommands up to those that read the files of a volume.
+fn command_line_of_files<'a>(alloc: Global) -> Result<Command<'a>, AllocError>
+    ensures app { IfOk result (λ command. app_of command ≡ files_app) }
+    ensures local { IfOk result (λ command. (fields_of command).has_globals ≡ false) }
+{
+    let list = list(alloc)?;
+    let get = get(alloc)?;
+    let volumes = command_line_of_volumes(alloc)?;
+    let one = volumes.subcommand(list)?;
+    let command = one.subcommand(get)?;
+    Ok(command)
+}
+
+/// The command `pdp8` with its subcommands for tapes and whole volumes.
+fn command_line_of_volumes<'a>(alloc: Global) -> Result<Command<'a>, AllocError>
+    ensures app { IfOk result (λ command. app_of command ≡ volumes_app) }
+    ensures local { IfOk result (λ command. (fields_of command).has_globals ≡ false) }
 {
     let run = run(alloc)?;
     let create = create(alloc)?;
@@ -96,6 +140,30 @@ fn source<'a>(alloc: Global) -> Command<'a>
         )
 }
 
+/// The forms of a script's lines, as the long help shows them.
+const SCRIPT_LINES: &str = "\
+Lines of a script:
+  STORE NAME N           stores the N lines behind it as a text file
+  DELETE NAME            takes a file out
+  DIRECT                 shows the files and the free blocks
+  ASSEMBLE NAME<NAME,..  begins a job that assembles 1 to 8 sources to a tape
+  LOAD NAME              begins a job that loads a tape into core
+  SQUEEZE                begins a job that moves the files together
+  TURN J                 gives job J a turn
+  FINISH                 gives the jobs turns until none is left
+  START FAAAA            starts the processor at a cell, field and address in octal
+  STEP N                 makes N steps, 1 to 1000000
+  GO N                   makes N steps, as far as a break
+  RUN FAAAA N            is START and GO, with a printer that is always quick
+  KEY KKK                strikes the key of a character
+  DONE                   ends the character that is being printed
+  SWITCHES WWWW          sets the switches
+  EXAMINE FAAAA          shows the word of a cell
+  DEPOSIT FAAAA WWWW     gives a cell a word
+  REGISTERS              shows the registers
+  BREAK FAAAA ON|OFF     sets a break at a cell, or takes it away
+  PRINTED                shows the characters that were printed";
+
 fn run<'a>(alloc: Global) -> Result<Command<'a>, AllocError>
     ensures app { IfOk result (λ command. app_of command ≡ run_app) }
     ensures local { IfOk result (λ command. (fields_of command).has_globals ≡ false) }
@@ -104,8 +172,9 @@ fn run<'a>(alloc: Global) -> Result<Command<'a>, AllocError>
     let command = Command::new(alloc, "run")
         .about("Run a script on a volume")
         .long_about(
-            "Runs the script of standard input on the OS/8 volume in the file IMAGE, prints the replies, and{n}writes the image back to the file.",
+            "Runs the script of standard input on the OS/8 volume in the file IMAGE, prints the replies, and{n}writes the image back to the file. Each line gets its reply as it comes.",
         )
+        .after_long_help(SCRIPT_LINES)
         .arg(image)?;
     Ok(command)
 }
@@ -126,7 +195,8 @@ fn create<'a>(alloc: Global) -> Result<Command<'a>, AllocError>
     Ok(command)
 }
 
-fn image<'a>(alloc: Global) -> Arg<'a>
+/// The name of the image's file.
+pub fn image<'a>(alloc: Global) -> Arg<'a>
     ensures rule { rule_of result ≡ image_rule }
     ensures local { result.global ≡ false }
 {
@@ -183,8 +253,36 @@ fn asked_of(alloc: Global, name: &str, found: &ArgMatches<'_>) -> Result<Task, A
     if name == "run" {
         return Ok(Task::Run(image));
     }
-    let blocks = blocks_of(found);
-    Ok(Task::Create(image, blocks))
+    if name == "create" {
+        let blocks = blocks_of(found);
+        return Ok(Task::Create(image, blocks));
+    }
+    files_asked(alloc, name, found, image)
+}
+
+/// The task that the subcommand of a name asks for on the files of a volume.
+fn files_asked(
+    alloc: Global,
+    name: &str,
+    found: &ArgMatches<'_>,
+    image: String,
+) -> Result<Task, AllocError>
+    requires whole { HasFiles name.now (rows_of (found_of found.now)) }
+    requires image { first_of (codes "IMAGE") (rows_of (found_of found.now)) ≡ Some image.bytes.items }
+    ensures task { IfOk result (λ task. AsksFor name.now (rows_of (found_of found.now)) task) }
+    ensures fit { IfOk result HasFitBlocks }
+{
+    if name == "list" {
+        return Ok(Task::List(image));
+    }
+    if name == "check" {
+        return Ok(Task::Check(image));
+    }
+    let file = name_of(alloc, found)?;
+    if name == "get" {
+        return Ok(Task::Get(image, file, get_form(found)));
+    }
+    Ok(Task::Put(image, file, put_form(found)))
 }
 
 /// The name of the image's file.
@@ -195,6 +293,50 @@ fn image_of(alloc: Global, found: &ArgMatches<'_>) -> Result<String, AllocError>
     match found.get_str("IMAGE") {
         Some(text) => String::from_str(alloc, text),
         None => unreachable!(),
+    }
+}
+
+/// The name of a file of the volume.
+fn name_of(alloc: Global, found: &ArgMatches<'_>) -> Result<String, AllocError>
+    requires { HasName (rows_of (found_of found.now)) }
+    ensures { IfOk result (λ name. first_of (codes "NAME") (rows_of (found_of found.now)) ≡ Some name.bytes.items) }
+{
+    match found.get_str("NAME") {
+        Some(text) => String::from_str(alloc, text),
+        None => unreachable!(),
+    }
+}
+
+/// What is asked of a file.
+fn get_form(found: &ArgMatches<'_>) -> GetForm
+    ensures { result ≡ spec.get_form (rows_of (found_of found.now)) }
+{
+    if is_set(found, "tape") {
+        return GetForm::Tape;
+    }
+    if is_set(found, "text") {
+        return GetForm::Text;
+    }
+    GetForm::Frames
+}
+
+/// What bytes are to become in a file.
+fn put_form(found: &ArgMatches<'_>) -> PutForm
+    ensures { result ≡ spec.put_form (rows_of (found_of found.now)) }
+{
+    if is_set(found, "text") {
+        return PutForm::Text;
+    }
+    PutForm::Frames
+}
+
+/// Whether an option without a value was given.
+fn is_set(found: &ArgMatches<'_>, id: &str) -> bool
+    ensures { result ≡ spec.is_set id.now (rows_of (found_of found.now)) }
+{
+    match found.get_str(id) {
+        Some(text) => text == "true",
+        None => false,
     }
 }
 

@@ -1,3 +1,4 @@
+pub mod OrderLemmas
 pub mod LengthLemmas
 pub mod LookupLemmas
 pub mod ListingLemmas

@@ -1,6 +1,6 @@
 -- What is left where a file is put.
 use lib.Pointwise.{pointwise}
-use Rattle.std.proofs.Common.{◌≡◌, ℕ, zero, suc, ◌+◌, ◌/◌, ◌<◌, ◌≤◌, Bool, false, true, true≢false, nat_eq, if◌then◌else◌, List, [], ◌++◌, length, Option, Some, None, Result, Ok, Err, refl, ap, sym, subst, ◌∙◌, arith, add-one, inl, inr}
+use Rattle.std.proofs.Common.{◌≡◌, ◌⊎◌, ℕ, zero, suc, ◌+◌, ◌/◌, ◌<◌, ◌≤◌, Bool, false, true, true≢false, nat_eq, if◌then◌else◌, List, [], ◌++◌, length, Option, Some, None, Result, Ok, Err, refl, ap, sym, subst, ◌∙◌, arith, add-one, inl, inr}
 use Rattle.std.specs.FinMap.{get, insert}
 use Rattle.volume_image.specs.Volume.{counted}
 use Rattle.os8_dir.specs.Files.{files_of, capacity_of, limit_of, above_of, run}
@@ -10,7 +10,7 @@ use Rattle.os8_dir.specs.Reading.{directory_of, block}
 use Rattle.os8_files.specs.Mounted.{Mounted, Begun}
 use Rattle.os8_files.specs.Failed.{KeepsDirectory, Survives, extent_or, listed_or}
 use Rattle.os8_files.specs.Service.{count_of}
-use Rattle.os8_files.specs.Calls.{IsOf, IsOver, HasWritten, HasEntered, HasFailed, Writes, Enters, Closes, info_of, new_held, Spent, counted_more, differing}
+use Rattle.os8_files.specs.Calls.{IsOf, IsOver, KeepsBlocks, HasWritten, HasEntered, HasFailed, Writes, Enters, Closes, info_of, new_held, Spent, counted_more, differing}
 use Rattle.os8_files.specs.Puts.{HasKept, Puts, plain_file, blocks_filled}
 use Rattle.os8_files.specs.Steps.{IsBeginning, HasFilled, Fills}
 use Rattle.os8_files.specs.declared.faults.FileFault.{FileFault}
@@ -51,6 +51,32 @@ differ-same (suc m) old mid new same =
     ap (λ ws. if pointwise nat_eq ws (block new (suc m)) then differing m mid new else suc (differing m mid new)) (same (suc m) (omega arith) (omega arith))
     ∙ ap (λ j. if pointwise nat_eq (block old (suc m)) (block new (suc m)) then j else suc j) (differ-same m old mid new (λ k one low. same k one (omega (arith, low))))
 
+-- ## Blocks that stay
+
+-- one block more behind some
+kept-more : (old mid new : List (List ℕ)) (place written next : ℕ) → KeepsBlocks old mid place written → KeepsBlocks mid new next 1 → next ≡ place + written → KeepsBlocks old new place (written + 1)
+kept-more old mid new place written next front more is = record {
+  count = more.count ∙ front.count;
+  first = more.first ∙ front.first;
+  behind = λ k high apart. more.behind k high (one k apart) ∙ front.behind k high (some k apart);
+}
+  where
+    one : (k : ℕ) → (k < place) ⊎ (place + (written + 1) ≤ k) → (k < next) ⊎ (next + 1 ≤ k)
+    one k (inl low) = inl (omega (arith, low, is))
+    one k (inr high) = inr (omega (arith, high, is))
+
+    some : (k : ℕ) → (k < place) ⊎ (place + (written + 1) ≤ k) → (k < place) ⊎ (place + written ≤ k)
+    some k (inl low) = inl low
+    some k (inr high) = inr (omega (arith, high))
+
+-- blocks that stay where none behind the directory's changes
+kept-none : (old mid new : List (List ℕ)) (place size : ℕ) → KeepsBlocks old mid place size → KeepsBlocks mid new 0 0 → KeepsBlocks old new place size
+kept-none old mid new place size front none = record {
+  count = none.count ∙ front.count;
+  first = none.first ∙ front.first;
+  behind = λ k high apart. none.behind k high (inr (omega arith)) ∙ front.behind k high apart;
+}
+
 -- ## Blocks are written
 
 -- a file that was begun has no block
@@ -59,6 +85,7 @@ filled_none m token blocks b = record {
   was = b.was;
   text = refl;
   kept = record { count = refl; segments = λ k low high. refl; directory = refl };
+  others_kept = record { count = refl; first = refl; behind = λ k high apart. refl };
   files = refl;
   capacity = refl;
   limit = refl;
@@ -78,6 +105,7 @@ filled_more old begun front words written mid new done more = record {
   was = done.was;
   text = ap (λ (b : Begun). run new.blocks b.place (b.written + 1)) (sym same) ∙ more.text ∙ ap (λ (b : Begun). run mid.blocks b.place b.written ++ words) same ∙ ap (λ l. l ++ words) done.text;
   kept = keeps-trans old.blocks mid.blocks new.blocks done.kept more.kept;
+  others_kept = kept-more old.blocks mid.blocks new.blocks begun.place written _ done.others_kept more.others_kept (ap (λ (b : Begun). b.place + b.written) same);
   files = more.files ∙ done.files;
   capacity = more.capacity ∙ done.capacity;
   limit = more.limit ∙ done.limit;
@@ -224,6 +252,10 @@ closed old m1 m2 new name blocks token words begun (Ok done) some count e filled
   ready = e.ready;
   free = e.free;
   files = has.files ∙ ap (λ h. insert (files_of m2.blocks) name h) (new_is old m1 m2 name blocks token words begun has.begun e filled has.was) ∙ ap (λ fs. insert fs name (plain_file old words)) kept.files;
+  place = begun.place;
+  extent = has.place ∙ ap (λ (b : Begun). Some (b.place, b.written)) same ∙ ap (λ n. Some (begun.place, n)) count;
+  blocks = subst (λ n. KeepsBlocks old.blocks new.blocks begun.place n) count
+      (kept-none old.blocks m2.blocks new.blocks begun.place blocks (subst (λ (m : Mounted). KeepsBlocks m.blocks m2.blocks begun.place blocks) e.others filled.others_kept) has.blocks);
   places = λ other differ runs. has.places other differ ∙ ap (extent_or other) kept.kept.directory;
   capacity = has.capacity ∙ kept.capacity;
   limit = has.limit ∙ kept.limit;
@@ -235,6 +267,9 @@ closed old m1 m2 new name blocks token words begun (Ok done) some count e filled
   where
     kept : HasKept old blocks (Spent m2)
     kept = spent_kept old m1 m2 (Spent m2) name blocks token words begun e filled refl
+
+    same : has.begun ≡ record { name = begun.name; place = begun.place; room = begun.room; written = blocks }
+    same = some-same _ _ (sym has.was ∙ begun_now m1 begun words blocks m2 filled)
 closed old m1 m2 new name blocks token words begun (Err NothingWritten) some count e filled has = absurd (written (ap (λ (b : Begun). b.written) (some-same _ _ (sym has.1.was ∙ begun_now m1 begun words blocks m2 filled))) has.2)
   where
     written : {n : ℕ} → n ≡ blocks → n ≡ 0 → ⊥

@@ -3,7 +3,7 @@ use Rattle.std.specs.Prelude.{◌≡◌, ◌≤◌, ℕ, suc, ◌==◌, nat_lt, 
 use Rattle.os8_dir.specs.Files.{files_of, limit_of, above_of, capacity_of, run}
 use Rattle.os8_files.specs.Mounted.{Mounted, Begun}
 use Rattle.os8_files.specs.Failed.{KeepsDirectory, Survives}
-use Rattle.os8_files.specs.Calls.{HasFailed, RisesBy, Spent, counted_more, info_of}
+use Rattle.os8_files.specs.Calls.{HasFailed, KeepsBlocks, RisesBy, Spent, counted_more, info_of}
 use Rattle.os8_files.specs.declared.faults.FileFault.{FileFault}
 use Rattle.os8_files.specs.declared.faults.FileFault.TheVariants.{Device}
 
@@ -31,6 +31,7 @@ pub record HasFilled (old : Mounted) (begun : Begun) (words : List ℕ) (blocks 
   pub was : old.tentative ≡ Some begun
   pub text : run new.blocks begun.place blocks ≡ words
   pub kept : KeepsDirectory old.blocks new.blocks
+  pub others_kept : KeepsBlocks old.blocks new.blocks begun.place blocks
   pub files : files_of new.blocks ≡ files_of old.blocks
   pub capacity : capacity_of new.blocks ≡ capacity_of old.blocks
   pub limit : limit_of new.blocks ≡ limit_of old.blocks

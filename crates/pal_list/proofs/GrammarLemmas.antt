@@ -1,21 +1,25 @@
 -- What statements of a few pieces say.
-use Rattle.std.proofs.Common.{◌≡◌, ℕ, ◌+◌, ◌/◌, ◌<◌, nat_lt, Bool, true, false, ◌&&◌, if◌then◌else◌, Some, List, [], ◌∷◌, refl, ap, ◌∙◌, arith}
+use Rattle.std.proofs.Common.{◌≡◌, ℕ, ◌+◌, ◌/◌, ◌<◌, nat_lt, Bool, true, false, ◌&&◌, if◌then◌else◌, Some, None, List, [], ◌∷◌, refl, ap, ◌∙◌, arith}
 use Rattle.std.specs.Prelude.{codes}
 use Rattle.std.proofs.lemmas.Bool.Decides.{nat_tests}
 use Rattle.word12.specs.Octal.{octal_digit, octal4}
 use Rattle.word12.specs.Sixbit.{name_number}
 use Rattle.pal_lex.specs.Runs.{number_kind, number, are_digits}
-use Rattle.pal_lex.specs.Grammar.{said, has_bad_number}
+use Rattle.pal_lex.specs.Text.{limit}
+use Rattle.pal_lex.specs.Grammar.{said, has_bad_number, with_tag}
+use Rattle.pal_lex.specs.declared.pieces.Term as term
 use Rattle.pal_lex.specs.declared.pieces.Term.TheVariants.{Name, Number}
 use Rattle.pal_lex.specs.declared.pieces.Kind.{Kind}
-use Rattle.pal_lex.specs.declared.pieces.Kind.TheVariants.{Term, BadNumber, Star}
+use Rattle.pal_lex.specs.declared.pieces.Kind.TheVariants.{Term, BadNumber, Comma, Star}
 use Rattle.pal_lex.specs.declared.pieces.Token.{Token}
 use Rattle.pal_lex.specs.declared.phrases.Joint.TheVariants.{Add}
 use Rattle.pal_lex.specs.declared.phrases.Part.{Part}
 use Rattle.pal_lex.specs.declared.phrases.Body.{Body}
 use Rattle.pal_lex.specs.declared.phrases.Body.TheVariants.{Origin, Field, Word}
+use Rattle.pal_list.specs.Tags.{tag, tag_name}
 use Rattle.pal_list.proofs.ByteLemmas.{octal}
 use Rattle.pal_list.proofs.PieceLemmas.{kind_of, run_token, blank_token, tokens_at}
+use Rattle.pal_list.proofs.TagLemmas.{tag_ordinary}
 
 -- ## Octal numbers
 
@@ -58,19 +62,23 @@ digit_kind n small =
 
 -- ## Statements
 
--- tokens say this
-pub record Say (tokens : List Token) (body : Body) : Type 0 where
+-- tokens say a body behind tags
+pub record Say (tokens : List Token) (tags : List ℕ) (body : Body) : Type 0 where
   pub fine : has_bad_number tokens ≡ false
-  pub said_is : said tokens ≡ Some record { tags = []; body = body }
+  pub said_is : said tokens ≡ Some record { tags = tags; body = body }
+
+-- an expression of one term
+abbrev pub term_parts : term.Term → List Part
+term_parts t = record { joint = Add; term = t } ∷ []
 
 abbrev pub number_parts : ℕ → List Part
-number_parts w = record { joint = Add; term = Number w } ∷ []
+number_parts w = term_parts (Number w)
 
 -- a token with another kind
 abbrev pub with_kind : Token → Kind → Token
 with_kind t kind = record { kind = kind; start = t.start; end = t.end }
 
-pub number_says : (w at : ℕ) → w < 4096 → Say (tokens_at at (octal4 w ∷ [])) (Word (number_parts w))
+pub number_says : (w at : ℕ) → w < 4096 → Say (tokens_at at (octal4 w ∷ [])) [] (Word (number_parts w))
 number_says w at small =
     let t = run_token at (octal4 w) in
     let kind = octal_kind w small in
@@ -79,7 +87,7 @@ number_says w at small =
       said_is = ap (λ k. said (with_kind t k ∷ [])) kind;
     }
 
-pub origin_says : (w at : ℕ) (star : Token) → w < 4096 → star.kind ≡ Star → Say (star ∷ tokens_at at (octal4 w ∷ [])) (Origin (number_parts w))
+pub origin_says : (w at : ℕ) (star : Token) → w < 4096 → star.kind ≡ Star → Say (star ∷ tokens_at at (octal4 w ∷ [])) [] (Origin (number_parts w))
 origin_says w at star small is =
     let t = run_token at (octal4 w) in
     let kind = octal_kind w small in
@@ -88,7 +96,7 @@ origin_says w at star small is =
       said_is = ap (λ k. said (star ∷ with_kind t k ∷ [])) kind ∙ ap (λ k. said (with_kind star k ∷ with_kind t (Term (Number w)) ∷ [])) is;
     }
 
-pub field_says : (n at : ℕ) → n < 8 → Say (tokens_at at (codes "FIELD" ∷ (octal_digit n ∷ []) ∷ [])) (Field (number_parts n))
+pub field_says : (n at : ℕ) → n < 8 → Say (tokens_at at (codes "FIELD" ∷ (octal_digit n ∷ []) ∷ [])) [] (Field (number_parts n))
 field_says n at small =
     let name = run_token at (codes "FIELD") in
     let blank = blank_token (at + 5) in
@@ -98,3 +106,16 @@ field_says n at small =
       fine = ap (λ k. has_bad_number (name ∷ blank ∷ with_kind t k ∷ [])) kind;
       said_is = ap (λ k. said (name ∷ blank ∷ with_kind t k ∷ [])) kind;
     }
+
+abbrev pub comma_token : ℕ → Token
+comma_token at = record { kind = Comma; start = limit at; end = limit (at + 1) }
+
+-- a cell's tag with a comma before a statement
+pub tagged_says : (cell at place : ℕ) (tokens : List Token) (body : Body) → Say tokens [] body
+    → Say (run_token at (tag cell) ∷ comma_token place ∷ tokens) (tag_name cell ∷ []) body
+tagged_says cell at place tokens body say = record {
+  fine = say.fine;
+  said_is =
+      ap (λ (b : Bool). with_tag (if b then None else Some (tag_name cell)) (said tokens)) (tag_ordinary cell).reserved
+      ∙ ap (with_tag (Some (tag_name cell))) say.said_is;
+}

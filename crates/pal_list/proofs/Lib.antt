@@ -1,11 +1,15 @@
 pub mod ByteLemmas
 pub mod TextLemmas
 pub mod PieceLemmas
+pub mod TagLemmas
 pub mod GrammarLemmas
 pub mod StepLemmas
 pub mod SourceLemmas
 pub mod TapeLemmas
+pub mod MarkLemmas
 pub mod ShownLemmas
 pub mod ReferenceLemmas
 pub mod NameLemmas
 pub mod FewestLemmas
+pub mod DefinedLemmas
+pub mod NamedLemmas

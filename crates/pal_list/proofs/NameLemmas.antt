@@ -16,14 +16,14 @@ use Rattle.pal_lex.specs.declared.phrases.Operation.{Operation}
 use Rattle.pal_lex.specs.declared.phrases.Part.{Part}
 use Rattle.pal_lex.specs.declared.phrases.Body.TheVariants.{Word}
 use Rattle.pal_sym.specs.Permanent.{permanent}
-use Rattle.pal_asm.specs.Expressions.{term_value, joined_values, value_behind}
-use Rattle.pal_asm.specs.Faults.{first_of, term_fault, terms_fault}
+use Rattle.pal_asm.specs.Expressions.{Known, term_value, joined_values, value_behind}
+use Rattle.pal_asm.specs.Faults.{first_of, undefined, term_fault, terms_fault}
 use Rattle.pal_list.specs.Patterns.{Pattern, patterns, chosen, or_behind, shown_name, names}
 use Rattle.pal_list.specs.Statements.{is_named}
 use Rattle.pal_list.proofs.ByteLemmas.{both}
 use Rattle.pal_list.proofs.PieceLemmas.{kind_of, run_token, blank_token, tokens_at, is_run, are_runs}
 use Rattle.pal_list.proofs.GrammarLemmas.{Say, with_kind}
-use Rattle.pal_list.proofs.StepLemmas.{IsWordOf, known}
+use Rattle.pal_list.proofs.StepLemmas.{Keeps, IsWordOf}
 use Rattle.pal_list.proofs.SourceLemmas.{IsShown}
 
 -- ## Each name of the table has its value
@@ -85,8 +85,8 @@ the_term Star = Here
 record IsTerm (kind : Kind) (t : term.Term) (value : ℕ) : Type 0 where
   kind_is : kind ≡ Term t
   free : free_term t ≡ Some t
-  value_is : (place : ℕ) → term_value known place t ≡ Some value
-  no_fault : (place : ℕ) → term_fault known place t ≡ None
+  value_is : (known : Known) → Keeps known → (place : ℕ) → term_value known place t ≡ Some value
+  no_fault : (known : Known) → Keeps known → (place : ℕ) → term_fault known place t ≡ None
   lone : (start end : ℕ) → said (record { kind = Term t; start = start; end = end } ∷ []) ≡ Some record { tags = []; body = Word (record { joint = Add; term = t } ∷ []) }
   first : (start end blank stop : ℕ) (next : Token) (others : List Token) (behind : List Part)
       → parts true (record { kind = Blank; start = blank; end = stop } ∷ next ∷ others) ≡ Some behind
@@ -100,8 +100,8 @@ number_term : (w value : ℕ) → nat_eq w value ≡ true → IsTerm (Term (Numb
 number_term w value e = record {
   kind_is = refl;
   free = refl;
-  value_is = λ place. ap (λ n. Some n) (equal w value e);
-  no_fault = λ place. refl;
+  value_is = λ known keeps place. ap (λ n. Some n) (equal w value e);
+  no_fault = λ known keeps place. refl;
   lone = λ start end. refl;
   first = λ start end blank stop next others behind is. rw is refl;
 }
@@ -141,8 +141,8 @@ name_term : (n value : ℕ) → permanent n ≡ Some value → IsFree n → oper
 name_term n value is free plain = record {
   kind_is = refl;
   free = rw free.reserved refl;
-  value_is = λ place. rw is refl;
-  no_fault = λ place. rw is refl;
+  value_is = λ known keeps place. keeps n value is;
+  no_fault = λ known keeps place. ap undefined (keeps n value is);
   lone = λ start end. rw (free.decimal, free.octal, plain, free.reserved) refl;
   first = λ start end blank stop next others behind e. rw (free.field, plain, free.reserved, e) refl;
 }
@@ -187,8 +187,8 @@ or_parts (p ∷ others) = record { joint = Or; term = the_term (kind_of (shown_n
 record AreJoined (before : ℕ) (blank stop at : ℕ) (p : Pattern) (others : List Pattern) : Type 0 where
   fine_tokens : has_bad_number (tokens_at at (names (p ∷ others))) ≡ false
   parts_are : parts true (record { kind = Blank; start = blank; end = stop } ∷ tokens_at at (names (p ∷ others))) ≡ Some (or_parts (p ∷ others))
-  value_is : (place : ℕ) → value_behind known place (Some before) (or_parts (p ∷ others)) ≡ Some (or_behind before (p ∷ others))
-  no_fault : (place : ℕ) → terms_fault known place (or_parts (p ∷ others)) ≡ None
+  value_is : (known : Known) → Keeps known → (place : ℕ) → value_behind known place (Some before) (or_parts (p ∷ others)) ≡ Some (or_behind before (p ∷ others))
+  no_fault : (known : Known) → Keeps known → (place : ℕ) → terms_fault known place (or_parts (p ∷ others)) ≡ None
 
 joined_names : (before blank stop at : ℕ) (p : Pattern) (others : List Pattern) → all_fit (p ∷ others) ≡ true → AreJoined before blank stop at p others
 joined_names before blank stop at p [] e =
@@ -200,8 +200,8 @@ joined_names before blank stop at p [] e =
       parts_are =
           ap (λ k. parts true (record { kind = Blank; start = blank; end = stop } ∷ with_kind t k ∷ [])) is.kind_is
           ∙ ap (λ o. with_part (part_of (Some Or) o) (Some [])) is.free;
-      value_is = λ place. ap (joined_values Or (Some before)) (is.value_is place);
-      no_fault = λ place. ap (λ f. first_of f None) (is.no_fault place);
+      value_is = λ known keeps place. ap (joined_values Or (Some before)) (is.value_is known keeps place);
+      no_fault = λ known keeps place. ap (λ f. first_of f None) (is.no_fault known keeps place);
     }
 joined_names before blank stop at p (q ∷ others) e =
     let split = both (fits p) (all_fit (q ∷ others)) e in
@@ -217,9 +217,10 @@ joined_names before blank stop at p (q ∷ others) e =
           ap (λ k. parts true (record { kind = Blank; start = blank; end = stop } ∷ with_kind t k ∷ blank_token end ∷ behind)) is.kind_is
           ∙ ap (λ o. with_part (part_of (Some Or) o) (parts true (blank_token end ∷ behind))) is.free
           ∙ ap (with_part (Some record { joint = Or; term = the_term (kind_of (shown_name p.2)) })) rest.parts_are;
-      value_is = λ place.
-          ap (λ v. value_behind known place (joined_values Or (Some before) v) (or_parts (q ∷ others))) (is.value_is place) ∙ rest.value_is place;
-      no_fault = λ place. ap (λ f. first_of f (terms_fault known place (or_parts (q ∷ others)))) (is.no_fault place) ∙ rest.no_fault place;
+      value_is = λ known keeps place.
+          ap (λ v. value_behind known place (joined_values Or (Some before) v) (or_parts (q ∷ others))) (is.value_is known keeps place) ∙ rest.value_is known keeps place;
+      no_fault = λ known keeps place.
+          ap (λ f. first_of f (terms_fault known place (or_parts (q ∷ others)))) (is.no_fault known keeps place) ∙ rest.no_fault known keeps place;
     }
 
 -- ## A statement of names
@@ -240,7 +241,7 @@ runs_of (p ∷ others) e =
 abbrev all_parts : Pattern → List Pattern → List Part
 all_parts p others = record { joint = Add; term = the_term (kind_of (shown_name p.2)) } ∷ or_parts others
 
-names_say : (p : Pattern) (others : List Pattern) (at : ℕ) → all_fit (p ∷ others) ≡ true → Say (tokens_at at (names (p ∷ others))) (Word (all_parts p others))
+names_say : (p : Pattern) (others : List Pattern) (at : ℕ) → all_fit (p ∷ others) ≡ true → Say (tokens_at at (names (p ∷ others))) [] (Word (all_parts p others))
 names_say p [] at e =
     let here = fine p (both (fits p) true e).0 in
     let is = here.is_term in
@@ -279,46 +280,48 @@ names_say p (q ∷ r ∷ others) at e =
           ∙ is.first t.start t.end blank.start blank.end (run_token (suc end) (shown_name q.2)) (blank_token next ∷ tokens_at (suc next) (names (r ∷ others))) (or_parts (q ∷ r ∷ others)) rest.parts_are;
     }
 
-names_word : (p : Pattern) (others : List Pattern) (word place : ℕ) → all_fit (p ∷ others) ≡ true → or_behind 0 (p ∷ others) ≡ word → IsWordOf (Word (all_parts p others)) place word
-names_word p [] word place e comes =
+names_word : (tagged : ℕ → Bool) (p : Pattern) (others : List Pattern) (word place : ℕ) → all_fit (p ∷ others) ≡ true → or_behind 0 (p ∷ others) ≡ word
+    → IsWordOf tagged (Word (all_parts p others)) place word
+names_word tagged p [] word place e comes =
     let here = fine p (both (fits p) true e).0 in
     let is = here.is_term in
     record {
       is_word = refl;
-      value = ap (joined_values Add (Some 0)) (is.value_is place) ∙ ap (λ n. Some n) (small_or p.3 here.small ∙ comes);
-      no_fault = ap (λ f. first_of f None) (is.no_fault place);
+      value = λ known knows. ap (joined_values Add (Some 0)) (is.value_is known knows.keeps place) ∙ ap (λ n. Some n) (small_or p.3 here.small ∙ comes);
+      no_fault = λ known knows. ap (λ f. first_of f None) (is.no_fault known knows.keeps place);
     }
-names_word p (q ∷ others) word place e comes =
+names_word tagged p (q ∷ others) word place e comes =
     let split = both (fits p) (all_fit (q ∷ others)) e in
     let here = fine p split.0 in
     let is = here.is_term in
     let rest = joined_names (bit_or 0 p.3) 0 0 0 q others split.1 in
     record {
       is_word = refl;
-      value =
-          ap (λ v. value_behind known place (joined_values Add (Some 0) v) (or_parts (q ∷ others))) (is.value_is place)
+      value = λ known knows.
+          ap (λ v. value_behind known place (joined_values Add (Some 0) v) (or_parts (q ∷ others))) (is.value_is known knows.keeps place)
           ∙ ap (λ n. value_behind known place (Some n) (or_parts (q ∷ others))) (small_or p.3 here.small)
-          ∙ rest.value_is place
+          ∙ rest.value_is known knows.keeps place
           ∙ ap (λ n. Some n) comes;
-      no_fault = ap (λ f. first_of f (terms_fault known place (or_parts (q ∷ others)))) (is.no_fault place) ∙ rest.no_fault place;
+      no_fault = λ known knows.
+          ap (λ f. first_of f (terms_fault known place (or_parts (q ∷ others)))) (is.no_fault known knows.keeps place) ∙ rest.no_fault known knows.keeps place;
     }
 
-named : (cell word : ℕ) (list : List Pattern) → all_fit list ≡ true → or_behind 0 list ≡ word → 0 < word → IsShown cell word (names list)
-named cell word [] e comes some = absurd (omega (arith, comes, some))
-named cell word (p ∷ others) e comes some = record {
+named : (tagged : ℕ → Bool) (cell word : ℕ) (list : List Pattern) → all_fit list ≡ true → or_behind 0 list ≡ word → 0 < word → IsShown tagged cell word (names list)
+named tagged cell word [] e comes some = absurd (omega (arith, comes, some))
+named tagged cell word (p ∷ others) e comes some = record {
   first = (shown_name p.2);
   others = names others;
   some = refl;
   runs = runs_of (p ∷ others) e;
   body = Word (all_parts p others);
   says = λ at. names_say p others at e;
-  means = names_word p others word (cell % 4096) e comes;
+  means = names_word tagged p others word (cell % 4096) e comes;
 }
 
-pub shown_names : (cell word : ℕ) → is_named word ≡ true → IsShown cell word (names (chosen word patterns))
-shown_names cell word shown =
+pub shown_names : (tagged : ℕ → Bool) (cell word : ℕ) → is_named word ≡ true → IsShown tagged cell word (names (chosen word patterns))
+shown_names tagged cell word shown =
     let split = both (nat_lt 3071 word) (nat_eq (or_behind 0 (chosen word patterns)) word) shown in
-    named cell word (chosen word patterns) (chosen_fit word patterns table_fits) (equal (or_behind 0 (chosen word patterns)) word split.1) (some word split.0)
+    named tagged cell word (chosen word patterns) (chosen_fit word patterns table_fits) (equal (or_behind 0 (chosen word patterns)) word split.1) (some word split.0)
   where
     some : (n : ℕ) → nat_lt 3071 n ≡ true → 0 < n
     some n e = grind (arith, nat_tests)

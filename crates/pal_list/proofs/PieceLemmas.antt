@@ -138,6 +138,9 @@ pub record IsCut (live : List (ℕ × ℕ)) (at : ℕ) (words : List (List ℕ))
   pub tokens : in_order 8 (pieces (laid live at (spaced words))) ≡ in_order 8 (pieces live) ++ tokens_at at words
   pub ends : EndsInRun (pieces (laid live at (spaced words)))
 
+pub starts_of : (live : List (ℕ × ℕ)) (kind : Kind) (place : ℕ) (before : List Piece) → pieces live ≡ Mark kind place ∷ before → Starts (pieces live)
+starts_of live kind place before e = rw e tt
+
 pub cut_runs : (piece : List ℕ) (words : List (List ℕ)) (live : List (ℕ × ℕ)) (at : ℕ) → are_runs (piece ∷ words) ≡ true → Starts (pieces live) → IsCut live at (piece ∷ words)
 cut_runs [] words live at runs starts = absurd cc
 cut_runs (first ∷ others) [] live at runs starts =
@@ -155,7 +158,7 @@ cut_runs (first ∷ others) (next ∷ words) live at runs starts =
     let blank = (32, end) ∷ laid live at piece in
     let blanked : pieces blank ≡ Mark Blank end ∷ Run first others at end ∷ pieces live = ap (with_byte 32 end) one in
     let whole : laid live at (piece ++ 32 ∷ spaced (next ∷ words)) ≡ laid blank (suc end) (spaced (next ∷ words)) = laid_append piece (32 ∷ spaced (next ∷ words)) live at in
-    let rest = cut_runs next words blank (suc end) parts.1 (starts_of blank end _ blanked) in
+    let rest = cut_runs next words blank (suc end) parts.1 (starts_of blank Blank end _ blanked) in
     record {
       tokens =
           ap (λ l. in_order 8 (pieces l)) whole ∙ rest.tokens
@@ -171,8 +174,5 @@ cut_runs (first ∷ others) (next ∷ words) live at runs starts =
       };
     }
   where
-    starts_of : (live : List (ℕ × ℕ)) (place : ℕ) (before : List Piece) → pieces live ≡ Mark Blank place ∷ before → Starts (pieces live)
-    starts_of live place before e = rw e tt
-
     regroup : (a : List Token) (x y : Token) (b : List Token) → ((a ++ x ∷ []) ++ y ∷ []) ++ b ≡ a ++ (x ∷ y ∷ b)
     regroup a x y b = append_assoc (a ++ x ∷ []) (y ∷ []) b ∙ append_assoc a (x ∷ []) (y ∷ b)

@@ -1,23 +1,30 @@
 -- Memory references that are shown are their words.
-use Rattle.std.proofs.Common.{◌≡◌, ℕ, ◌+◌, ◌*◌, ◌/◌, ◌%◌, ◌<◌, ◌≤◌, nat_eq, nat_lt, nat_le, Bool, true, false, ◌||◌, if◌then◌else◌, inl, inr, Some, None, zero, suc, length, List, [], ◌∷◌, ◌++◌, refl, ap, sym, ◌∙◌, arith}
+use Rattle.std.proofs.Common.{◌≡◌, ℕ, ◌+◌, ◌*◌, ◌/◌, ◌%◌, ◌<◌, ◌≤◌, nat_eq, nat_lt, nat_le, Bool, true, false, ◌||◌, if◌then◌else◌, inl, inr, Some, None, zero, suc, length, List, [], ◌∷◌, ◌++◌, refl, ap, sym, subst, ◌∙◌, arith}
 use Rattle.std.specs.Prelude.{codes}
 use Rattle.std.proofs.lemmas.Bool.Decides.{eqb_tells, nat_tests}
 use Rattle.word12.specs.Octal.{octal4}
-use Rattle.pal_lex.specs.Language.{word_of}
-use Rattle.pal_lex.specs.Grammar.{said, has_bad_number}
-use Rattle.pal_lex.specs.declared.pieces.Term.TheVariants.{Number}
+use Rattle.pal_lex.specs.Runs.{name_number}
+use Rattle.pal_lex.specs.Language.{word_of, is_named}
+use Rattle.pal_lex.specs.Grammar.{said, has_bad_number, free_term}
+use Rattle.pal_lex.specs.declared.pieces.Term as term
+use Rattle.pal_lex.specs.declared.pieces.Term.TheVariants.{Name, Number}
+use Rattle.pal_lex.specs.declared.phrases.Joint.TheVariants.{Add}
 use Rattle.pal_lex.specs.declared.pieces.Kind.TheVariants.{Term}
 use Rattle.pal_lex.specs.declared.pieces.Token.{Token}
 use Rattle.pal_lex.specs.declared.phrases.Operation.{Operation}
 use Rattle.pal_lex.specs.declared.phrases.Operation.TheVariants.{And, Tad, Isz, Dca, Jms, Jmp}
 use Rattle.pal_lex.specs.declared.phrases.Body.TheVariants.{Reference}
+use Rattle.pal_asm.specs.Expressions.{Known, term_value, joined_values, value_of}
 use Rattle.pal_asm.specs.Words.{offset_of, offset_to, with_offset}
-use Rattle.pal_asm.specs.Faults.{no_offset, out_of_reach}
-use Rattle.pal_list.specs.Statements.{operation_name, is_reference, referred, reference}
+use Rattle.pal_asm.specs.Faults.{first_of, undefined, term_fault, no_offset, out_of_reach}
+use Rattle.pal_list.specs.References.{operation_name, is_reference, referred, referred_cell}
+use Rattle.pal_list.specs.Tags.{tag, tag_name}
+use Rattle.pal_list.specs.Statements.{address, reference}
 use Rattle.pal_list.proofs.ByteLemmas.{both, coded4}
-use Rattle.pal_list.proofs.PieceLemmas.{run_token, blank_token, tokens_at, are_runs}
-use Rattle.pal_list.proofs.GrammarLemmas.{Say, number_parts, octal_kind, with_kind}
-use Rattle.pal_list.proofs.StepLemmas.{IsWordOf}
+use Rattle.pal_list.proofs.PieceLemmas.{kind_of, run_token, blank_token, tokens_at, is_run, are_runs}
+use Rattle.pal_list.proofs.GrammarLemmas.{Say, term_parts, octal_kind, with_kind}
+use Rattle.pal_list.proofs.TagLemmas.{tag_run, tag_ordinary}
+use Rattle.pal_list.proofs.StepLemmas.{Knows, IsWordOf}
 use Rattle.pal_list.proofs.SourceLemmas.{IsShown}
 
 -- ## Operations
@@ -46,46 +53,84 @@ operation_at (suc (suc (suc (suc (suc (suc n)))))) small = absurd (omega (arith,
 
 -- ## What they say
 
--- the tokens of a reference whose address is a number
+-- a term that may be the address of a reference
+record IsAddressTerm (t : term.Term) : Type 0 where
+  free : free_term t ≡ Some t
+  no_i : is_named (name_number (codes "I")) (Term t) ≡ false
+  no_z : is_named (name_number (codes "Z")) (Term t) ≡ false
+
+-- what is shown for an address is a term that stands for it
+record IsAddress (tagged : ℕ → Bool) (shown : List ℕ) (address : ℕ) : Type 0 where
+  t : term.Term
+  kind_is : kind_of shown ≡ Term t
+  run : is_run shown ≡ true
+  is_term : IsAddressTerm t
+  value : (known : Known) → Knows tagged known → (place : ℕ) → term_value known place t ≡ Some address
+  no_fault : (known : Known) → Knows tagged known → (place : ℕ) → term_fault known place t ≡ None
+
+number_address : (tagged : ℕ → Bool) (a : ℕ) → a < 4096 → IsAddress tagged (octal4 a) a
+number_address tagged a small = record {
+  t = Number a;
+  kind_is = octal_kind a small;
+  run = coded4 a;
+  is_term = record { free = refl; no_i = refl; no_z = refl };
+  value = λ known knows place. refl;
+  no_fault = λ known knows place. refl;
+}
+
+tag_address : (tagged : ℕ → Bool) (cell : ℕ) → cell < 32768 → tagged cell ≡ true → IsAddress tagged (tag cell) (cell % 4096)
+tag_address tagged cell small is_marked =
+    let n = tag_name cell in
+    let plain = tag_ordinary cell in
+    record {
+      t = Name n;
+      kind_is = refl;
+      run = tag_run cell;
+      is_term = record { free = ap (λ (b : Bool). if b then None else Some (Name n)) plain.reserved; no_i = plain.no_i; no_z = plain.no_z };
+      value = λ known knows place. knows.tags_are cell small is_marked;
+      no_fault = λ known knows place. ap undefined (knows.tags_are cell small is_marked);
+    }
+
+-- the tokens of a reference with its address
 abbrev direct_tokens : ℕ → List ℕ → Token → List Token
 direct_tokens at name t = run_token at name ∷ blank_token (at + 3) ∷ t ∷ []
 
 abbrev indirect_tokens : ℕ → List ℕ → Token → List Token
 indirect_tokens at name t = run_token at name ∷ blank_token (at + 3) ∷ run_token (suc (at + 3)) (codes "I") ∷ blank_token (suc (at + 3) + 1) ∷ t ∷ []
 
-direct_fine : (op : Operation) (a at start end : ℕ) → has_bad_number (direct_tokens at (name_of op) (record { kind = Term (Number a); start = start; end = end })) ≡ false
-direct_fine And a at start end = refl
-direct_fine Tad a at start end = refl
-direct_fine Isz a at start end = refl
-direct_fine Dca a at start end = refl
-direct_fine Jms a at start end = refl
-direct_fine Jmp a at start end = refl
+direct_fine : (op : Operation) (t : term.Term) (at start end : ℕ) → has_bad_number (direct_tokens at (name_of op) (record { kind = Term t; start = start; end = end })) ≡ false
+direct_fine And t at start end = refl
+direct_fine Tad t at start end = refl
+direct_fine Isz t at start end = refl
+direct_fine Dca t at start end = refl
+direct_fine Jms t at start end = refl
+direct_fine Jmp t at start end = refl
 
-direct_said : (op : Operation) (a at start end : ℕ)
-    → said (direct_tokens at (name_of op) (record { kind = Term (Number a); start = start; end = end })) ≡ Some record { tags = []; body = Reference op false (Some (number_parts a)) }
-direct_said And a at start end = refl
-direct_said Tad a at start end = refl
-direct_said Isz a at start end = refl
-direct_said Dca a at start end = refl
-direct_said Jms a at start end = refl
-direct_said Jmp a at start end = refl
+direct_said : (op : Operation) (t : term.Term) (at start end : ℕ) → IsAddressTerm t
+    → said (direct_tokens at (name_of op) (record { kind = Term t; start = start; end = end })) ≡ Some record { tags = []; body = Reference op false (Some (term_parts t)) }
+direct_said And t at start end is = rw (is.no_i, is.no_z, is.free) refl
+direct_said Tad t at start end is = rw (is.no_i, is.no_z, is.free) refl
+direct_said Isz t at start end is = rw (is.no_i, is.no_z, is.free) refl
+direct_said Dca t at start end is = rw (is.no_i, is.no_z, is.free) refl
+direct_said Jms t at start end is = rw (is.no_i, is.no_z, is.free) refl
+direct_said Jmp t at start end is = rw (is.no_i, is.no_z, is.free) refl
 
-indirect_fine : (op : Operation) (a at start end : ℕ) → has_bad_number (indirect_tokens at (name_of op) (record { kind = Term (Number a); start = start; end = end })) ≡ false
-indirect_fine And a at start end = refl
-indirect_fine Tad a at start end = refl
-indirect_fine Isz a at start end = refl
-indirect_fine Dca a at start end = refl
-indirect_fine Jms a at start end = refl
-indirect_fine Jmp a at start end = refl
+indirect_fine : (op : Operation) (t : term.Term) (at start end : ℕ) → has_bad_number (indirect_tokens at (name_of op) (record { kind = Term t; start = start; end = end })) ≡ false
+indirect_fine And t at start end = refl
+indirect_fine Tad t at start end = refl
+indirect_fine Isz t at start end = refl
+indirect_fine Dca t at start end = refl
+indirect_fine Jms t at start end = refl
+indirect_fine Jmp t at start end = refl
 
-indirect_said : (op : Operation) (a at start end : ℕ)
-    → said (indirect_tokens at (name_of op) (record { kind = Term (Number a); start = start; end = end })) ≡ Some record { tags = []; body = Reference op true (Some (number_parts a)) }
-indirect_said And a at start end = refl
-indirect_said Tad a at start end = refl
-indirect_said Isz a at start end = refl
-indirect_said Dca a at start end = refl
-indirect_said Jms a at start end = refl
-indirect_said Jmp a at start end = refl
+indirect_said : (op : Operation) (t : term.Term) (at start end : ℕ) → IsAddressTerm t
+    → said (indirect_tokens at (name_of op) (record { kind = Term t; start = start; end = end })) ≡ Some record { tags = []; body = Reference op true (Some (term_parts t)) }
+indirect_said And t at start end is = rw (is.no_i, is.no_z, is.free) refl
+indirect_said Tad t at start end is = rw (is.no_i, is.no_z, is.free) refl
+indirect_said Isz t at start end is = rw (is.no_i, is.no_z, is.free) refl
+indirect_said Dca t at start end is = rw (is.no_i, is.no_z, is.free) refl
+indirect_said Jms t at start end is = rw (is.no_i, is.no_z, is.free) refl
+indirect_said Jmp t at start end is = rw (is.no_i, is.no_z, is.free) refl
 
 three_long : (op : Operation) → length (name_of op) ≡ 3
 three_long And = refl
@@ -107,35 +152,33 @@ abbrev indirection : Bool → List (List ℕ)
 indirection true = codes "I" ∷ []
 indirection false = []
 
-reference_says : (op : Operation) (indirect : Bool) (a at : ℕ) → a < 4096
-    → Say (tokens_at at (name_of op ∷ (indirection indirect ++ octal4 a ∷ []))) (Reference op indirect (Some (number_parts a)))
-reference_says op true a at small =
-    let kind = octal_kind a small in
-    let t = run_token (suc (suc (at + 3) + 1)) (octal4 a) in
+reference_says : (tagged : ℕ → Bool) (op : Operation) (indirect : Bool) (shown : List ℕ) (a at : ℕ) (is : IsAddress tagged shown a)
+    → Say (tokens_at at (name_of op ∷ (indirection indirect ++ shown ∷ []))) [] (Reference op indirect (Some (term_parts is.t)))
+reference_says tagged op true shown a at is =
+    let t = run_token (suc (suc (at + 3) + 1)) shown in
     let long = three_long op in
     record {
       fine =
-          ap (λ n. has_bad_number (run_token at (name_of op) ∷ blank_token (at + n) ∷ run_token (suc (at + n)) (codes "I") ∷ blank_token (suc (at + n) + 1) ∷ run_token (suc (suc (at + n) + 1)) (octal4 a) ∷ [])) long
-          ∙ ap (λ k. has_bad_number (indirect_tokens at (name_of op) (with_kind t k))) kind
-          ∙ indirect_fine op a at t.start t.end;
+          ap (λ n. has_bad_number (run_token at (name_of op) ∷ blank_token (at + n) ∷ run_token (suc (at + n)) (codes "I") ∷ blank_token (suc (at + n) + 1) ∷ run_token (suc (suc (at + n) + 1)) shown ∷ [])) long
+          ∙ ap (λ k. has_bad_number (indirect_tokens at (name_of op) (with_kind t k))) is.kind_is
+          ∙ indirect_fine op is.t at t.start t.end;
       said_is =
-          ap (λ n. said (run_token at (name_of op) ∷ blank_token (at + n) ∷ run_token (suc (at + n)) (codes "I") ∷ blank_token (suc (at + n) + 1) ∷ run_token (suc (suc (at + n) + 1)) (octal4 a) ∷ [])) long
-          ∙ ap (λ k. said (indirect_tokens at (name_of op) (with_kind t k))) kind
-          ∙ indirect_said op a at t.start t.end;
+          ap (λ n. said (run_token at (name_of op) ∷ blank_token (at + n) ∷ run_token (suc (at + n)) (codes "I") ∷ blank_token (suc (at + n) + 1) ∷ run_token (suc (suc (at + n) + 1)) shown ∷ [])) long
+          ∙ ap (λ k. said (indirect_tokens at (name_of op) (with_kind t k))) is.kind_is
+          ∙ indirect_said op is.t at t.start t.end is.is_term;
     }
-reference_says op false a at small =
-    let kind = octal_kind a small in
-    let t = run_token (suc (at + 3)) (octal4 a) in
+reference_says tagged op false shown a at is =
+    let t = run_token (suc (at + 3)) shown in
     let long = three_long op in
     record {
       fine =
-          ap (λ n. has_bad_number (run_token at (name_of op) ∷ blank_token (at + n) ∷ run_token (suc (at + n)) (octal4 a) ∷ [])) long
-          ∙ ap (λ k. has_bad_number (direct_tokens at (name_of op) (with_kind t k))) kind
-          ∙ direct_fine op a at t.start t.end;
+          ap (λ n. has_bad_number (run_token at (name_of op) ∷ blank_token (at + n) ∷ run_token (suc (at + n)) shown ∷ [])) long
+          ∙ ap (λ k. has_bad_number (direct_tokens at (name_of op) (with_kind t k))) is.kind_is
+          ∙ direct_fine op is.t at t.start t.end;
       said_is =
-          ap (λ n. said (run_token at (name_of op) ∷ blank_token (at + n) ∷ run_token (suc (at + n)) (octal4 a) ∷ [])) long
-          ∙ ap (λ k. said (direct_tokens at (name_of op) (with_kind t k))) kind
-          ∙ direct_said op a at t.start t.end;
+          ap (λ n. said (run_token at (name_of op) ∷ blank_token (at + n) ∷ run_token (suc (at + n)) shown ∷ [])) long
+          ∙ ap (λ k. said (direct_tokens at (name_of op) (with_kind t k))) is.kind_is
+          ∙ direct_said op is.t at t.start t.end is.is_term;
     }
 
 -- ## What their words are
@@ -198,15 +241,21 @@ address_small at word inside =
 small_mod : (a : ℕ) → a < 4096 → (0 + a) % 4096 ≡ a
 small_mod a small = omega arith
 
-reference_word : (op : Operation) (indirect : Bool) (at a word offset : ℕ) → a < 4096 → offset_of at a ≡ Some offset → word_of op + (if indirect then 256 else 0) + offset ≡ word
-    → IsWordOf (Reference op indirect (Some (number_parts a))) at word
-reference_word op indirect at a word offset small there comes = record {
+reference_word : (tagged : ℕ → Bool) (op : Operation) (indirect : Bool) (shown : List ℕ) (at a word offset : ℕ) (is : IsAddress tagged shown a) → a < 4096
+    → offset_of at a ≡ Some offset → word_of op + (if indirect then 256 else 0) + offset ≡ word
+    → IsWordOf tagged (Reference op indirect (Some (term_parts is.t))) at word
+reference_word tagged op indirect shown at a word offset is small there comes = record {
   is_word = refl;
-  value =
-      ap (λ n. with_offset op indirect (offset_to at (Some n))) (small_mod a small)
+  value = λ known knows.
+      ap (λ v. with_offset op indirect (offset_to at (joined_values Add (Some 0) v))) (is.value known knows at)
+      ∙ ap (λ n. with_offset op indirect (offset_to at (Some n))) (small_mod a small)
       ∙ ap (with_offset op indirect) there
       ∙ ap (λ n. Some n) comes;
-  no_fault = ap (λ n. out_of_reach at (Some n)) (small_mod a small) ∙ ap no_offset there;
+  no_fault = λ known knows.
+      ap (λ f. first_of (first_of f None) (out_of_reach at (value_of known at (term_parts is.t)))) (is.no_fault known knows at)
+      ∙ ap (λ v. out_of_reach at (joined_values Add (Some 0) v)) (is.value known knows at)
+      ∙ ap (λ n. out_of_reach at (Some n)) (small_mod a small)
+      ∙ ap no_offset there;
 }
 
 operation_small : (word : ℕ) → nat_lt word 3072 ≡ true → word / 512 < 6
@@ -227,17 +276,41 @@ bit_value zero small = refl
 bit_value (suc zero) small = refl
 bit_value (suc (suc n)) small = absurd (omega (arith, small))
 
-runs_are : (indirect : Bool) (a : ℕ) → are_runs (indirection indirect ++ octal4 a ∷ []) ≡ true
-runs_are true a = rw (coded4 a) refl
-runs_are false a = rw (coded4 a) refl
+runs_are : (indirect : Bool) (shown : List ℕ) → is_run shown ≡ true → are_runs (indirection indirect ++ shown ∷ []) ≡ true
+runs_are true shown run = rw run refl
+runs_are false shown run = rw run refl
 
-pub shown_reference : (cell word : ℕ) → is_reference (cell % 4096) word ≡ true → IsShown cell word (reference (cell % 4096) word)
-shown_reference cell word shown =
+-- the cell that a reference names is a cell of core
+pub referred_inside : (cell word : ℕ) → cell < 32768 → referred_cell cell word < 32768
+referred_inside cell word small = inside (cell / 4096) (referred (cell % 4096) word) (omega (arith, small)) (address_small (cell % 4096) word (omega arith))
+  where
+    inside : (field at : ℕ) → field < 8 → at < 4096 → 4096 * field + at < 32768
+    inside field at low small = omega (arith, low, small)
+
+-- the address that is shown
+address_shown : (tagged : ℕ → Bool) (cell word : ℕ) → cell < 32768 → IsAddress tagged (address tagged cell word) (referred (cell % 4096) word)
+address_shown tagged cell word small = either (tagged (referred_cell cell word)) refl
+  where
+    back : (field at : ℕ) → at < 4096 → (4096 * field + at) % 4096 ≡ at
+    back field at small = omega (arith, small)
+
+    either : (b : Bool) → tagged (referred_cell cell word) ≡ b
+        → IsAddress tagged (if b then tag (referred_cell cell word) else octal4 (referred (cell % 4096) word)) (referred (cell % 4096) word)
+    either true e =
+        let low = address_small (cell % 4096) word (omega arith) in
+        subst (IsAddress tagged (tag (referred_cell cell word))) (back (cell / 4096) (referred (cell % 4096) word) low)
+        (tag_address tagged (referred_cell cell word) (referred_inside cell word small) e)
+    either false e = number_address tagged (referred (cell % 4096) word) (address_small (cell % 4096) word (omega arith))
+
+pub shown_reference : (tagged : ℕ → Bool) (cell word : ℕ) → cell < 32768 → is_reference (cell % 4096) word ≡ true → IsShown tagged cell word (reference tagged cell word)
+shown_reference tagged cell word inside shown =
     let at = cell % 4096 in
     let parts = both (nat_lt word 3072) (nat_eq (word / 128 % 2) 0 || nat_le 128 at) shown in
     let op = operation_at (word / 512) (operation_small word parts.0) in
     let indirect = nat_eq (word / 256 % 2) 1 in
     let a = referred at word in
+    let named = address tagged cell word in
+    let is = address_shown tagged cell word inside in
     let small = address_small at word (omega arith) in
     let there = offset_there at word (omega arith) shown in
     let bit = bit_value (word / 256 % 2) (omega arith) in
@@ -245,14 +318,14 @@ shown_reference cell word shown =
     let o = there.value in
     record {
       first = name_of op.operation;
-      others = indirection indirect ++ octal4 a ∷ [];
+      others = indirection indirect ++ named ∷ [];
       some =
-          ap (λ n. n ∷ (if indirect then codes "I" ∷ [] else []) ++ octal4 a ∷ []) op.name
-          ∙ ap (λ l. name_of op.operation ∷ l ++ octal4 a ∷ []) (indirection_is (word / 256 % 2));
-      runs = runs_named op.operation (indirection indirect ++ octal4 a ∷ []) (runs_are indirect a);
-      body = Reference op.operation indirect (Some (number_parts a));
-      says = λ place. reference_says op.operation indirect a place small;
-      means = reference_word op.operation indirect at a word there.offset small there.is (whole (word_of op.operation) (if indirect then 256 else 0) there.offset word v bit o);
+          ap (λ n. n ∷ (if indirect then codes "I" ∷ [] else []) ++ named ∷ []) op.name
+          ∙ ap (λ l. name_of op.operation ∷ l ++ named ∷ []) (indirection_is (word / 256 % 2));
+      runs = runs_named op.operation (indirection indirect ++ named ∷ []) (runs_are indirect named is.run);
+      body = Reference op.operation indirect (Some (term_parts is.t));
+      says = λ place. reference_says tagged op.operation indirect named a place is;
+      means = reference_word tagged op.operation indirect named at a word there.offset is small there.is (whole (word_of op.operation) (if indirect then 256 else 0) there.offset word v bit o);
     }
   where
     whole : (op bit offset word : ℕ) → op ≡ 512 * (word / 512) → bit ≡ 256 * (word / 256 % 2) → offset ≡ word % 256 → op + bit + offset ≡ word

@@ -1,52 +1,79 @@
 -- Each statement that is shown is its word.
-use Rattle.std.proofs.Common.{◌≡◌, ◌≢◌, ℕ, ◌%◌, ◌<◌, nat_eq, Bool, true, false, if◌then◌else◌, None, inl, inr, length, reverse, List, [], ◌∷◌, ◌++◌, refl, ap, sym, ◌∙◌, arith}
+use Rattle.std.proofs.Common.{◌≡◌, ◌≢◌, ℕ, ◌/◌, ◌%◌, ◌<◌, nat_eq, Bool, true, false, if◌then◌else◌, None, inl, inr, length, reverse, List, [], ◌∷◌, ◌++◌, refl, ap, sym, ◌∙◌, arith}
+use Rattle.std.specs.Prelude.{codes}
 use Rattle.std.proofs.lemmas.Bool.Decides.{eqb_tells}
 use Rattle.bin_tape.specs.Items.{Item, IsFront, tape_map}
 use Rattle.bin_tape.specs.Pairs.{ArePairs, last_word}
-use Rattle.bin_tape.specs.Writing.{newest_cell}
+use Rattle.bin_tape.specs.Writing.{field_behind, is_next, newest_cell}
 use Rattle.word12.specs.Octal.{octal4}
 use Rattle.pal_lex.specs.declared.phrases.Body.TheVariants.{Word}
 use Rattle.pal_list.specs.Patterns.{patterns, chosen, names}
-use Rattle.pal_list.specs.Statements.{is_reference, reference, is_named, statement}
-use Rattle.pal_list.specs.Lines.{led, comment, cell_lines, lines_of, source_of}
-use Rattle.pal_list.specs.Sources.{IsReadAs, Says, words_of_tape}
+use Rattle.pal_list.specs.References.{operation_name, is_reference, referred, referred_cell}
+use Rattle.pal_list.specs.Tags.{tag, is_tagged, tagged_in}
+use Rattle.pal_list.specs.Statements.{reference, is_named, statement}
+use Rattle.pal_list.specs.Lines.{led, line_end, field_line, origin_line, comment, tag_part, cell_lines, lines_of, source_of}
+use Rattle.pal_list.specs.Sources.{IsReadAs, Says, words_of_tape, tagged_below, HoldsTags}
 use Rattle.pal_list.proofs.ByteLemmas.{coded4}
 use Rattle.pal_list.proofs.GrammarLemmas.{number_parts, number_says}
 use Rattle.pal_list.proofs.StepLemmas.{number_word}
-use Rattle.pal_list.proofs.ReferenceLemmas.{shown_reference}
+use Rattle.pal_list.proofs.ReferenceLemmas.{referred_inside, shown_reference}
 use Rattle.pal_list.proofs.NameLemmas.{shown_names}
 use Rattle.pal_list.proofs.TapeLemmas.{last_of_tape, below_pairs}
 use Rattle.pal_list.proofs.SourceLemmas.{IsShown, AreShown, source_read}
 
-shown_number : (cell word : ℕ) → word < 4096 → IsShown cell word (octal4 word ∷ [])
-shown_number cell word small = record {
+shown_number : (tagged : ℕ → Bool) (cell word : ℕ) → word < 4096 → IsShown tagged cell word (octal4 word ∷ [])
+shown_number tagged cell word small = record {
   first = octal4 word;
   others = [];
   some = refl;
   runs = rw (coded4 word) refl;
   body = Word (number_parts word);
   says = λ at. number_says word at small;
-  means = number_word (cell % 4096) word small;
+  means = number_word tagged (cell % 4096) word small;
 }
 
-shown : (cell word : ℕ) → word < 4096 → IsShown cell word (statement cell word)
-shown cell word small = first_kind (is_reference (cell % 4096) word) refl
+shown : (tagged : ℕ → Bool) (cell word : ℕ) → cell < 32768 → word < 4096 → IsShown tagged cell word (statement tagged cell word)
+shown tagged cell word inside small = first_kind (is_reference (cell % 4096) word) refl
   where
-    second_kind : (n : Bool) → is_named word ≡ n → IsShown cell word (if n then names (chosen word patterns) else octal4 word ∷ [])
-    second_kind true e = shown_names cell word e
-    second_kind false e = shown_number cell word small
+    second_kind : (n : Bool) → is_named word ≡ n → IsShown tagged cell word (if n then names (chosen word patterns) else octal4 word ∷ [])
+    second_kind true e = shown_names tagged cell word e
+    second_kind false e = shown_number tagged cell word small
 
-    first_kind : (r : Bool) → is_reference (cell % 4096) word ≡ r → IsShown cell word (if r then reference (cell % 4096) word else (if is_named word then names (chosen word patterns) else octal4 word ∷ []))
-    first_kind true e = shown_reference cell word e
+    first_kind : (r : Bool) → is_reference (cell % 4096) word ≡ r
+        → IsShown tagged cell word (if r then reference tagged cell word else (if is_named word then names (chosen word patterns) else octal4 word ∷ []))
+    first_kind true e = shown_reference tagged cell word inside e
     first_kind false e = second_kind (is_named word) refl
 
-are_shown : (pairs : List (ℕ × ℕ)) → ArePairs pairs → AreShown pairs
-are_shown [] all = tt
-are_shown (pair ∷ pairs) all = (all.0, shown pair.0 pair.1 all.1, are_shown pairs all.2)
+pub are_shown : (tagged : ℕ → Bool) (pairs : List (ℕ × ℕ)) → ArePairs pairs → AreShown tagged pairs
+are_shown tagged [] all = tt
+are_shown tagged (pair ∷ pairs) all = (all.0, shown tagged pair.0 pair.1 all.0 all.1, are_shown tagged pairs all.2)
 
 pub reads_back : (pairs : List (ℕ × ℕ)) → ArePairs pairs → 0 < length pairs → IsReadAs (source_of pairs) (reverse pairs)
 reads_back [] all some = absurd (omega (arith, some))
-reads_back (pair ∷ pairs) all some = source_read pair pairs (are_shown (pair ∷ pairs) all)
+reads_back (pair ∷ pairs) all some = source_read pair pairs (are_shown (is_tagged (pair ∷ pairs)) (pair ∷ pairs) all)
+
+-- ## The same cells tagged
+
+same_statement : (f g : ℕ → Bool) → ((cell : ℕ) → cell < 32768 → f cell ≡ g cell) → (cell word : ℕ) → cell < 32768 → statement f cell word ≡ statement g cell word
+same_statement f g same cell word small =
+    ap (λ (b : Bool). if is_reference (cell % 4096) word then
+    operation_name (word / 512) ∷ (if nat_eq (word / 256 % 2) 1 then codes "I" ∷ [] else []) ++ (if b then tag (referred_cell cell word) else octal4 (referred (cell % 4096) word)) ∷ []
+    else (if is_named word then names (chosen word patterns) else octal4 word ∷ []))
+    (same (referred_cell cell word) (referred_inside cell word small))
+
+same_lines : (f g : ℕ → Bool) → ((cell : ℕ) → cell < 32768 → f cell ≡ g cell) → (pairs : List (ℕ × ℕ)) → ArePairs pairs → lines_of f pairs ≡ lines_of g pairs
+same_lines f g same [] all = refl
+same_lines f g same (pair ∷ older) all =
+    let front = (if nat_eq (pair.0 / 4096) (field_behind (newest_cell older)) then [] else field_line pair.0) ++ (if is_next (newest_cell older) pair.0 then [] else origin_line pair.0) in
+    let end = 9 ∷ comment pair.0 pair.1 in
+    ap (λ l. l ++ cell_lines f (newest_cell older) pair.0 pair.1) (same_lines f g same older all.2)
+    ∙ ap (λ (b : Bool). lines_of g older ++ (front ++ ((if b then tag pair.0 ++ 44 ∷ [] else []) ++ led 9 (statement f pair.0 pair.1) ++ end ++ line_end))) (same pair.0 all.0)
+    ∙ ap (λ s. lines_of g older ++ (front ++ (tag_part g pair.0 ++ led 9 s ++ end ++ line_end))) (same_statement f g same pair.0 pair.1 all.0)
+
+-- lines with these cells tagged are those of the tape's source
+pub tape_lines : (items : List Item) (tags : List Bool) → IsFront items → HoldsTags (tagged_below items 32768) tags
+    → lines_of (tagged_in tags) (words_of_tape items) ≡ lines_of (is_tagged (words_of_tape items)) (words_of_tape items)
+tape_lines items tags front holds = same_lines (tagged_in tags) (is_tagged (words_of_tape items)) holds (words_of_tape items) (below_pairs items 32768 front)
 
 -- ## The source of a tape
 
@@ -61,18 +88,21 @@ some_line : (before line more : List ℕ) → before ++ (line ++ more ++ 13 ∷ 
 some_line before line more e =
     not_nothing 13 (10 ∷ []) (nothing_behind (line ++ more) (13 ∷ 10 ∷ []) (nothing_behind before (line ++ more ++ 13 ∷ 10 ∷ []) e))
 
-no_lines : (pairs : List (ℕ × ℕ)) → lines_of pairs ≡ [] → pairs ≡ []
-no_lines [] e = refl
-no_lines (pair ∷ older) e = absurd (some_line _ (led 9 (statement pair.0 pair.1)) (9 ∷ comment pair.0 pair.1) (nothing_behind (lines_of older) (cell_lines (newest_cell older) pair.0 pair.1) e))
+no_lines : (tagged : ℕ → Bool) (pairs : List (ℕ × ℕ)) → lines_of tagged pairs ≡ [] → pairs ≡ []
+no_lines tagged [] e = refl
+no_lines tagged (pair ∷ older) e =
+    absurd (some_line _ (tag_part tagged pair.0 ++ led 9 (statement tagged pair.0 pair.1)) (9 ∷ comment pair.0 pair.1)
+    (nothing_behind (lines_of tagged older) (cell_lines tagged (newest_cell older) pair.0 pair.1) e))
 
-some_pair : (pairs : List (ℕ × ℕ)) → lines_of pairs ≢ [] → 0 < length pairs
-some_pair [] some = absurd (some refl)
-some_pair (pair ∷ pairs) some = omega arith
+some_pair : (tagged : ℕ → Bool) (pairs : List (ℕ × ℕ)) → lines_of tagged pairs ≢ [] → 0 < length pairs
+some_pair tagged [] some = absurd (some refl)
+some_pair tagged (pair ∷ pairs) some = omega arith
 
 -- the source of a tape that gives a word says what the tape says
-pub source_says : (items : List Item) → IsFront items → lines_of (words_of_tape items) ≢ [] → Says (source_of (words_of_tape items)) items
+pub source_says : (items : List Item) → IsFront items → lines_of (is_tagged (words_of_tape items)) (words_of_tape items) ≢ [] → Says (source_of (words_of_tape items)) items
 source_says items front some =
-    let read = reads_back (words_of_tape items) (below_pairs items 32768 front) (some_pair (words_of_tape items) some) in
+    let words = words_of_tape items in
+    let read = reads_back words (below_pairs items 32768 front) (some_pair (is_tagged words) words some) in
     record {
       no_fault = read.no_fault;
       pairs = read.pairs_are;
@@ -80,9 +110,10 @@ source_says items front some =
     }
 
 -- a tape with no line gives no word
-pub gives_none : (items : List Item) → IsFront items → lines_of (words_of_tape items) ≡ [] → (cell : ℕ) → tape_map items cell ≡ None
+pub gives_none : (items : List Item) → IsFront items → lines_of (is_tagged (words_of_tape items)) (words_of_tape items) ≡ [] → (cell : ℕ) → tape_map items cell ≡ None
 gives_none items front none cell =
-    sym (last_of_tape 32768 items (omega arith) front cell) ∙ ap (λ p. last_word (reverse p) cell) (no_lines (words_of_tape items) none)
+    sym (last_of_tape 32768 items (omega arith) front cell)
+    ∙ ap (λ p. last_word (reverse p) cell) (no_lines (is_tagged (words_of_tape items)) (words_of_tape items) none)
 
 true_not : false ≡ true → ⊥
 true_not e = cc

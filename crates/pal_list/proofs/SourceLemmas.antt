@@ -1,47 +1,48 @@
 -- What the lines of cells with their words say.
-use Rattle.std.proofs.Common.{◌≡◌, ℕ, ◌+◌, ◌*◌, ◌/◌, ◌%◌, ◌<◌, nat_eq, Bool, true, false, ◌&&◌, if◌then◌else◌, inl, inr, Option, Some, None, suc, length, reverse, Ok, Err, List, [], ◌∷◌, ◌++◌, refl, ap, sym, subst, ◌∙◌, arith, append_assoc}
+use Rattle.std.proofs.Common.{◌≡◌, ℕ, ◌+◌, ◌/◌, ◌%◌, ◌<◌, nat_eq, Bool, true, false, ◌&&◌, ◌||◌, if◌then◌else◌, inl, inr, Option, Some, None, suc, length, reverse, Ok, Err, List, [], ◌∷◌, ◌++◌, refl, ap, sym, subst, ◌∙◌, arith, append_assoc, append-nil}
 use Rattle.std.specs.Prelude.{codes}
 use Rattle.std.proofs.lemmas.Bool.Decides.{eqb_tells}
 use Rattle.std.proofs.lemmas.List.{reverse-append}
 use Rattle.word12.specs.Octal.{octal_digit, octal4}
 use Rattle.bin_tape.specs.Writing.{field_behind, is_next, newest_cell}
 use Rattle.pal_lex.specs.Text.{in_comment, is_over, stretch, has_cr, line_after, limit, text_from, text_of}
-use Rattle.pal_lex.specs.Cutting.{Piece, are_coded, trimmed, pieces, with_byte}
+use Rattle.pal_lex.specs.Cutting.{Piece, Run, Mark, are_coded, trimmed, pieces, with_byte}
 use Rattle.pal_lex.specs.Runs.{in_order, tokens}
 use Rattle.pal_lex.specs.Grammar.{said, has_bad_number}
 use Rattle.pal_lex.specs.Statements.{statements, judged, stated, radix_after}
 use Rattle.pal_lex.specs.declared.faults.LexFault.TheVariants.{IC, NU}
 use Rattle.pal_lex.specs.declared.runs.Radix.TheVariants as radix
 use Rattle.pal_lex.specs.declared.pieces.Token.{Token}
-use Rattle.pal_lex.specs.declared.pieces.Kind.TheVariants.{Star}
+use Rattle.pal_lex.specs.declared.pieces.Kind.TheVariants.{Comma, Star}
 use Rattle.pal_lex.specs.declared.phrases.Body.{Body}
 use Rattle.pal_lex.specs.declared.phrases.Body.TheVariants.{Nothing, Origin, Field}
-use Rattle.pal_sym.specs.Permanent.{permanent}
-use Rattle.pal_asm.specs.Expressions.{Known}
-use Rattle.pal_asm.specs.Places.{values}
+use Rattle.pal_asm.specs.Places.{Source, values}
 use Rattle.pal_asm.specs.Words.{pairs_by}
-use Rattle.pal_asm.specs.Faults.{first_of, first_order, no_end, words_fault, no_word, fault_by}
+use Rattle.pal_asm.specs.Faults.{no_end, fault_by}
 use Rattle.pal_list.specs.Statements.{statement}
-use Rattle.pal_list.specs.Lines.{led, line_end, field_line, origin_line, comment, word_line, cell_lines, lines_of, source_of}
+use Rattle.pal_list.specs.Tags.{tag, tag_name, is_given, is_referred, is_tagged}
+use Rattle.pal_list.specs.Lines.{led, line_end, field_line, origin_line, comment, tag_part, word_line, cell_lines, lines_of, source_of}
+use Rattle.pal_list.specs.Defined.{tags_in, tags_of, Differ, DefinesTags}
 use Rattle.pal_list.specs.Sources.{IsReadAs}
 use Rattle.pal_list.proofs.ByteLemmas.{both, all_legal, legal_append, coded_are_legal, octal, coded4}
 use Rattle.pal_list.proofs.TextLemmas.{laid, text_append, Ends, ends, ends_commented}
-use Rattle.pal_list.proofs.PieceLemmas.{spaced, led_spaced, laid_append, legal_laid, are_runs, tokens_at, EndsInRun, cut_runs}
-use Rattle.pal_list.proofs.GrammarLemmas.{Say, number_parts, origin_says, field_says}
-use Rattle.pal_list.proofs.StepLemmas.{Stands, stands_first, statement_of, is_some_pair, origin_step, field_step, word_step, IsWordOf}
+use Rattle.pal_list.proofs.PieceLemmas.{spaced, led_spaced, laid_append, legal_laid, run, run_token, are_runs, tokens_at, EndsInRun, starts_of, cut_runs}
+use Rattle.pal_list.proofs.TagLemmas.{tag_run}
+use Rattle.pal_list.proofs.GrammarLemmas.{Say, number_parts, comma_token, origin_says, field_says, tagged_says}
+use Rattle.pal_list.proofs.StepLemmas.{Knows, Stands, stands_first, stands_keeps, statement_of, is_some_pair, tag_value, label, given_more, origin_step, field_step, word_step, IsWordOf}
 
 -- ## The live bytes of a line
 
 -- live bytes say this, wherever they stand
-pub record Codes (code : List ℕ) (body : Body) : Type 0 where
+pub record Codes (code tags : List ℕ) (body : Body) : Type 0 where
   pub legal : all_legal code ≡ true
   pub tokens_of : ℕ → List Token
   pub cut : (at : ℕ) → in_order 8 (trimmed (pieces (laid [] at code))) ≡ tokens_of at
-  pub say : (at : ℕ) → Say (tokens_of at) body
+  pub say : (at : ℕ) → Say (tokens_of at) tags body
 
-judged_code : (code : List ℕ) (body : Body) (line at : ℕ) (codes : Codes code body)
-    → judged line false (laid [] at code) radix.Octal ≡ Ok (statement_of line false (codes.tokens_of at) body)
-judged_code code body line at codes =
+judged_code : (code tags : List ℕ) (body : Body) (line at : ℕ) (codes : Codes code tags body)
+    → judged line false (laid [] at code) radix.Octal ≡ Ok (statement_of line false (codes.tokens_of at) tags body)
+judged_code code tags body line at codes =
     let live = laid [] at code in
     let t = codes.tokens_of at in
     let say = codes.say at in
@@ -65,8 +66,8 @@ blank_trimmed : (all : List Piece) (place : ℕ) → EndsInRun all → trimmed (
 blank_trimmed all place ends = rw ends.is refl
 
 -- pieces between tabs
-pub tabbed : (piece : List ℕ) (words : List (List ℕ)) (body : Body) → are_runs (piece ∷ words) ≡ true → ((at : ℕ) → Say (tokens_at at (piece ∷ words)) body)
-    → Codes (9 ∷ (spaced (piece ∷ words) ++ 9 ∷ [])) body
+tabbed : (piece : List ℕ) (words : List (List ℕ)) (body : Body) → are_runs (piece ∷ words) ≡ true → ((at : ℕ) → Say (tokens_at at (piece ∷ words)) [] body)
+    → Codes (9 ∷ (spaced (piece ∷ words) ++ 9 ∷ [])) [] body
 tabbed piece words body runs says = record {
   legal = legal_append (spaced (piece ∷ words)) (9 ∷ []) (spaced_legal (piece ∷ words) runs) refl;
   tokens_of = λ at. tokens_at (suc at) (piece ∷ words);
@@ -81,7 +82,42 @@ tabbed piece words body runs says = record {
   say = λ at. says (suc at);
 }
 
-pub origin_codes : (a : ℕ) → a < 4096 → Codes (42 ∷ octal4 a) (Origin (number_parts a))
+-- a tag and a comma, as they are cut
+tag_cut : (cell at : ℕ) → pieces (laid [] at (tag cell ++ 44 ∷ 9 ∷ [])) ≡ Mark Comma (at + 6) ∷ Run 65 (octal_digit (cell / 4096) ∷ octal4 (cell % 4096)) at (at + 6) ∷ []
+tag_cut cell at =
+    let digits = octal_digit (cell / 4096) ∷ octal4 (cell % 4096) in
+    let one = run 65 digits [] at (tag_run cell) tt in
+    ap pieces (laid_append (tag cell) (44 ∷ 9 ∷ []) [] at) ∙ ap (λ l. with_byte 9 (suc (at + 6)) (with_byte 44 (at + 6) l)) one
+
+-- pieces between tabs behind a cell's tag and a comma
+behind_tag : (cell : ℕ) (piece : List ℕ) (words : List (List ℕ)) (body : Body) → are_runs (piece ∷ words) ≡ true → ((at : ℕ) → Say (tokens_at at (piece ∷ words)) [] body)
+    → Codes ((tag cell ++ 44 ∷ []) ++ 9 ∷ (spaced (piece ∷ words) ++ 9 ∷ [])) (tag_name cell ∷ []) body
+behind_tag cell piece words body runs says = record {
+  legal = legal_append (tag cell) (44 ∷ 9 ∷ (spaced (piece ∷ words) ++ 9 ∷ [])) (coded_are_legal (tag cell) (tag_run cell))
+      (legal_append (spaced (piece ∷ words)) (9 ∷ []) (spaced_legal (piece ∷ words) runs) refl);
+  tokens_of = λ at. run_token at (tag cell) ∷ comma_token (at + 6) ∷ tokens_at (at + 8) (piece ∷ words);
+  cut = λ at.
+      let front = tag cell ++ 44 ∷ 9 ∷ [] in
+      let live = laid [] at front in
+      let code = spaced (piece ∷ words) in
+      let cut = tag_cut cell at in
+      let done = cut_runs piece words live (at + 8) runs (starts_of live Comma (at + 6) _ cut) in
+      let all = pieces (laid live (at + 8) code) in
+      ap (λ l. in_order 8 (trimmed (pieces l))) (laid_append front (code ++ 9 ∷ []) [] at ∙ laid_append code (9 ∷ []) live (at + 8))
+      ∙ ap (in_order 8) (blank_trimmed all (at + 8 + length code) done.ends)
+      ∙ done.tokens
+      ∙ ap (λ p. in_order 8 p ++ tokens_at (at + 8) (piece ∷ words)) cut;
+  say = λ at. tagged_says cell at (at + 6) (tokens_at (at + 8) (piece ∷ words)) body (says (at + 8));
+}
+
+-- the same for a cell that is tagged or not
+labelled : (b : Bool) (cell : ℕ) (piece : List ℕ) (words : List (List ℕ)) (body : Body) → are_runs (piece ∷ words) ≡ true
+    → ((at : ℕ) → Say (tokens_at at (piece ∷ words)) [] body)
+    → Codes ((if b then tag cell ++ 44 ∷ [] else []) ++ 9 ∷ (spaced (piece ∷ words) ++ 9 ∷ [])) (label b cell) body
+labelled true cell piece words body runs says = behind_tag cell piece words body runs says
+labelled false cell piece words body runs says = tabbed piece words body runs says
+
+pub origin_codes : (a : ℕ) → a < 4096 → Codes (42 ∷ octal4 a) [] (Origin (number_parts a))
 origin_codes a small = record {
   legal = coded_are_legal (octal4 a) (coded4 a);
   tokens_of = λ at. record { kind = Star; start = star_start at; end = star_end at } ∷ tokens_at (suc at) (octal4 a ∷ []);
@@ -105,7 +141,7 @@ origin_codes a small = record {
     same_trimmed : (all : List Piece) → EndsInRun all → trimmed all ≡ all
     same_trimmed all ends = rw ends.is refl
 
-pub field_codes : (n : ℕ) → n < 8 → Codes (codes "FIELD " ++ octal_digit n ∷ []) (Field (number_parts n))
+pub field_codes : (n : ℕ) → n < 8 → Codes (codes "FIELD " ++ octal_digit n ∷ []) [] (Field (number_parts n))
 field_codes n small = record {
   legal = digit_legal (octal_digit n ∷ []) (is_coded_one n);
   tokens_of = λ at. tokens_at at (codes "FIELD" ∷ (octal_digit n ∷ []) ∷ []);
@@ -130,27 +166,27 @@ field_codes n small = record {
 -- ## Lines behind a text
 
 -- a text stands at the beginning of a line, and its statements say this
-pub record StandsAt (text : List ℕ) (place field : ℕ) (pairs : List (ℕ × ℕ)) : Type 0 where
+pub record StandsAt (tagged : ℕ → Bool) (text : List ℕ) (place field : ℕ) (pairs : List (ℕ × ℕ)) : Type 0 where
   pub no_comment : in_comment text ≡ false
   pub not_over : is_over text ≡ false
   pub begins : stretch text ≡ []
-  pub stands : Stands (statements text) place field pairs
+  pub stands : Stands tagged (statements text) place field pairs
 
-line_step : (text code after : List ℕ) (place field : ℕ) (pairs : List (ℕ × ℕ)) (next_place next_field : ℕ) (next_pairs : List (ℕ × ℕ)) (body : Body)
-    → StandsAt text place field pairs → Codes code body → Ends text code after
-    → ((line : ℕ) (tokens : List Token) → Stands (Ok (statement_of line false tokens body) ∷ statements text) next_place next_field next_pairs)
-    → StandsAt after next_place next_field next_pairs
-line_step text code after place field pairs next_place next_field next_pairs body is codes ended step =
-    let statement : statements after ≡ Ok (statement_of ended.line false (codes.tokens_of (length text)) body) ∷ statements text =
+line_step : (tagged : ℕ → Bool) (text code tags after : List ℕ) (place field : ℕ) (pairs : List (ℕ × ℕ)) (next_place next_field : ℕ) (next_pairs : List (ℕ × ℕ)) (body : Body)
+    → StandsAt tagged text place field pairs → Codes code tags body → Ends text code after
+    → ((line : ℕ) (tokens : List Token) → Stands tagged (Ok (statement_of line false tokens tags body) ∷ statements text) next_place next_field next_pairs)
+    → StandsAt tagged after next_place next_field next_pairs
+line_step tagged text code tags after place field pairs next_place next_field next_pairs body is codes ended step =
+    let statement : statements after ≡ Ok (statement_of ended.line false (codes.tokens_of (length text)) tags body) ∷ statements text =
     ended.statement
     ∙ ap (λ live. judged ended.line false (laid live (length text) code) (radix_after (statements text)) ∷ statements text) is.begins
     ∙ ap (λ r. judged ended.line false (laid [] (length text) code) r ∷ statements text) is.stands.radix_is
-    ∙ ap (λ s. s ∷ statements text) (judged_code code body ended.line (length text) codes) in
+    ∙ ap (λ s. s ∷ statements text) (judged_code code tags body ended.line (length text) codes) in
     record {
       no_comment = ended.no_comment;
       not_over = ended.not_over;
       begins = ended.begins;
-      stands = subst (λ s. Stands s next_place next_field next_pairs) (sym statement) (step ended.line (codes.tokens_of (length text)));
+      stands = subst (λ s. Stands tagged s next_place next_field next_pairs) (sym statement) (step ended.line (codes.tokens_of (length text)));
     }
 
 -- ## The lines of a cell
@@ -161,40 +197,43 @@ Behind None place field = (place ≡ 128) × (field ≡ 0)
 Behind (Some cell) place field = (place ≡ cell % 4096 + 1) × (field ≡ cell / 4096)
 
 -- the pieces of a statement are a word at a cell
-pub record IsShown (cell word : ℕ) (words : List (List ℕ)) : Type 0 where
+pub record IsShown (tagged : ℕ → Bool) (cell word : ℕ) (words : List (List ℕ)) : Type 0 where
   pub first : List ℕ
   pub others : List (List ℕ)
   pub some : words ≡ first ∷ others
   pub runs : are_runs (first ∷ others) ≡ true
   pub body : Body
-  pub says : (at : ℕ) → Say (tokens_at at (first ∷ others)) body
-  pub means : IsWordOf body (cell % 4096) word
+  pub says : (at : ℕ) → Say (tokens_at at (first ∷ others)) [] body
+  pub means : IsWordOf tagged body (cell % 4096) word
 
-field_part : (text : List ℕ) (before : Option ℕ) (cell place field : ℕ) (pairs : List (ℕ × ℕ)) → cell < 32768 → StandsAt text place field pairs → field ≡ field_behind before
-    → StandsAt (text_from text (if nat_eq (cell / 4096) (field_behind before) then [] else field_line cell)) (if nat_eq (cell / 4096) (field_behind before) then place else 128) (cell / 4096) pairs
-field_part text before cell place field pairs small is behind =
+field_part : (tagged : ℕ → Bool) (text : List ℕ) (before : Option ℕ) (cell place field : ℕ) (pairs : List (ℕ × ℕ)) → cell < 32768 → StandsAt tagged text place field pairs
+    → field ≡ field_behind before
+    → StandsAt tagged (text_from text (if nat_eq (cell / 4096) (field_behind before) then [] else field_line cell))
+    (if nat_eq (cell / 4096) (field_behind before) then place else 128) (cell / 4096) pairs
+field_part tagged text before cell place field pairs small is behind =
     elim (eqb_tells (cell / 4096) (field_behind before)) [
-      | inl same ↦ rw same.0 (subst (λ f. StandsAt text place f pairs) (behind ∙ sym same.1) is)
+      | inl same ↦ rw same.0 (subst (λ f. StandsAt tagged text place f pairs) (behind ∙ sym same.1) is)
       | inr other ↦
           let n = cell / 4096 in
           let code = codes "FIELD " ++ octal_digit n ∷ [] in
           let field_codes_here = field_codes n (omega (arith, small)) in
           rw other.0
-          (line_step text code (text_from text (field_line cell)) place field pairs 128 n pairs (Field (number_parts n)) is field_codes_here
+          (line_step tagged text code [] (text_from text (field_line cell)) place field pairs 128 n pairs (Field (number_parts n)) is field_codes_here
           (ends text code is.no_comment is.not_over field_codes_here.legal)
-          (λ line tokens. field_step (statements text) place field pairs line tokens n (omega (arith, small)) is.stands))
+          (λ line tokens. field_step tagged (statements text) place field pairs line tokens n (omega (arith, small)) is.stands))
     ]
 
-origin_part : (text : List ℕ) (next : Bool) (cell place : ℕ) (pairs : List (ℕ × ℕ)) → StandsAt text place (cell / 4096) pairs → (next ≡ true → place ≡ cell % 4096)
-    → StandsAt (text_from text (if next then [] else origin_line cell)) (cell % 4096) (cell / 4096) pairs
-origin_part text true cell place pairs is here = subst (λ p. StandsAt text p (cell / 4096) pairs) (here refl) is
-origin_part text false cell place pairs is here =
+origin_part : (tagged : ℕ → Bool) (text : List ℕ) (next : Bool) (cell place : ℕ) (pairs : List (ℕ × ℕ)) → StandsAt tagged text place (cell / 4096) pairs
+    → (next ≡ true → place ≡ cell % 4096)
+    → StandsAt tagged (text_from text (if next then [] else origin_line cell)) (cell % 4096) (cell / 4096) pairs
+origin_part tagged text true cell place pairs is here = subst (λ p. StandsAt tagged text p (cell / 4096) pairs) (here refl) is
+origin_part tagged text false cell place pairs is here =
     let a = cell % 4096 in
     let code = 42 ∷ octal4 a in
     let codes_here = origin_codes a (omega arith) in
-    line_step text code (text_from text (origin_line cell)) place (cell / 4096) pairs a (cell / 4096) pairs (Origin (number_parts a)) is codes_here
+    line_step tagged text code [] (text_from text (origin_line cell)) place (cell / 4096) pairs a (cell / 4096) pairs (Origin (number_parts a)) is codes_here
     (ends text code is.no_comment is.not_over codes_here.legal)
-    (λ line tokens. origin_step (statements text) place (cell / 4096) pairs line tokens a (omega arith) is.stands)
+    (λ line tokens. origin_step tagged (statements text) place (cell / 4096) pairs line tokens a (omega arith) is.stands)
 
 no_return : (cell word : ℕ) → has_cr (octal_digit (cell / 4096) ∷ octal4 (cell % 4096) ++ 32 ∷ octal4 word) ≡ false
 no_return cell word =
@@ -209,29 +248,34 @@ no_return cell word =
     let h = octal word in
     rw (o.return, a.return, b.return, c.return, d.return, e.return, f.return, g.return, h.return) refl
 
-word_part : (text : List ℕ) (cell word : ℕ) (pairs : List (ℕ × ℕ)) → IsShown cell word (statement cell word) → StandsAt text (cell % 4096) (cell / 4096) pairs
-    → StandsAt (text_from text (word_line cell word)) (cell % 4096 + 1) (cell / 4096) (pairs ++ (cell, word) ∷ [])
-word_part text cell word pairs shown is =
+word_part : (tagged : ℕ → Bool) (text : List ℕ) (cell word : ℕ) (pairs : List (ℕ × ℕ)) → cell < 32768 → IsShown tagged cell word (statement tagged cell word)
+    → StandsAt tagged text (cell % 4096) (cell / 4096) pairs
+    → StandsAt tagged (text_from text (word_line tagged cell word)) (cell % 4096 + 1) (cell / 4096) (pairs ++ (cell, word) ∷ [])
+word_part tagged text cell word pairs small shown is =
     let place = cell % 4096 in
     let field = cell / 4096 in
     let words = shown.first ∷ shown.others in
-    let code = 9 ∷ (spaced words ++ 9 ∷ []) in
-    let codes_here = tabbed shown.first shown.others shown.body shown.runs shown.says in
+    let front = tag_part tagged cell in
+    let code = front ++ 9 ∷ (spaced words ++ 9 ∷ []) in
+    let tags = label (tagged cell) cell in
+    let codes_here = labelled (tagged cell) cell shown.first shown.others shown.body shown.runs shown.says in
     let line = code ++ (47 ∷ ((octal_digit field ∷ octal4 place ++ 32 ∷ octal4 word) ++ 13 ∷ 10 ∷ [])) in
-    let shape : word_line cell word ≡ line =
-    ap (λ w. led 9 w ++ 9 ∷ comment cell word ++ line_end) shown.some
-    ∙ ap (λ l. l ++ 9 ∷ comment cell word ++ line_end) (led_spaced 9 shown.first shown.others)
-    ∙ regroup (spaced words) (47 ∷ octal_digit field ∷ octal4 place ++ 32 ∷ octal4 word) (13 ∷ 10 ∷ []) in
+    let shape : word_line tagged cell word ≡ line =
+    ap (λ w. front ++ led 9 w ++ 9 ∷ comment cell word ++ line_end) shown.some
+    ∙ ap (λ l. front ++ l ++ 9 ∷ comment cell word ++ line_end) (led_spaced 9 shown.first shown.others)
+    ∙ regroup front (spaced words) (47 ∷ octal_digit field ∷ octal4 place ++ 32 ∷ octal4 word) (13 ∷ 10 ∷ []) in
     let done =
-    line_step text code (text_from text line) place field pairs (place + 1) field (pairs ++ (4096 * field + place, word) ∷ []) shown.body is codes_here
+    line_step tagged text code tags (text_from text line) place field pairs (place + 1) field (pairs ++ (cell, word) ∷ []) shown.body is codes_here
     (ends_commented text code (octal_digit field ∷ octal4 place ++ 32 ∷ octal4 word) is.no_comment is.not_over codes_here.legal (no_return cell word))
-    (λ line tokens. word_step (statements text) place field pairs line tokens shown.body word (omega arith) shown.means is.stands) in
-    let again : 4096 * field + place ≡ cell = omega arith in
-    subst (λ t. StandsAt (text_from text t) (place + 1) field (pairs ++ (cell, word) ∷ [])) (sym shape)
-    (subst (λ c. StandsAt (text_from text line) (place + 1) field (pairs ++ (c, word) ∷ [])) again done)
+    (λ line tokens. word_step tagged (statements text) pairs line tokens shown.body cell word small shown.means is.stands) in
+    subst (λ t. StandsAt tagged (text_from text t) (place + 1) field (pairs ++ (cell, word) ∷ [])) (sym shape) done
   where
-    regroup : (w c e : List ℕ) → 9 ∷ ((w ++ 9 ∷ c) ++ e) ≡ (9 ∷ (w ++ 9 ∷ [])) ++ (c ++ e)
-    regroup w c e = ap (λ l. 9 ∷ l) (append_assoc w (9 ∷ c) e ∙ sym (append_assoc w (9 ∷ []) (c ++ e)))
+    regroup : (p w c e : List ℕ) → ((p ++ (9 ∷ w)) ++ 9 ∷ c) ++ e ≡ (p ++ 9 ∷ (w ++ 9 ∷ [])) ++ (c ++ e)
+    regroup p w c e =
+        append_assoc (p ++ (9 ∷ w)) (9 ∷ c) e
+        ∙ append_assoc p (9 ∷ w) (9 ∷ (c ++ e))
+        ∙ ap (λ l. p ++ 9 ∷ l) (sym (append_assoc w (9 ∷ []) (c ++ e)))
+        ∙ sym (append_assoc p (9 ∷ (w ++ 9 ∷ [])) (c ++ e))
 
 -- where the cell is the next, its place is the next
 next_place : (before : Option ℕ) (cell place field : ℕ) → Behind before place field → is_next before cell ≡ true
@@ -252,60 +296,63 @@ field_then : (before : Option ℕ) (place field : ℕ) → Behind before place f
 field_then None place field behind = behind.1
 field_then (Some b) place field behind = behind.1
 
-cell_step : (text : List ℕ) (before : Option ℕ) (cell word place field : ℕ) (pairs : List (ℕ × ℕ)) → cell < 32768 → IsShown cell word (statement cell word) → Behind before place field
-    → StandsAt text place field pairs → StandsAt (text_from text (cell_lines before cell word)) (cell % 4096 + 1) (cell / 4096) (pairs ++ (cell, word) ∷ [])
-cell_step text before cell word place field pairs small shown behind is =
+cell_step : (tagged : ℕ → Bool) (text : List ℕ) (before : Option ℕ) (cell word place field : ℕ) (pairs : List (ℕ × ℕ)) → cell < 32768
+    → IsShown tagged cell word (statement tagged cell word) → Behind before place field → StandsAt tagged text place field pairs
+    → StandsAt tagged (text_from text (cell_lines tagged before cell word)) (cell % 4096 + 1) (cell / 4096) (pairs ++ (cell, word) ∷ [])
+cell_step tagged text before cell word place field pairs small shown behind is =
     let a = if nat_eq (cell / 4096) (field_behind before) then [] else field_line cell in
     let b = if is_next before cell then [] else origin_line cell in
     let t = text_from text a in
     let u = text_from t b in
-    let first = field_part text before cell place field pairs small is (field_then before place field behind) in
-    let second = origin_part t (is_next before cell) cell (if nat_eq (cell / 4096) (field_behind before) then place else 128) pairs first (next_place before cell place field behind) in
-    let whole : text_from text (cell_lines before cell word) ≡ text_from u (word_line cell word) =
-    text_append (a ++ b) (word_line cell word) text ∙ ap (λ l. text_from l (word_line cell word)) (text_append a b text) in
-    subst (λ l. StandsAt l (cell % 4096 + 1) (cell / 4096) (pairs ++ (cell, word) ∷ [])) (sym whole) (word_part u cell word pairs shown second)
+    let first = field_part tagged text before cell place field pairs small is (field_then before place field behind) in
+    let second =
+    origin_part tagged t (is_next before cell) cell (if nat_eq (cell / 4096) (field_behind before) then place else 128) pairs first (next_place before cell place field behind) in
+    let whole : text_from text (cell_lines tagged before cell word) ≡ text_from u (word_line tagged cell word) =
+    text_append (a ++ b) (word_line tagged cell word) text ∙ ap (λ l. text_from l (word_line tagged cell word)) (text_append a b text) in
+    subst (λ l. StandsAt tagged l (cell % 4096 + 1) (cell / 4096) (pairs ++ (cell, word) ∷ [])) (sym whole) (word_part tagged u cell word pairs small shown second)
 
 -- ## All lines
 
-pub record StandsBehind (text : List ℕ) (before : Option ℕ) (pairs : List (ℕ × ℕ)) : Type 0 where
+pub record StandsBehind (tagged : ℕ → Bool) (text : List ℕ) (before : Option ℕ) (pairs : List (ℕ × ℕ)) : Type 0 where
   pub place : ℕ
   pub field : ℕ
   pub behind : Behind before place field
-  pub stands : StandsAt text place field pairs
+  pub stands : StandsAt tagged text place field pairs
 
 -- each cell's statement is its word
-abbrev pub AreShown : List (ℕ × ℕ) → Type 0
-AreShown [] = Unit {0}
-AreShown (pair ∷ others) = (pair.0 < 32768) × IsShown pair.0 pair.1 (statement pair.0 pair.1) × AreShown others
+abbrev pub AreShown : (ℕ → Bool) → List (ℕ × ℕ) → Type 0
+AreShown tagged [] = Unit {0}
+AreShown tagged (pair ∷ others) = (pair.0 < 32768) × IsShown tagged pair.0 pair.1 (statement tagged pair.0 pair.1) × AreShown tagged others
 
 newest_last : (pair : ℕ × ℕ) (pairs : List (ℕ × ℕ)) → reverse (pair ∷ pairs) ≡ reverse pairs ++ pair ∷ []
 newest_last pair pairs = reverse-append (pair ∷ []) pairs
 
-text_begun : StandsAt [] 128 0 []
+text_begun : (tagged : ℕ → Bool) → StandsAt tagged [] 128 0 []
 unfolding statements
-text_begun = record { no_comment = refl; not_over = refl; begins = refl; stands = stands_first }
+text_begun tagged = record { no_comment = refl; not_over = refl; begins = refl; stands = stands_first tagged }
 
-lines_stand : (pairs : List (ℕ × ℕ)) → AreShown pairs → StandsBehind (text_of (lines_of pairs)) (newest_cell pairs) (reverse pairs)
-lines_stand [] shown = record { place = 128; field = 0; behind = (refl, refl); stands = text_begun }
-lines_stand (pair ∷ older) shown =
-    let before = lines_stand older shown.2 in
-    let lines = cell_lines (newest_cell older) pair.0 pair.1 in
-    let done = cell_step (text_of (lines_of older)) (newest_cell older) pair.0 pair.1 before.place before.field (reverse older) shown.0 shown.1 before.behind before.stands in
+lines_stand : (tagged : ℕ → Bool) (pairs : List (ℕ × ℕ)) → AreShown tagged pairs → StandsBehind tagged (text_of (lines_of tagged pairs)) (newest_cell pairs) (reverse pairs)
+lines_stand tagged [] shown = record { place = 128; field = 0; behind = (refl, refl); stands = text_begun tagged }
+lines_stand tagged (pair ∷ older) shown =
+    let before = lines_stand tagged older shown.2 in
+    let lines = cell_lines tagged (newest_cell older) pair.0 pair.1 in
+    let done =
+    cell_step tagged (text_of (lines_of tagged older)) (newest_cell older) pair.0 pair.1 before.place before.field (reverse older) shown.0 shown.1 before.behind before.stands in
     record {
       place = pair.0 % 4096 + 1;
       field = pair.0 / 4096;
       behind = (refl, refl);
       stands =
-          subst (λ t. StandsAt t (pair.0 % 4096 + 1) (pair.0 / 4096) (reverse (pair ∷ older))) (sym (text_append (lines_of older) lines []))
-          (subst (λ p. StandsAt (text_from (text_of (lines_of older)) lines) (pair.0 % 4096 + 1) (pair.0 / 4096) p) (sym (newest_last pair older)) done);
+          subst (λ t. StandsAt tagged t (pair.0 % 4096 + 1) (pair.0 / 4096) (reverse (pair ∷ older))) (sym (text_append (lines_of tagged older) lines []))
+          (subst (λ p. StandsAt tagged (text_from (text_of (lines_of tagged older)) lines) (pair.0 % 4096 + 1) (pair.0 / 4096) p) (sym (newest_last pair older)) done);
     }
 
 -- ## The whole source
 
-dollar : (text : List ℕ) (place field : ℕ) (pairs : List (ℕ × ℕ)) → StandsAt text place field pairs
-    → (line : ℕ) × (statements (10 ∷ 13 ∷ 36 ∷ text) ≡ Ok (statement_of line true [] Nothing) ∷ statements text) × (is_over (10 ∷ 13 ∷ 36 ∷ text) ≡ true)
+dollar : (tagged : ℕ → Bool) (text : List ℕ) (place field : ℕ) (pairs : List (ℕ × ℕ)) → StandsAt tagged text place field pairs
+    → (line : ℕ) × (statements (10 ∷ 13 ∷ 36 ∷ text) ≡ Ok (statement_of line true [] [] Nothing) ∷ statements text) × (is_over (10 ∷ 13 ∷ 36 ∷ text) ≡ true)
 unfolding statements
-dollar text place field pairs is =
+dollar tagged text place field pairs is =
     (line_after text, rw (is.no_comment, is.not_over, is.begins) refl, rw (is.no_comment, is.not_over) refl)
 
 some_reverse : (pair : ℕ × ℕ) (pairs : List (ℕ × ℕ)) → is_some_pair (reverse (pair ∷ pairs)) ≡ true
@@ -315,26 +362,82 @@ some_reverse pair pairs = ap is_some_pair (newest_last pair pairs) ∙ one (reve
     one [] pair = refl
     one (first ∷ pairs) pair = refl
 
-pub source_read : (pair : ℕ × ℕ) (older : List (ℕ × ℕ)) → AreShown (pair ∷ older) → IsReadAs (source_of (pair ∷ older)) (reverse (pair ∷ older))
+given_reverse : (pairs : List (ℕ × ℕ)) (cell : ℕ) → is_given (reverse pairs) cell ≡ is_given pairs cell
+given_reverse [] cell = refl
+given_reverse (pair ∷ pairs) cell =
+    ap (λ l. is_given l cell) (newest_last pair pairs)
+    ∙ given_more (reverse pairs) pair.0 pair.1 cell
+    ∙ ap (λ b. nat_eq pair.0 cell || b) (given_reverse pairs cell)
+
+-- The statements of a source's lines and its last one.
+pub record IsWhole (tagged : ℕ → Bool) (text : List ℕ) (pairs : List (ℕ × ℕ)) : Type 0 where
+  pub line : ℕ
+  pub place : ℕ
+  pub field : ℕ
+  pub lines : Source
+  pub statements_are : statements text ≡ Ok (statement_of line true [] [] Nothing) ∷ lines
+  pub ended : no_end text ≡ None
+  pub stands : Stands tagged lines place field pairs
+
+pub source_whole : (pairs : List (ℕ × ℕ)) → AreShown (is_tagged pairs) pairs → IsWhole (is_tagged pairs) (text_of (source_of pairs)) (reverse pairs)
+source_whole pairs shown =
+    let tagged = is_tagged pairs in
+    let lines = lines_stand tagged pairs shown in
+    let text = text_of (lines_of tagged pairs) in
+    let whole : text_of (source_of pairs) ≡ 10 ∷ 13 ∷ 36 ∷ text = text_append (lines_of tagged pairs) (36 ∷ line_end) [] in
+    let end = dollar tagged text lines.place lines.field (reverse pairs) lines.stands in
+    record {
+      line = end.0;
+      place = lines.place;
+      field = lines.field;
+      lines = statements text;
+      statements_are = ap statements whole ∙ end.1;
+      ended = ap no_end whole ∙ rw end.2 refl;
+      stands = lines.stands.stands;
+    }
+
+-- a tagged cell's tag stands for its address
+value_at_last : (pairs : List (ℕ × ℕ)) (cell : ℕ) → tag_value (is_tagged pairs) (reverse pairs) cell ≡ (if is_tagged pairs cell then Some (cell % 4096) else None)
+value_at_last pairs cell =
+    ap (λ g. if g && is_tagged pairs cell then Some (cell % 4096) else None) (given_reverse pairs cell) ∙ twice (is_given pairs cell) (is_referred pairs cell) (cell % 4096)
+  where
+    twice : (g r : Bool) (value : ℕ) → (if g && (g && r) then Some value else None) ≡ (if g && r then Some value else None)
+    twice true r value = refl
+    twice false r value = refl
+
+knows_at_last : (pairs : List (ℕ × ℕ)) (source : Source) (place field : ℕ) → Stands (is_tagged pairs) source place field (reverse pairs) → Knows (is_tagged pairs) (values source)
+knows_at_last pairs source place field is = record {
+  keeps = stands_keeps (is_tagged pairs) source place field (reverse pairs) is;
+  tags_are = λ cell small is_tagged_cell. is.values_are cell small ∙ value_at_last pairs cell ∙ ap (λ (b : Bool). if b then Some (cell % 4096) else None) is_tagged_cell;
+}
+
+pub source_read : (pair : ℕ × ℕ) (older : List (ℕ × ℕ)) → AreShown (is_tagged (pair ∷ older)) (pair ∷ older) → IsReadAs (source_of (pair ∷ older)) (reverse (pair ∷ older))
 source_read pair older shown =
     let all = pair ∷ older in
-    let lines = lines_stand all shown in
-    let text = text_of (lines_of all) in
-    let whole : text_of (source_of all) ≡ 10 ∷ 13 ∷ 36 ∷ text = text_append (lines_of all) (36 ∷ line_end) [] in
-    let end = dollar text lines.place lines.field (reverse all) lines.stands in
-    let stands = lines.stands.stands in
-    let s = Ok (statement_of end.0 true [] Nothing) ∷ statements text in
-    let is_statements : statements (text_of (source_of all)) ≡ s = ap statements whole ∙ end.1 in
-    let known : values s ≡ permanent = stands.values_are in
-    let ended : no_end (text_of (source_of all)) ≡ None = ap no_end whole ∙ rw end.2 refl in
+    let whole = source_whole all shown in
+    let stands = whole.stands in
+    let text = text_of (source_of all) in
+    let s = Ok (statement_of whole.line true [] [] Nothing) ∷ whole.lines in
+    let knows = knows_at_last all whole.lines whole.place whole.field stands in
     record {
       no_fault =
-          ap (λ x. fault_by x (no_end (text_of (source_of all)))) is_statements
-          ∙ ap (fault_by s) ended
-          ∙ ap (λ (k : Known). first_of (first_order s) (first_of None (first_of (words_fault k s) (no_word s)))) known
-          ∙ rw (stands.no_fault, stands.no_word_fault, stands.word_is, some_reverse pair older) refl;
-      pairs_are =
-          ap (λ x. pairs_by (values x) x) is_statements
-          ∙ ap (λ (k : Known). pairs_by k s) known
-          ∙ stands.pairs_are;
+          ap (λ x. fault_by x (no_end text)) whole.statements_are
+          ∙ ap (fault_by s) whole.ended
+          ∙ rw (stands.no_fault, stands.no_word_fault (values whole.lines) knows, stands.word_is, some_reverse pair older) refl;
+      pairs_are = ap (λ x. pairs_by (values x) x) whole.statements_are ∙ stands.pairs_are (values whole.lines) knows;
+    }
+
+-- ## The tags of the whole source
+
+pub source_tags : (pairs : List (ℕ × ℕ)) → AreShown (is_tagged pairs) pairs → Differ (tags_of (is_tagged pairs) (reverse pairs)) → DefinesTags (source_of pairs) pairs
+source_tags pairs shown differ =
+    let whole = source_whole pairs shown in
+    let text = text_of (source_of pairs) in
+    let stands = whole.stands in
+    let listed : tags_in (statements text) ≡ tags_of (is_tagged pairs) (reverse pairs) = ap tags_in whole.statements_are ∙ append-nil (tags_in whole.lines) ∙ stands.tags_are in
+    record {
+      tags_are = listed;
+      once = subst Differ (sym listed) differ;
+      values_are = λ cell small. ap (λ x. values x (tag_name cell)) whole.statements_are ∙ stands.values_are cell small ∙ value_at_last pairs cell;
+      others_are = λ name free. ap (λ x. values x name) whole.statements_are ∙ stands.others_are name free;
     }

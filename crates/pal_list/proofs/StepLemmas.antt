@@ -1,6 +1,6 @@
--- What one statement more does to what a source says, where it names none but permanent names.
-use Rattle.std.proofs.Common.{◌≡◌, ℕ, ◌+◌, ◌*◌, ◌%◌, ◌<◌, nat_lt, Bool, true, false, Option, Some, None, Ok, List, [], ◌∷◌, ◌++◌, refl, ap, ◌∙◌, arith}
-use Rattle.std.proofs.lemmas.Bool.Decides.{nat_tests}
+-- What one statement more does to what a source says, where it names none but permanent names and the tags of its cells.
+use Rattle.std.proofs.Common.{◌≡◌, ◌≢◌, ℕ, ◌+◌, ◌*◌, ◌/◌, ◌%◌, ◌<◌, nat_eq, nat_lt, Bool, true, false, ◌&&◌, ◌||◌, if◌then◌else◌, inl, inr, ◌⊎◌, Option, Some, None, Ok, List, [], ◌∷◌, ◌++◌, refl, ap, sym, subst, ◌∙◌, arith, append_assoc, append-nil}
+use Rattle.std.proofs.lemmas.Bool.Decides.{eqb_tells, nat_tests}
 use Rattle.pal_lex.specs.Statements.{radix_after}
 use Rattle.pal_lex.specs.declared.runs.Radix.TheVariants as radix
 use Rattle.pal_lex.specs.declared.phrases.Body.{Body}
@@ -10,11 +10,15 @@ use Rattle.pal_lex.specs.declared.pieces.Token.{Token}
 use Rattle.pal_sym.specs.Permanent.{permanent}
 use Rattle.pal_sym.specs.Values.{if_none}
 use Rattle.pal_asm.specs.Expressions.{Known}
-use Rattle.pal_asm.specs.Places.{Source, is_word, values, last_setting, words_since, place_at, field_at}
-use Rattle.pal_asm.specs.Words.{body_word, with_pair, pairs_by}
-use Rattle.pal_asm.specs.Faults.{first_of, at_line, past, first_order, word_fault, words_fault, has_word}
+use Rattle.pal_asm.specs.Places.{Source, is_word, with_tags, values, last_setting, words_since, place_at, field_at}
+use Rattle.pal_asm.specs.Words.{body_word, with_pair, word_values, pairs_by}
+use Rattle.pal_asm.specs.Faults.{first_of, at_line, past, defined_otherwise, tags_fault, statement_fault, first_order, word_fault, words_fault, has_word}
+use Rattle.pal_asm.specs.declared.faults.Code.TheVariants.{DT, PF}
 use Rattle.pal_asm.specs.declared.faults.AsmFault.{AsmFault}
+use Rattle.pal_list.specs.Tags.{tag_name, is_given}
+use Rattle.pal_list.specs.Defined.{tags_in, tags_of, IsNoTag}
 use Rattle.pal_list.proofs.GrammarLemmas.{number_parts}
+use Rattle.pal_list.proofs.TagLemmas.{tags_differ, tag_not_permanent}
 
 -- there is a pair
 abbrev pub is_some_pair : List (ℕ × ℕ) → Bool
@@ -25,48 +29,75 @@ one_more : (pairs : List (ℕ × ℕ)) (pair : ℕ × ℕ) → true ≡ is_some_
 one_more [] pair = refl
 one_more (first ∷ pairs) pair = refl
 
+-- ## What names stand for
+
+-- permanent names stand for their values
+abbrev pub Keeps : Known → Type 0
+Keeps known = (name value : ℕ) → permanent name ≡ Some value → known name ≡ Some value
+
+-- and the tags of these cells for theirs
+pub record Knows (tagged : ℕ → Bool) (known : Known) : Type 0 where
+  pub keeps : Keeps known
+  pub tags_are : (cell : ℕ) → cell < 32768 → tagged cell ≡ true → known (tag_name cell) ≡ Some (cell % 4096)
+
+-- what a cell's tag stands for behind these words
+abbrev pub tag_value : (ℕ → Bool) → List (ℕ × ℕ) → ℕ → Option ℕ
+tag_value tagged pairs cell = if is_given pairs cell && tagged cell then Some (cell % 4096) else None
+
 -- Behind these statements the next word goes to this place of this field, and these words stand in cells; no statement has
--- a fault, and names stand for their permanent values.
-pub record Stands (source : Source) (place field : ℕ) (pairs : List (ℕ × ℕ)) : Type 0 where
+-- a fault, and names stand for their permanent values, but for the tags of these words' cells.
+pub record Stands (tagged : ℕ → Bool) (source : Source) (place field : ℕ) (pairs : List (ℕ × ℕ)) : Type 0 where
   pub place_is : place_at source ≡ place
   pub field_is : field_at source ≡ field
-  pub values_are : values source ≡ permanent
+  pub others_are : (name : ℕ) → IsNoTag name → values source name ≡ permanent name
+  pub values_are : (cell : ℕ) → cell < 32768 → values source (tag_name cell) ≡ tag_value tagged pairs cell
+  pub tags_are : tags_in source ≡ tags_of tagged pairs
   pub radix_is : radix_after source ≡ radix.Octal
   pub no_fault : first_order source ≡ None
-  pub no_word_fault : words_fault permanent source ≡ None
-  pub pairs_are : pairs_by permanent source ≡ pairs
+  pub no_word_fault : (last : Known) → Knows tagged last → words_fault last source ≡ None
+  pub pairs_are : (last : Known) → Knows tagged last → pairs_by last source ≡ pairs
   pub word_is : has_word source ≡ is_some_pair pairs
 
-pub stands_first : Stands [] 128 0 []
-stands_first = record {
+pub stands_first : (tagged : ℕ → Bool) → Stands tagged [] 128 0 []
+stands_first tagged = record {
   place_is = refl;
   field_is = refl;
-  values_are = refl;
+  others_are = λ name free. refl;
+  values_are = λ cell small. tag_not_permanent cell;
+  tags_are = refl;
   radix_is = refl;
   no_fault = refl;
-  no_word_fault = refl;
-  pairs_are = refl;
+  no_word_fault = λ last knows. refl;
+  pairs_are = λ last knows. refl;
   word_is = refl;
 }
 
-abbrev pub statement_of : ℕ → Bool → List Token → Body → Statement
-statement_of line last tokens body = record { line = line; tags = []; body = body; last = last; source = 0; tokens = tokens }
+abbrev pub statement_of : ℕ → Bool → List Token → List ℕ → Body → Statement
+statement_of line last tokens tags body = record { line = line; tags = tags; body = body; last = last; source = 0; tokens = tokens }
 
--- what names stand for in a word
-abbrev pub known : Known
-known name = if_none (permanent name) (permanent name)
+not_some : (value : ℕ) → None ≡ Some value → ⊥
+not_some value e = cc
+
+-- a permanent name is no tag
+permanent_is_no_tag : (name value : ℕ) → permanent name ≡ Some value → IsNoTag name
+permanent_is_no_tag name value e cell small same = not_some value (sym (tag_not_permanent cell) ∙ ap permanent same ∙ e)
+
+pub stands_keeps : (tagged : ℕ → Bool) (source : Source) (place field : ℕ) (pairs : List (ℕ × ℕ)) → Stands tagged source place field pairs → Keeps (values source)
+stands_keeps tagged source place field pairs is name value e = is.others_are name (permanent_is_no_tag name value e) ∙ e
 
 -- ## An origin
 
-pub origin_step : (source : Source) (place field : ℕ) (pairs : List (ℕ × ℕ)) (line : ℕ) (tokens : List Token) (a : ℕ) → a < 4096 → Stands source place field pairs
-    → Stands (Ok (statement_of line false tokens (Origin (number_parts a))) ∷ source) a field pairs
-origin_step source place field pairs line tokens a small is = record {
+pub origin_step : (tagged : ℕ → Bool) (source : Source) (place field : ℕ) (pairs : List (ℕ × ℕ)) (line : ℕ) (tokens : List Token) (a : ℕ) → a < 4096
+    → Stands tagged source place field pairs → Stands tagged (Ok (statement_of line false tokens [] (Origin (number_parts a))) ∷ source) a field pairs
+origin_step tagged source place field pairs line tokens a small is = record {
   place_is = small_mod a small;
   field_is = is.field_is;
+  others_are = is.others_are;
   values_are = is.values_are;
+  tags_are = append-nil (tags_in source) ∙ is.tags_are;
   radix_is = is.radix_is;
   no_fault = rw is.no_fault refl;
-  no_word_fault = rw is.no_word_fault refl;
+  no_word_fault = λ last knows. ap (λ f. first_of f None) (is.no_word_fault last knows);
   pairs_are = is.pairs_are;
   word_is = is.word_is;
 }
@@ -76,15 +107,17 @@ origin_step source place field pairs line tokens a small is = record {
 
 -- ## A field
 
-pub field_step : (source : Source) (place field : ℕ) (pairs : List (ℕ × ℕ)) (line : ℕ) (tokens : List Token) (n : ℕ) → n < 8 → Stands source place field pairs
-    → Stands (Ok (statement_of line false tokens (Field (number_parts n))) ∷ source) 128 n pairs
-field_step source place field pairs line tokens n small is = record {
+pub field_step : (tagged : ℕ → Bool) (source : Source) (place field : ℕ) (pairs : List (ℕ × ℕ)) (line : ℕ) (tokens : List Token) (n : ℕ) → n < 8
+    → Stands tagged source place field pairs → Stands tagged (Ok (statement_of line false tokens [] (Field (number_parts n))) ∷ source) 128 n pairs
+field_step tagged source place field pairs line tokens n small is = record {
   place_is = refl;
   field_is = small_mod n small;
+  others_are = is.others_are;
   values_are = is.values_are;
+  tags_are = append-nil (tags_in source) ∙ is.tags_are;
   radix_is = is.radix_is;
   no_fault = rw (is.no_fault, small_mod n small, not_above n small) refl;
-  no_word_fault = rw is.no_word_fault refl;
+  no_word_fault = λ last knows. ap (λ f. first_of f None) (is.no_word_fault last knows);
   pairs_are = is.pairs_are;
   word_is = is.word_is;
 }
@@ -95,85 +128,212 @@ field_step source place field pairs line tokens n small is = record {
     not_above : (a : ℕ) → a < 8 → nat_lt 7 a ≡ false
     not_above a small = grind (arith, nat_tests)
 
+-- ## The tag of a word
+
+-- the tags of a cell's statement
+abbrev pub label : Bool → ℕ → List ℕ
+label true cell = tag_name cell ∷ []
+label false cell = []
+
+not_same : (a b : ℕ) → a ≢ b → nat_eq a b ≡ false
+not_same a b ne = elim (eqb_tells a b) [ inl same ↦ absurd (ne same.1) | inr other ↦ other.0 ]
+
+pub given_more : (pairs : List (ℕ × ℕ)) (at word cell : ℕ) → is_given (pairs ++ (at, word) ∷ []) cell ≡ (nat_eq at cell || is_given pairs cell)
+given_more [] at word cell = refl
+given_more (pair ∷ pairs) at word cell =
+    ap (λ b. nat_eq pair.0 cell || b) (given_more pairs at word cell) ∙ turned (nat_eq pair.0 cell) (nat_eq at cell) (is_given pairs cell)
+  where
+    turned : (a b c : Bool) → (a || (b || c)) ≡ (b || (a || c))
+    turned true true c = refl
+    turned true false c = refl
+    turned false b c = refl
+
+-- another name
+other_name : (b : Bool) (cell place name : ℕ) (known : Known) → cell < 32768 → IsNoTag name → with_tags (label b cell) place known name ≡ known name
+other_name true cell place name known small free = ap (λ (b : Bool). if b then Some place else known name) (not_same (tag_name cell) name (free cell small))
+other_name false cell place name known small free = refl
+
+same_name : (a b : ℕ) → a ≡ b → nat_eq (tag_name a) (tag_name b) ≡ true
+same_name a b same = elim (eqb_tells (tag_name a) (tag_name b)) [ inl is ↦ is.0 | inr other ↦ absurd (other.1 (ap tag_name same)) ]
+
+not_tagged : (given tagged : Bool) (value : ℕ) → tagged ≡ false → (if given && tagged then Some value else None) ≡ None
+not_tagged true tagged value e = rw e refl
+not_tagged false tagged value e = refl
+
+-- a cell's tag behind one word more, which is at this cell
+same_cell : (tagged : ℕ → Bool) (b : Bool) (given : Bool) (at cell : ℕ) (known : Known) → tagged at ≡ b → at ≡ cell
+    → known (tag_name cell) ≡ (if given && tagged cell then Some (cell % 4096) else None)
+    → with_tags (label b at) (at % 4096) known (tag_name cell) ≡ (if tagged cell then Some (cell % 4096) else None)
+same_cell tagged true given at cell known marked same before =
+    ap (λ (t : Bool). if t then Some (at % 4096) else known (tag_name cell)) (same_name at cell same)
+    ∙ ap (λ n. Some (n % 4096)) same
+    ∙ sym (ap (λ (t : Bool). if t then Some (cell % 4096) else None) (ap tagged (sym same) ∙ marked))
+same_cell tagged false given at cell known marked same before =
+    let none : tagged cell ≡ false = ap tagged (sym same) ∙ marked in
+    before ∙ not_tagged given (tagged cell) (cell % 4096) none ∙ sym (ap (λ (t : Bool). if t then Some (cell % 4096) else None) none)
+
+-- which is at another
+other_cell : (b : Bool) (at cell place : ℕ) (known : Known) → at < 32768 → cell < 32768 → at ≢ cell → with_tags (label b at) place known (tag_name cell) ≡ known (tag_name cell)
+other_cell true at cell place known inside small ne =
+    ap (λ (t : Bool). if t then Some place else known (tag_name cell)) (not_same (tag_name at) (tag_name cell) (λ e. ne (tags_differ at cell inside small e)))
+other_cell false at cell place known inside small ne = refl
+
+tag_behind : (tagged : ℕ → Bool) (pairs : List (ℕ × ℕ)) (at word cell : ℕ) (known : Known) → at < 32768 → cell < 32768
+    → known (tag_name cell) ≡ tag_value tagged pairs cell
+    → with_tags (label (tagged at) at) (at % 4096) known (tag_name cell) ≡ tag_value tagged (pairs ++ (at, word) ∷ []) cell
+tag_behind tagged pairs at word cell known inside small before =
+    elim (eqb_tells at cell) [
+      | inl same ↦
+          same_cell tagged (tagged at) (is_given pairs cell) at cell known refl same.1 before
+          ∙ ap (λ g. if (g || is_given pairs cell) && tagged cell then Some (cell % 4096) else None) (sym same.0)
+      | inr other ↦
+          other_cell (tagged at) at cell (at % 4096) known inside small other.1
+          ∙ before
+          ∙ ap (λ g. if (g || is_given pairs cell) && tagged cell then Some (cell % 4096) else None) (sym other.0)
+    ]
+    ∙ ap (λ g. if g && tagged cell then Some (cell % 4096) else None) (sym (given_more pairs at word cell))
+
+-- ## A tag has no fault
+
+not_past : (place : ℕ) → place < 4096 → nat_lt 4095 place ≡ false
+not_past place small = grind (arith, nat_tests)
+
+same_number : (n : ℕ) → nat_eq n n ≡ true
+same_number n = grind (arith, nat_tests)
+
+-- nothing, or this
+abbrev Is : Option ℕ → ℕ → Type 0
+Is o value = (o ≡ None) ⊎ (o ≡ Some value)
+
+tag_value_is : (tagged : ℕ → Bool) (pairs : List (ℕ × ℕ)) (cell : ℕ) → Is (tag_value tagged pairs cell) (cell % 4096)
+tag_value_is tagged pairs cell = either (is_given pairs cell && tagged cell) (cell % 4096)
+  where
+    either : (b : Bool) (value : ℕ) → Is (if b then Some value else None) value
+    either true value = inr refl
+    either false value = inl refl
+
+no_other : (place : ℕ) (o : Option ℕ) → Is o place → defined_otherwise DT place o ≡ None
+no_other place o (inl none) = ap (defined_otherwise DT place) none
+no_other place o (inr some) = ap (defined_otherwise DT place) some ∙ ap (λ (b : Bool). if b then None else Some DT) (same_number place)
+
+tag_fault : (b : Bool) (place cell : ℕ) (known : Known) → place < 4096 → Is (known (tag_name cell)) place → tags_fault known place (label b cell) ≡ None
+tag_fault true place cell known small before =
+    ap (λ (t : Bool). first_of (first_of (if t then Some PF else None) (defined_otherwise DT place (known (tag_name cell)))) None) (not_past place small)
+    ∙ ap (λ f. first_of f None) (no_other place (known (tag_name cell)) before)
+tag_fault false place cell known small before = refl
+
+-- ## What names stand for in a word
+
+-- In a word behind statements names stand for what they stand for there, or at last.
+knows_there : (tagged : ℕ → Bool) (there last : Known) → Keeps there → ((cell : ℕ) → cell < 32768 → Is (there (tag_name cell)) (cell % 4096)) → Knows tagged last
+    → Knows tagged (λ name. if_none (there name) (last name))
+knows_there tagged there last keeps tags knows = record {
+  keeps = λ name value e. ap (λ o. if_none o (last name)) (keeps name value e);
+  tags_are = λ cell small marked. first (there (tag_name cell)) (last (tag_name cell)) (cell % 4096) (tags cell small) (knows.tags_are cell small marked);
+}
+  where
+    first : (o later : Option ℕ) (value : ℕ) → Is o value → later ≡ Some value → if_none o later ≡ Some value
+    first o later value (inl none) e = ap (λ o. if_none o later) none ∙ e
+    first o later value (inr some) e = ap (λ o. if_none o later) some
+
+knows_here : (tagged : ℕ → Bool) (source : Source) (field : ℕ) (pairs : List (ℕ × ℕ)) (at word : ℕ) (last : Known) → at < 32768
+    → Stands tagged source (at % 4096) field pairs → Knows tagged last → Knows tagged (word_values last (label (tagged at) at) source)
+knows_here tagged source field pairs at word last small is knows =
+    subst (λ p. Knows tagged (λ name. if_none (with_tags (label (tagged at) at) p (values source) name) (last name))) (sym is.place_is)
+    (knows_there tagged (with_tags (label (tagged at) at) (at % 4096) (values source)) last
+    (λ name value e. other_name (tagged at) at (at % 4096) name (values source) small (permanent_is_no_tag name value e) ∙ is.others_are name (permanent_is_no_tag name value e) ∙ e)
+    (λ cell inside. subst (λ o. Is o (cell % 4096)) (sym (tag_behind tagged pairs at word cell (values source) small inside (is.values_are cell inside))) (tag_value_is tagged (pairs ++ (at, word) ∷ []) cell))
+    knows)
+
 -- ## A word
 
--- a body is this word at a place
-pub record IsWordOf (body : Body) (place word : ℕ) : Type 0 where
+-- a body is this word at a place, where names stand for what the source makes of them
+pub record IsWordOf (tagged : ℕ → Bool) (body : Body) (place word : ℕ) : Type 0 where
   pub is_word : is_word body ≡ true
-  pub value : body_word known place body ≡ Some word
-  pub no_fault : word_fault known place body ≡ None
+  pub value : (known : Known) → Knows tagged known → body_word known place body ≡ Some word
+  pub no_fault : (known : Known) → Knows tagged known → word_fault known place body ≡ None
 
--- what a word changes, over plain values
-word_first : (older : Option AsmFault) (line place : ℕ) → place < 4096 → older ≡ None → first_of older (at_line line (first_of None (past place))) ≡ None
-word_first older line place small none = rw (none, not_past place small) refl
+-- what the statement of a word changes
+record IsStated (source : Source) (s : Statement) : Type 0 where
+  place : place_at (Ok s ∷ source) ≡ last_setting source + (1 + words_since source)
+  field : field_at (Ok s ∷ source) ≡ field_at source
+  values_are : (name : ℕ) → values (Ok s ∷ source) name ≡ with_tags s.tags (place_at source) (values source) name
+  radix_is : radix_after (Ok s ∷ source) ≡ radix_after source
+  fault : statement_fault s source ≡ first_of (tags_fault (values source) (place_at source) s.tags) (past (place_at source))
+  word_is : has_word (Ok s ∷ source) ≡ true
+
+word_stated : (source : Source) (line : ℕ) (tokens : List Token) (tags : List ℕ) (body : Body) → is_word body ≡ true → IsStated source (statement_of line false tokens tags body)
+word_stated source line tokens tags Nothing e = absurd (cc e)
+word_stated source line tokens tags (Origin x) e = absurd (cc e)
+word_stated source line tokens tags (Define name x) e = absurd (cc e)
+word_stated source line tokens tags Decimal e = absurd (cc e)
+word_stated source line tokens tags Pause e = absurd (cc e)
+word_stated source line tokens tags Octal e = absurd (cc e)
+word_stated source line tokens tags (Field x) e = absurd (cc e)
+word_stated source line tokens tags (Reference op indirect address) e =
+    record { place = refl; field = refl; values_are = λ name. refl; radix_is = refl; fault = refl; word_is = refl }
+word_stated source line tokens tags (Word x) e =
+    record { place = refl; field = refl; values_are = λ name. refl; radix_is = refl; fault = refl; word_is = refl }
+
+pub listed_more : (tagged : ℕ → Bool) (pairs : List (ℕ × ℕ)) (cell word : ℕ) → tags_of tagged (pairs ++ (cell, word) ∷ []) ≡ tags_of tagged pairs ++ label (tagged cell) cell
+listed_more tagged [] cell word = append-nil _ ∙ labelled (tagged cell)
   where
-    not_past : (place : ℕ) → place < 4096 → nat_lt 4095 place ≡ false
-    not_past place small = grind (arith, nat_tests)
+    labelled : (b : Bool) → (if b then tag_name cell ∷ [] else []) ≡ label b cell
+    labelled true = refl
+    labelled false = refl
+listed_more tagged (pair ∷ pairs) cell word =
+    let first = if tagged pair.0 then tag_name pair.0 ∷ [] else [] in
+    ap (λ l. first ++ l) (listed_more tagged pairs cell word) ∙ sym (append_assoc first (tags_of tagged pairs) (label (tagged cell) cell))
 
-pub word_step : (source : Source) (place field : ℕ) (pairs : List (ℕ × ℕ)) (line : ℕ) (tokens : List Token) (body : Body) (word : ℕ) → place < 4096
-    → IsWordOf body place word → Stands source place field pairs
-    → Stands (Ok (statement_of line false tokens body) ∷ source) (place + 1) field (pairs ++ (4096 * field + place, word) ∷ [])
-word_step source place field pairs line tokens Nothing word small means is = absurd (cc means.is_word)
-word_step source place field pairs line tokens (Origin e) word small means is = absurd (cc means.is_word)
-word_step source place field pairs line tokens (Define name e) word small means is = absurd (cc means.is_word)
-word_step source place field pairs line tokens Decimal word small means is = absurd (cc means.is_word)
-word_step source place field pairs line tokens Pause word small means is = absurd (cc means.is_word)
-word_step source place field pairs line tokens Octal word small means is = absurd (cc means.is_word)
-word_step source place field pairs line tokens (Field e) word small means is = absurd (cc means.is_word)
-word_step source place field pairs line tokens (Reference op indirect address) word small means is =
-    let body = Reference op indirect address in
-    let value : body_word (λ n. if_none (values source n) (permanent n)) (place_at source) body ≡ Some word =
-    ap (λ (v : Known). body_word (λ n. if_none (v n) (permanent n)) (place_at source) body) is.values_are
-    ∙ ap (λ p. body_word known p body) is.place_is ∙ means.value in
-    let fault : word_fault (λ n. if_none (values source n) (permanent n)) (place_at source) body ≡ None =
-    ap (λ (v : Known). word_fault (λ n. if_none (v n) (permanent n)) (place_at source) body) is.values_are
-    ∙ ap (λ p. word_fault known p body) is.place_is ∙ means.no_fault in
+pub word_step : (tagged : ℕ → Bool) (source : Source) (pairs : List (ℕ × ℕ)) (line : ℕ) (tokens : List Token) (body : Body) (cell word : ℕ) → cell < 32768
+    → IsWordOf tagged body (cell % 4096) word → Stands tagged source (cell % 4096) (cell / 4096) pairs
+    → Stands tagged (Ok (statement_of line false tokens (label (tagged cell) cell) body) ∷ source) (cell % 4096 + 1) (cell / 4096) (pairs ++ (cell, word) ∷ [])
+word_step tagged source pairs line tokens body cell word small means is =
+    let tags = label (tagged cell) cell in
+    let place = cell % 4096 in
+    let stated = word_stated source line tokens tags body means.is_word in
+    let inside : place < 4096 = omega arith in
+    let here = λ (last : Known) (knows : Knows tagged last). knows_here tagged source (cell / 4096) pairs cell word last small is knows in
     record {
-      place_is = next (last_setting source) (words_since source) place is.place_is;
-      field_is = is.field_is;
-      values_are = is.values_are;
-      radix_is = is.radix_is;
-      no_fault = ap (λ p. first_of (first_order source) (at_line line (first_of None (past p)))) is.place_is ∙ word_first (first_order source) line place small is.no_fault;
-      no_word_fault = ap (λ f. first_of (words_fault permanent source) (at_line line f)) fault ∙ ap (λ f. first_of f None) is.no_word_fault;
-      pairs_are =
-          ap (λ w. with_pair (pairs_by permanent source) (4096 * field_at source + place_at source) w) value
-          ∙ ap (λ l. l ++ (4096 * field_at source + place_at source, word) ∷ []) is.pairs_are
-          ∙ ap (λ f. pairs ++ (4096 * f + place_at source, word) ∷ []) is.field_is
-          ∙ ap (λ p. pairs ++ (4096 * field + p, word) ∷ []) is.place_is;
-      word_is = one_more pairs (4096 * field + place, word);
+      place_is = stated.place ∙ next (last_setting source) (words_since source) place is.place_is;
+      field_is = stated.field ∙ is.field_is;
+      others_are = λ name free. stated.values_are name ∙ other_name (tagged cell) cell (place_at source) name (values source) small free ∙ is.others_are name free;
+      values_are = λ other low.
+          stated.values_are (tag_name other)
+          ∙ ap (λ p. with_tags tags p (values source) (tag_name other)) is.place_is
+          ∙ tag_behind tagged pairs cell word other (values source) small low (is.values_are other low);
+      tags_are = ap (λ l. l ++ tags) is.tags_are ∙ sym (listed_more tagged pairs cell word);
+      radix_is = stated.radix_is ∙ is.radix_is;
+      no_fault =
+          ap (λ f. first_of (first_order source) (at_line line f)) (stated.fault ∙ ap (λ p. first_of (tags_fault (values source) p tags) (past p)) is.place_is)
+          ∙ ap (λ f. first_of (first_order source) (at_line line (first_of f (past place))))
+          (tag_fault (tagged cell) place cell (values source) inside (subst (λ o. Is o place) (sym (is.values_are cell small)) (tag_value_is tagged pairs cell)))
+          ∙ word_first (first_order source) line place inside is.no_fault;
+      no_word_fault = λ last knows.
+          ap (λ p. first_of (words_fault last source) (at_line line (word_fault (word_values last tags source) p body))) is.place_is
+          ∙ ap (λ f. first_of (words_fault last source) (at_line line f)) (means.no_fault (word_values last tags source) (here last knows))
+          ∙ ap (λ f. first_of f None) (is.no_word_fault last knows);
+      pairs_are = λ last knows.
+          ap (λ p. with_pair (pairs_by last source) (4096 * field_at source + p) (body_word (word_values last tags source) p body)) is.place_is
+          ∙ ap (λ w. with_pair (pairs_by last source) (4096 * field_at source + place) w) (means.value (word_values last tags source) (here last knows))
+          ∙ ap (λ l. l ++ (4096 * field_at source + place, word) ∷ []) (is.pairs_are last knows)
+          ∙ ap (λ f. pairs ++ (4096 * f + place, word) ∷ []) is.field_is
+          ∙ ap (λ c. pairs ++ (c, word) ∷ []) (again cell);
+      word_is = stated.word_is ∙ one_more pairs (cell, word);
     }
   where
     next : (a b c : ℕ) → a + b ≡ c → a + (1 + b) ≡ c + 1
     next a b c e = omega (arith, e)
-word_step source place field pairs line tokens (Word e) word small means is =
-    let body = Word e in
-    let value : body_word (λ n. if_none (values source n) (permanent n)) (place_at source) body ≡ Some word =
-    ap (λ (v : Known). body_word (λ n. if_none (v n) (permanent n)) (place_at source) body) is.values_are
-    ∙ ap (λ p. body_word known p body) is.place_is ∙ means.value in
-    let fault : word_fault (λ n. if_none (values source n) (permanent n)) (place_at source) body ≡ None =
-    ap (λ (v : Known). word_fault (λ n. if_none (v n) (permanent n)) (place_at source) body) is.values_are
-    ∙ ap (λ p. word_fault known p body) is.place_is ∙ means.no_fault in
-    record {
-      place_is = next (last_setting source) (words_since source) place is.place_is;
-      field_is = is.field_is;
-      values_are = is.values_are;
-      radix_is = is.radix_is;
-      no_fault = ap (λ p. first_of (first_order source) (at_line line (first_of None (past p)))) is.place_is ∙ word_first (first_order source) line place small is.no_fault;
-      no_word_fault = ap (λ f. first_of (words_fault permanent source) (at_line line f)) fault ∙ ap (λ f. first_of f None) is.no_word_fault;
-      pairs_are =
-          ap (λ w. with_pair (pairs_by permanent source) (4096 * field_at source + place_at source) w) value
-          ∙ ap (λ l. l ++ (4096 * field_at source + place_at source, word) ∷ []) is.pairs_are
-          ∙ ap (λ f. pairs ++ (4096 * f + place_at source, word) ∷ []) is.field_is
-          ∙ ap (λ p. pairs ++ (4096 * field + p, word) ∷ []) is.place_is;
-      word_is = one_more pairs (4096 * field + place, word);
-    }
-  where
-    next : (a b c : ℕ) → a + b ≡ c → a + (1 + b) ≡ c + 1
-    next a b c e = omega (arith, e)
+
+    again : (cell : ℕ) → 4096 * (cell / 4096) + cell % 4096 ≡ cell
+    again cell = omega arith
+
+    word_first : (older : Option AsmFault) (line place : ℕ) → place < 4096 → older ≡ None → first_of older (at_line line (first_of None (past place))) ≡ None
+    word_first older line place small none = rw (none, not_past place small) refl
 
 -- an octal number is its word
-pub number_word : (place word : ℕ) → word < 4096 → IsWordOf (Word (number_parts word)) place word
-number_word place word small = record { is_word = refl; value = ap (λ n. Some n) (small_mod word small); no_fault = refl }
+pub number_word : (tagged : ℕ → Bool) (place word : ℕ) → word < 4096 → IsWordOf tagged (Word (number_parts word)) place word
+number_word tagged place word small = record { is_word = refl; value = λ known knows. ap (λ n. Some n) (small_mod word small); no_fault = λ known knows. refl }
   where
     small_mod : (a : ℕ) → a < 4096 → (0 + a) % 4096 ≡ a
     small_mod a small = omega arith

@@ -51,7 +51,7 @@ pub hold_none : (count cell : ℕ) → cell < count → slice_index_or (replicat
 hold_none count cell inside = get_or-replicate {A = Option ℕ} count cell None None inside
 
 -- what a slice of a whole vector leaves of it
-pub whole_written : (count : ℕ) (new old : List (Option ℕ)) → length new ≡ count → take count (new ++ drop (length new) old) ≡ new
+pub whole_written : {A : Type 0} (count : ℕ) (new old : List A) → length new ≡ count → take count (new ++ drop (length new) old) ≡ new
 whole_written count new old size = rw (sym size) (take-append_seam new (drop (length new) old))
 
 -- ## The words of a tape are words, and its cells are cells

@@ -1,8 +1,9 @@
 -- The lines of a source, by the words that it gives cells (PAL III Symbolic Assembler manual, and this project's profile).
-use Rattle.std.specs.Prelude.{ℕ, ◌/◌, ◌%◌, nat_eq, if◌then◌else◌, Option, List, [], ◌∷◌, ◌++◌, codes}
+use Rattle.std.specs.Prelude.{ℕ, ◌/◌, ◌%◌, nat_eq, Bool, if◌then◌else◌, Option, List, [], ◌∷◌, ◌++◌, codes}
 use Rattle.word12.specs.Octal.{octal_digit, octal4}
 use Rattle.bin_tape.specs.Writing.{field_behind, is_next, newest_cell}
 use Rattle.pal_list.specs.Statements.{statement}
+use Rattle.pal_list.specs.Tags.{tag, is_tagged}
 
 -- CR and LF
 abbrev pub line_end : List ℕ
@@ -25,22 +26,26 @@ abbrev pub led : ℕ → List (List ℕ) → List ℕ
 led byte [] = []
 led byte (piece ∷ others) = byte ∷ piece ++ led 32 others
 
--- the statement of the word behind a tab, and behind another the comment
-abbrev pub word_line : ℕ → ℕ → List ℕ
-word_line cell word = led 9 (statement cell word) ++ 9 ∷ comment cell word ++ line_end
+-- a cell's tag with a comma, where it has one
+abbrev pub tag_part : (ℕ → Bool) → ℕ → List ℕ
+tag_part tagged cell = if tagged cell then tag cell ++ 44 ∷ [] else []
+
+-- the cell's tag, the statement of the word behind a tab, and behind another the comment
+abbrev pub word_line : (ℕ → Bool) → ℕ → ℕ → List ℕ
+word_line tagged cell word = tag_part tagged cell ++ led 9 (statement tagged cell word) ++ 9 ∷ comment cell word ++ line_end
 
 -- the lines of a cell's word behind a word for the cell before: the field where it changes, an origin where the cell isn't
 -- the next, and the word
-abbrev pub cell_lines : Option ℕ → ℕ → ℕ → List ℕ
-cell_lines before cell word =
+abbrev pub cell_lines : (ℕ → Bool) → Option ℕ → ℕ → ℕ → List ℕ
+cell_lines tagged before cell word =
     (if nat_eq (cell / 4096) (field_behind before) then [] else field_line cell) ++ (if is_next before cell then [] else origin_line cell)
-    ++ word_line cell word
+    ++ word_line tagged cell word
 
--- the lines of cells with their words, the newest first
-abbrev pub lines_of : List (ℕ × ℕ) → List ℕ
-lines_of [] = []
-lines_of (pair ∷ older) = lines_of older ++ cell_lines (newest_cell older) pair.0 pair.1
+-- the lines of cells with their words, the newest first, where these cells are tagged
+abbrev pub lines_of : (ℕ → Bool) → List (ℕ × ℕ) → List ℕ
+lines_of tagged [] = []
+lines_of tagged (pair ∷ older) = lines_of tagged older ++ cell_lines tagged (newest_cell older) pair.0 pair.1
 
--- the source of cells with their words, the newest first: their lines, and `$`
+-- the source of cells with their words, the newest first: their lines, with a tag for each cell that they refer to, and `$`
 abbrev pub source_of : List (ℕ × ℕ) → List ℕ
-source_of pairs = lines_of pairs ++ 36 ∷ line_end
+source_of pairs = lines_of (is_tagged pairs) pairs ++ 36 ∷ line_end

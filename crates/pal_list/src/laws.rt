@@ -1,13 +1,16 @@
 //! Laws of the sources of tapes.
 
-ghost use Rattle.std.specs.Prelude.{ℕ, ◌<◌, ◌++◌, length, reverse, List};
+ghost use Rattle.std.specs.Prelude.{◌≡◌, ℕ, ◌<◌, ◌++◌, None, length, reverse, List};
 ghost use Rattle.bin_tape.specs.Pairs.{ArePairs};
 ghost use Rattle.bin_tape.specs.Writing.{tape_of};
 ghost use Rattle.pal_lex.specs.Text.{text_of};
 ghost use Rattle.pal_asm.specs.Words.{pairs_of};
+ghost use Rattle.pal_sym.specs.Permanent.{permanent};
+ghost use Rattle.pal_list.specs.Defined.{DefinesTags, TagsWhatIsNamed};
 ghost use Rattle.pal_list.specs.Fewest.{AreFewest, group_1, group_2};
 ghost use Rattle.pal_list.specs.Lines.{source_of};
-ghost use Rattle.pal_list.specs.Sources.{IsReadAs, IsSourceOf, SaysTheSame};
+ghost use Rattle.pal_list.specs.Sources.{IsReadAs, IsSourceOf, SaysTheSame, words_of_tape};
+ghost use Rattle.pal_list.specs.Tags.{tag_name};
 
 use bin_tape::laws::written_tape;
 use pal_asm::laws::has_words;
@@ -26,6 +29,24 @@ pub fn tape_comes_back()
     written_tape();
     has_words();
 }
+
+/// The cells that a tape's source tags are just those to which the tape gives a word and which a memory reference of the tape
+/// names.
+pub fn named_cells_are_tagged()
+    ensures { (frames text : List ℕ) (source : IsSourceOf frames text) → TagsWhatIsNamed source.items }
+{}
+
+/// The tags that a tape's source defines are those of the cells that it tags, by rising cell, and each is defined once. Each
+/// stands for the address of its cell, and every other name for its permanent value.
+pub fn tags_are_defined_once()
+    ensures { (frames text : List ℕ) (source : IsSourceOf frames text) → DefinesTags text (words_of_tape source.items) }
+{}
+
+/// No two cells have the same tag, and no tag is a permanent name.
+pub fn tags_are_names_of_their_own()
+    ensures differ { (a b : ℕ) → a < 32768 → b < 32768 → tag_name a ≡ tag_name b → a ≡ b }
+    ensures free { (cell : ℕ) → permanent (tag_name cell) ≡ None }
+{}
 
 /// What names of group 1, or of group 2 of the operates come to is shown by names, and by no more of them.
 pub fn names_are_fewest()

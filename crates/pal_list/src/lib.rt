@@ -2,15 +2,18 @@
 //!
 //! A line stands for each cell that the tape gives a word, by rising field and address (PAL III Symbolic Assembler manual,
 //! and this project's profile of it). It has a statement that is the word at that place, a memory reference or permanent
-//! names where they come to the word and else its number, and a comment with the cell and the word in octal.
+//! names where they come to the word and else its number, and a comment with the cell and the word in octal. A cell that a
+//! memory reference of the tape names has a tag, which stands for its address there.
 #![tactic(auto)]
 
 mod faults;
 pub mod laws;
 mod lines;
 mod patterns;
+mod references;
 mod sources;
 mod statements;
+mod tags;
 
 pub use faults::ListFault;
 pub use sources::source_of;

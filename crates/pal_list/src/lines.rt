@@ -1,24 +1,28 @@
-ghost use Rattle.std.specs.Prelude.{◌≡◌, ℕ, ◌/◌, ◌++◌, nat_eq, if◌then◌else◌, OnOk, List, [], ◌∷◌};
+ghost use Rattle.std.specs.Prelude.{◌≡◌, ℕ, ◌/◌, ◌++◌, nat_eq, if◌then◌else◌, OnOk, List, [], ◌∷◌, length};
 ghost use Rattle.bin_tape.specs.Writing.{field_behind, is_next};
-ghost use Rattle.pal_list.specs.Lines.{line_end, field_line, origin_line, comment, word_line, cell_lines};
+ghost use Rattle.pal_list.specs.Tags.{tagged_in};
+ghost use Rattle.pal_list.specs.Lines.{line_end, field_line, origin_line, comment, tag_part, word_line, cell_lines};
 
 use crate::statements::put_statement;
+use crate::tags::tag;
 use std::alloc::AllocError;
 use word12::{Cell, Word};
 
-/// Appends the lines of a cell's word behind a word for the cell before.
+/// Appends the lines of a cell's word behind a word for the cell before, where these cells are tagged.
 pub fn put_cell(
     text: &mut Vec<u8>,
+    tags: &[bool],
     before: Option<Cell>,
     cell: Cell,
     word: Word,
 ) -> Result<(), AllocError>
-    ensures { OnOk result (text.new.items ≡ text.old.items ++ cell_lines before cell word) }
+    requires { length tags.now ≡ 32768 }
+    ensures { OnOk result (text.new.items ≡ text.old.items ++ cell_lines (tagged_in tags.now) before cell word) }
 {
     let again = before;
     put_field(text, before, cell)?;
     put_origin(text, again, cell)?;
-    put_word(text, cell, word)?;
+    put_word(text, tags, cell, word)?;
     Ok(())
 }
 
@@ -58,12 +62,27 @@ fn put_origin(text: &mut Vec<u8>, before: Option<Cell>, cell: Cell) -> Result<()
     Ok(())
 }
 
-/// Appends the line of a cell's word: its statement, and a comment with the cell and the word in octal.
-fn put_word(text: &mut Vec<u8>, cell: Cell, word: Word) -> Result<(), AllocError>
-    ensures { OnOk result (text.new.items ≡ text.old.items ++ word_line cell word) }
+/// Appends the line of a cell's word: its tag, if it has one, its statement, and a comment with the cell and the word in
+/// octal.
+fn put_word(text: &mut Vec<u8>, tags: &[bool], cell: Cell, word: Word) -> Result<(), AllocError>
+    requires { length tags.now ≡ 32768 }
+    ensures { OnOk result (text.new.items ≡ text.old.items ++ word_line (tagged_in tags.now) cell word) }
 {
-    put_statement(text, cell, word)?;
+    put_tag(text, tags, cell)?;
+    put_statement(text, tags, cell, word)?;
     put_comment(text, cell, word)?;
+    Ok(())
+}
+
+/// Appends a cell's tag and a comma, if it has one.
+fn put_tag(text: &mut Vec<u8>, tags: &[bool], cell: Cell) -> Result<(), AllocError>
+    requires { length tags.now ≡ 32768 }
+    ensures { OnOk result (text.new.items ≡ text.old.items ++ tag_part (tagged_in tags.now) cell) }
+{
+    if tags[cell.index()] {
+        text.extend_from_slice(&tag(cell))?;
+        text.push(b',')?;
+    }
     Ok(())
 }
 

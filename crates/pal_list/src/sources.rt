@@ -1,11 +1,13 @@
 ghost use Rattle.std.specs.Prelude.{◌≡◌, ℕ, ◌<◌, ◌++◌, ◌∷◌, [], None, Option, List, IfOk, IfErr, OnOk, length, replicate, vec_len, slice_index_or};
 ghost use Rattle.bin_tape.specs.Items.{Item};
 ghost use Rattle.bin_tape.specs.Writing.{newest_cell};
+ghost use Rattle.pal_list.specs.Tags.{tagged_in};
 ghost use Rattle.pal_list.specs.Lines.{lines_of};
 ghost use Rattle.pal_list.specs.Sources.{IsSourceOf, IsListFault, IsHeld, HoldsMap, HoldsRead, with_word, words_of_tape};
 
 use crate::ListFault;
 use crate::lines::put_cell;
+use crate::tags::tags_of;
 use bin_tape::{TapeFault, TapeReader};
 use std::alloc::{AllocError, Global};
 use word12::{Cell, Word};
@@ -14,7 +16,8 @@ use word12::{Cell, Word};
 const CELLS: usize = 32768;
 
 /// The PAL III source of a BIN tape: a line for each cell that the tape gives a word, by rising field and address, with
-/// `FIELD` where the field changes and an origin where a cell isn't the next; at last `$`. Lines end with CR and LF.
+/// `FIELD` where the field changes and an origin where a cell isn't the next; at last `$`. Lines end with CR and LF. A cell
+/// with a word that a memory reference among the words names is tagged, and named by its tag.
 ///
 /// The source assembles without a fault to the last words that the tape gives its cells. A tape that gives no cell a word
 /// is refused: the assembler has a fault for a source of no word (this project's profile).
@@ -23,7 +26,8 @@ pub fn source_of(alloc: Global, frames: &[u8]) -> Result<Vec<u8>, ListFault>
     ensures fault { IfErr result (λ fault. IsListFault frames.now fault) }
 {
     let words = words_of(alloc, frames)?;
-    let mut text = lines_of(alloc, &words)?;
+    let tags = tags_of(alloc, &words)?;
+    let mut text = lines_of(alloc, &words, &tags)?;
     if text.is_empty() {
         return Err(ListFault::NoWord);
     }
@@ -79,15 +83,17 @@ fn take(reader: &mut TapeReader, frame: u8, words: &mut [Option<Word>])
     }
 }
 
-/// The lines of the cells that have a word, by rising cell.
-fn lines_of(alloc: Global, words: &[Option<Word>]) -> Result<Vec<u8>, AllocError>
-    requires { length words.now ≡ 32768 }
-    ensures { IfOk result (λ text. (items : List Item) → HoldsMap items words.now → text.items ≡ lines_of (words_of_tape items)) }
+/// The lines of the cells that have a word, by rising cell, where these cells are tagged.
+fn lines_of(alloc: Global, words: &[Option<Word>], tags: &[bool]) -> Result<Vec<u8>, AllocError>
+    requires words { length words.now ≡ 32768 }
+    requires size { length tags.now ≡ 32768 }
+    ensures { IfOk result (λ text. (items : List Item) → HoldsMap items words.now → text.items ≡ lines_of (tagged_in tags.now) (words_of_tape items)) }
 {
     let mut text = Vec::new(alloc);
     let mut before = None;
     for number in 0u32..32768 {
-        before = put_next(&mut text, before, Cell::of(number), words[number as usize])?;
+        let word = words[number as usize];
+        before = put_next(&mut text, tags, before, Cell::of(number), word)?;
     }
     Ok(text)
 }
@@ -95,17 +101,19 @@ fn lines_of(alloc: Global, words: &[Option<Word>]) -> Result<Vec<u8>, AllocError
 /// Appends the lines of a cell, if it has a word, and answers the last cell that has one.
 fn put_next(
     text: &mut Vec<u8>,
+    tags: &[bool],
     before: Option<Cell>,
     cell: Cell,
     word: Option<Word>,
 ) -> Result<Option<Cell>, AllocError>
-    ensures text { (older : List (ℕ × ℕ)) → text.old.items ≡ lines_of older → before ≡ newest_cell older
-        → OnOk result (text.new.items ≡ lines_of (with_word word cell older)) }
+    requires { length tags.now ≡ 32768 }
+    ensures text { (older : List (ℕ × ℕ)) → text.old.items ≡ lines_of (tagged_in tags.now) older → before ≡ newest_cell older
+        → OnOk result (text.new.items ≡ lines_of (tagged_in tags.now) (with_word word cell older)) }
     ensures cell { (older : List (ℕ × ℕ)) → before ≡ newest_cell older → IfOk result (λ next. next ≡ newest_cell (with_word word cell older)) }
 {
     match word {
         Some(word) => {
-            put_cell(text, before, cell, word)?;
+            put_cell(text, tags, before, cell, word)?;
             Ok(Some(cell))
         }
         None => Ok(before),

@@ -1,23 +1,29 @@
-ghost use Rattle.std.specs.Prelude.{◌≡◌, ◌/◌, ◌%◌, ◌++◌, ◌∷◌, [], codes, nat_eq, if◌then◌else◌, OnOk};
+ghost use Rattle.std.specs.Prelude.{◌≡◌, ℕ, ◌/◌, ◌%◌, ◌++◌, ◌∷◌, [], codes, nat_eq, if◌then◌else◌, length, OnOk};
 ghost use Rattle.pal_list.specs.Lines.{led};
-ghost use Rattle.pal_list.specs.Statements.{operation_name, is_reference, referred, reference, statement};
+ghost use Rattle.pal_list.specs.Tags.{tagged_in};
+ghost use Rattle.pal_list.specs.Statements.{address, reference, statement};
 
 use crate::patterns::{is_named, put_names};
+use crate::references::{is_reference, operation_name, referred, referred_cell};
+use crate::tags::tag;
 use std::alloc::AllocError;
 use word12::{Cell, Word};
 
-/// The page bit of a memory reference.
-const PAGE: u16 = 0o200;
 /// The indirect bit of a memory reference.
 const INDIRECT: u16 = 0o400;
 
-/// Appends the statement of a cell's word, behind a tab.
-pub fn put_statement(text: &mut Vec<u8>, cell: Cell, word: Word) -> Result<(), AllocError>
-    ensures { OnOk result (text.new.items ≡ text.old.items ++ led 9 (statement cell word)) }
+/// Appends the statement of a cell's word, behind a tab, where these cells are tagged.
+pub fn put_statement(
+    text: &mut Vec<u8>,
+    tags: &[bool],
+    cell: Cell,
+    word: Word,
+) -> Result<(), AllocError>
+    requires { length tags.now ≡ 32768 }
+    ensures { OnOk result (text.new.items ≡ text.old.items ++ led 9 (statement (tagged_in tags.now) cell word)) }
 {
-    let at = cell.address();
-    if is_reference(at, word) {
-        return put_reference(text, at, word);
+    if is_reference(cell.address(), word) {
+        return put_reference(text, tags, cell, word);
     }
     if is_named(word) {
         return put_names(text, word);
@@ -34,21 +40,19 @@ pub fn put_piece(text: &mut Vec<u8>, byte: u8, piece: &[u8]) -> Result<(), Alloc
     Ok(())
 }
 
-/// Whether a word at an address is what a memory reference says.
-fn is_reference(at: Word, word: Word) -> bool
-    ensures { result ≡ is_reference at word }
-{
-    let word = word.get();
-    word < 0o6000 && (word / PAGE % 2 == 0 || at.get() >= PAGE)
-}
-
-/// Appends the memory reference of a word at an address.
-fn put_reference(text: &mut Vec<u8>, at: Word, word: Word) -> Result<(), AllocError>
-    ensures { OnOk result (text.new.items ≡ text.old.items ++ led 9 (reference at word)) }
+/// Appends the memory reference of a cell's word.
+fn put_reference(
+    text: &mut Vec<u8>,
+    tags: &[bool],
+    cell: Cell,
+    word: Word,
+) -> Result<(), AllocError>
+    requires { length tags.now ≡ 32768 }
+    ensures { OnOk result (text.new.items ≡ text.old.items ++ led 9 (reference (tagged_in tags.now) cell word)) }
 {
     put_piece(text, b'\t', &operation_name(word))?;
     put_indirection(text, word)?;
-    put_piece(text, b' ', &referred(at, word).octal4())?;
+    put_address(text, tags, cell, word)?;
     Ok(())
 }
 
@@ -62,28 +66,14 @@ fn put_indirection(text: &mut Vec<u8>, word: Word) -> Result<(), AllocError>
     Ok(())
 }
 
-/// The name of a memory reference's operation.
-fn operation_name(word: Word) -> [u8; 3]
-    ensures { result ≡ operation_name (word / 512) }
+/// Appends the cell that a memory reference in a cell names: its tag, where it is tagged, else its address.
+fn put_address(text: &mut Vec<u8>, tags: &[bool], cell: Cell, word: Word) -> Result<(), AllocError>
+    requires { length tags.now ≡ 32768 }
+    ensures { OnOk result (text.new.items ≡ text.old.items ++ 32 ∷ address (tagged_in tags.now) cell word) }
 {
-    match word.get() / 512 {
-        0 => *b"AND",
-        1 => *b"TAD",
-        2 => *b"ISZ",
-        3 => *b"DCA",
-        4 => *b"JMS",
-        _ => *b"JMP",
+    let named = referred_cell(cell, word);
+    if tags[named.index()] {
+        return put_piece(text, b' ', &tag(named));
     }
-}
-
-/// The address that a memory reference at an address has.
-fn referred(at: Word, word: Word) -> Word
-    ensures { result ≡ referred at word }
-{
-    let offset = word.get() % PAGE;
-    if word.get() / PAGE % 2 == 0 {
-        Word::low(offset)
-    } else {
-        Word::low(at.get() / PAGE * PAGE + offset)
-    }
+    put_piece(text, b' ', &referred(cell.address(), word).octal4())
 }

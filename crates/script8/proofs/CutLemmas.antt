@@ -5,7 +5,7 @@ use Rattle.std.proofs.lemmas.Bool.Decides.{eqb_tells}
 use Rattle.std.proofs.lemmas.List.{drop_all}
 use Rattle.script8.specs.Lines.{onto_first}
 use Rattle.script8.specs.Items.{lines_of, onto_ended, ended_lines, text_of}
-use Rattle.script8.specs.Cuts.{ended_behind, ended, Cuts, Cut}
+use Rattle.script8.specs.Cuts.{ended_behind, ended, Cuts, TooFew}
 
 -- a byte before some bytes
 abbrev pub onto : ℕ → Option (List ℕ) → Option (List ℕ)
@@ -44,6 +44,11 @@ lines_same : (bs : List ℕ) → lines_in false bs ≡ lines_of bs
 lines_same [] = refl
 lines_same (b ∷ bs) = elim (eqb_tells b 10) [ inl is ↦ rw is.0 (ap (λ l. [] ∷ l) (lines_same bs)) | inr other ↦ rw other.0 (onto_begun b bs (lines_same bs)) ]
 
+-- the lines of a text that goes on, the first of which is begun or not, begin with these
+pub record Fronts (begun : Bool) (bs : List ℕ) (front : List (List ℕ)) (rest : List ℕ) : Type 0 where
+  pub script : (more : List ℕ) → lines_in begun (bs ++ more) ≡ front ++ lines_of (rest ++ more)
+  pub whole : (more : List ℕ) → ended_lines (bs ++ more) ≡ front ++ ended_lines (rest ++ more)
+
 -- these are the bytes of so many lines
 pub record Front (is_end begun : Bool) (n : ℕ) (bs xs : List ℕ) : Type 0 where
   pub rest : List ℕ
@@ -52,7 +57,7 @@ pub record Front (is_end begun : Bool) (n : ℕ) (bs xs : List ℕ) : Type 0 whe
   pub size : length front ≡ n
   pub content : text_of front ≡ ended_behind begun xs
   pub script : lines_in begun bs ≡ front ++ lines_of rest
-  pub whole : is_end ≡ false → ended_lines bs ≡ front ++ ended_lines rest
+  pub on : is_end ≡ false → Fronts begun bs front rest
 
 abbrev pub Few : Bool → Bool → ℕ → List ℕ → Type 0
 Few true begun n bs = length (lines_in begun bs) < n
@@ -73,7 +78,10 @@ lf_met is_end begun n b bs (Some xs) is same met = record {
   size = ap suc met.size;
   content = rw is (ap (λ l. 10 ∷ l) met.content ∙ ap (λ x. x ∷ ended_behind false xs) (sym same));
   script = rw is (ap (λ l. [] ∷ l) met.script);
-  whole = λ goes_on. rw is (ap (λ l. [] ∷ l) (met.whole goes_on));
+  on = λ goes_on. record {
+    script = λ more. rw is (ap (λ l. [] ∷ l) ((met.on goes_on).script more));
+    whole = λ more. rw is (ap (λ l. [] ∷ l) ((met.on goes_on).whole more));
+  };
 }
 
 onto_length : (b : ℕ) (bs : List ℕ) → length (onto_first b (lines_in true bs)) ≡ length (lines_in true bs)
@@ -93,28 +101,31 @@ none_some n is = omega (arith, is)
 
 -- any other byte stands in a line
 in_some : (is_end begun : Bool) (n b : ℕ) (bs xs rest : List ℕ) (front : List (List ℕ)) → (b == 10) ≡ false → bs ≡ xs ++ rest → length front ≡ suc n → text_of front ≡ ended_behind true xs
-    → lines_in true bs ≡ front ++ lines_of rest → (is_end ≡ false → ended_lines bs ≡ front ++ ended_lines rest) → Front is_end begun (suc n) (b ∷ bs) (b ∷ xs)
-in_some is_end begun n b bs xs rest [] other parts size content script whole = absurd (none_some n size)
-in_some is_end begun n b bs xs rest (line ∷ lines) other parts size content script whole = record {
+    → lines_in true bs ≡ front ++ lines_of rest → (is_end ≡ false → Fronts true bs front rest) → Front is_end begun (suc n) (b ∷ bs) (b ∷ xs)
+in_some is_end begun n b bs xs rest [] other parts size content script on = absurd (none_some n size)
+in_some is_end begun n b bs xs rest (line ∷ lines) other parts size content script on = record {
   rest = rest;
   front = (b ∷ line) ∷ lines;
   parts = ap (λ l. b ∷ l) parts;
   size = size;
   content = rw other (ap (λ l. b ∷ l) content);
   script = rw other (ap (onto_first b) script);
-  whole = λ goes_on. rw other (ap (onto_ended b) (whole goes_on));
+  on = λ goes_on. record {
+    script = λ more. rw other (ap (onto_first b) ((on goes_on).script more));
+    whole = λ more. rw other (ap (onto_ended b) ((on goes_on).whole more));
+  };
 }
 
 in_met : (is_end begun : Bool) (n b : ℕ) (bs : List ℕ) (r : Option (List ℕ)) → (b == 10) ≡ false → Met is_end true (suc n) bs r → Met is_end begun (suc n) (b ∷ bs) (onto b r)
 in_met true begun n b bs None other few = rw other (rw (onto_length b bs) few)
 in_met false begun n b bs None other few = rw other (rw (ended_length b (ended_lines bs)) few)
-in_met is_end begun n b bs (Some xs) other met = in_some is_end begun n b bs xs met.rest met.front other met.parts met.size met.content met.script met.whole
+in_met is_end begun n b bs (Some xs) other met = in_some is_end begun n b bs xs met.rest met.front other met.parts met.size met.content met.script met.on
 
 -- the bytes that are taken are those of so many lines, and where none are, the lines are too few
 met_by : (is_end begun : Bool) (n : ℕ) (bs : List ℕ) → (n ≡ 0 → begun ≡ false) → Met is_end begun n bs (taken is_end begun n bs)
 met_by is_end true zero bs fit = absurd (true≢false (fit refl))
-met_by is_end false zero bs fit = record { rest = bs; front = []; parts = refl; size = refl; content = refl; script = lines_same bs; whole = λ goes_on. refl }
-met_by true true (suc zero) [] fit = record { rest = []; front = [] ∷ []; parts = refl; size = refl; content = refl; script = refl; whole = λ goes_on. absurd (true≢false goes_on) }
+met_by is_end false zero bs fit = record { rest = bs; front = []; parts = refl; size = refl; content = refl; script = lines_same bs; on = λ goes_on. record { script = λ more. lines_same (bs ++ more); whole = λ more. refl } }
+met_by true true (suc zero) [] fit = record { rest = []; front = [] ∷ []; parts = refl; size = refl; content = refl; script = refl; on = λ goes_on. absurd (true≢false goes_on) }
 met_by true true (suc (suc n)) [] fit = omega arith
 met_by true false (suc n) [] fit = omega arith
 met_by false begun (suc n) [] fit = omega arith
@@ -142,19 +153,26 @@ cuts_by text is_end count bytes xs is met = record {
   size = met.size;
   content = met.content ∙ ap ended (sym (ap (λ n. take n text) is ∙ ap (take (length xs)) met.parts ∙ take_front xs met.rest));
   script = sym (lines_same text) ∙ met.script ∙ ap (λ r. met.front ++ lines_of r) (sym behind);
-  whole = λ goes_on. met.whole goes_on ∙ ap (λ r. met.front ++ ended_lines r) (sym behind);
+  on = λ goes_on. record {
+    script = λ more. sym (lines_same (text ++ more)) ∙ (met.on goes_on).script more ∙ ap (λ r. met.front ++ lines_of (r ++ more)) (sym behind);
+    whole = λ more. (met.on goes_on).whole more ∙ ap (λ r. met.front ++ ended_lines (r ++ more)) (sym behind);
+  };
 }
   where
     behind : drop bytes text ≡ met.rest
     behind = ap (λ n. drop n text) is ∙ ap (drop (length xs)) met.parts ∙ drop_front xs met.rest
 
-cut_by : (text : List ℕ) (is_end : Bool) (count : ℕ) (r : Option (List ℕ)) → Met is_end false count text r → Cut text is_end count (size_from 0 r)
-cut_by text true count None few = rw (sym (lines_same text)) few
-cut_by text false count None few = few
+-- the lines that were looked for are found, or are too few
+abbrev CutBy : List ℕ → Bool → ℕ → Option ℕ → Type 0
+CutBy text is_end count None = Few is_end false count text
+CutBy text is_end count (Some bytes) = Cuts text is_end count bytes
+
+cut_by : (text : List ℕ) (is_end : Bool) (count : ℕ) (r : Option (List ℕ)) → Met is_end false count text r → CutBy text is_end count (size_from 0 r)
+cut_by text is_end count None few = few
 cut_by text is_end count (Some xs) met = cuts_by text is_end count (0 + length xs) xs (omega arith) met
 
 -- how many bytes so many lines have
-pub counted : (text : List ℕ) (is_end : Bool) (count : ℕ) (size : Option ℕ) → size_from 0 (taken is_end false count text) ≡ size → Cut text is_end count size
+counted : (text : List ℕ) (is_end : Bool) (count : ℕ) (size : Option ℕ) → size_from 0 (taken is_end false count text) ≡ size → CutBy text is_end count size
 counted text is_end count size is = rw (sym is) (cut_by text is_end count (taken is_end false count text) (met_by is_end false count text (λ none. refl)))
 
 -- a text whose last byte is an LF
@@ -193,6 +211,29 @@ drop_at [] i inside = absurd (no_place i inside)
 drop_at (b ∷ bs) zero inside = refl
 drop_at (b ∷ bs) (suc i) inside = drop_at bs i (omega (arith, inside))
 
+-- an LF ends a line, and any other byte none
+pub ends_more : (text : List ℕ) (i : ℕ) → i < length text → get_or text i 0 ≡ 10 → length (ended_lines (drop i text)) ≡ suc (length (ended_lines (drop (i + 1) text)))
+ends_more text i inside same =
+    ap (λ l. length (ended_lines l)) (drop_at text i inside) ∙ found ∙ ap (λ m. suc (length (ended_lines (drop m text)))) (sym (add-one i))
+  where
+    found : length (ended_lines (get_or text i 0 ∷ drop (suc i) text)) ≡ suc (length (ended_lines (drop (suc i) text)))
+    found = elim (eqb_tells (get_or text i 0) 10) [ inl h ↦ rw h.0 refl | inr h ↦ absurd (h.1 same) ]
+
+pub ends_same : (text : List ℕ) (i : ℕ) → i < length text → get_or text i 0 ≢ 10 → length (ended_lines (drop i text)) ≡ length (ended_lines (drop (i + 1) text))
+ends_same text i inside other =
+    ap (λ l. length (ended_lines l)) (drop_at text i inside) ∙ found ∙ ap (λ m. length (ended_lines (drop m text))) (sym (add-one i))
+  where
+    found : length (ended_lines (get_or text i 0 ∷ drop (suc i) text)) ≡ length (ended_lines (drop (suc i) text))
+    found = elim (eqb_tells (get_or text i 0) 10) [ inl h ↦ absurd (other h.1) | inr h ↦ rw h.0 (ended_length (get_or text i 0) (ended_lines (drop (suc i) text))) ]
+
+-- the ended lines of a text, and those of the text behind it
+pub ends_append : (a b : List ℕ) → length (ended_lines (a ++ b)) ≡ length (ended_lines a) + length (ended_lines b)
+ends_append [] b = omega arith
+ends_append (x ∷ a) b = elim (eqb_tells x 10) [
+  | inl h ↦ rw h.0 (omega (arith, ends_append a b))
+  | inr h ↦ rw h.0 (ended_length x (ended_lines (a ++ b)) ∙ ends_append a b ∙ ap (λ n. n + length (ended_lines b)) (sym (ended_length x (ended_lines a))))
+]
+
 -- behind an LF a line is found
 pub next_end : (is_end begun : Bool) (left less i : ℕ) (text : List ℕ) → i < length text → 0 < left → less ≡ left - 1 → get_or text i 0 ≡ 10
     → size_from i (taken is_end begun left (drop i text)) ≡ size_from (i + 1) (taken is_end false less (drop (i + 1) text))
@@ -224,7 +265,7 @@ next_byte is_end begun (suc n) i text inside some other =
     found = elim (eqb_tells (get_or text i 0) 10) [ inl h ↦ absurd (other h.1) | inr h ↦ rw h.0 refl ]
 
 -- all lines are found
-pub all_found : (text : List ℕ) (is_end begun : Bool) (count left place end : ℕ) → size_from 0 (taken is_end false count text) ≡ size_from place (taken is_end begun left (drop place text)) → left ≡ 0 → end ≡ place → Cut text is_end count (Some end)
+pub all_found : (text : List ℕ) (is_end begun : Bool) (count left place end : ℕ) → size_from 0 (taken is_end false count text) ≡ size_from place (taken is_end begun left (drop place text)) → left ≡ 0 → end ≡ place → Cuts text is_end count end
 all_found text is_end begun count left place end so_far none same =
     counted text is_end count (Some end) (so_far ∙ ap (λ n. size_from place (taken is_end begun n (drop place text))) none ∙ ap Some (omega (arith, same)))
 
@@ -233,18 +274,25 @@ at_end text is_end begun left place past = ap (λ l. size_from place (taken is_e
 
 -- the last line lacks its LF
 pub last_found : (text : List ℕ) (is_end begun : Bool) (count left place end : ℕ) → size_from 0 (taken is_end false count text) ≡ size_from place (taken is_end begun left (drop place text)) → length text ≤ place
-    → left ≡ 1 → begun ≡ true → is_end ≡ true → end ≡ place → Cut text is_end count (Some end)
+    → left ≡ 1 → begun ≡ true → is_end ≡ true → end ≡ place → Cuts text is_end count end
 last_found text is_end begun count left place end so_far past one midst over same =
     counted text is_end count (Some end)
     (so_far ∙ at_end text is_end begun left place past ∙ ap (λ n. size_from place (taken is_end begun n [])) one
     ∙ ap (λ g. size_from place (taken is_end g 1 [])) midst ∙ ap (λ e. size_from place (taken e true 1 [])) over ∙ ap Some (omega (arith, same)))
 
--- a line is wanted yet
+-- lines are wanted yet
 pub none_found : (text : List ℕ) (is_end begun : Bool) (count left place : ℕ) → size_from 0 (taken is_end false count text) ≡ size_from place (taken is_end begun left (drop place text)) → length text ≤ place
-    → 0 < left → (1 < left) ⊎ (begun ≡ false) ⊎ (is_end ≡ false) → Cut text is_end count None
-none_found text is_end begun count left place so_far past some why =
-    counted text is_end count None (so_far ∙ at_end text is_end begun left place past ∙ ap (size_from place) (none is_end begun left some why))
+    → 0 < left → (1 < left) ⊎ (begun ≡ false) ⊎ (is_end ≡ false) → length (ended_lines text) + left ≡ count + length (ended_lines (drop place text)) → TooFew text is_end count left
+none_found text is_end begun count left place so_far past some why ends =
+    few is_end (counted text is_end count None (so_far ∙ at_end text is_end begun left place past ∙ ap (size_from place) (none is_end begun left some why)))
   where
+    sum : length (ended_lines text) + left ≡ count
+    sum = ends ∙ ap (λ l. count + length (ended_lines l)) (drop_all place text past) ∙ (omega arith)
+
+    few : (is_end : Bool) → Few is_end false count text → TooFew text is_end count left
+    few true h = (rw (sym (lines_same text)) h, some, omega (arith, sum))
+    few false h = (some, sum)
+
     one_line : 1 < 1 → ⊥
     one_line h = omega (arith, h)
 

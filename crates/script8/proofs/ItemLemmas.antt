@@ -1,14 +1,15 @@
 -- The items of a text and those of what stands behind them.
-use Rattle.std.proofs.Common.{◌≡◌, ◌≢◌, subst, ◌<◌, ◌≤◌, ◌+◌, zero, suc, arith, true≢false, ℕ, refl, sym, ◌∙◌, ap, inl, inr, Bool, true, false, List, [], ◌∷◌, ◌++◌, length, take, drop, Result, Ok, Err}
+use Rattle.std.proofs.Common.{◌≡◌, ◌≢◌, subst, ◌<◌, ◌≤◌, ◌+◌, ◌-◌, zero, suc, arith, true≢false, ℕ, refl, sym, ◌∙◌, ap, inl, inr, Bool, true, false, List, [], ◌∷◌, ◌++◌, length, take, drop, append_assoc, append-nil, Result, Ok, Err}
 use Rattle.std.specs.Prelude.{nat_lt}
 use Rattle.std.proofs.lemmas.Bool.Decides.{leb_tells}
 use Rattle.std.proofs.lemmas.List.{append_cancel_right, drop-drop, drop_all}
 use Rattle.script8.specs.Lines.{says, HasName, Parses}
 use Rattle.script8.proofs.LineLemmas.{says_err}
-use Rattle.script8.specs.Items.{lines_of, ended_lines, text_of, items_of_line, lines_taken, items_of, script_of, whole_of, Gives, IsOut, Begins, BeginsWithName}
+use Rattle.script8.specs.Items.{lines_of, ended_lines, text_of, items_of_line, lines_taken, items_of, script_of, whole_of, lines_wanted, Gives, Waits, IsOut, Begins, BeginsWithName}
+use Rattle.script8.proofs.CutLemmas.{ends_append}
 use Rattle.script8.specs.declared.items.Next.{Next}
 use Rattle.script8.specs.declared.items.Next.TheVariants as next
-use Rattle.script8.specs.Cuts.{ended, Cuts, Opens, TooFew}
+use Rattle.script8.specs.Cuts.{ended, HasFront, Cuts, Opens, TooFew}
 use Rattle.script8.specs.declared.entries.Entry.TheVariants as entry
 use Rattle.script8.specs.declared.faults.SessionFault.{SessionFault}
 use Rattle.script8.specs.declared.faults.SessionFault.TheVariants.{BadLine, Memory}
@@ -17,25 +18,22 @@ use Rattle.script8.specs.declared.lines.Line.TheVariants as line
 use Rattle.script8.specs.declared.items.Item.{Item}
 use Rattle.script8.specs.declared.items.Item.TheVariants.{Do, Refused}
 
+no_lines : (lines : List (List ℕ)) → length lines < 1 → lines ≡ []
+no_lines [] few = refl
+no_lines (line ∷ lines) few = absurd (some_line (length lines) few)
+  where
+    some_line : (n : ℕ) → suc n < 1 → ⊥
+    some_line n h = omega (arith, h)
+
 -- a text with no line has no item
-pub is_out : (text : List ℕ) (is_end : Bool) → TooFew text is_end 1 → IsOut text is_end
+pub is_out : (text : List ℕ) (is_end : Bool) (missing : ℕ) → TooFew text is_end 1 missing → IsOut text is_end missing
 unfolding script_of whole_of
-is_out text true few = ap (items_of (Refused BadLine ∷ []) 0) (no_line (lines_of text) few)
-  where
-    no_line : (lines : List (List ℕ)) → length lines < 1 → lines ≡ []
-    no_line [] few = refl
-    no_line (line ∷ lines) few = absurd (some_line (length lines) few)
-      where
-        some_line : (n : ℕ) → suc n < 1 → ⊥
-        some_line n h = omega (arith, h)
-is_out text false few = ap (items_of [] 0) (no_line (ended_lines text) few)
-  where
-    no_line : (lines : List (List ℕ)) → length lines < 1 → lines ≡ []
-    no_line [] few = refl
-    no_line (line ∷ lines) few = absurd (some_line (length lines) few)
-      where
-        some_line : (n : ℕ) → suc n < 1 → ⊥
-        some_line n h = omega (arith, h)
+is_out text true missing few = (ap (items_of (Refused BadLine ∷ []) 0) (no_lines (lines_of text) few.0), omega (arith, few.1, few.2))
+is_out text false missing few = (
+  few.0,
+  (omega (arith, few.0, few.1)) ∙ ap lines_wanted (sym (no_lines (ended_lines text) (omega (arith, few.0, few.1)))),
+  λ more fewer. ap (items_of [] 0) (no_lines (ended_lines (text ++ more)) (omega (arith, few.0, few.1, fewer, ends_append text more))),
+)
 
 one_line : (front : List (List ℕ)) → length front ≡ 1 → (line : List ℕ) × (front ≡ line ∷ [])
 one_line [] size = absurd (no_line size)
@@ -72,23 +70,23 @@ opens text front command is_end bytes said cuts front_is command_is said_is =
       some = some_bytes text one.0 bytes whole_line;
       within = cuts.within;
       script = cuts.script ∙ ap (λ f. f ++ lines_of (drop bytes text)) one.1;
-      whole = λ goes_on. cuts.whole goes_on ∙ ap (λ f. f ++ ended_lines (drop bytes text)) one.1;
+      on = λ goes_on. subst (λ (f : List (List ℕ)). HasFront text f (drop bytes text)) one.1 (cuts.on goes_on);
     }
 
 -- the items of a first line, and those behind it
-script_opens : (text : List ℕ) (is_end : Bool) (said : Result Line SessionFault) (bytes : ℕ) → Opens text is_end said bytes
-    → script_of text ≡ items_of_line (Refused BadLine ∷ []) said (lines_of (drop bytes text)) ++ items_of (Refused BadLine ∷ []) (lines_taken said) (lines_of (drop bytes text))
+script_opens : (text line rest : List ℕ) (said : Result Line SessionFault) → says line ≡ said → lines_of text ≡ line ∷ lines_of rest
+    → script_of text ≡ items_of_line (Refused BadLine ∷ []) said (lines_of rest) ++ items_of (Refused BadLine ∷ []) (lines_taken said) (lines_of rest)
 unfolding script_of
-script_opens text is_end said bytes o =
-    ap (items_of (Refused BadLine ∷ []) 0) o.script
-    ∙ ap (λ s. items_of_line (Refused BadLine ∷ []) s (lines_of (drop bytes text)) ++ items_of (Refused BadLine ∷ []) (lines_taken s) (lines_of (drop bytes text))) o.said_is
+script_opens text line rest said said_is first =
+    ap (items_of (Refused BadLine ∷ []) 0) first
+    ∙ ap (λ s. items_of_line (Refused BadLine ∷ []) s (lines_of rest) ++ items_of (Refused BadLine ∷ []) (lines_taken s) (lines_of rest)) said_is
 
-whole_opens : (text : List ℕ) (is_end : Bool) (said : Result Line SessionFault) (bytes : ℕ) → Opens text is_end said bytes → is_end ≡ false
-    → whole_of text ≡ items_of_line [] said (ended_lines (drop bytes text)) ++ items_of [] (lines_taken said) (ended_lines (drop bytes text))
+whole_opens : (text line rest : List ℕ) (said : Result Line SessionFault) → says line ≡ said → ended_lines text ≡ line ∷ ended_lines rest
+    → whole_of text ≡ items_of_line [] said (ended_lines rest) ++ items_of [] (lines_taken said) (ended_lines rest)
 unfolding whole_of
-whole_opens text is_end said bytes o goes_on =
-    ap (items_of [] 0) (o.whole goes_on)
-    ∙ ap (λ s. items_of_line [] s (ended_lines (drop bytes text)) ++ items_of [] (lines_taken s) (ended_lines (drop bytes text))) o.said_is
+whole_opens text line rest said said_is first =
+    ap (items_of [] 0) first
+    ∙ ap (λ s. items_of_line [] s (ended_lines rest) ++ items_of [] (lines_taken s) (ended_lines rest)) said_is
 
 -- a line that takes no others
 pub gives : (text : List ℕ) (is_end : Bool) (said : Result Line SessionFault) (items : List Item) (bytes : ℕ) → lines_taken said ≡ 0
@@ -97,11 +95,24 @@ unfolding script_of whole_of
 gives text is_end said items bytes none are o = record {
   some = o.some;
   within = o.within;
-  script = script_opens text is_end said bytes o ∙ ap (λ n. items_of_line (Refused BadLine ∷ []) said (lines_of (drop bytes text)) ++ items_of (Refused BadLine ∷ []) n (lines_of (drop bytes text))) none
-      ∙ ap (λ l. l ++ script_of (drop bytes text)) (are (Refused BadLine ∷ []) (lines_of (drop bytes text)));
-  whole = λ goes_on. whole_opens text is_end said bytes o goes_on ∙ ap (λ n. items_of_line [] said (ended_lines (drop bytes text)) ++ items_of [] n (ended_lines (drop bytes text))) none
-      ∙ ap (λ l. l ++ whole_of (drop bytes text)) (are [] (ended_lines (drop bytes text)));
+  script = script text (drop bytes text) o.script;
+  on = λ goes_on. record {
+    script = λ more. script (text ++ more) (drop bytes text ++ more) ((o.on goes_on).script more);
+    whole = λ more. whole (text ++ more) (drop bytes text ++ more) ((o.on goes_on).whole more);
+  };
 }
+  where
+    script : (text rest : List ℕ) → lines_of text ≡ o.line ∷ lines_of rest → script_of text ≡ items ++ script_of rest
+    script text rest first =
+        script_opens text o.line rest said o.said_is first
+        ∙ ap (λ n. items_of_line (Refused BadLine ∷ []) said (lines_of rest) ++ items_of (Refused BadLine ∷ []) n (lines_of rest)) none
+        ∙ ap (λ l. l ++ script_of rest) (are (Refused BadLine ∷ []) (lines_of rest))
+
+    whole : (text rest : List ℕ) → ended_lines text ≡ o.line ∷ ended_lines rest → whole_of text ≡ items ++ whole_of rest
+    whole text rest first =
+        whole_opens text o.line rest said o.said_is first
+        ∙ ap (λ n. items_of_line [] said (ended_lines rest) ++ items_of [] n (ended_lines rest)) none
+        ∙ ap (λ l. l ++ whole_of rest) (are [] (ended_lines rest))
 
 -- lines that belong to a STORE give no items
 past : (short : List Item) (front more : List (List ℕ)) (count : ℕ) → length front ≡ count → items_of short count (front ++ more) ≡ items_of short 0 more
@@ -149,18 +160,13 @@ unfolding script_of whole_of
 stores text rest front content name is_end count bytes more sum o rest_is cuts front_is content_is sum_is = record {
   some = omega (arith, o.some, sum_is);
   within = omega (arith, sum_is, cuts.within, o.within, rest_length);
-  script = script_opens text is_end _ bytes o
-      ∙ ap (λ r. items_of_line (Refused BadLine ∷ []) (Ok (line.Store name count)) r ++ items_of (Refused BadLine ∷ []) count r) (ap lines_of (sym rest_is) ∙ cuts.script)
-      ∙ ap (λ l. l ++ items_of (Refused BadLine ∷ []) count (cuts.front ++ lines_of (drop more rest))) (lines_done (Refused BadLine ∷ []) name cuts.front (lines_of (drop more rest)) count cuts.size)
-      ∙ ap (λ l. Do (entry.Store name (text_of cuts.front)) ∷ l) (past (Refused BadLine ∷ []) cuts.front (lines_of (drop more rest)) count cuts.size)
-      ∙ ap (λ t. Do (entry.Store name t) ∷ script_of (drop more rest)) content_same
-      ∙ ap (λ r. Do (entry.Store name content) ∷ script_of r) behind;
-  whole = λ goes_on. whole_opens text is_end _ bytes o goes_on
-      ∙ ap (λ r. items_of_line [] (Ok (line.Store name count)) r ++ items_of [] count r) (ap ended_lines (sym rest_is) ∙ cuts.whole goes_on)
-      ∙ ap (λ l. l ++ items_of [] count (cuts.front ++ ended_lines (drop more rest))) (lines_done [] name cuts.front (ended_lines (drop more rest)) count cuts.size)
-      ∙ ap (λ l. Do (entry.Store name (text_of cuts.front)) ∷ l) (past [] cuts.front (ended_lines (drop more rest)) count cuts.size)
-      ∙ ap (λ t. Do (entry.Store name t) ∷ whole_of (drop more rest)) content_same
-      ∙ ap (λ r. Do (entry.Store name content) ∷ whole_of r) behind;
+  script = script text (drop bytes text) (drop more rest) o.script (ap lines_of (sym rest_is) ∙ cuts.script) ∙ ap (λ r. Do (entry.Store name content) ∷ script_of r) behind;
+  on = λ goes_on. record {
+    script = λ last. script (text ++ last) (drop bytes text ++ last) (drop more rest ++ last) ((o.on goes_on).script last) (ap (λ r. lines_of (r ++ last)) (sym rest_is) ∙ (cuts.on goes_on).script last)
+        ∙ ap (λ r. Do (entry.Store name content) ∷ script_of (r ++ last)) behind;
+    whole = λ last. whole (text ++ last) (drop bytes text ++ last) (drop more rest ++ last) ((o.on goes_on).whole last) (ap (λ r. ended_lines (r ++ last)) (sym rest_is) ∙ (cuts.on goes_on).whole last)
+        ∙ ap (λ r. Do (entry.Store name content) ∷ whole_of (r ++ last)) behind;
+  };
 }
   where
     behind : drop more rest ≡ drop sum text
@@ -168,6 +174,22 @@ stores text rest front content name is_end count bytes more sum o rest_is cuts f
 
     content_same : text_of cuts.front ≡ content
     content_same = cuts.content ∙ ap ended (sym front_is) ∙ sym content_is
+
+    script : (text rest last : List ℕ) → lines_of text ≡ o.line ∷ lines_of rest → lines_of rest ≡ cuts.front ++ lines_of last → script_of text ≡ Do (entry.Store name content) ∷ script_of last
+    script text rest last first next =
+        script_opens text o.line rest _ o.said_is first
+        ∙ ap (λ r. items_of_line (Refused BadLine ∷ []) (Ok (line.Store name count)) r ++ items_of (Refused BadLine ∷ []) count r) next
+        ∙ ap (λ l. l ++ items_of (Refused BadLine ∷ []) count (cuts.front ++ lines_of last)) (lines_done (Refused BadLine ∷ []) name cuts.front (lines_of last) count cuts.size)
+        ∙ ap (λ l. Do (entry.Store name (text_of cuts.front)) ∷ l) (past (Refused BadLine ∷ []) cuts.front (lines_of last) count cuts.size)
+        ∙ ap (λ t. Do (entry.Store name t) ∷ script_of last) content_same
+
+    whole : (text rest last : List ℕ) → ended_lines text ≡ o.line ∷ ended_lines rest → ended_lines rest ≡ cuts.front ++ ended_lines last → whole_of text ≡ Do (entry.Store name content) ∷ whole_of last
+    whole text rest last first next =
+        whole_opens text o.line rest _ o.said_is first
+        ∙ ap (λ r. items_of_line [] (Ok (line.Store name count)) r ++ items_of [] count r) next
+        ∙ ap (λ l. l ++ items_of [] count (cuts.front ++ ended_lines last)) (lines_done [] name cuts.front (ended_lines last) count cuts.size)
+        ∙ ap (λ l. Do (entry.Store name (text_of cuts.front)) ∷ l) (past [] cuts.front (ended_lines last) count cuts.size)
+        ∙ ap (λ t. Do (entry.Store name t) ∷ whole_of last) content_same
 
     drop_length : (n : ℕ) (text : List ℕ) → n ≤ length text → length (drop n text) + n ≡ length text
     drop_length zero text within = omega arith
@@ -200,32 +222,51 @@ few_line short name lines count few = rw (less lines count few) refl
     less lines count few = elim (leb_tells (suc (length lines)) count) [ inl h ↦ h.0 | inr h ↦ absurd (not_less (length lines) count few h.1) ]
 
 -- a STORE whose lines are not all there at a script's end
-pub cut_short : (text rest name : List ℕ) (count bytes : ℕ) → Opens text true (Ok (line.Store name count)) bytes → rest ≡ drop bytes text → TooFew rest true count → Gives text true (Refused BadLine ∷ []) (length text)
+pub cut_short : (text rest name : List ℕ) (count bytes missing : ℕ) → Opens text true (Ok (line.Store name count)) bytes → rest ≡ drop bytes text → TooFew rest true count missing
+    → Gives text true (Refused BadLine ∷ []) (length text)
 unfolding script_of
-cut_short text rest name count bytes o rest_is few = record {
+cut_short text rest name count bytes missing o rest_is few = record {
   some = omega (arith, o.some, o.within);
   within = omega arith;
-  script = script_opens text true _ bytes o
+  script = script_opens text o.line (drop bytes text) _ o.said_is o.script
       ∙ ap (λ r. items_of_line (Refused BadLine ∷ []) (Ok (line.Store name count)) r ++ items_of (Refused BadLine ∷ []) count r) (ap lines_of (sym rest_is))
-      ∙ ap (λ l. l ++ items_of (Refused BadLine ∷ []) count (lines_of rest)) (few_line (Refused BadLine ∷ []) name (lines_of rest) count few)
-      ∙ ap (λ l. Refused BadLine ∷ l) (few_items (Refused BadLine ∷ []) (lines_of rest) count few)
+      ∙ ap (λ l. l ++ items_of (Refused BadLine ∷ []) count (lines_of rest)) (few_line (Refused BadLine ∷ []) name (lines_of rest) count few.0)
+      ∙ ap (λ l. Refused BadLine ∷ l) (few_items (Refused BadLine ∷ []) (lines_of rest) count few.0)
       ∙ ap (λ t. Refused BadLine ∷ script_of t) (sym (drop_all (length text) text (omega arith)));
-  whole = λ goes_on. absurd (true≢false goes_on);
+  on = λ goes_on. absurd (true≢false goes_on);
 }
 
 -- and in a text that goes on
-pub goes_on : (text rest name : List ℕ) (count bytes : ℕ) → Opens text false (Ok (line.Store name count)) bytes → rest ≡ drop bytes text → TooFew rest false count → whole_of text ≡ []
-goes_on text rest name count bytes o rest_is few =
-    whole_opens text false _ bytes o refl
-    ∙ ap (λ r. items_of_line [] (Ok (line.Store name count)) r ++ items_of [] count r) (ap ended_lines (sym rest_is))
-    ∙ ap (λ l. l ++ items_of [] count (ended_lines rest)) (few_line [] name (ended_lines rest) count few)
-    ∙ few_items [] (ended_lines rest) count few
+pub waits : (text rest name : List ℕ) (count bytes missing : ℕ) → Opens text false (Ok (line.Store name count)) bytes → rest ≡ drop bytes text → TooFew rest false count missing → IsOut text false missing
+waits text rest name count bytes missing o rest_is few = (few.0, wanted, waiting)
+  where
+    first : ended_lines text ≡ o.line ∷ ended_lines rest
+    first = ap ended_lines (sym (append-nil text)) ∙ (o.on refl).whole [] ∙ ap (λ r. o.line ∷ ended_lines r) (append-nil (drop bytes text) ∙ sym rest_is)
+
+    wanted : missing ≡ lines_wanted (ended_lines text)
+    wanted = omega (arith, few.1) ∙ ap (λ s. lines_taken s - length (ended_lines rest)) (sym o.said_is) ∙ ap lines_wanted (sym first)
+
+    waiting : Waits text missing
+    waiting more fewer =
+        let less : length (ended_lines (rest ++ more)) < count = omega (arith, few.1, fewer, ends_append rest more) in
+        whole_opens (text ++ more) o.line (rest ++ more) _ o.said_is ((o.on refl).whole more ∙ ap (λ r. o.line ∷ ended_lines (r ++ more)) (sym rest_is))
+        ∙ ap (λ l. l ++ items_of [] count (ended_lines (rest ++ more))) (few_line [] name (ended_lines (rest ++ more)) count less)
+        ∙ few_items [] (ended_lines (rest ++ more)) count less
 
 -- a STORE whose lines are not all there
-pub few_lines : (text rest name : List ℕ) (is_end : Bool) (count bytes : ℕ) (found : Next) → Opens text is_end (Ok (line.Store name count)) bytes → rest ≡ drop bytes text → TooFew rest is_end count
-    → (is_end ≡ true → found ≡ next.Item (Refused BadLine) (length text)) → (is_end ≡ false → found ≡ next.End) → Begins text is_end (Ok found)
-few_lines text rest name true count bytes found o rest_is few over on = rw (over refl) (cut_short text rest name count bytes o rest_is few)
-few_lines text rest name false count bytes found o rest_is few over on = rw (on refl) (goes_on text rest name count bytes o rest_is few)
+pub few_lines : (text rest name : List ℕ) (is_end : Bool) (count bytes missing : ℕ) (found : Next) → Opens text is_end (Ok (line.Store name count)) bytes → rest ≡ drop bytes text → TooFew rest is_end count missing
+    → (is_end ≡ true → found ≡ next.Item (Refused BadLine) (length text)) → (is_end ≡ false → found ≡ next.End missing) → Begins text is_end (Ok found)
+few_lines text rest name true count bytes missing found o rest_is few over on = rw (over refl) (cut_short text rest name count bytes missing o rest_is few)
+few_lines text rest name false count bytes missing found o rest_is few over on = rw (on refl) (waits text rest name count bytes missing o rest_is few)
+
+pub one_wanted : Waits [] 1
+unfolding whole_of
+one_wanted more few = ap (items_of [] 0) (no_lines (ended_lines more) few)
+
+-- lines that a text wants are fewer by those that come
+pub fewer_wanted : (text bytes : List ℕ) (lines left : ℕ) → left ≡ lines - length (ended_lines bytes) → Waits text lines → Waits (text ++ bytes) left
+fewer_wanted text bytes lines left is waits more fewer =
+    ap whole_of (append_assoc text bytes more) ∙ waits (bytes ++ more) (omega (arith, is, fewer, ends_append bytes more))
 
 abbrev Said : Type 0
 Said = Result Line SessionFault

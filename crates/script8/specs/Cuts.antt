@@ -1,5 +1,5 @@
 -- How many bytes some lines of a text have, and the first part of a text.
-use Rattle.std.specs.Prelude.{◌≡◌, ℕ, ◌<◌, ◌≤◌, ◌==◌, Bool, true, false, if◌then◌else◌, Option, Some, None, List, [], ◌∷◌, ◌++◌, length, take, drop, Result}
+use Rattle.std.specs.Prelude.{◌≡◌, ℕ, ◌+◌, ◌<◌, ◌≤◌, ◌==◌, Bool, true, false, if◌then◌else◌, Ok, Err, List, [], ◌∷◌, ◌++◌, length, take, drop, Result}
 use Rattle.script8.specs.Lines.{says}
 use Rattle.script8.specs.declared.faults.SessionFault.{SessionFault}
 use Rattle.script8.specs.declared.lines.Line.{Line}
@@ -23,6 +23,11 @@ ended_behind begun (b ∷ bs) = if b == 10 then b ∷ ended_behind false bs else
 abbrev pub ended : List ℕ → List ℕ
 ended text = ended_behind false text
 
+-- the lines of a text that goes on begin with these, and those of the rest come behind them, whatever follows
+pub record HasFront (text : List ℕ) (front : List (List ℕ)) (rest : List ℕ) : Type 0 where
+  pub script : (more : List ℕ) → lines_of (text ++ more) ≡ front ++ lines_of (rest ++ more)
+  pub whole : (more : List ℕ) → ended_lines (text ++ more) ≡ front ++ ended_lines (rest ++ more)
+
 -- so many lines of a text have so many bytes; where it goes on, an LF ends each
 pub record Cuts (text : List ℕ) (is_end : Bool) (count bytes : ℕ) : Type 0 where
   pub front : List (List ℕ)
@@ -30,7 +35,7 @@ pub record Cuts (text : List ℕ) (is_end : Bool) (count bytes : ℕ) : Type 0 w
   pub size : length front ≡ count
   pub content : text_of front ≡ ended (take bytes text)
   pub script : lines_of text ≡ front ++ lines_of (drop bytes text)
-  pub whole : is_end ≡ false → ended_lines text ≡ front ++ ended_lines (drop bytes text)
+  pub on : is_end ≡ false → HasFront text front (drop bytes text)
 
 -- the first line of a text has so many bytes, and says this
 pub record Opens (text : List ℕ) (is_end : Bool) (said : Result Line SessionFault) (bytes : ℕ) : Type 0 where
@@ -39,14 +44,14 @@ pub record Opens (text : List ℕ) (is_end : Bool) (said : Result Line SessionFa
   pub some : 0 < bytes
   pub within : bytes ≤ length text
   pub script : lines_of text ≡ line ∷ lines_of (drop bytes text)
-  pub whole : is_end ≡ false → ended_lines text ≡ line ∷ ended_lines (drop bytes text)
+  pub on : is_end ≡ false → HasFront text (line ∷ []) (drop bytes text)
 
--- a text has fewer lines
-abbrev pub TooFew : List ℕ → Bool → ℕ → Type 0
-TooFew text true count = length (lines_of text) < count
-TooFew text false count = length (ended_lines text) < count
+-- a text has fewer lines; where it goes on, so many more must be ended
+abbrev pub TooFew : List ℕ → Bool → ℕ → ℕ → Type 0
+TooFew text true count missing = (length (lines_of text) < count) × (0 < missing) × (missing ≤ count)
+TooFew text false count missing = (0 < missing) × (length (ended_lines text) + missing ≡ count)
 
 -- How many bytes so many lines have, where a text has them.
-abbrev pub Cut : List ℕ → Bool → ℕ → Option ℕ → Type 0
-Cut text is_end count None = TooFew text is_end count
-Cut text is_end count (Some bytes) = Cuts text is_end count bytes
+abbrev pub Cut : List ℕ → Bool → ℕ → Result ℕ ℕ → Type 0
+Cut text is_end count (Err missing) = TooFew text is_end count missing
+Cut text is_end count (Ok bytes) = Cuts text is_end count bytes

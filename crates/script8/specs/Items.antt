@@ -1,5 +1,5 @@
 -- The items of a script (this project's profile).
-use Rattle.std.specs.Prelude.{◌≡◌, ℕ, zero, suc, ◌<◌, ◌≤◌, ◌==◌, nat_lt, Bool, true, false, if◌then◌else◌, List, [], ◌∷◌, ◌++◌, length, take, drop, Result, Ok, Err}
+use Rattle.std.specs.Prelude.{◌≡◌, ℕ, zero, suc, ◌-◌, ◌<◌, ◌≤◌, ◌==◌, nat_lt, Bool, true, false, if◌then◌else◌, List, [], ◌∷◌, ◌++◌, length, take, drop, Result, Ok, Err}
 use Rattle.script8.specs.Lines.{says, HasName, onto_first}
 use Rattle.script8.specs.declared.entries.Entry.TheVariants as entry
 use Rattle.script8.specs.declared.faults.SessionFault.{SessionFault}
@@ -61,17 +61,31 @@ script_of text = items_of (Refused BadLine ∷ []) 0 (lines_of text)
 unfoldable pub whole_of : List ℕ → List Item
 whole_of text = items_of [] 0 (ended_lines text)
 
--- a text gives these items and then those of what stands behind so many bytes; where it goes on, these are whole
+-- the items of a text that goes on begin with these, and those of the rest come behind them, whatever follows
+pub record Leads (text : List ℕ) (items : List Item) (rest : List ℕ) : Type 0 where
+  pub script : (more : List ℕ) → script_of (text ++ more) ≡ items ++ script_of (rest ++ more)
+  pub whole : (more : List ℕ) → whole_of (text ++ more) ≡ items ++ whole_of (rest ++ more)
+
+-- a text gives these items and then those of what stands behind so many bytes; where it goes on, whatever follows
 pub record Gives (text : List ℕ) (is_end : Bool) (items : List Item) (bytes : ℕ) : Type 0 where
   pub some : 0 < bytes
   pub within : bytes ≤ length text
   pub script : script_of text ≡ items ++ script_of (drop bytes text)
-  pub whole : is_end ≡ false → whole_of text ≡ items ++ whole_of (drop bytes text)
+  pub on : is_end ≡ false → Leads text items (drop bytes text)
 
--- a text that is a script's end has no item, or one that goes on has none that is whole
-abbrev pub IsOut : List ℕ → Bool → Type 0
-IsOut text true = script_of text ≡ []
-IsOut text false = whole_of text ≡ []
+-- how many lines must yet be ended before the first line, with those that belong to it, is whole
+abbrev pub lines_wanted : List (List ℕ) → ℕ
+lines_wanted [] = 1
+lines_wanted (line ∷ lines) = lines_taken (says line) - length lines
+
+-- a text that goes on has no whole item before so many more lines are ended
+abbrev pub Waits : List ℕ → ℕ → Type 0
+Waits text lines = (more : List ℕ) → length (ended_lines more) < lines → whole_of (text ++ more) ≡ []
+
+-- a text that is a script's end has no item, or one that goes on has none that is whole, and wants so many more lines
+abbrev pub IsOut : List ℕ → Bool → ℕ → Type 0
+IsOut text true lines = (script_of text ≡ []) × (lines ≡ 1)
+IsOut text false lines = (0 < lines) × (lines ≡ lines_wanted (ended_lines text)) × Waits text lines
 
 -- the first line of a text has a name, which is kept
 abbrev pub BeginsWithName : List ℕ → Type 0
@@ -79,7 +93,7 @@ BeginsWithName text = (line : List ℕ) × (lines : List (List ℕ)) × (lines_o
 
 -- What a text begins with, where it is a script's end or goes on.
 abbrev pub Begins : List ℕ → Bool → Result Next SessionFault → Type 0
-Begins text is_end (Ok next.End) = IsOut text is_end
+Begins text is_end (Ok (next.End lines)) = IsOut text is_end lines
 Begins text is_end (Ok (next.Blank bytes)) = Gives text is_end [] bytes
 Begins text is_end (Ok (next.Item item bytes)) = Gives text is_end (item ∷ []) bytes
 Begins text is_end (Err fault) = (fault ≡ Memory) × BeginsWithName text

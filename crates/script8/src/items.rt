@@ -1,7 +1,7 @@
 //! The items of a script, one after another.
-ghost use Rattle.std.specs.Prelude.{◌≡◌, if◌then◌else◌, ◌∷◌, ◌++◌, ◌<◌, ◌≤◌, [], length, drop, Ok, Err, IfOk, true, false};
+ghost use Rattle.std.specs.Prelude.{◌≡◌, if◌then◌else◌, ◌∷◌, ◌++◌, ◌-◌, ◌<◌, ◌≤◌, ℕ, List, [], length, drop, Ok, Err, IfOk, true, false};
 ghost use Rattle.script8.specs.Cuts.{Cuts, Cut, Opens, ended};
-ghost use Rattle.script8.specs.Items.{Begins};
+ghost use Rattle.script8.specs.Items.{Begins, Waits, ended_lines};
 ghost use Rattle.script8.specs.declared.faults.SessionFault.TheVariants.{BadLine};
 ghost use Rattle.script8.specs.declared.items.Item.TheVariants.{Refused};
 ghost use Rattle.script8.specs.declared.lines.Line.TheVariants.{Store};
@@ -26,8 +26,8 @@ pub enum Item {
 /// What a text begins with.
 #[derive(Drop, Debug)]
 pub enum Next {
-    /// No item.
-    End,
+    /// No item; in a text that goes on none is whole before so many more lines are ended.
+    End(u32),
 
     /// An empty line of so many bytes, its LF with them.
     Blank(usize),
@@ -37,14 +37,36 @@ pub enum Next {
 }
 
 /// What a text begins with, where it is the end of a script, or goes on. The lines of a STORE are taken with it; where they are
-/// not all there, it is refused as `BadLine` at a script's end, and is no whole item otherwise (this project's profile).
+/// not all there, it is refused as `BadLine` at a script's end, and is no whole item otherwise (this project's profile). So a text
+/// that comes in parts needs no second look before the lines that are wanted have come.
 pub fn next_item(alloc: Global, text: &[u8], is_end: bool) -> Result<Next, SessionFault>
     ensures { Begins text.now is_end result }
 {
     match lines_length(text, 1, is_end) {
-        Some(bytes) => line_item(alloc, text, bytes, is_end),
-        None => Ok(Next::End),
+        Ok(bytes) => line_item(alloc, text, bytes, is_end),
+        Err(missing) => Ok(Next::End(missing)),
     }
+}
+
+/// How many lines a text wants yet that wanted so many, behind these bytes of it.
+pub fn lines_left(lines: u32, bytes: &[u8]) -> u32
+    ensures number { result ≡ lines - length (ended_lines bytes.now) }
+    ensures waits { (text : List ℕ) → Waits text lines → Waits (text ++ bytes.now) result }
+{
+    (lines as usize).saturating_sub(ends_in(bytes)) as u32
+}
+
+/// How many lines a text ends: the number of its LFs.
+fn ends_in(text: &[u8]) -> usize
+    ensures { result ≡ length (ended_lines text.now) }
+{
+    let mut ends = 0;
+    for byte in text {
+        if *byte == b'\n' {
+            ends += 1;
+        }
+    }
+    ends
 }
 
 /// What a text begins with whose first line has so many bytes, its LF with them.
@@ -87,26 +109,28 @@ fn store_item(
     ensures { Begins text.now is_end result }
 {
     let (_, behind) = text.split_at(bytes);
-    let Some(more) = lines_length(behind, lines, is_end) else {
-        return Ok(cut_off(text, is_end));
-    };
-    let (lines, _) = behind.split_at(more);
-    match ended_text(alloc, lines) {
-        Ok(text) => Ok(Next::Item {
-            item: Item::Do(Entry::Store { name, text }),
-            bytes: bytes + more,
-        }),
-        Err(_) => Err(SessionFault::Memory),
+    match lines_length(behind, lines, is_end) {
+        Ok(more) => {
+            let (lines, _) = behind.split_at(more);
+            match ended_text(alloc, lines) {
+                Ok(text) => Ok(Next::Item {
+                    item: Item::Do(Entry::Store { name, text }),
+                    bytes: bytes + more,
+                }),
+                Err(_) => Err(SessionFault::Memory),
+            }
+        }
+        Err(missing) => Ok(cut_off(text, missing, is_end)),
     }
 }
 
-/// What a text begins with that is a STORE without all its lines.
-fn cut_off(text: &[u8], is_end: bool) -> Next
+/// What a text begins with that is a STORE for which lines are missing.
+fn cut_off(text: &[u8], missing: u32, is_end: bool) -> Next
     ensures over { is_end ≡ true → result ≡ next.Item (Refused BadLine) (length text.now) }
-    ensures on { is_end ≡ false → result ≡ next.End }
+    ensures on { is_end ≡ false → result ≡ next.End missing }
 {
     if !is_end {
-        return Next::End;
+        return Next::End(missing);
     }
     Next::Item {
         item: Item::Refused(SessionFault::BadLine),
@@ -114,15 +138,20 @@ fn cut_off(text: &[u8], is_end: bool) -> Next
     }
 }
 
-/// How many bytes so many lines have, the LFs with them; the last line of a script may lack its own.
-fn lines_length(text: &[u8], lines: u32, is_end: bool) -> Option<usize>
+/// A law: a text of no byte has no whole item before a line is ended. The function does nothing.
+pub fn one_line_wanted()
+    ensures { Waits [] 1 }
+{}
+
+/// How many bytes so many lines have, the LFs with them, or how many are missing; the last line of a script may lack its own.
+fn lines_length(text: &[u8], lines: u32, is_end: bool) -> Result<usize, u32>
     ensures { Cut text.now is_end lines result }
 {
     let mut left = lines;
     let mut is_begun = false;
     for (place, byte) in text.iter().enumerate() {
         if left == 0 {
-            return Some(place);
+            return Ok(place);
         }
         if *byte == b'\n' {
             left -= 1;
@@ -132,12 +161,12 @@ fn lines_length(text: &[u8], lines: u32, is_end: bool) -> Option<usize>
         }
     }
     if left == 0 {
-        return Some(text.len());
+        return Ok(text.len());
     }
     if left > 1 || !is_begun || !is_end {
-        return None;
+        return Err(left);
     }
-    Some(text.len())
+    Ok(text.len())
 }
 
 /// A line without the LF that may stand at its end.

@@ -27,7 +27,7 @@ pub use bytes::Bytes;
 pub use entries::Entry;
 pub use faults::SessionFault;
 pub use file_lengths::FileLengths;
-pub use items::{Item, Next, next_item};
+pub use items::{Item, Next, lines_left, next_item, one_line_wanted};
 pub use lines::Line;
 pub use names::Names;
 pub use parsing::parse_line;

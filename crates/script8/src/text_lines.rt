@@ -30,9 +30,9 @@ pub fn put_number(line: &mut ArrayVec<u8, 80>, number: u64)
     put(line, digits.format(number).as_bytes());
 }
 
-/// Puts the characters of a name.
+/// Puts the characters of a name, as it is shown.
 #[tactic(auto, unfolding(crate::specs::Shown::shown))]
-pub(crate) fn put_name(line: &mut ArrayVec<u8, 80>, name: Name)
+pub fn put_name(line: &mut ArrayVec<u8, 80>, name: Name)
     requires { array_vec_len line.old ≤ 40 }
     ensures text { line.new.items ≡ line.old.items ++ shown name }
     ensures short { array_vec_len line.new ≤ array_vec_len line.old + 9 }
@@ -66,7 +66,7 @@ fn put_code(line: &mut ArrayVec<u8, 80>, code: u16)
 {
     match code as u8 {
         0 => {}
-        letter @ 1..=0o37 => put(line, &[letter + 0o100]),
-        other => put(line, &[other]),
+        letter @ 1..=0o37 => line.push(letter + 0o100),
+        other => line.push(other),
     }
 }

@@ -1,15 +1,17 @@
 -- What doing an entry comes to, by what happened to the volume: a lemma for each kind of answer, whatever the entry is.
-use Rattle.std.proofs.Common.{◌≡◌, ◌≢◌, ℕ, ◌<◌, ◌≤◌, false, true, true≢false, List, Ok, Err, refl, ap, sym, ◌∙◌, arith, inl, inr}
+use Rattle.std.proofs.Common.{◌≡◌, ◌≢◌, ℕ, ◌<◌, ◌≤◌, false, true, true≢false, List, Ok, Err, refl, ap, sym, subst, ◌∙◌, arith, inl, inr}
 use Rattle.os8_files.specs.Failed.{Survives}
 use Rattle.os8_files.specs.Mounted.{Mounted}
 use Rattle.os8_files.specs.declared.faults.FileFault.{FileFault}
+use Rattle.os8_files.specs.declared.faults.FileFault.TheVariants as file
 use Rattle.script8.specs.declared.entries.Entry.{Entry}
 use Rattle.script8.specs.declared.faults.SessionFault.{SessionFault}
 use Rattle.script8.specs.declared.faults.SessionFault.TheVariants as fault
 use Rattle.script8.specs.declared.replies.Reply.{Reply}
 use Rattle.session8.specs.Console.{is_console}
 use Rattle.session8.specs.Refusals.{May, MayLack, after_refusal}
-use Rattle.session8.specs.Session.{Seen, state_of, IsQuiet, Does}
+use Rattle.session8.specs.Failing.{StoppedFor, StepsStopped}
+use Rattle.session8.specs.Session.{Seen, state_of, IsQuiet, Tells, Does}
 use Rattle.session8.specs.System.{Answer, Done}
 
 -- an answer that is a refusal, and one that is a reply
@@ -50,6 +52,8 @@ replied e old new reply running still done = record {
   running = λ quiet. still.stopped ∙ running;
   memory = λ is. absurd (ok_not_memory _ is);
   reply = tt;
+  tells = λ running. record { running = running; reads = still.reads; writes = still.writes };
+  stopped = λ halted. absurd (true≢false (sym halted ∙ running));
   done = (done, inr (record { running = running; reads = still.reads; writes = still.writes }));
 }
 
@@ -62,33 +66,39 @@ shown e old new reply is same done = record {
   running = λ quiet. still.stopped ∙ quiet.running;
   memory = λ is. absurd (ok_not_memory _ is);
   reply = tt;
+  tells = λ running. record { running = running; reads = still.reads; writes = still.writes };
+  stopped = λ halted. subst (λ b. StepsStopped b (state_of old) e (Ok reply) (state_of new)) (sym is) done;
   done = (done, inl is);
 }
   where
     still : IsSteady old.volume new.volume
     still = steady_same old.volume new.volume same
 
--- a refusal of the file service
-pub refused : (e : Entry) (old new : Seen) (why : FileFault) → IsSteady old.volume new.volume → May (state_of old) e (fault.File why) → state_of new ≡ after_refusal (state_of old) e → Does e old (Err (fault.File why)) new
-refused e old new why still may after = record {
+-- a refusal of the file service, where no block call failed
+pub refused : (e : Entry) (old new : Seen) (why : FileFault) → old.volume.stopped ≡ false → (IsQuiet old new → Tells e old (Err (fault.File why)) new) → IsSteady old.volume new.volume → May (state_of old) e (fault.File why) → state_of new ≡ after_refusal (state_of old) e → Does e old (Err (fault.File why)) new
+refused e old new why running tells still may after = record {
   step = λ quiet. (may, after);
   later = record { reads = omega (arith, still.reads); writes = omega (arith, still.writes) };
   files = λ running more. absurd (omega (arith, more, still.writes));
   running = λ quiet. still.stopped ∙ quiet.running;
   memory = λ is. absurd (not_memory why is);
   reply = tt;
+  tells = λ running. tells (record { running = running; reads = still.reads; writes = still.writes });
+  stopped = λ halted. absurd (true≢false (sym halted ∙ running));
   done = tt;
 }
 
 -- what want of memory left undone
-pub undone : (e : Entry) (old new : Seen) → MayLack (state_of old) e → IsSteady old.volume new.volume → state_of new ≡ state_of old → Does e old (Err fault.Memory) new
-undone e old new may still same = record {
+pub undone : (e : Entry) (old new : Seen) → (old.volume.stopped ≡ true → StepsStopped (is_console e) (state_of old) e (Err fault.Memory) (state_of new)) → MayLack (state_of old) e → IsSteady old.volume new.volume → state_of new ≡ state_of old → Does e old (Err fault.Memory) new
+undone e old new halts may still same = record {
   step = λ quiet. (may, same);
   later = record { reads = omega (arith, still.reads); writes = omega (arith, still.writes) };
   files = λ running more. absurd (omega (arith, more, still.writes));
   running = λ quiet. still.stopped ∙ quiet.running;
   memory = λ is. record { state = same; stopped = still.stopped; reads = still.reads; writes = still.writes };
   reply = tt;
+  tells = λ running. record { running = running; reads = still.reads; writes = still.writes };
+  stopped = halts;
   done = tt;
 }
 
@@ -108,16 +118,20 @@ pub record HasFailed (old new : Mounted) : Type 0 where
   pub left : Survives old.blocks new.blocks
   pub behind : IsBehind old new
   pub more : old.failed_writes < new.failed_writes
+  pub running : old.stopped ≡ false
+  pub stopped : new.stopped ≡ true
 
--- a block call failed
-pub failed : (e : Entry) (old new : Seen) (why : FileFault) → HasFailed old.volume new.volume → Does e old (Err (fault.File why)) new
-failed e old new why has = record {
+-- a write failed in an entry that neither changes the jobs nor the console
+pub failed : (e : Entry) (old new : Seen) → HasFailed old.volume new.volume → new.jobs ≡ (after_refusal (state_of old) e).jobs → new.console ≡ old.console → Does e old (Err (fault.File file.Device)) new
+failed e old new has jobs console = record {
   step = λ quiet. absurd (loud quiet);
   later = record { reads = has.behind.reads; writes = has.behind.writes };
   files = λ running more. (old.volume.blocks, refl, has.left);
   running = λ quiet. absurd (loud quiet);
-  memory = λ is. absurd (not_memory why is);
+  memory = λ is. absurd (not_memory file.Device is);
   reply = tt;
+  tells = λ running. record { call = inr (record { running = running; writes = has.more; stopped = has.stopped }); jobs = jobs; console = console };
+  stopped = λ halted. absurd (true≢false (sym halted ∙ has.running));
   done = tt;
 }
   where
@@ -125,13 +139,15 @@ failed e old new why has = record {
     loud quiet = omega (arith, has.more, quiet.writes)
 
 -- a write had failed before
-pub stopped : (e : Entry) (old new : Seen) (why : FileFault) → old.volume.stopped ≡ true → IsBehind old.volume new.volume → Does e old (Err (fault.File why)) new
-stopped e old new why halted behind = record {
+pub stopped : (e : Entry) (old new : Seen) → is_console e ≡ false → StoppedFor (state_of old) e (fault.File file.Stopped) → state_of new ≡ after_refusal (state_of old) e → old.volume.stopped ≡ true → IsBehind old.volume new.volume → Does e old (Err (fault.File file.Stopped)) new
+stopped e old new other for after halted behind = record {
   step = λ quiet. absurd (true≢false (sym halted ∙ quiet.running));
   later = record { reads = behind.reads; writes = behind.writes };
   files = λ running more. absurd (true≢false (sym halted ∙ running));
   running = λ quiet. absurd (true≢false (sym halted ∙ quiet.running));
-  memory = λ is. absurd (not_memory why is);
+  memory = λ is. absurd (not_memory file.Stopped is);
   reply = tt;
+  tells = λ running. absurd (true≢false (sym halted ∙ running));
+  stopped = λ halted. subst (λ b. StepsStopped b (state_of old) e (Err (fault.File file.Stopped)) (state_of new)) (sym other) (for, after);
   done = tt;
 }

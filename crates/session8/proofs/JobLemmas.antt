@@ -1,10 +1,10 @@
 -- What the entries of jobs come to.
-use Rattle.std.proofs.Common.{◌≡◌, ◌≢◌, ◌⊎◌, inl, inr, arith, ℕ, zero, suc, Bool, true, false, List, [], ◌∷◌, ◌++◌, get_or, slice_set, length, ◌<◌, IsErrOf, Option, Some, None, Ok, Err, refl, ap, sym, subst, ◌∙◌}
+use Rattle.std.proofs.Common.{◌≡◌, ◌≢◌, ◌⊎◌, inl, inr, arith, ℕ, zero, suc, Bool, true, false, List, [], ◌∷◌, ◌++◌, get_or, slice_set, length, ◌<◌, ◌≤◌, true≢false, IsErrOf, Option, Some, None, Ok, Err, refl, ap, sym, subst, ◌∙◌}
 use Rattle.os8_dir.specs.Names.{parsed_name}
 use Rattle.os8_files.specs.Mounted.{Mounted}
 use Rattle.os8_files.specs.declared.faults.FileFault.TheVariants as file
 use Rattle.jobs8.specs.Calls as calls
-use Rattle.jobs8.specs.Calls.{TakesTurn, StartsOver, StartsAssembling, StartsLoading, StartsSqueezing}
+use Rattle.jobs8.specs.Calls.{LeavesJobs, NumberTurnsOver, Outlives, TakesTurn, TurnsOver, StartsOver, StartsAssembling, StartsLoading, StartsSqueezing}
 use Rattle.jobs8.specs.Jobs.{Job, Work, Assembling, Loading, Squeezing, IsLowest, IsTaken, job_of, with_job, lowest_job, turns_left}
 use Rattle.jobs8.specs.Settled.{plain_jobs, state_over}
 use Rattle.jobs8.specs.Starts.{Begun, AssembleStarts, LoadStarts, SqueezeStarts}
@@ -22,7 +22,9 @@ use Rattle.script8.specs.declared.replies.Reply.TheVariants.{Line}
 use Rattle.script8.specs.declared.replies.Said.TheVariants as said
 use Rattle.session8.specs.Files.{name_before, parsed_names}
 use Rattle.session8.specs.Refusals.{May, after_refusal}
-use Rattle.session8.specs.Session.{Seen, state_of, IsReply, Does}
+use Rattle.session8.specs.Console.{is_console}
+use Rattle.session8.specs.Failing.{StoppedFor}
+use Rattle.session8.specs.Session.{Seen, state_of, IsQuiet, IsReply, Tells, Does}
 use Rattle.session8.specs.State.{State}
 use Rattle.session8.specs.System.{Answer, Done, Step}
 use Rattle.session8.specs.Work.{job_state, with_core, with_work, said_of, fault_of_job}
@@ -153,47 +155,129 @@ turned_on s js number answer v core js' = TakesTurn s.volume s.console.machine.c
 turns_on : (s : Seen) (js : List (Option kept.Job)) (number : ℕ) (answer : turns.Answer) (after : jobs.State) → s.jobs ≡ plain_jobs js → Turns (state_over s.volume s.console.machine.core (plain_jobs js)) number answer after → Turns (job_state (state_of s)) number answer after
 turns_on s js number answer after is turn = subst (λ (l : List (Option Job)). Turns (state_over s.volume s.console.machine.core l) number answer after) (sym is) turn
 
+abbrev ok_turn : Turned → turns.Answer
+ok_turn turned = Ok turned
+
+abbrev refused_turn : JobFault → turns.Answer
+refused_turn why = Err why
+
 still : (s : Seen) (v : Mounted) → calls.IsQuiet s.volume v → v.stopped ≡ false → IsSteady s.volume v
 still s v quiet running = record { stopped = running ∙ sym quiet.running; reads = quiet.reads; writes = quiet.writes }
 
-pub turn_done : (s : Seen) (v : Mounted) (core : List ℕ) (js js' : List (Option kept.Job)) (number : ℕ) (turned : Turned) → s.jobs ≡ plain_jobs js → turned_on s js number (Ok turned) v core js'
-    → Does (entry.Turn number) s (Ok (Line (said_of number turned))) (over_work s v (plain_jobs js') core)
-turn_done s v core js js' number turned is has =
-    replied _ _ _ _ has.volume.quiet.running (still s v has.volume.quiet (has.volume.running has.volume.quiet)) (turned, refl, (_, turns_on s js number _ _ is (has.step has.volume.quiet), refl))
+-- an answer to a turn of a number with this job
+abbrev DoesTurn : Seen → Mounted → List ℕ → List (Option kept.Job) → ℕ → Answer → Type 0
+DoesTurn s v core js' number answer = Does (entry.Turn number) s answer (over_work s v (plain_jobs js') core)
 
-turn_undone : (s : Seen) (v : Mounted) (core : List ℕ) (js js' : List (Option kept.Job)) (number : ℕ) → s.jobs ≡ plain_jobs js → turned_on s js number (Err job.Memory) v core js'
-    → Does (entry.Turn number) s (Err fault.Memory) (over_work s v (plain_jobs js') core)
-turn_undone s v core js js' number is has = undone _ _ _ gone.0 (still s v quiet (has.volume.running quiet)) (ap (with_work (state_of s)) gone.1)
+ok_not_err : (turned : Turned) (why : JobFault) → ok_turn turned ≡ Err why → ⊥
+ok_not_err turned why is = cc
+
+pub turn_done : (s : Seen) (v : Mounted) (core : List ℕ) (js js' : List (Option kept.Job)) (number : ℕ) (turned : Turned) → s.jobs ≡ plain_jobs js → turned_on s js number (Ok turned) v core js' → DoesTurn s v core js' number (Ok (Line (said_of number turned)))
+turn_done s v core js js' number turned is has = of_job (job_of number (plain_jobs js)) has.volume
   where
-    quiet : calls.IsQuiet s.volume v
-    quiet = has.volume.memory refl
+    of_job : (it : Option Job) → NumberTurnsOver it s.volume (Ok turned) v → DoesTurn s v core js' number (Ok (Line (said_of number turned)))
+    of_job None over = absurd (ok_not_err turned _ over.0)
+    of_job (Some it) over = replied _ _ _ _ over.tells.running (still s v over.tells (over.running over.tells)) (turned, refl, (_, turns_on s js number _ _ is (has.step over.tells), refl))
 
+turn_undone : (s : Seen) (v : Mounted) (core : List ℕ) (js js' : List (Option kept.Job)) (number : ℕ) → s.jobs ≡ plain_jobs js → turned_on s js number (Err job.Memory) v core js' → TurnsOver s.volume (Err job.Memory) v → DoesTurn s v core js' number (Err fault.Memory)
+turn_undone s v core js js' number is has over = undone _ _ _ (λ halted. absurd (true≢false (sym halted ∙ over.tells.running))) gone.0 (still s v over.tells (over.running over.tells)) (ap (with_work (state_of s)) gone.1)
+  where
     gone : ((it : Job) × (job_of number s.jobs ≡ Some it)) × (state_over v core (plain_jobs js') ≡ job_state (state_of s))
-    gone = lacks _ _ number (turns_on s js number _ _ is (has.step quiet))
+    gone = lacks _ _ number (turns_on s js number _ _ is (has.step over.tells))
 
+-- what the state is where the blocks are the same, a job is taken away, and core is the same
+state_without : (s : Seen) (v : Mounted) (core : List ℕ) (js js' : List (Option kept.Job)) (number : ℕ) → s.jobs ≡ plain_jobs js → v.blocks ≡ s.volume.blocks → plain_jobs js' ≡ with_job number None (plain_jobs js) → core ≡ s.console.machine.core
+    → state_of (over_work s v (plain_jobs js') core) ≡ after_refusal (state_of s) (entry.Turn number)
+state_without s v core js js' number is blocks left same =
+    ap (λ b. at b (plain_jobs js') core) blocks
+    ∙ ap (λ (l : List (Option Job)). at s.volume.blocks l core) (left ∙ ap (with_job number None) (sym is))
+    ∙ ap (at s.volume.blocks (with_job number None s.jobs)) same
+  where
+    at : List (List ℕ) → List (Option Job) → List ℕ → State
+    at blocks jobs core = state_of (record { volume = record v { blocks = blocks }; jobs = jobs; console = with_core s.console core })
+
+-- a turn that is refused ends its job, whatever it tells of the block calls
 turn_ended : (s : Seen) (v : Mounted) (core : List ℕ) (js js' : List (Option kept.Job)) (number : ℕ) (why : JobFault) → why ≢ job.Memory → s.jobs ≡ plain_jobs js → turned_on s js number (Err why) v core js'
-    → Does (entry.Turn number) s (Err (fault_of_job why)) (over_work s v (plain_jobs js') core)
-turn_ended s v core js js' number why other is has = record {
+    → s.volume.failed_reads ≤ v.failed_reads → s.volume.failed_writes ≤ v.failed_writes → (s.volume.failed_writes < v.failed_writes → Outlives s.volume.blocks v.blocks) → (calls.IsQuiet s.volume v → v.stopped ≡ false)
+    → (s.volume.stopped ≡ false → Tells (entry.Turn number) s (Err (fault_of_job why)) (over_work s v (plain_jobs js') core))
+    → (s.volume.stopped ≡ true → StoppedFor (state_of s) (entry.Turn number) (fault_of_job why) × (state_of (over_work s v (plain_jobs js') core) ≡ after_refusal (state_of s) (entry.Turn number)))
+    → DoesTurn s v core js' number (Err (fault_of_job why))
+turn_ended s v core js js' number why other is has reads writes files running tells halts = record {
   step = λ quiet.
       let turn = turns_on s js number _ _ is (has.step quiet) in
       refused_step (entry.Turn number) (state_of s) (state_of (over_work s v (plain_jobs js') core)) why other (why, refl, (_, turn)) (ap (with_work (state_of s)) (ends _ _ number why other turn));
-  later = record { reads = has.volume.reads; writes = has.volume.writes };
-  files = λ running more. has.volume.files more;
-  running = has.volume.running;
+  later = record { reads = reads; writes = writes };
+  files = λ running more. files more;
+  running = running;
   memory = λ memory. absurd (err_is why other memory);
   reply = is_reply why;
+  tells = tells;
+  stopped = halts;
   done = tt;
 }
 
--- a turn that is not answered by what it has done
-pub turn_refused : (s : Seen) (v : Mounted) (core : List ℕ) (js js' : List (Option kept.Job)) (number : ℕ) (why : JobFault) → s.jobs ≡ plain_jobs js → turned_on s js number (Err why) v core js'
-    → Does (entry.Turn number) s (Err (fault_of_job why)) (over_work s v (plain_jobs js') core)
-turn_refused s v core js js' number job.Memory is has = turn_undone s v core js js' number is has
-turn_refused s v core js js' number job.NoJob is has = turn_ended s v core js js' number _ (λ same. cc) is has
-turn_refused s v core js js' number job.TooManyJobs is has = turn_ended s v core js js' number _ (λ same. cc) is has
-turn_refused s v core js js' number (job.File why) is has = turn_ended s v core js js' number _ (λ same. cc) is has
-turn_refused s v core js js' number (job.Asm why) is has = turn_ended s v core js js' number _ (λ same. cc) is has
-turn_refused s v core js js' number (job.Tape why) is has = turn_ended s v core js js' number _ (λ same. cc) is has
+-- no block call failed, and none before
+turn_quiet : (s : Seen) (v : Mounted) (core : List ℕ) (js js' : List (Option kept.Job)) (number : ℕ) (why : JobFault) → why ≢ job.Memory → s.jobs ≡ plain_jobs js → turned_on s js number (Err why) v core js' → TurnsOver s.volume (Err why) v → calls.IsQuiet s.volume v
+    → (calls.IsQuiet s.volume v → Tells (entry.Turn number) s (Err (fault_of_job why)) (over_work s v (plain_jobs js') core)) → DoesTurn s v core js' number (Err (fault_of_job why))
+turn_quiet s v core js js' number why other is has over quiet tells =
+    turn_ended s v core js js' number why other is has over.reads over.writes over.files over.running (λ running. tells quiet) (λ halted. absurd (true≢false (sym halted ∙ quiet.running)))
+
+-- there is no job of the number
+turn_of_none : (s : Seen) (v : Mounted) (core : List ℕ) (js js' : List (Option kept.Job)) (number : ℕ) (why : JobFault) → s.jobs ≡ plain_jobs js → turned_on s js number (Err why) v core js' → job_of number (plain_jobs js) ≡ None → why ≡ job.NoJob → v ≡ s.volume
+    → DoesTurn s v core js' number (Err (fault_of_job why))
+turn_of_none s v core js js' number why is has none no_job same =
+    subst (λ f. DoesTurn s v core js' number (Err (fault_of_job f))) (sym no_job) (turn_ended s v core js js' number job.NoJob (λ is. cc) is (subst (λ f. turned_on s js number (Err f) v core js') no_job has)
+    (omega (arith, reads)) (omega (arith, writes)) (λ more. absurd (omega (arith, more, writes))) (λ quiet. ap (λ (m : Mounted). m.stopped) same ∙ quiet.running)
+    (λ running. record { running = running; reads = reads; writes = writes })
+    (λ halted. (ap (job_of number) is ∙ none, state_without s v core js js' number is (ap (λ (m : Mounted). m.blocks) same) (left why no_job has.left) (has.same_core why refl))))
+  where
+    reads : v.failed_reads ≡ s.volume.failed_reads
+    reads = ap (λ (m : Mounted). m.failed_reads) same
+
+    writes : v.failed_writes ≡ s.volume.failed_writes
+    writes = ap (λ (m : Mounted). m.failed_writes) same
+
+    left : (f : JobFault) → f ≡ job.NoJob → LeavesJobs number (Err f) (plain_jobs js) (plain_jobs js') → plain_jobs js' ≡ with_job number None (plain_jobs js)
+    left f is leaves = subst (λ x. LeavesJobs number (Err x) (plain_jobs js) (plain_jobs js')) is leaves
+
+-- a turn of a job that is not answered by what it has done
+pub turn_refused : (s : Seen) (v : Mounted) (core : List ℕ) (js js' : List (Option kept.Job)) (number : ℕ) (why : JobFault) → s.jobs ≡ plain_jobs js → turned_on s js number (Err why) v core js' → DoesTurn s v core js' number (Err (fault_of_job why))
+turn_refused s v core js js' number why is has = of_job (job_of number (plain_jobs js)) refl has.volume
+  where
+    there : (it : Job) → job_of number (plain_jobs js) ≡ Some it → (job : Job) × (job_of number s.jobs ≡ Some job)
+    there it at = (it, ap (job_of number) is ∙ at)
+
+    of_it : (it : Job) → job_of number (plain_jobs js) ≡ Some it → (why : JobFault) → turned_on s js number (Err why) v core js' → TurnsOver s.volume (Err why) v → DoesTurn s v core js' number (Err (fault_of_job why))
+    of_it it at job.Memory has over = turn_undone s v core js js' number is has over
+    of_it it at (job.File file.Device) has over = turn_ended s v core js js' number (job.File file.Device) (λ is. cc) is has over.reads over.writes over.files over.running
+        (λ running. record { call = over.tells; jobs = has.left ∙ ap (with_job number None) (sym is); console = ap (with_core s.console) (has.same_core _ refl) })
+        (λ halted. absurd (true≢false (sym halted ∙ (elim over.tells [ inl read ↦ read.running | inr write ↦ write.running ]))))
+    of_it it at (job.File file.Stopped) has over = turn_ended s v core js js' number (job.File file.Stopped) (λ is. cc) is has over.reads over.writes over.files over.running
+        (λ running. absurd (true≢false (sym over.tells.before ∙ running)))
+        (λ halted. (there it at, state_without s v core js js' number is over.tells.blocks has.left (has.same_core _ refl)))
+    of_it it at job.NoJob has over = turn_quiet s v core js js' number _ (λ is. cc) is has over over.tells (λ quiet. quiet)
+    of_it it at job.TooManyJobs has over = turn_quiet s v core js js' number _ (λ is. cc) is has over over.tells (λ quiet. quiet)
+    of_it it at (job.Asm why) has over = turn_quiet s v core js js' number _ (λ is. cc) is has over over.tells (λ quiet. quiet)
+    of_it it at (job.Tape why) has over = turn_quiet s v core js js' number _ (λ is. cc) is has over over.tells (λ quiet. quiet)
+    of_it it at (job.File file.NotFound) has over = turn_quiet s v core js js' number _ (λ is. cc) is has over over.tells (λ quiet. quiet)
+    of_it it at (job.File (file.NoRoom n)) has over = turn_quiet s v core js js' number _ (λ is. cc) is has over over.tells (λ quiet. quiet)
+    of_it it at (job.File file.DirectoryFull) has over = turn_quiet s v core js js' number _ (λ is. cc) is has over over.tells (λ quiet. quiet)
+    of_it it at (job.File (file.Busy n)) has over = turn_quiet s v core js js' number _ (λ is. cc) is has over over.tells (λ quiet. quiet)
+    of_it it at (job.File file.BadName) has over = turn_quiet s v core js js' number _ (λ is. cc) is has over over.tells (λ quiet. quiet)
+    of_it it at (job.File file.TooLong) has over = turn_quiet s v core js js' number _ (λ is. cc) is has over over.tells (λ quiet. quiet)
+    of_it it at (job.File file.TentativeOpen) has over = turn_quiet s v core js js' number _ (λ is. cc) is has over over.tells (λ quiet. quiet)
+    of_it it at (job.File file.Memory) has over = turn_quiet s v core js js' number _ (λ is. cc) is has over over.tells (λ quiet. quiet)
+    of_it it at (job.File file.NothingWritten) has over = turn_quiet s v core js js' number _ (λ is. cc) is has over over.tells (λ quiet. quiet)
+
+    no_job : refused_turn why ≡ Err job.NoJob → why ≡ job.NoJob
+    no_job told = ap fault_in told
+      where
+        fault_in : turns.Answer → JobFault
+        fault_in (Ok turned) = job.NoJob
+        fault_in (Err f) = f
+
+    of_job : (it : Option Job) → job_of number (plain_jobs js) ≡ it → NumberTurnsOver it s.volume (Err why) v → DoesTurn s v core js' number (Err (fault_of_job why))
+    of_job None at over = turn_of_none s v core js js' number why is has at (no_job over.0) over.1
+    of_job (Some it) at over = of_it it at why has over
 
 -- a turn of the lowest job leaves fewer turns, where memory suffices
 pub turn_fewer : ((js : List (Option Job)) (number : ℕ) → lowest_job js ≡ Some number → IsLowest (IsTaken js) (length js) number) → (v v' : Mounted) (core core' : List ℕ) (js js' : List (Option kept.Job)) (number : ℕ) (answer : turns.Answer)
@@ -214,14 +298,16 @@ not_lacking r (job.Tape why) other is same = cc
 -- ## Starts
 
 -- a refusal, behind which the volume is as steady as before
-pub declined : (e : Entry) (s new : Seen) (why : JobFault) → why ≢ job.Memory → IsSteady s.volume new.volume → May (state_of s) e (fault_of_job why) → state_of new ≡ after_refusal (state_of s) e → Does e s (Err (fault_of_job why)) new
-declined e s new why other still may after = record {
+pub declined : (e : Entry) (s new : Seen) (why : JobFault) → why ≢ job.Memory → s.volume.stopped ≡ false → (IsQuiet s new → Tells e s (Err (fault_of_job why)) new) → IsSteady s.volume new.volume → May (state_of s) e (fault_of_job why) → state_of new ≡ after_refusal (state_of s) e → Does e s (Err (fault_of_job why)) new
+declined e s new why other running tells still may after = record {
   step = λ quiet. refused_step e (state_of s) (state_of new) why other may after;
   later = record { reads = omega (arith, still.reads); writes = omega (arith, still.writes) };
   files = λ running more. absurd (omega (arith, more, still.writes));
   running = λ quiet. still.stopped ∙ quiet.running;
   memory = λ is. absurd (err_is why other is);
   reply = is_reply why;
+  tells = λ running. tells (record { running = running; reads = still.reads; writes = still.writes });
+  stopped = λ halted. absurd (true≢false (sym halted ∙ running));
   done = tt;
 }
 
@@ -234,8 +320,8 @@ start_steady old new is = record {
 }
 
 -- where a write had failed before, nothing is begun
-pub start_stopped : (e : Entry) (s new : Seen) (why : JobFault) → s.volume.stopped ≡ true → why ≡ job.File file.Stopped → new.volume ≡ s.volume → Does e s (Err (fault_of_job why)) new
-start_stopped e s new why halted is same = subst (λ w. Does e s (Err (fault_of_job w)) new) (sym is) (stopped e s new file.Stopped halted (behind_same _ _ same))
+pub start_stopped : (e : Entry) (s new : Seen) (why : JobFault) → is_console e ≡ false → StoppedFor (state_of s) e (fault.File file.Stopped) → state_of new ≡ after_refusal (state_of s) e → s.volume.stopped ≡ true → why ≡ job.File file.Stopped → new.volume ≡ s.volume → Does e s (Err (fault_of_job why)) new
+start_stopped e s new why other for after halted is same = subst (λ w. Does e s (Err (fault_of_job w)) new) (sym is) (stopped e s new other for after halted (behind_same _ _ same))
 
 pub never_number : {A E : Type 0} (number : A) (why : E) → Ok number ≡ Err why → ⊥
 never_number number why is = cc
@@ -259,10 +345,10 @@ start_begun e s v js js' number over done = elim (bool_cases s.volume.stopped) [
 ]
 
 -- no job is begun
-pub start_refused : (e : Entry) (s : Seen) (v : Mounted) (js js' : List (Option kept.Job)) (why : JobFault) → StartsOver s.volume js (Err why) v js' → (s.volume.stopped ≡ false → Does e s (Err (fault_of_job why)) (over_with s v (plain_jobs js')))
+pub start_refused : (e : Entry) (s : Seen) (v : Mounted) (js js' : List (Option kept.Job)) (why : JobFault) → is_console e ≡ false → after_refusal (state_of s) e ≡ state_of s → StoppedFor (state_of s) e (fault.File file.Stopped) → s.jobs ≡ plain_jobs js → StartsOver s.volume js (Err why) v js' → (s.volume.stopped ≡ false → Does e s (Err (fault_of_job why)) (over_with s v (plain_jobs js')))
     → Does e s (Err (fault_of_job why)) (over_with s v (plain_jobs js'))
-start_refused e s v js js' why over does = elim (bool_cases s.volume.stopped) [
-  | inl halted ↦ start_stopped _ _ _ why halted (same_fault _ _ (over.stopped halted).0) (over.stopped halted).1
+start_refused e s v js js' why other after for is over does = elim (bool_cases s.volume.stopped) [
+  | inl halted ↦ start_stopped _ _ _ why other for (ap (λ (m : Mounted). state_of (over_with s m (plain_jobs js'))) (over.stopped halted).1 ∙ ap (λ (l : List (Option Job)). state_of (over_with s s.volume l)) (ap plain_jobs (over.stopped halted).2 ∙ sym is) ∙ sym after) halted (same_fault _ _ (over.stopped halted).0) (over.stopped halted).1
   | inr running ↦ does running
 ]
 
@@ -278,28 +364,28 @@ load_begun s v js js' bytes name number named is has =
 
 pub load_refused : (s : Seen) (v : Mounted) (js js' : List (Option kept.Job)) (bytes : List ℕ) (name : ℕ) (why : JobFault) → parsed_name bytes ≡ Some name → s.jobs ≡ plain_jobs js → StartsLoading s.volume js name (Err why) v js'
     → Does (entry.Load bytes) s (Err (fault_of_job why)) (over_with s v (plain_jobs js'))
-load_refused s v js js' bytes name why named is has = start_refused _ s v js js' why has.over (λ running. by_fault why (load_on s js name (Err why) _ is (has.step running s.console.machine.core)))
+load_refused s v js js' bytes name why named is has = start_refused _ s v js js' why refl refl (name, named) is has.over (λ running. by_fault running why (load_on s js name (Err why) _ is (has.step running s.console.machine.core)))
   where
     still : IsSteady s.volume v
     still = start_steady _ _ has.over.others
 
-    by_fault : (why : JobFault) → LoadStarts (job_state (state_of s)) name (Err why) (state_over v s.console.machine.core (plain_jobs js')) → Does (entry.Load bytes) s (Err (fault_of_job why)) (over_with s v (plain_jobs js'))
-    by_fault job.TooManyJobs starts = declined _ _ _ job.TooManyJobs (λ same. cc) still (name, named, (job.TooManyJobs, refl, (starts.0, refl))) (ap (with_work (state_of s)) starts.1)
-    by_fault (job.File file.NotFound) starts = declined _ _ _ (job.File file.NotFound) (λ same. cc) still (name, named, (job.File file.NotFound, refl, (starts.0, starts.1, refl))) (ap (with_work (state_of s)) starts.2)
-    by_fault job.Memory starts = undone _ _ _ (name, named, (starts.0, starts.1, refl)) still (ap (with_work (state_of s)) starts.2)
-    by_fault job.NoJob starts = absurd starts
-    by_fault (job.File (file.NoRoom n)) starts = absurd starts
-    by_fault (job.File file.DirectoryFull) starts = absurd starts
-    by_fault (job.File (file.Busy n)) starts = absurd starts
-    by_fault (job.File file.BadName) starts = absurd starts
-    by_fault (job.File file.TooLong) starts = absurd starts
-    by_fault (job.File file.TentativeOpen) starts = absurd starts
-    by_fault (job.File file.Device) starts = absurd starts
-    by_fault (job.File file.Stopped) starts = absurd starts
-    by_fault (job.File file.Memory) starts = absurd starts
-    by_fault (job.File file.NothingWritten) starts = absurd starts
-    by_fault (job.Asm why) starts = absurd starts
-    by_fault (job.Tape why) starts = absurd starts
+    by_fault : s.volume.stopped ≡ false → (why : JobFault) → LoadStarts (job_state (state_of s)) name (Err why) (state_over v s.console.machine.core (plain_jobs js')) → Does (entry.Load bytes) s (Err (fault_of_job why)) (over_with s v (plain_jobs js'))
+    by_fault running job.TooManyJobs starts = declined _ _ _ job.TooManyJobs (λ same. cc) running (λ quiet. quiet) still (name, named, (job.TooManyJobs, refl, (starts.0, refl))) (ap (with_work (state_of s)) starts.1)
+    by_fault running (job.File file.NotFound) starts = declined _ _ _ (job.File file.NotFound) (λ same. cc) running (λ quiet. quiet) still (name, named, (job.File file.NotFound, refl, (starts.0, starts.1, refl))) (ap (with_work (state_of s)) starts.2)
+    by_fault running job.Memory starts = undone _ _ _ (λ halted. absurd (true≢false (sym halted ∙ running))) (name, named, (starts.0, starts.1, refl)) still (ap (with_work (state_of s)) starts.2)
+    by_fault running job.NoJob starts = absurd starts
+    by_fault running (job.File (file.NoRoom n)) starts = absurd starts
+    by_fault running (job.File file.DirectoryFull) starts = absurd starts
+    by_fault running (job.File (file.Busy n)) starts = absurd starts
+    by_fault running (job.File file.BadName) starts = absurd starts
+    by_fault running (job.File file.TooLong) starts = absurd starts
+    by_fault running (job.File file.TentativeOpen) starts = absurd starts
+    by_fault running (job.File file.Device) starts = absurd starts
+    by_fault running (job.File file.Stopped) starts = absurd starts
+    by_fault running (job.File file.Memory) starts = absurd starts
+    by_fault running (job.File file.NothingWritten) starts = absurd starts
+    by_fault running (job.Asm why) starts = absurd starts
+    by_fault running (job.Tape why) starts = absurd starts
 
 -- ## Assembling
 
@@ -338,28 +424,28 @@ assemble_begun s v js js' to from target sources number named are is has =
 
 pub assemble_refused : (s : Seen) (v : Mounted) (js js' : List (Option kept.Job)) (to : List ℕ) (from : List (List ℕ)) (target : ℕ) (sources : List ℕ) (why : JobFault) → parsed_name to ≡ Some target → parsed_names from ≡ Some sources → s.jobs ≡ plain_jobs js
     → StartsAssembling s.volume js target sources (Err why) v js' → Does (entry.Assemble to from) s (Err (fault_of_job why)) (over_with s v (plain_jobs js'))
-assemble_refused s v js js' to from target sources why named are is has = start_refused _ s v js js' why has.over (λ running. by_fault why (assemble_on s js target sources (Err why) _ is (has.step running s.console.machine.core)))
+assemble_refused s v js js' to from target sources why named are is has = start_refused _ s v js js' why refl refl (target, sources, named, are, tt) is has.over (λ running. by_fault running why (assemble_on s js target sources (Err why) _ is (has.step running s.console.machine.core)))
   where
     still : IsSteady s.volume v
     still = start_steady _ _ has.over.others
 
-    by_fault : (why : JobFault) → AssembleStarts (job_state (state_of s)) target sources (Err why) (state_over v s.console.machine.core (plain_jobs js')) → Does (entry.Assemble to from) s (Err (fault_of_job why)) (over_with s v (plain_jobs js'))
-    by_fault job.TooManyJobs starts = declined _ _ _ job.TooManyJobs (λ same. cc) still (target, sources, named, are, (job.TooManyJobs, refl, (starts.0, refl))) (ap (with_work (state_of s)) starts.1)
-    by_fault (job.File file.NotFound) starts = declined _ _ _ (job.File file.NotFound) (λ same. cc) still (target, sources, named, are, (job.File file.NotFound, refl, (starts.0, starts.1, refl))) (ap (with_work (state_of s)) starts.2)
-    by_fault (job.File (file.Busy n)) starts = declined _ _ _ (job.File (file.Busy n)) (λ same. cc) still (target, sources, named, are, (job.File (file.Busy n), refl, (starts.0, starts.1, starts.2, starts.3, refl))) (ap (with_work (state_of s)) starts.4)
-    by_fault job.Memory starts = undone _ _ _ (target, sources, named, are, (starts.0, refl)) still (ap (with_work (state_of s)) starts.1)
-    by_fault job.NoJob starts = absurd starts
-    by_fault (job.File (file.NoRoom n)) starts = absurd starts
-    by_fault (job.File file.DirectoryFull) starts = absurd starts
-    by_fault (job.File file.BadName) starts = absurd starts
-    by_fault (job.File file.TooLong) starts = absurd starts
-    by_fault (job.File file.TentativeOpen) starts = absurd starts
-    by_fault (job.File file.Device) starts = absurd starts
-    by_fault (job.File file.Stopped) starts = absurd starts
-    by_fault (job.File file.Memory) starts = absurd starts
-    by_fault (job.File file.NothingWritten) starts = absurd starts
-    by_fault (job.Asm why) starts = absurd starts
-    by_fault (job.Tape why) starts = absurd starts
+    by_fault : s.volume.stopped ≡ false → (why : JobFault) → AssembleStarts (job_state (state_of s)) target sources (Err why) (state_over v s.console.machine.core (plain_jobs js')) → Does (entry.Assemble to from) s (Err (fault_of_job why)) (over_with s v (plain_jobs js'))
+    by_fault running job.TooManyJobs starts = declined _ _ _ job.TooManyJobs (λ same. cc) running (λ quiet. quiet) still (target, sources, named, are, (job.TooManyJobs, refl, (starts.0, refl))) (ap (with_work (state_of s)) starts.1)
+    by_fault running (job.File file.NotFound) starts = declined _ _ _ (job.File file.NotFound) (λ same. cc) running (λ quiet. quiet) still (target, sources, named, are, (job.File file.NotFound, refl, (starts.0, starts.1, refl))) (ap (with_work (state_of s)) starts.2)
+    by_fault running (job.File (file.Busy n)) starts = declined _ _ _ (job.File (file.Busy n)) (λ same. cc) running (λ quiet. quiet) still (target, sources, named, are, (job.File (file.Busy n), refl, (starts.0, starts.1, starts.2, starts.3, refl))) (ap (with_work (state_of s)) starts.4)
+    by_fault running job.Memory starts = undone _ _ _ (λ halted. absurd (true≢false (sym halted ∙ running))) (target, sources, named, are, (starts.0, refl)) still (ap (with_work (state_of s)) starts.1)
+    by_fault running job.NoJob starts = absurd starts
+    by_fault running (job.File (file.NoRoom n)) starts = absurd starts
+    by_fault running (job.File file.DirectoryFull) starts = absurd starts
+    by_fault running (job.File file.BadName) starts = absurd starts
+    by_fault running (job.File file.TooLong) starts = absurd starts
+    by_fault running (job.File file.TentativeOpen) starts = absurd starts
+    by_fault running (job.File file.Device) starts = absurd starts
+    by_fault running (job.File file.Stopped) starts = absurd starts
+    by_fault running (job.File file.Memory) starts = absurd starts
+    by_fault running (job.File file.NothingWritten) starts = absurd starts
+    by_fault running (job.Asm why) starts = absurd starts
+    by_fault running (job.Tape why) starts = absurd starts
 
 -- ## Squeezing
 
@@ -370,12 +456,12 @@ pub squeeze_begun : (s : Seen) (v : Mounted) (js js' : List (Option kept.Job)) (
 squeeze_begun s v js js' number is has = start_begun _ s v js js' number has.over (λ running. (_, squeeze_on s js (Ok number) _ is (has.step running s.console.machine.core), refl))
 
 pub squeeze_refused : (s : Seen) (v : Mounted) (js js' : List (Option kept.Job)) (why : JobFault) → s.jobs ≡ plain_jobs js → StartsSqueezing s.volume js (Err why) v js' → Does entry.Squeeze s (Err (fault_of_job why)) (over_with s v (plain_jobs js'))
-squeeze_refused s v js js' why is has = start_refused _ s v js js' why has.over (λ running. by_fault why (squeeze_on s js (Err why) _ is (has.step running s.console.machine.core)))
+squeeze_refused s v js js' why is has = start_refused _ s v js js' why refl refl tt is has.over (λ running. by_fault running why (squeeze_on s js (Err why) _ is (has.step running s.console.machine.core)))
   where
-    by_fault : (why : JobFault) → SqueezeStarts (job_state (state_of s)) (Err why) (state_over v s.console.machine.core (plain_jobs js')) → Does entry.Squeeze s (Err (fault_of_job why)) (over_with s v (plain_jobs js'))
-    by_fault job.TooManyJobs starts = declined _ _ _ job.TooManyJobs (λ same. cc) (start_steady _ _ has.over.others) starts.0 (ap (with_work (state_of s)) starts.1)
-    by_fault job.Memory starts = absurd starts
-    by_fault job.NoJob starts = absurd starts
-    by_fault (job.File why) starts = absurd starts
-    by_fault (job.Asm why) starts = absurd starts
-    by_fault (job.Tape why) starts = absurd starts
+    by_fault : s.volume.stopped ≡ false → (why : JobFault) → SqueezeStarts (job_state (state_of s)) (Err why) (state_over v s.console.machine.core (plain_jobs js')) → Does entry.Squeeze s (Err (fault_of_job why)) (over_with s v (plain_jobs js'))
+    by_fault running job.TooManyJobs starts = declined _ _ _ job.TooManyJobs (λ same. cc) running (λ quiet. quiet) (start_steady _ _ has.over.others) starts.0 (ap (with_work (state_of s)) starts.1)
+    by_fault running job.Memory starts = absurd starts
+    by_fault running job.NoJob starts = absurd starts
+    by_fault running (job.File why) starts = absurd starts
+    by_fault running (job.Asm why) starts = absurd starts
+    by_fault running (job.Tape why) starts = absurd starts

@@ -9,4 +9,6 @@ pub mod EntryLemmas
 pub mod TextLemmas
 pub mod RefusalLemmas
 pub mod SameLemmas
+pub mod ReplyLemmas
 pub mod OtherLemmas
+pub mod RoadLemmas

@@ -30,6 +30,7 @@ use Rattle.session8.specs.Same.{lasting_job, lasting_jobs, lasting_work, unsquee
 use Rattle.session8.specs.State.{State}
 use Rattle.session8.specs.System.{Answer, Done, Step}
 use Rattle.session8.specs.Work.{Works, job_state, with_work, fault_of_job}
+use Rattle.session8.proofs.ReplyLemmas.{stored_alone, deleted_alone, assembled_alone, loaded_alone, squeezed_alone}
 use Rattle.session8.proofs.SameLemmas.{lasting_put, alike}
 
 -- ## Jobs
@@ -284,105 +285,50 @@ deleted one one' t js name same step = (with_work (over one t js) left, (left, h
     has : HasDeleted name (job_state (over one t js)) left
     has = record { file = step.1.file; there = step.1.there; free = same_held one.jobs js name false same step.1.free; others = refl }
 
-replies : (one one' : State) (t : Bool) (js : Jobs) (e : Entry) (reply : Reply) → AreAlike one.jobs js → IsApart e one (over one t js) → Done one e reply one' → Follows (over one t js) e (Ok reply) one'
-replies one one' t js (entry.Store name text) (Line (said.Stored other blocks)) same apart step =
+stores : (one one' : State) (t : Bool) (js : Jobs) (name text : List ℕ) (other blocks : ℕ) → AreAlike one.jobs js → Done one (entry.Store name text) (Line (said.Stored other blocks)) one' → Follows (over one t js) (entry.Store name text) (Ok (Line (said.Stored other blocks))) one'
+stores one one' t js name text other blocks same step =
     let put = has_put one t js other (stored text) one.jobs js step.2.0 same same step.2.1.1 in
     (with_work (over one t js) put.0, (step.0, step.1, (put.0, (step.2.1.0, put.1), refl)), worked one one' t js step.2.0 put.0 put.2 step.2.2)
-replies one one' t js (entry.Store name text) (Line (said.Deleted a)) same apart step = absurd step.0
-replies one one' t js (entry.Store name text) (Line (said.Job a)) same apart step = absurd step.0
-replies one one' t js (entry.Store name text) (Line (said.Working a)) same apart step = absurd step.0
-replies one one' t js (entry.Store name text) (Line (said.Assembled a b c)) same apart step = absurd step.0
-replies one one' t js (entry.Store name text) (Line (said.Loaded a b)) same apart step = absurd step.0
-replies one one' t js (entry.Store name text) (Line (said.Squeezed a)) same apart step = absurd step.0
-replies one one' t js (entry.Store name text) (Line said.Finished) same apart step = absurd step.0
-replies one one' t js (entry.Store name text) (Line (said.Started a)) same apart step = absurd step.0
-replies one one' t js (entry.Store name text) (Line (said.Steps a b c)) same apart step = absurd step.0
-replies one one' t js (entry.Store name text) (Line (said.Key a)) same apart step = absurd step.0
-replies one one' t js (entry.Store name text) (Line said.Done) same apart step = absurd step.0
-replies one one' t js (entry.Store name text) (Line (said.Switches a)) same apart step = absurd step.0
-replies one one' t js (entry.Store name text) (Line (said.Core a b)) same apart step = absurd step.0
-replies one one' t js (entry.Store name text) (Line (said.Break a b)) same apart step = absurd step.0
-replies one one' t js (entry.Store name text) (Report report) same apart step = absurd step.0
-replies one one' t js (entry.Delete name) (Line (said.Deleted other)) same apart step = let left = deleted one one' t js other same step.1 in (left.0, (step.0, left.1), left.2)
-replies one one' t js (entry.Delete name) (Line (said.Stored a b)) same apart step = absurd step.0
-replies one one' t js (entry.Delete name) (Line (said.Job a)) same apart step = absurd step.0
-replies one one' t js (entry.Delete name) (Line (said.Working a)) same apart step = absurd step.0
-replies one one' t js (entry.Delete name) (Line (said.Assembled a b c)) same apart step = absurd step.0
-replies one one' t js (entry.Delete name) (Line (said.Loaded a b)) same apart step = absurd step.0
-replies one one' t js (entry.Delete name) (Line (said.Squeezed a)) same apart step = absurd step.0
-replies one one' t js (entry.Delete name) (Line said.Finished) same apart step = absurd step.0
-replies one one' t js (entry.Delete name) (Line (said.Started a)) same apart step = absurd step.0
-replies one one' t js (entry.Delete name) (Line (said.Steps a b c)) same apart step = absurd step.0
-replies one one' t js (entry.Delete name) (Line (said.Key a)) same apart step = absurd step.0
-replies one one' t js (entry.Delete name) (Line said.Done) same apart step = absurd step.0
-replies one one' t js (entry.Delete name) (Line (said.Switches a)) same apart step = absurd step.0
-replies one one' t js (entry.Delete name) (Line (said.Core a b)) same apart step = absurd step.0
-replies one one' t js (entry.Delete name) (Line (said.Break a b)) same apart step = absurd step.0
-replies one one' t js (entry.Delete name) (Report report) same apart step = absurd step.0
-replies one one' t js entry.Direct (Report (report.Direct files free)) same apart step = (over one t js, (step.0, step.1, refl), ap unsqueezed step.2 ∙ alike one t js (sym same))
-replies one one' t js entry.Direct (Report (report.Registers text)) same apart step = absurd step.0
-replies one one' t js entry.Direct (Report (report.Printed characters)) same apart step = absurd step.0
-replies one one' t js entry.Direct (Line said) same apart step = absurd step.0
-replies one one' t js (entry.Assemble to from) (Line (said.Job number)) same apart step = (
+
+deletes : (one one' : State) (t : Bool) (js : Jobs) (name : List ℕ) (other : ℕ) → AreAlike one.jobs js → Done one (entry.Delete name) (Line (said.Deleted other)) one' → Follows (over one t js) (entry.Delete name) (Ok (Line (said.Deleted other))) one'
+deletes one one' t js name other same step = let left = deleted one one' t js other same step.1 in (left.0, (step.0, left.1), left.2)
+
+begins_assembling : (one one' : State) (t : Bool) (js : Jobs) (to : List ℕ) (from : List (List ℕ)) (number : ℕ) → AreAlike one.jobs js → least_free one.jobs ≡ least_free js → Done one (entry.Assemble to from) (Line (said.Job number)) one' → Follows (over one t js) (entry.Assemble to from) (Ok (Line (said.Job number))) one'
+begins_assembling one one' t js to from number same apart step = (
   _,
   (step.0, step.1, step.2, step.3, (_, (step.4.1.0, record { unheld = same_held one.jobs js step.0 false same step.4.1.1.unheld; other = step.4.1.1.other }, record { least = sym apart ∙ step.4.1.2.least; others = refl }), refl)),
   begins one one' t js number (new_assembling (job_state one) step.0 step.1) step.4.0 same step.4.1.2.others step.4.2,
 )
-replies one one' t js (entry.Assemble to from) (Line (said.Stored a b)) same apart step = absurd step.0
-replies one one' t js (entry.Assemble to from) (Line (said.Deleted a)) same apart step = absurd step.0
-replies one one' t js (entry.Assemble to from) (Line (said.Working a)) same apart step = absurd step.0
-replies one one' t js (entry.Assemble to from) (Line (said.Assembled a b c)) same apart step = absurd step.0
-replies one one' t js (entry.Assemble to from) (Line (said.Loaded a b)) same apart step = absurd step.0
-replies one one' t js (entry.Assemble to from) (Line (said.Squeezed a)) same apart step = absurd step.0
-replies one one' t js (entry.Assemble to from) (Line said.Finished) same apart step = absurd step.0
-replies one one' t js (entry.Assemble to from) (Line (said.Started a)) same apart step = absurd step.0
-replies one one' t js (entry.Assemble to from) (Line (said.Steps a b c)) same apart step = absurd step.0
-replies one one' t js (entry.Assemble to from) (Line (said.Key a)) same apart step = absurd step.0
-replies one one' t js (entry.Assemble to from) (Line said.Done) same apart step = absurd step.0
-replies one one' t js (entry.Assemble to from) (Line (said.Switches a)) same apart step = absurd step.0
-replies one one' t js (entry.Assemble to from) (Line (said.Core a b)) same apart step = absurd step.0
-replies one one' t js (entry.Assemble to from) (Line (said.Break a b)) same apart step = absurd step.0
-replies one one' t js (entry.Assemble to from) (Report report) same apart step = absurd step.0
-replies one one' t js (entry.Load name) (Line (said.Job number)) same apart step = (
+
+begins_loading : (one one' : State) (t : Bool) (js : Jobs) (name : List ℕ) (number : ℕ) → AreAlike one.jobs js → least_free one.jobs ≡ least_free js → Done one (entry.Load name) (Line (said.Job number)) one' → Follows (over one t js) (entry.Load name) (Ok (Line (said.Job number))) one'
+begins_loading one one' t js name number same apart step = (
   _,
   (step.0, step.1, (_, (step.2.1.0, record { least = sym apart ∙ step.2.1.1.least; others = refl }), refl)),
   begins one one' t js number (new_loading (job_state one) step.0) step.2.0 same step.2.1.1.others step.2.2,
 )
-replies one one' t js (entry.Load name) (Line (said.Stored a b)) same apart step = absurd step.0
-replies one one' t js (entry.Load name) (Line (said.Deleted a)) same apart step = absurd step.0
-replies one one' t js (entry.Load name) (Line (said.Working a)) same apart step = absurd step.0
-replies one one' t js (entry.Load name) (Line (said.Assembled a b c)) same apart step = absurd step.0
-replies one one' t js (entry.Load name) (Line (said.Loaded a b)) same apart step = absurd step.0
-replies one one' t js (entry.Load name) (Line (said.Squeezed a)) same apart step = absurd step.0
-replies one one' t js (entry.Load name) (Line said.Finished) same apart step = absurd step.0
-replies one one' t js (entry.Load name) (Line (said.Started a)) same apart step = absurd step.0
-replies one one' t js (entry.Load name) (Line (said.Steps a b c)) same apart step = absurd step.0
-replies one one' t js (entry.Load name) (Line (said.Key a)) same apart step = absurd step.0
-replies one one' t js (entry.Load name) (Line said.Done) same apart step = absurd step.0
-replies one one' t js (entry.Load name) (Line (said.Switches a)) same apart step = absurd step.0
-replies one one' t js (entry.Load name) (Line (said.Core a b)) same apart step = absurd step.0
-replies one one' t js (entry.Load name) (Line (said.Break a b)) same apart step = absurd step.0
-replies one one' t js (entry.Load name) (Report report) same apart step = absurd step.0
-replies one one' t js entry.Squeeze (Line (said.Job number)) same apart step = (
+
+begins_squeezing : (one one' : State) (t : Bool) (js : Jobs) (number : ℕ) → AreAlike one.jobs js → least_free one.jobs ≡ least_free js → Done one entry.Squeeze (Line (said.Job number)) one' → Follows (over one t js) entry.Squeeze (Ok (Line (said.Job number))) one'
+begins_squeezing one one' t js number same apart step = (
   _,
   (_, record { least = sym apart ∙ step.1.least; others = refl }, refl),
   begins one one' t js number (new_squeezing (job_state one)) step.0 same step.1.others step.2,
 )
-replies one one' t js entry.Squeeze (Line (said.Stored a b)) same apart step = absurd step.0
-replies one one' t js entry.Squeeze (Line (said.Deleted a)) same apart step = absurd step.0
-replies one one' t js entry.Squeeze (Line (said.Working a)) same apart step = absurd step.0
-replies one one' t js entry.Squeeze (Line (said.Assembled a b c)) same apart step = absurd step.0
-replies one one' t js entry.Squeeze (Line (said.Loaded a b)) same apart step = absurd step.0
-replies one one' t js entry.Squeeze (Line (said.Squeezed a)) same apart step = absurd step.0
-replies one one' t js entry.Squeeze (Line said.Finished) same apart step = absurd step.0
-replies one one' t js entry.Squeeze (Line (said.Started a)) same apart step = absurd step.0
-replies one one' t js entry.Squeeze (Line (said.Steps a b c)) same apart step = absurd step.0
-replies one one' t js entry.Squeeze (Line (said.Key a)) same apart step = absurd step.0
-replies one one' t js entry.Squeeze (Line said.Done) same apart step = absurd step.0
-replies one one' t js entry.Squeeze (Line (said.Switches a)) same apart step = absurd step.0
-replies one one' t js entry.Squeeze (Line (said.Core a b)) same apart step = absurd step.0
-replies one one' t js entry.Squeeze (Line (said.Break a b)) same apart step = absurd step.0
-replies one one' t js entry.Squeeze (Report report) same apart step = absurd step.0
+
+replies : (one one' : State) (t : Bool) (js : Jobs) (e : Entry) (reply : Reply) → AreAlike one.jobs js → IsApart e one (over one t js) → Done one e reply one' → Follows (over one t js) e (Ok reply) one'
+replies one one' t js (entry.Store name text) reply same apart step =
+    stored_alone one one' name text (λ (r : Reply). Follows (over one t js) (entry.Store name text) (Ok r) one') (λ other blocks step. stores one one' t js name text other blocks same step) reply step
+replies one one' t js (entry.Delete name) reply same apart step =
+    deleted_alone one one' name (λ (r : Reply). Follows (over one t js) (entry.Delete name) (Ok r) one') (λ other step. deletes one one' t js name other same step) reply step
+replies one one' t js (entry.Assemble to from) reply same apart step =
+    assembled_alone one one' to from (λ (r : Reply). Follows (over one t js) (entry.Assemble to from) (Ok r) one') (λ number step. begins_assembling one one' t js to from number same apart step) reply step
+replies one one' t js (entry.Load name) reply same apart step =
+    loaded_alone one one' name (λ (r : Reply). Follows (over one t js) (entry.Load name) (Ok r) one') (λ number step. begins_loading one one' t js name number same apart step) reply step
+replies one one' t js entry.Squeeze reply same apart step =
+    squeezed_alone one one' (λ (r : Reply). Follows (over one t js) entry.Squeeze (Ok r) one') (λ number step. begins_squeezing one one' t js number same apart step) reply step
+replies one one' t js entry.Direct (Report (report.Direct files free)) same apart step = (over one t js, (step.0, step.1, refl), ap unsqueezed step.2 ∙ alike one t js (sym same))
+replies one one' t js entry.Direct (Report (report.Registers text)) same apart step = absurd step.0
+replies one one' t js entry.Direct (Report (report.Printed characters)) same apart step = absurd step.0
+replies one one' t js entry.Direct (Line said) same apart step = absurd step.0
 replies one one' t js (entry.Turn number) (Line said) same apart step =
     let done = number_follows one t js number (Ok step.0) step.2.0 same apart refl step.2.1 in
     (with_work (over one t js) done.0, (step.0, step.1, (done.0, done.1, refl)), worked one one' t js step.2.0 done.0 done.2 step.2.2)
@@ -560,7 +506,7 @@ refused_alike one t js entry.Printed same = alike one t js (sym same)
 -- ## Want of memory
 
 lacks : (one : State) (t : Bool) (js : Jobs) (e : Entry) → AreAlike one.jobs js → IsApart e one (over one t js) → MayLack one e → MayLack (over one t js) e
-lacks one t js (entry.Store name text) same apart lack = lack
+lacks one t js (entry.Store name text) same apart lack = (lack.0, lack.1, lack.2, same_held one.jobs js lack.0 false same lack.3)
 lacks one t js (entry.Delete name) same apart lack = (lack.0, lack.1, lack.2, same_held one.jobs js lack.0 false same lack.3)
 lacks one t js entry.Direct same apart lack = lack
 lacks one t js (entry.Assemble to from) same apart lack = (lack.0, lack.1, lack.2, lack.3, (same_number one t js apart lack.4.0, refl))

@@ -23,11 +23,13 @@ use Rattle.jobs8.specs.State.{IsCrowded, IsFull}
 use Rattle.script8.specs.Faults.{fault_of_file}
 use Rattle.script8.specs.declared.entries.Entry.{Entry}
 use Rattle.script8.specs.declared.entries.Entry.TheVariants as entry
+use Rattle.script8.specs.declared.faults.SessionFault.{SessionFault}
 use Rattle.script8.specs.declared.faults.SessionFault.TheVariants as fault
 use Rattle.script8.specs.declared.replies.Reply.{Reply}
 use Rattle.script8.specs.declared.replies.Reply.TheVariants.{Line}
 use Rattle.script8.specs.declared.replies.Said.TheVariants.{Stored, Deleted}
 use Rattle.session8.specs.Console.{is_console, ConsoleDoes, IsBreakTooMany, TakesMemory}
+use Rattle.session8.specs.Failing.{StepsStopped}
 use Rattle.session8.specs.Files.{text_blocks}
 use Rattle.session8.specs.Refusals.{MayLack}
 use Rattle.session8.specs.Session.{Seen, state_of, Does}
@@ -78,14 +80,16 @@ crowded s wanted n short is = record { short = short; least = is.least; most = i
 full : (s : Seen) (after : Files) → IsOver s.volume.blocks after → IsFull (job_state (state_of s)) after
 full s after is = record { files = is.files; tight = λ low. is.tight (zero_is _ low) }
 
-write_failed : (v v' : Mounted) → v' ≡ record v { blocks = v'.blocks; writes = v'.writes; failed_writes = v.failed_writes + 1; stopped = true; last = listed_or (directory_of v.blocks) } → Survives v.blocks v'.blocks → HasFailed v v'
-write_failed v v' is left = record {
+write_failed : (v v' : Mounted) → v.stopped ≡ false → v' ≡ record v { blocks = v'.blocks; writes = v'.writes; failed_writes = v.failed_writes + 1; stopped = true; last = listed_or (directory_of v.blocks) } → Survives v.blocks v'.blocks → HasFailed v v'
+write_failed v v' running is left = record {
   left = left;
   behind = record {
     reads = omega (arith, ap (λ (m : Mounted). m.failed_reads) is);
     writes = omega (arith, ap (λ (m : Mounted). m.failed_writes) is);
   };
   more = omega (arith, ap (λ (m : Mounted). m.failed_writes) is);
+  running = running;
+  stopped = ap (λ (m : Mounted). m.stopped) is;
 }
 
 -- files that are kept are the same state
@@ -98,12 +102,12 @@ same_state s v is = ap (λ (w : Mounted). state_of (over s w)) is
 
 -- a file that is not taken out
 pub delete_refused : (s : Seen) (v : Mounted) (bytes : List ℕ) (name : ℕ) (why : FileFault) → parsed_name bytes ≡ Some name → s.volume.tentative ≡ None → HoldAlike s → Deletes s.volume name (Err why) v → Does (entry.Delete bytes) s (Err (fault_of_file why)) (over s v)
-delete_refused s v bytes name file.NotFound is none alike has = refused _ _ _ _ (steady_same _ _ has.2) (name, is, has.1) (same_state s v has.2)
-delete_refused s v bytes name (file.Busy other) is none alike has = refused _ _ _ _ (steady_same _ _ has.4) (name, is, (has.1, has.2, sym (alike name) ∙ has.3)) (same_state s v has.4)
-delete_refused s v bytes name file.DirectoryFull is none alike has = refused _ _ _ _ (steady_same _ _ has.5) (name, is, (has.1, sym (alike name) ∙ has.2, full s _ has.4)) (same_state s v has.5)
-delete_refused s v bytes name file.Device is none alike has = failed _ _ _ _ (write_failed s.volume v has.others (inr (inr (inl (record { files = has.files; directory = has.written.0; part = has.written.2.part })))))
-delete_refused s v bytes name file.Stopped is none alike has = stopped _ _ _ _ has.0 (behind_same s.volume v has.1)
-delete_refused s v bytes name file.Memory is none alike has = undone _ _ _ (name, is, has.1, sym (alike name) ∙ has.2) (steady_same _ _ has.3) (same_state s v has.3)
+delete_refused s v bytes name file.NotFound is none alike has = refused _ _ _ _ has.0.running (λ quiet. quiet) (steady_same _ _ has.2) (name, is, has.1) (same_state s v has.2)
+delete_refused s v bytes name (file.Busy other) is none alike has = refused _ _ _ _ has.0.running (λ quiet. quiet) (steady_same _ _ has.4) (name, is, (has.1, has.2, sym (alike name) ∙ has.3)) (same_state s v has.4)
+delete_refused s v bytes name file.DirectoryFull is none alike has = refused _ _ _ _ has.0.running (λ quiet. quiet) (steady_same _ _ has.5) (name, is, (has.1, sym (alike name) ∙ has.2, full s _ has.4)) (same_state s v has.5)
+delete_refused s v bytes name file.Device is none alike has = failed _ _ _ (write_failed s.volume v has.ready.running has.others (inr (inr (inl (record { files = has.files; directory = has.written.0; part = has.written.2.part }))))) refl refl
+delete_refused s v bytes name file.Stopped is none alike has = stopped _ _ _ refl (name, is) (same_state s v has.1) has.0 (behind_same s.volume v has.1)
+delete_refused s v bytes name file.Memory is none alike has = undone _ _ _ (λ halted. absurd (true≢false (sym halted ∙ has.0.running))) (name, is, has.1, sym (alike name) ∙ has.2) (steady_same _ _ has.3) (same_state s v has.3)
 delete_refused s v bytes name file.TentativeOpen is none alike has = absurd (not_open s.volume has.1 none has.2)
 delete_refused s v bytes name (file.NoRoom n) is none alike has = absurd has
 delete_refused s v bytes name file.BadName is none alike has = absurd has
@@ -140,6 +144,8 @@ put_failed v v' name blocks has = record {
     writes = omega (arith, ap (λ (m : Mounted). m.failed_writes) has.others);
   };
   more = omega (arith, ap (λ (m : Mounted). m.failed_writes) has.others);
+  running = has.ready.running;
+  stopped = ap (λ (m : Mounted). m.stopped) has.others;
 }
 
 -- behind a file that is put the jobs stand, once they are told
@@ -150,17 +156,40 @@ put_settled old new js js' name words told kept settled is has none = subst (λ 
 -- a text that is not stored
 pub store_refused : (s : Seen) (v : Mounted) (bytes : List ℕ) (name : ℕ) (text words : List ℕ) (why : FileFault) → parsed_name bytes ≡ Some name → HoldAlike s → is_storable text ≡ true → words ≡ stored text
     → Puts s.volume name words (Err why) v → Does (entry.Store bytes text) s (Err (fault_of_file why)) (over s v)
-store_refused s v bytes name text words (file.Busy other) is alike storable words_are has = refused _ _ _ _ (steady_same _ _ has.3) (name, is, storable, (has.1, sym (alike name) ∙ has.2)) (same_state s v has.3)
-store_refused s v bytes name text words (file.NoRoom n) is alike storable words_are has = refused _ _ _ _ (steady_same _ _ has.4) (name, is, storable, (sym (alike name) ∙ has.1, crowded s _ n (subst (λ (l : List ℕ). n < blocks_filled l) words_are has.2) has.3)) (same_state s v has.4)
-store_refused s v bytes name text words file.DirectoryFull is alike storable words_are has = refused _ _ _ _ (steady _ _ _ _ _ has.3.others) (name, is, storable, (sym (alike name) ∙ has.1, full s _ (subst (λ (l : List ℕ). IsOver s.volume.blocks (insert (files_of s.volume.blocks) name (plain_file s.volume l))) words_are has.2))) (kept_state s v _ has.3)
-store_refused s v bytes name text words file.Device is alike storable words_are has = failed _ _ _ _ (put_failed s.volume v name _ has)
-store_refused s v bytes name text words file.Stopped is alike storable words_are has = stopped _ _ _ _ has.0 (behind_same _ _ has.1)
-store_refused s v bytes name text words file.Memory is alike storable words_are has = undone _ _ _ (name, is, storable) (steady _ _ _ _ _ has.2.others) (kept_state s v _ has.2)
+store_refused s v bytes name text words (file.Busy other) is alike storable words_are has = refused _ _ _ _ has.0.running (λ quiet. quiet) (steady_same _ _ has.3) (name, is, storable, (has.1, sym (alike name) ∙ has.2)) (same_state s v has.3)
+store_refused s v bytes name text words (file.NoRoom n) is alike storable words_are has = refused _ _ _ _ has.0.running (λ quiet. quiet) (steady_same _ _ has.4) (name, is, storable, (sym (alike name) ∙ has.1, crowded s _ n (subst (λ (l : List ℕ). n < blocks_filled l) words_are has.2) has.3)) (same_state s v has.4)
+store_refused s v bytes name text words file.DirectoryFull is alike storable words_are has = refused _ _ _ _ has.0.running (λ quiet. quiet) (steady _ _ _ _ _ has.3.others) (name, is, storable, (sym (alike name) ∙ has.1, full s _ (subst (λ (l : List ℕ). IsOver s.volume.blocks (insert (files_of s.volume.blocks) name (plain_file s.volume l))) words_are has.2))) (kept_state s v _ has.3)
+store_refused s v bytes name text words file.Device is alike storable words_are has = failed _ _ _ (put_failed s.volume v name _ has) refl refl
+store_refused s v bytes name text words file.Stopped is alike storable words_are has = stopped _ _ _ refl ((name, is), storable) (same_state s v has.1) has.0 (behind_same _ _ has.1)
+store_refused s v bytes name text words file.Memory is alike storable words_are has = undone _ _ _ (λ halted. absurd (true≢false (sym halted ∙ has.0.running))) (name, is, storable, sym (alike name) ∙ has.1) (steady _ _ _ _ _ has.2.others) (kept_state s v _ has.2)
 store_refused s v bytes name text words file.NotFound is alike storable words_are has = absurd has
 store_refused s v bytes name text words file.BadName is alike storable words_are has = absurd has
 store_refused s v bytes name text words file.TooLong is alike storable words_are has = absurd has
 store_refused s v bytes name text words file.TentativeOpen is alike storable words_are has = absurd has
 store_refused s v bytes name text words file.NothingWritten is alike storable words_are has = absurd has
+
+-- a text that is not stored, since it can't be, or a write has failed, or a job holds the name
+pub unstored : (s : Seen) (bytes : List ℕ) (name : ℕ) (text : List ℕ) (why : SessionFault) → parsed_name bytes ≡ Some name → HoldAlike s → (s.volume.stopped ≡ false → contains s.volume.holds name ≡ true) → (is_storable text ≡ false → why ≡ fault.BadText)
+    → (is_storable text ≡ true → s.volume.stopped ≡ true → why ≡ fault.File file.Stopped) → (is_storable text ≡ true → s.volume.stopped ≡ false → why ≡ fault.File (file.Busy name)) → Does (entry.Store bytes text) s (Err why) s
+unstored s bytes name text why is alike held bad halts busy = by_text (is_storable text) (s.volume.stopped) refl refl
+  where
+    it : SessionFault → Type 0
+    it f = Does (entry.Store bytes text) s (Err f) s
+
+    by_text : (storable halted : Bool) → is_storable text ≡ storable → s.volume.stopped ≡ halted → it why
+    by_text false halted no_text stands = subst it (sym (bad no_text)) (record {
+      step = λ quiet. ((name, is, no_text), refl);
+      later = record { reads = omega arith; writes = omega arith };
+      files = λ running more. absurd (omega (arith, more));
+      running = λ quiet. quiet.running;
+      memory = λ is. cc;
+      reply = tt;
+      tells = λ running. record { running = running; reads = refl; writes = refl };
+      stopped = λ halted. (((name, is), no_text), refl);
+      done = tt;
+    })
+    by_text true true storable stands = subst it (sym (halts storable stands)) (stopped _ _ _ refl ((name, is), storable) refl stands (behind_same _ _ refl))
+    by_text true false storable stands = subst it (sym (busy storable stands)) (refused _ _ _ _ stands (λ quiet. quiet) (steady_same _ _ refl) (name, is, storable, (refl, sym (alike name) ∙ held stands)) refl)
 
 -- a text that is stored
 pub store_done : (s : Seen) (v : Mounted) (js : List (Option Job)) (bytes : List ℕ) (name : ℕ) (text words : List ℕ) (blocks : ℕ) → parsed_name bytes ≡ Some name → HoldAlike s → js ≡ disturbed s.jobs → is_storable text ≡ true → words ≡ stored text → blocks ≡ text_blocks text
@@ -230,8 +259,11 @@ long_lacks (entry.Examine cell) s long = absurd long
 long_lacks (entry.Deposit cell word) s long = absurd long
 long_lacks (entry.Break cell is_on) s long = absurd long
 
-pub console_undone : (e : Entry) (s : Seen) (console : Console) → TakesMemory e → console ≡ s.console → Does e s (Err fault.Memory) (record s { console = console })
-console_undone e s console long is = undone e s _ (long_lacks e (state_of s) long) (steady_same _ _ refl) (ap (λ (c : Console). record (state_of s) { console = c }) is)
+pub console_undone : (e : Entry) (s : Seen) (console : Console) → is_console e ≡ true → TakesMemory e → console ≡ s.console → Does e s (Err fault.Memory) (record s { console = console })
+console_undone e s console at long is = undone e s _ (λ halted. subst (λ b. StepsStopped b (state_of s) e (Err fault.Memory) (state_of (record s { console = console }))) (sym at) (long_lacks e (state_of s) long, same)) (long_lacks e (state_of s) long) (steady_same _ _ refl) same
+  where
+    same : state_of (record s { console = console }) ≡ state_of s
+    same = ap (λ (c : Console). record (state_of s) { console = c }) is
 
 -- a break too many is refused
 pub console_full : (e : Entry) (s : Seen) (console : Console) → IsBreakTooMany s.console e → console ≡ s.console → Does e s (Err fault.TooManyBreaks) (record s { console = console })
@@ -260,6 +292,8 @@ console_full (entry.Break cell is_on) s console is same = record {
   running = λ quiet. quiet.running;
   memory = λ is. cc;
   reply = tt;
+  tells = λ running. record { running = running; reads = refl; writes = refl };
+  stopped = λ halted. (is, ap (λ (c : Console). record (state_of s) { console = c }) same);
   done = tt;
 }
 

@@ -1,75 +1,20 @@
 -- Runs of the texts that readers give.
-use Rattle.std.proofs.Common.{arith, true≢false, true, false, Bool, ℕ, ◌+◌, ◌≡◌, ◌≤◌, inl, inr, refl, sym, ◌∙◌, ap, subst, List, [], ◌∷◌, ◌++◌, drop, drop-drop, length, append_assoc, append-nil, Option, Result, Ok, Err}
+use Rattle.std.proofs.Common.{arith, true, false, Bool, ℕ, ◌+◌, ◌≡◌, ◌<◌, ◌≤◌, ◌⊎◌, OnOk, IfErr, inl, inr, refl, sym, ◌∙◌, ap, subst, List, [], ◌∷◌, ◌++◌, drop, drop-drop, length, length-append, append_assoc, append-nil, Option, Result, Ok, Err}
 use Rattle.std.specs.Io.KnownBytes.{Appends, Consumes}
 use Rattle.std.proofs.KnownBytes.{Appends-nil}
-use Rattle.script8.specs.Items.{script_of, whole_of, Gives, IsOut}
+use Rattle.script8.specs.Items.{script_of, whole_of, Leads, Gives, Waits}
 use Rattle.script8.specs.Replies.{fault_line}
 use Rattle.script8.specs.declared.faults.SessionFault.{SessionFault}
 use Rattle.script8.specs.declared.faults.SessionFault.TheVariants as fault
 use Rattle.script8.specs.declared.items.Item.{Item}
-use Rattle.session8.specs.Reading.{IsRead, IsReadWithin, IsTaken, ReadsWithin, Takes}
+use Rattle.session8.specs.Reading.{IsRead, IsReadWithin, IsTaken, Takes}
 use Rattle.session8.specs.declared.endings.Ending.{Ending}
 use Rattle.session8.specs.declared.endings.Ending.TheVariants as ending
 use Rattle.session8.specs.State.{State}
-use Rattle.session8.specs.RunSteps.{RunsItems, RunsNext, RunsFront, RunsCut, RunsFull, RunsRead, IsEnded, fault_of}
+use Rattle.session8.specs.RunSteps.{RunsItems, RunsNext, RunsFront, RunsGiven, RunsRead, IsRunTo, IsEnded, Heads, items_in, fault_of}
 use Rattle.session8.specs.Script.{all_lines, Writes, WritesFront, RunsText}
-use Rattle.session8.proofs.ByteLemmas.{appends_more, consumes_more}
+use Rattle.session8.proofs.ByteLemmas.{appends_more, consumes_more, consumes_none}
 use Rattle.session8.proofs.ToldLemmas.{front_all, front_none, front_more, behind_more, writes_front_more, writes_append}
-
--- a front that was run is that of all items, or of all whole ones, where none is left
-pub front_out : (text : List ℕ) (bytes : ℕ) (is_end : Bool) (front : List Item) (old new : State) (w w' : Option (List ℕ))
-    → script_of text ≡ front ++ script_of (drop bytes text) → (is_end ≡ false → whole_of text ≡ front ++ whole_of (drop bytes text)) → IsOut (drop bytes text) is_end
-    → Writes old front new w w' [] → RunsFront text is_end old new w w' (Ok bytes)
-front_out text bytes true front old new w w' script whole out writes = (front, script, (λ _. script ∙ ap (λ l. front ++ l) out ∙ append-nil front), (λ is. absurd (true≢false is)), writes)
-front_out text bytes false front old new w w' script whole out writes = (front, script, (λ is. absurd (true≢false (sym is))), (λ _. whole refl ∙ ap (λ l. front ++ l) out ∙ append-nil front), writes)
-
--- the rest of a text begins with an item that want of memory or the writer stopped
-pub front_stopped : (text rest : List ℕ) (is_end : Bool) (front : List Item) (old mid new : State) (w w1 w2 : Option (List ℕ)) (why : Ending)
-    → script_of text ≡ front ++ script_of rest → Writes old front mid w w1 [] → RunsNext rest is_end mid new w1 w2 (Err why) → RunsFront text is_end old new w w2 (Err why)
-front_stopped text rest is_end front old mid new w w1 w2 ending.Memory is first run = writes_front_more (script_of text) front (script_of rest) [] old mid new w w1 w2 (is ∙ ap (λ (l : List Item). front ++ l) (sym (append-nil _))) first run
-front_stopped text rest is_end front old mid new w w1 w2 ending.Writer is first run = (_, front_more (script_of text) front (script_of rest) [] old mid new w w1 run.0 (is ∙ ap (λ (l : List Item). front ++ l) (sym (append-nil _))) first run.1)
-front_stopped text rest is_end front old mid new w w1 w2 ending.Reader is first run = absurd run
-
--- an item that want of memory or the writer stopped
-pub item_stopped : (text : List ℕ) (is_end : Bool) (item : Item) (bytes : ℕ) (old new : State) (w w' : Option (List ℕ)) (why : Ending)
-    → Gives text is_end (item ∷ []) bytes → RunsItems (item ∷ []) old new w w' (Err why) → RunsNext text is_end old new w w' (Err why)
-item_stopped text is_end item bytes old new w w' ending.Memory gives run = (run.0, behind_more (item ∷ []) (script_of (drop bytes text)) (script_of text) old new run.0 gives.script run.1, run.2)
-item_stopped text is_end item bytes old new w w' ending.Writer gives run = (run.0, behind_more (item ∷ []) (script_of (drop bytes text)) (script_of text) old new run.0 gives.script run.1)
-item_stopped text is_end item bytes old new w w' ending.Reader gives run = absurd run
-
--- one more item, or a blank line
-pub front_next : (text : List ℕ) (is_end : Bool) (done bytes : ℕ) (front items : List Item) → script_of text ≡ front ++ script_of (drop done text) → (is_end ≡ false → whole_of text ≡ front ++ whole_of (drop done text)) → Gives (drop done text) is_end items bytes
-    → (script_of text ≡ (front ++ items) ++ script_of (drop (done + bytes) text)) × (is_end ≡ false → whole_of text ≡ (front ++ items) ++ whole_of (drop (done + bytes) text))
-front_next text is_end done bytes front items script whole gives = (
-  script ∙ ap (λ (l : List Item). front ++ l) (gives.script ∙ ap (λ (t : List ℕ). items ++ script_of t) (drop-drop bytes done text)) ∙ sym (append_assoc front items _),
-  (λ on. whole on ∙ ap (λ (l : List Item). front ++ l) (gives.whole on ∙ ap (λ (t : List ℕ). items ++ whole_of t) (drop-drop bytes done text)) ∙ sym (append_assoc front items _)),
-)
-
--- a text that is run to its end
-pub runs_end : (text : List ℕ) (old new : State) (w w' : Option (List ℕ)) (why : Ending) → RunsFront text true old new w w' (Err why) → RunsItems (script_of text) old new w w' (Err why)
-runs_end text old new w w' ending.Memory run = run
-runs_end text old new w w' ending.Writer run = run
-runs_end text old new w w' ending.Reader run = absurd run
-
-pub runs_all : (text : List ℕ) (bytes : ℕ) (old new : State) (w w' : Option (List ℕ)) → RunsFront text true old new w w' (Ok bytes) → Writes old (script_of text) new w w' []
-runs_all text bytes old new w w' run = subst (λ (l : List Item). Writes old l new w w' []) (sym (run.2 refl)) run.4
-
--- whole items that want of memory or the writer stopped
-pub runs_cut : (text : List ℕ) (old new : State) (w w' : Option (List ℕ)) (why : Ending) → RunsFront text false old new w w' (Err why) → RunsCut text old new w w' (Err why)
-runs_cut text old new w w' ending.Memory run = run
-runs_cut text old new w w' ending.Writer run = run
-runs_cut text old new w w' ending.Reader run = absurd run
-
-pub whole_run : (text : List ℕ) (bytes : ℕ) (old new : State) (w w' : Option (List ℕ)) → RunsFront text false old new w w' (Ok bytes) → RunsCut text old new w w' (Err ending.Reader)
-whole_run text bytes old new w w' run = ((script_of (drop bytes text), run.1 ∙ ap (λ (l : List Item). l ++ script_of (drop bytes text)) (sym (run.3 refl))), subst (λ (l : List Item). Writes old l new w w' []) (sym (run.3 refl)) run.4)
-
--- a text whose whole items were run, and then what is left of it, which is the end
-pub runs_full : (text : List ℕ) (bytes : ℕ) (old mid new : State) (r r' w w1 w2 : Option (List ℕ)) (result : Result (Unit {0}) Ending) → IsRead r r' []
-    → RunsFront text false old mid w w1 (Ok bytes) → RunsItems (script_of (drop bytes text)) mid new w1 w2 result → RunsFull text old new r r' w w2 result
-runs_full text bytes old mid new r r' w w1 w2 (Ok done) read first run = (read, subst (λ (l : List Item). Writes old l new w w2 []) (sym first.1) (writes_append first.0 (script_of (drop bytes text)) old mid new w w1 w2 [] first.4 run))
-runs_full text bytes old mid new r r' w w1 w2 (Err ending.Memory) read first run = ([], read.taken, omega arith, writes_front_more (script_of text) first.0 (script_of (drop bytes text)) [] old mid new w w1 w2 (first.1 ∙ ap (λ (l : List Item). first.0 ++ l) (sym (append-nil _))) first.4 run)
-runs_full text bytes old mid new r r' w w1 w2 (Err ending.Writer) read first run = ([], read.taken, omega arith, (_, front_more (script_of text) first.0 (script_of (drop bytes text)) [] old mid new w w1 run.0 (first.1 ∙ ap (λ (l : List Item). first.0 ++ l) (sym (append-nil _))) first.4 run.1))
-runs_full text bytes old mid new r r' w w1 w2 (Err ending.Reader) read first run = absurd run
 
 -- a last line behind what is written
 pub writes_last : (old : State) (items : List Item) (new : State) (w w1 w2 : Option (List ℕ)) (last : List ℕ) → Writes old items new w w1 [] → Appends w1 w2 last → Writes old items new w w2 last
@@ -82,11 +27,209 @@ writes_last old items new w w1 w2 last told more = record {
 front_last : (old : State) (items : List Item) (new : State) (w w1 w2 : Option (List ℕ)) (last : List ℕ) → WritesFront old items new w w1 [] → Appends w1 w2 last → WritesFront old items new w w2 last
 front_last old items new w w1 w2 last told more = (told.0, told.1, subst (λ (l : List ℕ). Appends w w2 l) (ap (λ l. l ++ last) (append-nil _)) (appends_more w w1 w2 (told.0 ++ []) last told.2 more))
 
-pub unread_taken : (most : ℕ) (r r' : Option (List ℕ)) (bytes : List ℕ) (e : SessionFault) → ReadsWithin most r r' bytes (Err e) → (count : ℕ) × Takes r r' count × (count ≤ most)
-unread_taken most r r' bytes e reads = elim reads [
-  | inl h ↦ (length bytes, record { bytes = bytes; taken = h.1; count_is = refl }, h.2)
-  | inr h ↦ h.1
-]
+-- the items of a text are those at its front and those of the rest
+heads_items : (text rest : List ℕ) (is_end : Bool) (front : List Item) → Heads text is_end front rest → items_in text is_end ≡ front ++ items_in rest is_end
+heads_items text rest true front heads = heads
+heads_items text rest false front heads = ap whole_of (sym (append-nil text)) ∙ heads.whole [] ∙ ap (λ r. front ++ whole_of r) (append-nil rest)
+
+leads_script : (text rest : List ℕ) (front : List Item) → Leads text front rest → script_of text ≡ front ++ script_of rest
+leads_script text rest front leads = ap script_of (sym (append-nil text)) ∙ leads.script [] ∙ ap (λ r. front ++ script_of r) (append-nil rest)
+
+-- a front, and the front of what stands behind it
+heads_more : (a b c : List ℕ) (is_end : Bool) (f g : List Item) → Heads a is_end f b → Heads b is_end g c → Heads a is_end (f ++ g) c
+heads_more a b c true f g first second = first ∙ ap (λ (l : List Item). f ++ l) second ∙ sym (append_assoc f g _)
+heads_more a b c false f g first second = record {
+  script = λ more. first.script more ∙ ap (λ (l : List Item). f ++ l) (second.script more) ∙ sym (append_assoc f g _);
+  whole = λ more. first.whole more ∙ ap (λ (l : List Item). f ++ l) (second.whole more) ∙ sym (append_assoc f g _);
+}
+
+gives_heads : (text : List ℕ) (is_end : Bool) (items : List Item) (bytes : ℕ) → Gives text is_end items bytes → Heads text is_end items (drop bytes text)
+gives_heads text true items bytes gives = gives.script
+gives_heads text false items bytes gives = gives.on refl
+
+-- nothing is run
+pub heads_none : (text : List ℕ) (is_end : Bool) → Heads text is_end [] text
+heads_none text true = refl
+heads_none text false = record { script = λ more. refl; whole = λ more. refl }
+
+pub writes_none : (old : State) (w : Option (List ℕ)) → Writes old [] old w w []
+writes_none old w = record { lines = []; told = refl; written = Appends-nil w }
+
+-- the rest of a text begins with an item that want of memory or the writer stopped
+pub front_stopped : (text rest : List ℕ) (is_end : Bool) (front : List Item) (old mid new : State) (w w1 w2 : Option (List ℕ)) (why : Ending)
+    → Heads text is_end front rest → Writes old front mid w w1 [] → RunsNext rest is_end mid new w1 w2 (Err why) → RunsFront text is_end old new w w2 (Err why)
+front_stopped text rest is_end front old mid new w w1 w2 ending.Memory heads first run = writes_front_more (items_in text is_end) front (items_in rest is_end) [] old mid new w w1 w2 (heads_items text rest is_end front heads ∙ ap (λ (l : List Item). front ++ l) (sym (append-nil _))) first run
+front_stopped text rest is_end front old mid new w w1 w2 ending.Writer heads first run = (_, front_more (items_in text is_end) front (items_in rest is_end) [] old mid new w w1 run.0 (heads_items text rest is_end front heads ∙ ap (λ (l : List Item). front ++ l) (sym (append-nil _))) first run.1)
+front_stopped text rest is_end front old mid new w w1 w2 ending.Reader heads first run = absurd run
+
+-- an item that want of memory or the writer stopped
+pub item_stopped : (text : List ℕ) (is_end : Bool) (item : Item) (bytes : ℕ) (old new : State) (w w' : Option (List ℕ)) (why : Ending)
+    → Gives text is_end (item ∷ []) bytes → RunsItems (item ∷ []) old new w w' (Err why) → RunsNext text is_end old new w w' (Err why)
+item_stopped text is_end item bytes old new w w' ending.Memory gives run =
+    (run.0, behind_more (item ∷ []) (items_in (drop bytes text) is_end) (items_in text is_end) old new run.0 (heads_items text _ is_end (item ∷ []) (gives_heads text is_end (item ∷ []) bytes gives)) run.1, run.2)
+item_stopped text is_end item bytes old new w w' ending.Writer gives run =
+    (run.0, behind_more (item ∷ []) (items_in (drop bytes text) is_end) (items_in text is_end) old new run.0 (heads_items text _ is_end (item ∷ []) (gives_heads text is_end (item ∷ []) bytes gives)) run.1)
+item_stopped text is_end item bytes old new w w' ending.Reader gives run = absurd run
+
+-- one more item, or a blank line
+pub front_next : (text : List ℕ) (is_end : Bool) (done bytes : ℕ) (front items : List Item) → Heads text is_end front (drop done text) → Gives (drop done text) is_end items bytes
+    → Heads text is_end (front ++ items) (drop (done + bytes) text)
+front_next text is_end done bytes front items heads gives =
+    heads_more text (drop done text) (drop (done + bytes) text) is_end front items heads (subst (λ (r : List ℕ). Heads (drop done text) is_end items r) (drop-drop bytes done text) (gives_heads (drop done text) is_end items bytes gives))
+
+-- a text that is run to its end
+pub runs_end : (text : List ℕ) (old new : State) (w w' : Option (List ℕ)) (why : Ending) → RunsFront text true old new w w' (Err why) → RunsItems (script_of text) old new w w' (Err why)
+runs_end text old new w w' ending.Memory run = run
+runs_end text old new w w' ending.Writer run = run
+runs_end text old new w w' ending.Reader run = absurd run
+
+pub runs_all : (text : List ℕ) (done : ℕ × ℕ) (old new : State) (w w' : Option (List ℕ)) → RunsFront text true old new w w' (Ok done) → Writes old (script_of text) new w w' []
+runs_all text done old new w w' run =
+    subst (λ (l : List Item). Writes old l new w w' []) (sym (run.1 ∙ ap (λ (l : List Item). run.0 ++ l) run.2.0 ∙ append-nil run.0)) run.3
+
+-- the whole items of what a reader gave
+pub given_stopped : (text rest : List ℕ) (old new : State) (w w' : Option (List ℕ)) (why : Ending) → RunsFront text false old new w w' (Err why) → RunsGiven text rest old new w w' (Err why)
+given_stopped text rest old new w w' ending.Memory run = run
+given_stopped text rest old new w w' ending.Writer run = run
+given_stopped text rest old new w w' ending.Reader run = absurd run
+
+pub given_done : (text rest : List ℕ) (bytes lines : ℕ) (old new : State) (w w1 w2 : Option (List ℕ)) (r : Result (Unit {0}) Ending) → rest ≡ drop bytes text → RunsFront text false old new w w1 (Ok (bytes, lines))
+    → OnOk r (Appends w1 w2 []) → IfErr r (λ e. e ≡ ending.Writer) → RunsGiven text rest old new w w2 r
+given_done text rest bytes lines old new w w1 w2 (Ok done) is run ok err =
+    (run.0, subst (λ (l : List ℕ). Leads text run.0 l) (sym is) run.1, writes_last old run.0 new w w1 w2 [] run.3 ok)
+given_done text rest bytes lines old new w w1 w2 (Err e) is run ok err =
+    let all : whole_of text ≡ run.0 ++ whole_of (drop bytes text) = heads_items text (drop bytes text) false run.0 run.1 in
+    subst (λ (e : Ending). RunsGiven text rest old new w w2 (Err e)) (sym err) (_, behind_more run.0 (whole_of (drop bytes text)) (whole_of text) old new _ all (front_all run.0 old new run.3.lines run.3.told))
+
+-- nothing was taken of a reader
+pub none_run : (old : State) (r w : Option (List ℕ)) (rest : List ℕ) → rest ≡ [] → IsRunTo old old r r w w 0 rest
+none_run old r w rest is = subst (λ (l : List ℕ). IsRunTo old old r r w w 0 l) (sym is) (record { text = []; taken = consumes_none r; size = refl; front = []; leads = heads_none [] false; writes = writes_none old w })
+
+-- more bytes were taken
+pub run_fed : (old mid : State) (r r1 r2 w w1 : Option (List ℕ)) (count : ℕ) (rest bytes : List ℕ) → IsRunTo old mid r r1 w w1 count rest → Consumes r1 r2 bytes → IsRunTo old mid r r2 w w1 (count + length bytes) (rest ++ bytes)
+run_fed old mid r r1 r2 w w1 count rest bytes run taken = record {
+  text = run.text ++ bytes;
+  taken = consumes_more r r1 r2 run.text bytes run.taken taken;
+  size = length-append run.text bytes ∙ ap (λ n. n + length bytes) run.size;
+  front = run.front;
+  leads = record {
+    script = λ more. ap script_of (append_assoc run.text bytes more) ∙ run.leads.script (bytes ++ more) ∙ ap (λ l. run.front ++ script_of l) (sym (append_assoc rest bytes more));
+    whole = λ more. ap whole_of (append_assoc run.text bytes more) ∙ run.leads.whole (bytes ++ more) ∙ ap (λ l. run.front ++ whole_of l) (sym (append_assoc rest bytes more));
+  };
+  writes = run.writes;
+}
+
+-- and their whole items are run
+pub run_on : (old mid new : State) (r r1 w w1 w2 : Option (List ℕ)) (count : ℕ) (text rest : List ℕ) → IsRunTo old mid r r1 w w1 count text → RunsGiven text rest mid new w1 w2 (Ok tt) → IsRunTo old new r r1 w w2 count rest
+run_on old mid new r r1 w w1 w2 count text rest run given = record {
+  text = run.text;
+  taken = run.taken;
+  size = run.size;
+  front = run.front ++ given.0;
+  leads = heads_more run.text text rest false run.front given.0 run.leads given.1;
+  writes = writes_append run.front given.0 old mid new w w1 w2 [] run.writes given.2;
+}
+
+-- so many bytes were taken, and none more
+taken_so_far : (most : ℕ) (old mid : State) (r r1 w w1 : Option (List ℕ)) (count : ℕ) (rest : List ℕ) → (run : IsRunTo old mid r r1 w w1 count rest) → count ≤ most → IsTaken most r r1 run.text
+taken_so_far most old mid r r1 w w1 count rest run within = record {
+  more = [];
+  taken = subst (λ (l : List ℕ). Consumes r r1 l) (sym (append-nil run.text)) run.taken;
+  within = omega (arith, run.size, within);
+  past = inl refl;
+}
+
+-- want of memory or the writer stopped the whole items of what a reader gave
+pub run_stopped : (most : ℕ) (old mid new : State) (r r1 w w1 w2 : Option (List ℕ)) (count : ℕ) (text rest : List ℕ) (why : Ending) → IsRunTo old mid r r1 w w1 count text → count ≤ most
+    → RunsGiven text rest mid new w1 w2 (Err why) → RunsRead most old new r r1 w w2 (Err why)
+run_stopped most old mid new r r1 w w1 w2 count text rest ending.Memory run within given = (
+  run.text,
+  taken_so_far most old mid r r1 w w1 count text run within,
+  whole_of run.text,
+  inl refl,
+  writes_front_more (whole_of run.text) run.front (whole_of text) [] old mid new w w1 w2 (heads_items run.text text false run.front run.leads ∙ ap (λ (l : List Item). run.front ++ l) (sym (append-nil _))) run.writes given,
+)
+run_stopped most old mid new r r1 w w1 w2 count text rest ending.Writer run within given = (
+  run.text,
+  taken_so_far most old mid r r1 w w1 count text run within,
+  whole_of run.text,
+  inl refl,
+  (_, front_more (whole_of run.text) run.front (whole_of text) [] old mid new w w1 given.0 (heads_items run.text text false run.front run.leads ∙ ap (λ (l : List Item). run.front ++ l) (sym (append-nil _))) run.writes given.1),
+)
+run_stopped most old mid new r r1 w w1 w2 count text rest ending.Reader run within given = absurd given
+
+-- memory for bytes that were taken was refused
+pub run_unread : (most : ℕ) (old mid : State) (r r1 r2 w w1 : Option (List ℕ)) (count : ℕ) (rest lost : List ℕ) → IsRunTo old mid r r1 w w1 count rest → Consumes r1 r2 lost → count + length lost ≤ most
+    → RunsRead most old mid r r2 w w1 (Err ending.Memory)
+run_unread most old mid r r1 r2 w w1 count rest lost run taken within =
+    let fed = run_fed old mid r r1 r2 w w1 count rest lost run taken in
+    run_stopped most old mid mid r r2 w w1 w1 (count + length lost) (rest ++ lost) rest ending.Memory fed within ([], front_none _ mid mid refl, Appends-nil w1)
+
+-- the reader failed, or gave one byte more than may be taken, where no whole item is left
+pub run_cut : (most : ℕ) (old mid : State) (r r1 r2 w w1 : Option (List ℕ)) (count lines : ℕ) (rest more : List ℕ) → IsRunTo old mid r r1 w w1 count rest → 0 < lines → Waits rest lines → Consumes r1 r2 more → count ≤ most
+    → (more ≡ []) ⊎ ((count ≡ most) × (length more ≤ 1)) → RunsRead most old mid r r2 w w1 (Err ending.Reader)
+run_cut most old mid r r1 r2 w w1 count lines rest more run some waits taken within past = (
+  run.text,
+  record {
+    more = more;
+    taken = consumes_more r r1 r2 run.text more run.taken taken;
+    within = omega (arith, run.size, within);
+    past = elim past [ inl is ↦ inl is | inr is ↦ inr (run.size ∙ is.0, is.1) ];
+  },
+  (script_of rest, leads_script run.text rest run.front run.leads ∙ ap (λ (l : List Item). l ++ script_of rest) (sym all)),
+  subst (λ (l : List Item). Writes old l mid w w1 []) (sym all) run.writes,
+)
+  where
+    none : whole_of rest ≡ []
+    none = ap whole_of (sym (append-nil rest)) ∙ waits [] some
+
+    all : whole_of run.text ≡ run.front
+    all = heads_items run.text rest false run.front run.leads ∙ ap (λ (l : List Item). run.front ++ l) none ∙ append-nil run.front
+
+-- the reader is at its end, and what is left is run
+pub run_over : (most : ℕ) (old mid new : State) (r r1 r2 w w1 w2 : Option (List ℕ)) (count : ℕ) (rest text : List ℕ) (result : Result (Unit {0}) Ending) → IsRunTo old mid r r1 w w1 count rest → count ≤ most → IsRead r1 r2 []
+    → text ≡ rest → RunsItems (script_of text) mid new w1 w2 result → RunsRead most old new r r2 w w2 result
+run_over most old mid new r r1 r2 w w1 w2 count rest text result run within read is items =
+    over result (subst (λ (l : List ℕ). RunsItems (script_of l) mid new w1 w2 result) is items)
+  where
+    all : script_of run.text ≡ run.front ++ script_of rest
+    all = leads_script run.text rest run.front run.leads
+
+    taken : Consumes r r2 run.text
+    taken = subst (λ (l : List ℕ). Consumes r r2 l) (append-nil run.text) (consumes_more r r1 r2 run.text [] run.taken read.taken)
+
+    known : IsTaken most r r2 run.text
+    known = record { more = []; taken = consumes_more r r1 r2 run.text [] run.taken read.taken; within = omega (arith, run.size, within); past = inl refl }
+
+    over : (result : Result (Unit {0}) Ending) → RunsItems (script_of rest) mid new w1 w2 result → RunsRead most old new r r2 w w2 result
+    over (Ok done) items = (
+      run.text,
+      record { read = record { taken = taken; at_end = read.at_end }; within = omega (arith, run.size, within) },
+      subst (λ (l : List Item). Writes old l new w w2 []) (sym all) (writes_append run.front (script_of rest) old mid new w w1 w2 [] run.writes items),
+    )
+    over (Err ending.Memory) items = (
+      run.text,
+      known,
+      script_of run.text,
+      inr (read.at_end, refl),
+      writes_front_more (script_of run.text) run.front (script_of rest) [] old mid new w w1 w2 (all ∙ ap (λ (l : List Item). run.front ++ l) (sym (append-nil _))) run.writes items,
+    )
+    over (Err ending.Writer) items = (
+      run.text,
+      known,
+      script_of run.text,
+      inr (read.at_end, refl),
+      (_, front_more (script_of run.text) run.front (script_of rest) [] old mid new w w1 items.0 (all ∙ ap (λ (l : List Item). run.front ++ l) (sym (append-nil _))) run.writes items.1),
+    )
+    over (Err ending.Reader) items = absurd items
+
+-- so many bytes were taken, and more
+pub takes_more : (r r1 r2 : Option (List ℕ)) (count : ℕ) (bytes : List ℕ) → Takes r r1 count → Consumes r1 r2 bytes → Takes r r2 (count + length bytes)
+takes_more r r1 r2 count bytes takes more = record {
+  bytes = takes.bytes ++ bytes;
+  taken = consumes_more r r1 r2 takes.bytes bytes takes.taken more;
+  count_is = length-append takes.bytes bytes ∙ ap (λ n. n + length bytes) takes.count_is;
+}
 
 -- all that a reader gave
 taken_all : (most : ℕ) (r r' : Option (List ℕ)) (bytes : List ℕ) → IsReadWithin most r r' bytes → IsTaken most r r' bytes
@@ -94,15 +237,15 @@ taken_all most r r' bytes read = record { more = []; taken = subst (λ (l : List
 
 -- whatever was run, a front of the items is answered
 text_answers : (most : ℕ) (old new : State) (r r' w w' w2 : Option (List ℕ)) (run : Result (Unit {0}) Ending) → RunsRead most old new r r' w w' run → RunsText most old new r r' w w2 (Err fault.Writer)
-text_answers most old new r r' w w' w2 (Ok done) told = (told.0, taken_all most r r' told.0 told.1, (_, front_all (script_of told.0) old new told.2.lines told.2.told))
-text_answers most old new r r' w w' w2 (Err ending.Reader) told = (told.0, told.1, (_, record { front = whole_of told.0; rest = told.2.0.0; parts = told.2.0.1; lines = told.2.1.lines; mid = new; told = told.2.1.told; turns = []; taken = refl; begun = tt; shown = sym (append-nil _) }))
-text_answers most old new r r' w w' w2 (Err ending.Memory) told = (told.0, told.1, (told.2.0, told.2.1))
+text_answers most old new r r' w w' w2 (Ok done) told = (told.0, taken_all most r r' told.0 told.1, script_of told.0, inr (told.1.read.at_end, refl), (_, front_all (script_of told.0) old new told.2.lines told.2.told))
+text_answers most old new r r' w w' w2 (Err ending.Reader) told = (told.0, told.1, whole_of told.0, inl refl, (_, front_all (whole_of told.0) old new told.3.lines told.3.told))
+text_answers most old new r r' w w' w2 (Err ending.Memory) told = (told.0, told.1, told.2, told.3, (told.4.0, told.4.1))
 text_answers most old new r r' w w' w2 (Err ending.Writer) told = told
 
 -- a fault's line behind a run that it ended
 fault_ends : (most : ℕ) (old new : State) (r r' w w1 w2 : Option (List ℕ)) (why : Ending) → RunsRead most old new r r' w w1 (Err why) → Appends w1 w2 (fault_line (fault_of why)) → RunsText most old new r r' w w2 (Err (fault_of why))
-fault_ends most old new r r' w w1 w2 ending.Reader told more = (told.0, told.1, told.2.0, writes_last old _ new w w1 w2 _ told.2.1 more)
-fault_ends most old new r r' w w1 w2 ending.Memory told more = (told.0, told.1, front_last old _ new w w1 w2 _ told.2 more)
+fault_ends most old new r r' w w1 w2 ending.Reader told more = (told.0, told.1, told.2, writes_last old _ new w w1 w2 _ told.3 more)
+fault_ends most old new r r' w w1 w2 ending.Memory told more = (told.0, told.1, told.2, told.3, front_last old _ new w w1 w2 _ told.4 more)
 fault_ends most old new r r' w w1 w2 ending.Writer told more = told
 
 -- the end of a run
@@ -114,28 +257,3 @@ text_ended most old new r r' w w1 w2 run (Err why) told ended = elim ended [
   | inl is ↦ subst (λ (e : SessionFault). RunsText most old new r r' w w2 (Err e)) (sym is) (text_answers most old new r r' w w1 w2 run told)
   | inr is ↦ subst (λ (e : SessionFault). RunsText most old new r r' w w2 (Err e)) (sym is.2) (fault_ends most old new r r' w w1 w2 is.0 (subst (λ (x : Result (Unit {0}) Ending). RunsRead most old new r r' w w1 x) is.1 told) (subst (λ (e : SessionFault). Appends w1 w2 (fault_line e)) is.2 is.3))
 ]
-
--- a script that can't be kept for want of memory
-pub unread_told : (most : ℕ) (r r' : Option (List ℕ)) (bytes : List ℕ) (e : SessionFault) (old : State) (w : Option (List ℕ)) → ReadsWithin most r r' bytes (Err e) → RunsRead most old old r r' w w (Err ending.Memory)
-unread_told most r r' bytes e old w reads =
-    let t = unread_taken most r r' bytes e reads in
-    (t.1.bytes, record { more = []; taken = subst (λ (l : List ℕ). Consumes r r' l) (sym (append-nil t.1.bytes)) t.1.taken; within = omega (arith, t.1.count_is, t.2); past = inl refl }, ([], front_none _ old old refl, Appends-nil w))
-
--- a script that is as long as one may be
-pub full_told : (most : ℕ) (old new : State) (r r1 r' w w' : Option (List ℕ)) (bytes text : List ℕ) (run : Result (Unit {0}) Ending) → text ≡ bytes → Consumes r r1 bytes → length bytes ≡ most → RunsFull text old new r1 r' w w' run → RunsRead most old new r r' w w' run
-full_told most old new r r1 r' w w' bytes text run is taken size ran = told run (subst (λ (l : List ℕ). Consumes r r1 l) (sym is) taken) (ap length is ∙ size) ran
-  where
-    told : (run : Result (Unit {0}) Ending) → Consumes r r1 text → length text ≡ most → RunsFull text old new r1 r' w w' run → RunsRead most old new r r' w w' run
-    told (Ok done) taken size run = (
-      text,
-      record {
-        read = record { taken = subst (λ (l : List ℕ). Consumes r r' l) (append-nil text) (consumes_more r r1 r' text [] taken run.0.taken); at_end = run.0.at_end };
-        within = omega (arith, size);
-      },
-      run.1,
-    )
-    told (Err why) taken size run = (
-      text,
-      record { more = run.0; taken = consumes_more r r1 r' text run.0 taken run.1; within = omega (arith, size); past = inr (size, run.2) },
-      run.3,
-    )

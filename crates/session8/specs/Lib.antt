@@ -4,9 +4,11 @@ pub mod Work
 pub mod Files
 pub mod Refusals
 pub mod System
+pub mod Failing
 pub mod Same
 pub mod Session
 pub mod Interleaving
 pub mod Reading
 pub mod Script
 pub mod RunSteps
+pub mod Road

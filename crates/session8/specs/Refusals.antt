@@ -49,12 +49,12 @@ abbrev pub after_refusal : State → Entry → State
 after_refusal old (entry.Turn number) = record old { jobs = with_job number None old.jobs }
 after_refusal old entry = old
 
--- The machine may lack memory for an entry: for a text that can be stored under a name that is one, the list of the files, a job
--- that assembles or loads where there is a number for it, and the file to be loaded is there, the turn of a job that is there, the
--- characters that steps may print, and reports. A bad name takes none to tell, and neither does a file to be deleted that is not
--- there, or held.
+-- The machine may lack memory for an entry: for a text that can be stored under a name that is one and that no job holds, the list
+-- of the files, a job that assembles or loads where there is a number for it, and the file to be loaded is there, the turn of a job
+-- that is there, the characters that steps may print, and reports. A bad name takes none to tell, and neither does a file to be
+-- deleted that is not there, or held.
 abbrev pub MayLack : State → Entry → Type 0
-MayLack old (entry.Store name text) = (n : ℕ) × (parsed_name name ≡ Some n) × (is_storable text ≡ true)
+MayLack old (entry.Store name text) = (n : ℕ) × (parsed_name name ≡ Some n) × (is_storable text ≡ true) × IsUnheld (job_state old) n
 MayLack old (entry.Delete name) = (n : ℕ) × (parsed_name name ≡ Some n) × IsThere (job_state old) n × IsUnheld (job_state old) n
 MayLack old entry.Direct = Unit {0}
 MayLack old (entry.Assemble to from) = Named to from (λ target sources. AssembleStarts (job_state old) target sources (Err Memory) (job_state old))

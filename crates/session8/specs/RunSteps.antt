@@ -1,18 +1,20 @@
 -- What the steps of a run of a script come to, for private clauses.
-use Rattle.std.specs.Prelude.{◌≡◌, ◌≢◌, ℕ, Bool, true, false, Result, Ok, Err, Option, Some, None, List, [], ◌∷◌, ◌++◌, drop, ◌≤◌, ◌⊎◌, length}
+use Rattle.std.specs.Prelude.{◌≡◌, ◌≢◌, ℕ, Bool, true, false, Result, Ok, Err, Option, List, [], ◌∷◌, ◌++◌, drop, ◌<◌, ◌≤◌, ◌⊎◌, length}
 use Rattle.std.specs.Io.KnownBytes.{Appends, Consumes}
-use Rattle.script8.specs.Items.{script_of, whole_of, Gives, IsOut}
+use Rattle.script8.specs.Items.{script_of, whole_of, Leads, Gives, IsOut}
 use Rattle.script8.specs.Replies.{fault_line}
 use Rattle.script8.specs.declared.entries.Entry.TheVariants.{Turn}
 use Rattle.script8.specs.declared.faults.SessionFault.{SessionFault}
 use Rattle.script8.specs.declared.faults.SessionFault.TheVariants as fault
 use Rattle.script8.specs.declared.items.Item.{Item}
-use Rattle.session8.specs.Script.{Writes, WritesFront, AnswersFront, IsFrontOf, turn_lines}
+use Rattle.session8.specs.Script.{Writes, WritesFront, AnswersFront, AreDue, IsFrontOf, turn_lines}
 use Rattle.session8.specs.State.{State}
 use Rattle.session8.specs.System.{Answer, Step}
-use Rattle.session8.specs.Reading.{IsRead, IsReadWithin, IsTaken}
+use Rattle.session8.specs.Reading.{IsReadWithin, IsTaken}
 use Rattle.session8.specs.declared.endings.Ending.{Ending}
 use Rattle.session8.specs.declared.endings.Ending.TheVariants.{Reader, Writer, Memory}
+use Rattle.session8.specs.declared.pending.Begun.{Begun}
+use Rattle.session8.specs.declared.pending.Begun.TheVariants.{Ran, Waiting}
 
 -- What running items comes to: the lines of the answers to all of them are written; where want of memory ends the run, those
 -- of a front of them; where the writer failed, the last line may be unwritten.
@@ -29,40 +31,63 @@ RunsTurn number old new w w' (Err Memory) = (new ≡ old) × Appends w w' []
 RunsTurn number old new w w' (Err Writer) = (answer : Answer) × Step old (Turn number) answer new × (answer ≢ Err fault.Memory)
 RunsTurn number old new w w' (Err Reader) = ⊥
 
--- What running the first item of a text comes to, where it is a script's end or goes on: no item, or no whole one, is there, or
--- so many bytes of it are run.
-abbrev pub RunsNext : List ℕ → Bool → State → State → Option (List ℕ) → Option (List ℕ) → Result (Option ℕ) Ending → Type 0
-RunsNext text is_end old new w w' (Ok None) = IsOut text is_end × (new ≡ old) × Appends w w' []
-RunsNext text is_end old new w w' (Ok (Some bytes)) = (items : List Item) × Gives text is_end items bytes × Writes old items new w w' []
-RunsNext text is_end old new w w' (Err Memory) = WritesFront old (script_of text) new w w' []
-RunsNext text is_end old new w w' (Err Writer) = (bytes : List ℕ) × AnswersFront old (script_of text) new bytes
+-- the items of a text that is a script's end, or the whole ones of one that goes on
+abbrev pub items_in : List ℕ → Bool → List Item
+items_in text true = script_of text
+items_in text false = whole_of text
+
+-- a text begins with these items, and the rest stands behind them; where it goes on, whatever follows
+abbrev pub Heads : List ℕ → Bool → List Item → List ℕ → Type 0
+Heads text true front rest = script_of text ≡ front ++ script_of rest
+Heads text false front rest = Leads text front rest
+
+-- What running the first item of a text comes to, where it is a script's end or goes on: so many bytes of it are run, or no item,
+-- or no whole one, is there, and so many lines are wanted.
+abbrev pub RunsNext : List ℕ → Bool → State → State → Option (List ℕ) → Option (List ℕ) → Result Begun Ending → Type 0
+RunsNext text is_end old new w w' (Ok (Waiting lines)) = IsOut text is_end lines × (new ≡ old) × Appends w w' []
+RunsNext text is_end old new w w' (Ok (Ran bytes)) = (items : List Item) × Gives text is_end items bytes × Writes old items new w w' []
+RunsNext text is_end old new w w' (Err Memory) = WritesFront old (items_in text is_end) new w w' []
+RunsNext text is_end old new w w' (Err Writer) = (bytes : List ℕ) × AnswersFront old (items_in text is_end) new bytes
 RunsNext text is_end old new w w' (Err Reader) = ⊥
 
--- What running a text comes to, where it is a script's end or goes on: so many bytes of it are run, and no item, or no whole one,
--- is left.
-abbrev pub RunsFront : List ℕ → Bool → State → State → Option (List ℕ) → Option (List ℕ) → Result ℕ Ending → Type 0
-RunsFront text is_end old new w w' (Ok bytes) = (front : List Item) × (script_of text ≡ front ++ script_of (drop bytes text)) × (is_end ≡ true → script_of text ≡ front) × (is_end ≡ false → whole_of text ≡ front) × Writes old front new w w' []
-RunsFront text is_end old new w w' (Err Memory) = WritesFront old (script_of text) new w w' []
-RunsFront text is_end old new w w' (Err Writer) = (bytes : List ℕ) × AnswersFront old (script_of text) new bytes
+-- so many bytes stand at the front of a text, or it has no item, or no whole one
+abbrev pub IsBegun : List ℕ → Bool → Begun → Type 0
+IsBegun text is_end (Ran bytes) = (0 < bytes) × (bytes ≤ length text)
+IsBegun text is_end (Waiting lines) = IsOut text is_end lines
+
+-- What running a text comes to, where it is a script's end or goes on: so many bytes of it are run, no item, or no whole one, is
+-- left, and so many lines are wanted.
+abbrev pub RunsFront : List ℕ → Bool → State → State → Option (List ℕ) → Option (List ℕ) → Result (ℕ × ℕ) Ending → Type 0
+RunsFront text is_end old new w w' (Ok (bytes, lines)) = (front : List Item) × Heads text is_end front (drop bytes text) × IsOut (drop bytes text) is_end lines × Writes old front new w w' []
+RunsFront text is_end old new w w' (Err Memory) = WritesFront old (items_in text is_end) new w w' []
+RunsFront text is_end old new w w' (Err Writer) = (bytes : List ℕ) × AnswersFront old (items_in text is_end) new bytes
 RunsFront text is_end old new w w' (Err Reader) = ⊥
 
--- What running a text that was cut comes to: its whole items are run, and then it is the reader's fault.
-abbrev pub RunsCut : List ℕ → State → State → Option (List ℕ) → Option (List ℕ) → Result (Unit {0}) Ending → Type 0
-RunsCut text old new w w' (Ok done) = ⊥
-RunsCut text old new w w' (Err Reader) = IsFrontOf (whole_of text) (script_of text) × Writes old (whole_of text) new w w' []
-RunsCut text old new w w' (Err Memory) = WritesFront old (script_of text) new w w' []
-RunsCut text old new w w' (Err Writer) = (bytes : List ℕ) × AnswersFront old (script_of text) new bytes
+-- What running the whole items of bytes comes to that a reader gave and may go on from: these are left.
+abbrev pub RunsGiven : List ℕ → List ℕ → State → State → Option (List ℕ) → Option (List ℕ) → Result (Unit {0}) Ending → Type 0
+RunsGiven text rest old new w w' (Ok done) = (front : List Item) × Leads text front rest × Writes old front new w w' []
+RunsGiven text rest old new w w' (Err Memory) = WritesFront old (whole_of text) new w w' []
+RunsGiven text rest old new w w' (Err Writer) = (bytes : List ℕ) × AnswersFront old (whole_of text) new bytes
+RunsGiven text rest old new w w' (Err Reader) = ⊥
 
--- What running a text comes to that the reader may not go on from: where it does, the text was cut.
-abbrev pub RunsFull : List ℕ → State → State → Option (List ℕ) → Option (List ℕ) → Option (List ℕ) → Option (List ℕ) → Result (Unit {0}) Ending → Type 0
-RunsFull text old new r r' w w' (Ok done) = IsRead r r' [] × RunsItems (script_of text) old new w w' (Ok done)
-RunsFull text old new r r' w w' (Err why) =
-    (more : List ℕ) × Consumes r r' more × (length more ≤ 1) × RunsCut text old new w w' (Err why)
+-- so many bytes were taken of a reader that may go on, their items are answered up to these bytes, and the lines are written
+pub record IsRunTo (old new : State) (r r' w w' : Option (List ℕ)) (count : ℕ) (rest : List ℕ) : Type 0 where
+  pub text : List ℕ
+  pub taken : Consumes r r' text
+  pub size : length text ≡ count
+  pub front : List Item
+  pub leads : Leads text front rest
+  pub writes : Writes old front new w w' []
 
 -- What reading a script and running it comes to, before the line of a fault is written.
 abbrev pub RunsRead : ℕ → State → State → Option (List ℕ) → Option (List ℕ) → Option (List ℕ) → Option (List ℕ) → Result (Unit {0}) Ending → Type 0
 RunsRead most old new r r' w w' (Ok done) = (text : List ℕ) × IsReadWithin most r r' text × Writes old (script_of text) new w w' []
-RunsRead most old new r r' w w' (Err why) = (text : List ℕ) × IsTaken most r r' text × RunsCut text old new w w' (Err why)
+RunsRead most old new r r' w w' (Err Reader) =
+    (text : List ℕ) × IsTaken most r r' text × IsFrontOf (whole_of text) (script_of text) × Writes old (whole_of text) new w w' []
+RunsRead most old new r r' w w' (Err Memory) =
+    (text : List ℕ) × IsTaken most r r' text × (items : List Item) × AreDue r' text items × WritesFront old items new w w' []
+RunsRead most old new r r' w w' (Err Writer) =
+    (text : List ℕ) × IsTaken most r r' text × (items : List Item) × AreDue r' text items × ((bytes : List ℕ) × AnswersFront old items new bytes)
 
 -- the fault that an ending is answered as
 abbrev pub fault_of : Ending → SessionFault

@@ -1,6 +1,6 @@
 -- What a script comes to: the answers to its items, and the lines that are written.
-use Rattle.std.specs.Prelude.{◌≡◌, ◌≢◌, ℕ, Bool, true, false, if◌then◌else◌, Result, Ok, Err, Option, Some, None, List, [], ◌∷◌, ◌++◌}
-use Rattle.std.specs.Io.KnownBytes.{Appends}
+use Rattle.std.specs.Prelude.{◌≡◌, ◌≢◌, ◌⊎◌, ℕ, Bool, true, false, if◌then◌else◌, Result, Ok, Err, Option, Some, None, List, [], ◌∷◌, ◌++◌}
+use Rattle.std.specs.Io.KnownBytes.{Appends, IsAtEnd}
 use Rattle.script8.specs.Items.{script_of, whole_of}
 use Rattle.script8.specs.Replies.{answer_lines, reply_lines, fault_line}
 use Rattle.script8.specs.declared.entries.Entry.TheVariants.{Turn}
@@ -77,16 +77,21 @@ WritesFront old items new w w' last = (bytes : List ℕ) × AnswersFront old ite
 abbrev pub IsFrontOf : List Item → List Item → Type 0
 IsFrontOf front items = (rest : List Item) × (items ≡ front ++ rest)
 
+-- the items that may be answered of the bytes that a reader gave: the whole ones, or all where it is at its end
+abbrev pub AreDue : Option (List ℕ) → List ℕ → List Item → Type 0
+AreDue r text items = (items ≡ whole_of text) ⊎ (IsAtEnd r × (items ≡ script_of text))
+
 -- What running the script of a reader comes to. On Ok the reader was read to its end, and the lines of the answers to all items are
 -- written. Where the reader ends the run, they are those of the whole items that were taken, and where want of memory does, those of
--- a front of the items; the line of the fault is written last. Where the writer failed, the last line may be unwritten.
+-- a front of the items of the bytes that were taken; the line of the fault is written last. Where the writer failed, the last line
+-- may be unwritten.
 abbrev pub RunsText : ℕ → State → State → Option (List ℕ) → Option (List ℕ) → Option (List ℕ) → Option (List ℕ) → Result (Unit {0}) SessionFault → Type 0
 RunsText most old new r r' w w' (Ok done) =
     (text : List ℕ) × IsReadWithin most r r' text × Writes old (script_of text) new w w' []
 RunsText most old new r r' w w' (Err fault.Reader) =
     (text : List ℕ) × IsTaken most r r' text × IsFrontOf (whole_of text) (script_of text) × Writes old (whole_of text) new w w' (fault_line fault.Reader)
 RunsText most old new r r' w w' (Err fault.Memory) =
-    (text : List ℕ) × IsTaken most r r' text × WritesFront old (script_of text) new w w' (fault_line fault.Memory)
+    (text : List ℕ) × IsTaken most r r' text × (items : List Item) × AreDue r' text items × WritesFront old items new w w' (fault_line fault.Memory)
 RunsText most old new r r' w w' (Err fault.Writer) =
-    (text : List ℕ) × IsTaken most r r' text × ((bytes : List ℕ) × AnswersFront old (script_of text) new bytes)
+    (text : List ℕ) × IsTaken most r r' text × (items : List Item) × AreDue r' text items × ((bytes : List ℕ) × AnswersFront old items new bytes)
 RunsText most old new r r' w w' (Err why) = ⊥

@@ -3,12 +3,15 @@ use Rattle.std.specs.Prelude.{◌≡◌, ◌≤◌, ◌<◌, ◌⊎◌, true, fa
 use Rattle.os8_dir.specs.Files.{files_of, capacity_of, limit_of, above_of}
 use Rattle.os8_files.specs.Calls.{info_of}
 use Rattle.os8_files.specs.Mounted.{Mounted}
+use Rattle.os8_files.specs.declared.faults.FileFault.TheVariants as file
 use Rattle.jobs8.specs.Calls as calls
-use Rattle.jobs8.specs.Calls.{Outlives}
+use Rattle.jobs8.specs.Calls.{Outlives, ReadFailed, WriteFailed}
 use Rattle.jobs8.specs.Jobs.{Job}
 use Rattle.script8.specs.declared.entries.Entry.{Entry}
-use Rattle.script8.specs.declared.faults.SessionFault.TheVariants.{Reader, Writer, Memory}
+use Rattle.script8.specs.declared.faults.SessionFault.TheVariants.{File, Reader, Writer, Memory}
 use Rattle.session8.specs.Console.{is_console}
+use Rattle.session8.specs.Failing.{StepsStopped}
+use Rattle.session8.specs.Refusals.{after_refusal}
 use Rattle.session8.specs.State.{State, Console}
 use Rattle.session8.specs.System.{Answer, Step}
 
@@ -46,6 +49,18 @@ pub record IsSame (old new : Seen) : Type 0 where
   pub reads : new.volume.failed_reads ≡ old.volume.failed_reads
   pub writes : new.volume.failed_writes ≡ old.volume.failed_writes
 
+-- A block call failed in an entry: a read, and no block was written, or a write, behind which all writing has stopped. A turn has
+-- ended its job, and nothing else is changed but what the blocks hold behind a failed write.
+pub record HasFailed (entry : Entry) (old new : Seen) : Type 0 where
+  pub call : ReadFailed old.volume new.volume ⊎ WriteFailed old.volume new.volume
+  pub jobs : new.jobs ≡ (after_refusal (state_of old) entry).jobs
+  pub console : new.console ≡ old.console
+
+-- What an answer tells of the block calls where no write has failed before: `Device` comes just where one failed.
+abbrev pub Tells : Entry → Seen → Answer → Seen → Type 0
+Tells entry old (Err (File file.Device)) new = HasFailed entry old new
+Tells entry old answer new = IsQuiet old new
+
 -- an answer to an entry is neither the reader's nor the writer's fault
 abbrev pub IsReply : Answer → Type 0
 IsReply (Err Reader) = ⊥
@@ -57,7 +72,7 @@ abbrev pub IsSteadied : Entry → Seen → Seen → Type 0
 IsSteadied entry old new = (is_console entry ≡ true) ⊎ IsQuiet old new
 
 -- What doing an entry comes to: a step of the system machine where no block call fails, or where there is a reply, and nothing
--- for want of memory.
+-- for want of memory; and what is refused where one fails, or a write has failed before.
 pub record Does (entry : Entry) (old : Seen) (answer : Answer) (new : Seen) : Type 0 where
   pub step : IsQuiet old new → Step (state_of old) entry answer (state_of new)
   pub later : IsLater old new
@@ -65,4 +80,6 @@ pub record Does (entry : Entry) (old : Seen) (answer : Answer) (new : Seen) : Ty
   pub running : IsQuiet old new → new.volume.stopped ≡ false
   pub memory : answer ≡ Err Memory → IsSame old new
   pub reply : IsReply answer
+  pub tells : old.volume.stopped ≡ false → Tells entry old answer new
+  pub stopped : old.volume.stopped ≡ true → StepsStopped (is_console entry) (state_of old) entry answer (state_of new)
   pub done : OnOk answer (Step (state_of old) entry answer (state_of new) × IsSteadied entry old new)

@@ -1,13 +1,17 @@
 //! What holds of refusals, and of the turns of squeezing jobs. Each function does nothing: its contract is the law.
-ghost use Rattle.std.specs.Prelude.{◌≡◌, ℕ, Bool, false, Some, None, Err};
-ghost use Rattle.jobs8.specs.Jobs.{squeezing, job_of, with_job};
+ghost use Rattle.std.specs.Prelude.{◌≡◌, ℕ, Bool, List, false, Some, None, Err};
+ghost use Rattle.std.specs.FinMap.{get};
+ghost use Rattle.jobs8.specs.Jobs.{loading, squeezing, job_of, with_job};
 ghost use Rattle.script8.specs.Replies.{job_of_entry};
 ghost use Rattle.script8.specs.declared.entries.Entry.{Entry};
 ghost use Rattle.script8.specs.declared.entries.Entry.TheVariants as entry;
 ghost use Rattle.script8.specs.declared.faults.SessionFault.{SessionFault};
+ghost use Rattle.session8.specs.Road.{changes_file, is_loaded, Arrives, GoesOn, HasMade, NoneTells};
 ghost use Rattle.session8.specs.Same.{IsAlike, IsApart, speaks_of_room};
 ghost use Rattle.session8.specs.State.{State};
-ghost use Rattle.session8.specs.System.{Answer, Step};
+ghost use Rattle.session8.specs.System.{Answer, Run, Step};
+
+use bin_tape::laws::{no_fault, one_reading};
 
 /// A refused entry changes no file, no word of core, no register, no break and no character printed; and where it is no turn of a
 /// job, it changes nothing at all (this project's profile).
@@ -26,3 +30,17 @@ pub fn interleavings()
     ensures turn { (old new : State) (number : ℕ) (clean : Bool) (left : ℕ) (answer : Answer) → job_of number old.jobs ≡ Some (squeezing clean left) → Step old (entry.Turn number) answer new → IsAlike old new }
     ensures others { (one two one' : State) (e : Entry) (answer : Answer) → IsAlike one two → IsApart e one two → speaks_of_room answer ≡ false → Step one e answer one' → (two' : State) × Step two e answer two' × IsAlike one' two' }
 {}
+
+/// The road of a program: from the sources that a job assembled to a file, to the processor that runs with it (this project's
+/// profile). A file keeps its words until an answer tells that it was written or taken out. So long as none does, a load of a file
+/// that a job made from sources meets no fault of a tape; where it ends, core is what it was before, overlaid with what the sources,
+/// as they were when they were assembled, put into it; and from there on, up to the next load, the console does what its entries do
+/// on that core, whatever the files and the other jobs are.
+pub fn road()
+    ensures kept { (old new : State) (name : ℕ) (entries : List Entry) (answers : List Answer) (stopped : Bool) → Run old entries answers stopped new → NoneTells (changes_file name) answers → get new.files name ≡ get old.files name }
+    ensures console { (old new : State) (entries : List Entry) (answers : List Answer) (stopped : Bool) → Run old entries answers stopped new → NoneTells is_loaded answers → GoesOn old.console entries answers new.console }
+    ensures load { (one two three four : State) (maker loader name left : ℕ) (sources : List (List ℕ)) (entries : List Entry) (answers : List Answer) (stopped : Bool) (answer : Answer) → HasMade maker name sources one two → Run two entries answers stopped three → NoneTells (changes_file name) answers → job_of loader three.jobs ≡ Some (loading name left) → Step three (entry.Turn loader) answer four → Arrives sources three answer four }
+{
+    no_fault();
+    one_reading();
+}

@@ -4,6 +4,7 @@
 mod consoles;
 mod endings;
 pub mod laws;
+mod pending;
 mod readings;
 mod sessions;
 

@@ -11,7 +11,7 @@ use std::io::{self, ErrorKind, Read};
 pub const MOST: usize = 16_777_216;
 
 /// How many bytes are asked for at once.
-const PIECE: usize = 65_536;
+pub(crate) const PIECE: usize = 65_536;
 
 /// Reads to the reader's end. Of more than `MOST` bytes it takes one more, and answers `Reader`.
 pub fn read_all<R: Read>(alloc: Global, reader: &mut R) -> Result<Vec<u8>, SessionFault>
@@ -44,25 +44,24 @@ pub fn read_within<R: Read>(
         if bytes.len() == MOST {
             return Ok(false);
         }
-        if read_piece(reader, &mut piece, bytes)? {
+        let room = PIECE.min(MOST - bytes.len());
+        if read_piece(reader, &mut piece[..room], bytes)? {
             return Ok(true);
         }
     }
     Err(SessionFault::Reader)
 }
 
-/// Reads once, and answers whether that was the reader's end.
-fn read_piece<R: Read>(
+/// Reads once, as much as a piece takes, and answers whether that was the reader's end.
+pub(crate) fn read_piece<R: Read>(
     reader: &mut R,
     piece: &mut [u8],
     bytes: &mut Vec<u8>,
 ) -> Result<bool, SessionFault>
     requires piece { 0 < length piece.old }
-    requires bytes { vec_len bytes.old < 16777216 }
-    ensures { Reads 16777216 (R.remaining reader.old) (R.remaining reader.new) bytes.old.items bytes.new.items result }
+    ensures { Reads (length piece.old) (R.remaining reader.old) (R.remaining reader.new) bytes.old.items bytes.new.items result }
 {
-    let room = piece.len().min(MOST - bytes.len());
-    match reader.read(&mut piece[..room]) {
+    match reader.read(piece) {
         Ok(0) => Ok(true),
         Ok(count) => {
             bytes.extend_from_slice(&piece[..count])?;
@@ -108,7 +107,7 @@ fn is_interrupted(error: &io::Error) -> bool
     }
 }
 
-fn zero_bytes(alloc: Global, count: usize) -> Result<Vec<u8>, AllocError>
+pub(crate) fn zero_bytes(alloc: Global, count: usize) -> Result<Vec<u8>, AllocError>
     ensures { IfOk result (λ bytes. vec_len bytes ≡ count) }
 {
     let bytes = vec![in alloc; 0u8; count]?;

@@ -4,9 +4,10 @@ ghost use Rattle.os8_dir.specs.declared.faults.DirFault.TheVariants.{Device};
 ghost use Rattle.jobs8.specs.Jobs.{no_jobs};
 ghost use Rattle.jobs8.specs.Calls.{Outlives};
 ghost use Rattle.session8.specs.Console.{is_console};
+ghost use Rattle.session8.specs.Failing.{StepsStopped};
 ghost use Rattle.session8.specs.System.{Step, Run, is_memory};
 ghost use Rattle.session8.specs.Interleaving.{EntryReads, EntryPlaces, Leaves};
-ghost use Rattle.session8.specs.Session.{state_of, IsQuiet, IsLater, IsSame, IsReply, IsSteadied, Does};
+ghost use Rattle.session8.specs.Session.{state_of, IsQuiet, IsLater, IsSame, IsReply, IsSteadied, Tells, Does};
 ghost use Rattle.core_load.specs.Core.{zeros};
 ghost use Rattle.cpu8.specs.State.{stopped};
 ghost use Rattle.debug8.specs.Breaks.{no_breaks};
@@ -104,7 +105,8 @@ impl<S: BlockStore> Session<S> {
     }
 
     /// Does an entry: one step of the system machine, where no block call fails. After `Memory` all is as before; `Reader` and
-    /// `Writer` are never answered, and the refusals `Device` and `Stopped` only where a block call failed.
+    /// `Writer` are never answered. `Device` is answered just where a block call failed in this entry; after a failed write an entry
+    /// of files or jobs is `Stopped`, but for a bad form, name or text and a turn of no job, and one of the console goes on.
     pub fn enter(&mut self, alloc: Global, entry: Entry) -> Result<Reply, SessionFault>
         ensures step { IsQuiet self.old self.new → Step (state_of self.old) entry result (state_of self.new) }
         ensures later { IsLater self.old self.new }
@@ -113,6 +115,8 @@ impl<S: BlockStore> Session<S> {
         ensures memory { IsErrOf result Memory → IsSame self.old self.new }
         ensures reply { IsReply result }
         ensures done { OnOk result (Step (state_of self.old) entry result (state_of self.new) × IsSteadied entry self.old self.new) }
+        ensures tells { self.old.volume.stopped ≡ false → Tells entry self.old result self.new }
+        ensures stopped { self.old.volume.stopped ≡ true → StepsStopped (is_console entry) (state_of self.old) entry result (state_of self.new) }
         ensures reads { EntryReads entry self.old self.new }
         ensures places { EntryPlaces entry self.old self.new }
     {

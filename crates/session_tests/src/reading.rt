@@ -28,7 +28,8 @@ fn content_of(item: &Item) -> &[u8] {
     }
 }
 
-/// Whether a text begins with this: no item `.`, an empty line ` `, or an item of this kind, of so many bytes.
+/// Whether a text begins with this: no item `.`, for which so many lines are wanted, or an empty line ` ` or an item of this kind, of
+/// so many bytes.
 fn begins(
     alloc: Global,
     text: &[u8],
@@ -38,7 +39,7 @@ fn begins(
     bytes: usize,
 ) -> bool {
     match next_item(alloc, text, is_end) {
-        Ok(Next::End) => kind == b'.',
+        Ok(Next::End(lines)) => kind == b'.' && lines as usize == bytes,
         Ok(Next::Blank(taken)) => kind == b' ' && taken == bytes,
         Ok(Next::Item { item, bytes: taken }) => {
             kind == kind_of(&item) && content == content_of(&item) && taken == bytes
@@ -47,14 +48,15 @@ fn begins(
     }
 }
 
-/// Texts, whether each is the end of a script, and what it begins with: its kind, its content, and how many bytes.
-const TEXTS: [(&[u8], bool, u8, &[u8], usize); 30] = [
-    (b"", true, b'.', b"", 0),
-    (b"", false, b'.', b"", 0),
-    (b"DIRECT", false, b'.', b"", 0),
+/// Texts, whether each is the end of a script, and what it begins with: its kind, its content, and how many bytes, or how many lines
+/// are wanted.
+const TEXTS: [(&[u8], bool, u8, &[u8], usize); 31] = [
+    (b"", true, b'.', b"", 1),
+    (b"", false, b'.', b"", 1),
+    (b"DIRECT", false, b'.', b"", 1),
     (b"DIRECT", true, b'D', b"", 6),
     (b"SQUEEZE\r\n", false, b'Q', b"", 9),
-    (b"\r", false, b'.', b"", 0),
+    (b"\r", false, b'.', b"", 1),
     (b"\r", true, b' ', b"", 1),
     (b"\r\r\n", true, b'?', b"", 3),
     (b"\nDIRECT\n", false, b' ', b"", 1),
@@ -79,10 +81,11 @@ const TEXTS: [(&[u8], bool, u8, &[u8], usize); 30] = [
     (b"STORE A 1\n\r", true, b'S', b"\r\n", 11),
     (b"STORE A 0\n\n", false, b'S', b"", 10),
     (b"STORE A 0", true, b'S', b"", 9),
-    (b"STORE A 0", false, b'.', b"", 0),
-    (b"STORE A 1\n", false, b'.', b"", 0),
-    (b"STORE A 2\nA\nB", false, b'.', b"", 0),
-    (b"STORE A 3\nA\nB\n", false, b'.', b"", 0),
+    (b"STORE A 0", false, b'.', b"", 1),
+    (b"STORE A 1\n", false, b'.', b"", 1),
+    (b"STORE A 2\nA\nB", false, b'.', b"", 1),
+    (b"STORE A 3\nA\nB\n", false, b'.', b"", 1),
+    (b"STORE A 999999\nA\nB", false, b'.', b"", 999_998),
     (b"STORE A 3\nA\nB\n", true, b'?', b"", 14),
     (b"STORE A x\nDIRECT\n", false, b'?', b"", 10),
 ];

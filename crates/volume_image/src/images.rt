@@ -1,4 +1,4 @@
-ghost use Rattle.std.specs.Prelude.{◌≡◌, ℕ, ◌+◌, ◌*◌, ◌%◌, ◌<◌, ◌≤◌, length, slice_index, All, MatchOption, IfOk};
+ghost use Rattle.std.specs.Prelude.{◌≡◌, ℕ, ◌+◌, ◌*◌, ◌%◌, ◌<◌, ◌≤◌, length, slice_index, vec_capacity, All, MatchOption, IfOk, IsOk, OnOk, OnErr};
 ghost use Rattle.volume_image.specs.Image.{image_word, block_word, IsFirstBadWord, IsImageOf, IsNewVolume, new_word};
 ghost use Rattle.volume_image.specs.Volume.{IsBlock, IsVolume};
 
@@ -92,14 +92,16 @@ fn put_blocks(blocks: &[Block], bytes: &mut [u8])
     }
 }
 
-// The image of blocks.
-pub(crate) fn image_of(alloc: Global, blocks: &[Block]) -> Result<Vec<u8>, AllocError>
+// Puts the image of blocks in place of what a vector has.
+pub(crate) fn put_image(blocks: &[Block], bytes: &mut Vec<u8>) -> Result<(), AllocError>
     requires { IsVolume blocks.now }
-    ensures { IfOk result (λ bytes. IsImageOf bytes.items blocks.now) }
+    ensures ok { OnOk result (IsImageOf bytes.new.items blocks.now) }
+    ensures err { OnErr result (bytes.new.items ≡ bytes.old.items) }
+    ensures room { 512 * length blocks.now ≤ vec_capacity bytes.old → IsOk result }
 {
-    let mut bytes = vec![in alloc; 0u8; 512 * blocks.len()]?;
-    put_blocks(blocks, &mut bytes);
-    Ok(bytes)
+    bytes.resize(512 * blocks.len(), 0)?;
+    put_blocks(blocks, bytes);
+    Ok(())
 }
 
 // Writes the words with which the directory of an empty volume begins.

@@ -1,8 +1,8 @@
-ghost use Rattle.std.specs.Prelude.{◌≡◌, ◌<◌, length, slice_get, slice_set, Some, IsOk, IfOk, IsOkUnless};
+ghost use Rattle.std.specs.Prelude.{◌≡◌, ◌*◌, ◌<◌, ◌≤◌, length, slice_get, slice_set, vec_capacity, Some, IsOk, IfOk, OnOk, OnErr, IsOkUnless};
 ghost use Rattle.volume_image.specs.Volume.{IsBlock, counted};
 ghost use Rattle.volume_image.specs.Image.{IsImageOf, ReadsImage, Creates};
 
-use crate::images::{blocks_of, first_bad_word, image_of, know_words, new_blocks};
+use crate::images::{blocks_of, first_bad_word, know_words, new_blocks, put_image};
 use crate::{Block, BlockStore, DeviceFault, ImageFault};
 use std::alloc::Global;
 use std::marker::Model;
@@ -59,8 +59,21 @@ impl MemoryVolume {
         ensures ok { IfOk result (λ bytes. IsImageOf bytes.items self.now.blocks) }
         ensures err { IsOkUnless result ImageFault.Memory }
     {
-        let bytes = image_of(alloc, &self.blocks)?;
+        let mut bytes = Vec::new(alloc);
+        self.put_bytes(&mut bytes)?;
         Ok(bytes)
+    }
+
+    /// Puts the image of the volume, 512 bytes for each block, in place of what a vector has (this project's profile). Where the
+    /// vector has room for them, no memory is taken.
+    pub fn put_bytes(&self, bytes: &mut Vec<u8>) -> Result<(), ImageFault>
+        ensures ok { OnOk result (IsImageOf bytes.new.items self.now.blocks) }
+        ensures err { OnErr result (bytes.new.items ≡ bytes.old.items) }
+        ensures room { 512 * length self.now.blocks ≤ vec_capacity bytes.old → IsOk result }
+        ensures memory { IsOkUnless result ImageFault.Memory }
+    {
+        put_image(&self.blocks, bytes)?;
+        Ok(())
     }
 
     /// An empty volume of 8 to 4095 blocks: block 1 begins a directory of one segment with one empty entry from block 7

@@ -107,7 +107,10 @@ impl Processor {
             21 => self.refer(core, leading(21, word)),
             22 => self.refer(core, leading(22, word)),
             23 => self.refer(core, leading(23, word)),
-            24 | 25 | 26 | 27 => return self.transfer_quietly(core, word),
+            24 => return self.transfer_quietly(core, leading(24, word)),
+            25 => return self.transfer_quietly(core, leading(25, word)),
+            26 => return self.transfer_quietly(core, leading(26, word)),
+            27 => return self.transfer_quietly(core, leading(27, word)),
             _ => return self.operate_quietly::<MINDS>(core, word),
         }
         true

@@ -1,13 +1,16 @@
 //! The entries of files.
-ghost use Rattle.std.specs.Prelude.{◌≡◌, ℕ, List, Some};
+ghost use Rattle.std.specs.Prelude.{◌≡◌, ℕ, true, false, List, Some};
+ghost use Rattle.char_pack.specs.Texts as spec;
 ghost use Rattle.os8_dir.specs.Entries.{IsNamed};
 ghost use Rattle.os8_dir.specs.Names.{parsed_name};
+ghost use Rattle.os8_files.specs.declared.faults.FileFault.TheVariants.{Busy, Stopped};
 ghost use Rattle.script8.specs.declared.entries.Entry.TheVariants as entry;
+ghost use Rattle.script8.specs.declared.faults.SessionFault.TheVariants.{BadText, File};
 ghost use Rattle.session8.specs.Interleaving.{Leaves};
 ghost use Rattle.session8.specs.Session.{Does};
 
 use super::Session;
-use char_pack::{TextFault, store};
+use char_pack::{TextFault, is_storable, store};
 use jobs8::laws::{disturbed_jobs, held_names, settled_calls};
 use os8_dir::Name;
 use os8_files::FileFault;
@@ -45,6 +48,9 @@ impl<S: BlockStore> Session<S> {
         held_names();
         kept_holds();
         settled_calls();
+        if self.files.stopped() || self.files.is_held(name) {
+            return Err(unstored(text, self.files.stopped(), name));
+        }
         match store(alloc, text) {
             Err(TextFault::BadText) => Err(SessionFault::BadText),
             Err(TextFault::Memory) => Err(SessionFault::Memory),
@@ -90,4 +96,19 @@ impl<S: BlockStore> Session<S> {
             free,
         }))
     }
+}
+
+/// Why a text is not stored under a name where a write has failed, or else a job holds the name. It takes no memory.
+fn unstored(text: &[u8], stopped: bool, name: Name) -> SessionFault
+    ensures bad { spec.is_storable text.now ≡ false → result ≡ BadText }
+    ensures stopped { spec.is_storable text.now ≡ true → stopped ≡ true → result ≡ File Stopped }
+    ensures busy { spec.is_storable text.now ≡ true → stopped ≡ false → result ≡ File (Busy name) }
+{
+    if !is_storable(text) {
+        return SessionFault::BadText;
+    }
+    if stopped {
+        return SessionFault::File(FileFault::Stopped);
+    }
+    SessionFault::File(FileFault::Busy(name))
 }

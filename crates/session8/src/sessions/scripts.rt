@@ -1,21 +1,22 @@
 //! Scripts: the lines of a reader, whose answers a writer gets.
 
-ghost use Rattle.std.specs.Prelude.{◌≡◌, ◌≢◌, ℕ, ◌<◌, ◌≤◌, ◌∷◌, [], length, vec_capacity, OnOk, IfOk, IfSome, IfErr, ◌⊎◌, true, false, Ok, Err, None, Some};
+ghost use Rattle.std.specs.Prelude.{◌≡◌, ◌≢◌, ℕ, ◌<◌, ◌≤◌, ◌∷◌, [], length, drop, vec_capacity, OnOk, IfOk, IfErr, ◌⊎◌, true, false, Ok, Err, None, Some};
 ghost use Rattle.std.specs.Io.KnownBytes.{Appends};
-ghost use Rattle.script8.specs.Items.{script_of};
+ghost use Rattle.script8.specs.Items.{script_of, Waits, IsOut};
 ghost use Rattle.script8.specs.Replies.{answer_lines, lent, fault_line, IsShort};
 ghost use Rattle.script8.specs.declared.faults.SessionFault.TheVariants as fault;
 ghost use Rattle.script8.specs.declared.items.Item.TheVariants.{Do, Finish};
 ghost use Rattle.jobs8.specs.Jobs.{lowest_job, turns_left};
 ghost use Rattle.session8.specs.Reading.{Takes};
-ghost use Rattle.session8.specs.RunSteps.{RunsItems, RunsTurn, RunsNext, RunsFront, RunsRead, RunsFull, RunsCut, IsEnded, fault_of};
+ghost use Rattle.session8.specs.RunSteps.{RunsItems, RunsTurn, RunsNext, RunsFront, RunsGiven, RunsRead, IsBegun, IsEnded, fault_of};
 ghost use Rattle.session8.specs.Script.{RunsText};
 ghost use Rattle.session8.specs.declared.endings.Ending.TheVariants as ending;
 ghost use Rattle.session8.specs.Session.{state_of, IsQuiet, IsLater};
 
 use super::{Session, is_memory};
 use crate::endings::Ending;
-use crate::readings::{ends, read_within};
+use crate::pending::{Begun, Pending};
+use crate::readings::{MOST, PIECE, ends, zero_bytes};
 use script8::{Entry, Item, Next, Reply, Said, SessionFault, next_item, put_reply};
 use std::alloc::Global;
 use std::io::{Read, Write};
@@ -23,10 +24,12 @@ use volume_image::BlockStore;
 
 impl<S: BlockStore> Session<S> {
     /// Runs the script that a reader gives, and writes the lines of its answers, each line after the entry before it was
-    /// answered (this project's profile).
+    /// answered (this project's profile). Before the reader is asked for more, the entries that it has given whole are done, and
+    /// their lines are handed on. What is kept of the script is the longest entry, with its lines.
     ///
     /// At most 16,777,217 bytes are taken. Where the last of these comes, or the reader fails, the answer is `Reader` after
-    /// the whole lines before; `Memory` and `Writer` end the run too. The line of `Reader` and of `Memory` is written last.
+    /// the whole lines before; `Memory` and `Writer` end the run too, where they are met, and then no more bytes are taken. The line
+    /// of `Reader` and of `Memory` is written last.
     pub fn run_text<R: Read, W: Write>(
         &mut self,
         alloc: Global,
@@ -45,7 +48,7 @@ impl<S: BlockStore> Session<S> {
         self.end_run(run, writer)
     }
 
-    /// Reads the script of a reader, and runs it.
+    /// Reads the script of a reader, and runs it as it comes.
     fn run_read<R: Read, W: Write>(
         &mut self,
         alloc: Global,
@@ -59,55 +62,48 @@ impl<S: BlockStore> Session<S> {
         ensures taken { (count : ℕ) × Takes (R.remaining reader.old) (R.remaining reader.new) count × (count ≤ 16777217)
             × (count ≡ 16777217 → result ≡ Err ending.Reader) }
     {
-        let mut text = Vec::new(alloc);
-        match read_within(alloc, reader, &mut text) {
-            Ok(at_end) => {
-                if at_end {
-                    return self.run_end(alloc, &text, writer);
+        let Ok(mut piece) = zero_bytes(alloc, PIECE) else {
+            return Err(Ending::Memory);
+        };
+        let mut pending = Pending::new(alloc);
+        for _ in 0..u64::MAX {
+            if pending.count == MOST {
+                if ends(reader) {
+                    return self.run_end(alloc, &pending.bytes, writer);
                 }
-                self.run_full(alloc, &text, reader, writer)
+                return Err(Ending::Reader);
             }
-            Err(SessionFault::Reader) => self.run_cut(alloc, &text, writer),
-            Err(_) => Err(Ending::Memory),
-        }
-    }
-
-    /// Runs a script that is as long as one may be, where the reader has no more.
-    fn run_full<R: Read, W: Write>(
-        &mut self,
-        alloc: Global,
-        text: &[u8],
-        reader: &mut R,
-        writer: &mut W,
-    ) -> Result<(), Ending>
-        ensures told { IsQuiet self.old self.new → RunsFull text.now (state_of self.old) (state_of self.new)
-            (R.remaining reader.old) (R.remaining reader.new) (W.contents writer.old) (W.contents writer.new) result }
-        ensures later { IsLater self.old self.new }
-        ensures running { IsQuiet self.old self.new → self.new.volume.stopped ≡ false }
-        ensures taken { (count : ℕ) × Takes (R.remaining reader.old) (R.remaining reader.new) count × (count ≤ 1)
-            × (count ≡ 1 → result ≡ Err ending.Reader) }
-    {
-        let bytes = self.run_items(alloc, text, false, writer)?;
-        if ends(reader) {
-            let (_, rest) = text.split_at(bytes);
-            return self.run_end(alloc, rest, writer);
+            match pending.read(reader, &mut piece) {
+                Ok(true) => return self.run_end(alloc, &pending.bytes, writer),
+                Ok(false) => self.run_given(alloc, &mut pending, writer)?,
+                Err(SessionFault::Reader) => return Err(Ending::Reader),
+                Err(_) => return Err(Ending::Memory),
+            }
         }
         Err(Ending::Reader)
     }
 
-    /// Runs the whole items of a script that a failed reader cut short.
-    fn run_cut<W: Write>(
+    /// Runs the whole items of what a reader gave and may go on from, and hands their lines on.
+    fn run_given<W: Write>(
         &mut self,
         alloc: Global,
-        text: &[u8],
+        pending: &mut Pending,
         writer: &mut W,
     ) -> Result<(), Ending>
-        ensures told { IsQuiet self.old self.new → RunsCut text.now (state_of self.old) (state_of self.new) (W.contents writer.old) (W.contents writer.new) result }
+        requires { Waits pending.old.bytes.items pending.old.lines }
+        ensures told { IsQuiet self.old self.new → RunsGiven pending.old.bytes.items pending.new.bytes.items
+            (state_of self.old) (state_of self.new) (W.contents writer.old) (W.contents writer.new) result }
+        ensures waits { OnOk result ((0 < pending.new.lines) × Waits pending.new.bytes.items pending.new.lines) }
+        ensures count { pending.new.count ≡ pending.old.count }
         ensures later { IsLater self.old self.new }
         ensures running { IsQuiet self.old self.new → self.new.volume.stopped ≡ false }
     {
-        let _bytes = self.run_items(alloc, text, false, writer)?;
-        Err(Ending::Reader)
+        if pending.lines > 0 {
+            return Ok(());
+        }
+        let (bytes, lines) = self.run_items(alloc, &pending.bytes, false, writer)?;
+        pending.done(bytes, lines);
+        flush(writer)
     }
 
     /// Runs a text that is the end of a script.
@@ -121,20 +117,21 @@ impl<S: BlockStore> Session<S> {
         ensures later { IsLater self.old self.new }
         ensures running { IsQuiet self.old self.new → self.new.volume.stopped ≡ false }
     {
-        let _bytes = self.run_items(alloc, text, true, writer)?;
+        let _rest = self.run_items(alloc, text, true, writer)?;
         Ok(())
     }
 
-    /// Runs the items of a text that is the end of a script, or goes on; and answers how many bytes they have.
+    /// Runs the items of a text that is the end of a script, or goes on; and answers how many bytes they have, and how many lines
+    /// are wanted behind them.
     fn run_items<W: Write>(
         &mut self,
         alloc: Global,
         text: &[u8],
         is_end: bool,
         writer: &mut W,
-    ) -> Result<usize, Ending>
+    ) -> Result<(usize, u32), Ending>
         ensures told { IsQuiet self.old self.new → RunsFront text.now is_end (state_of self.old) (state_of self.new) (W.contents writer.old) (W.contents writer.new) result }
-        ensures within { IfOk result (λ bytes. bytes ≤ length text.now) }
+        ensures rest { IfOk result (λ done. (done.0 ≤ length text.now) × IsOut (drop done.0 text.now) is_end done.1) }
         ensures later { IsLater self.old self.new }
         ensures running { IsQuiet self.old self.new → self.new.volume.stopped ≡ false }
     {
@@ -142,31 +139,31 @@ impl<S: BlockStore> Session<S> {
         loop {
             let (_, rest) = text.split_at(done);
             match self.run_next(alloc, rest, is_end, writer)? {
-                None => return Ok(done),
-                Some(bytes) => done += bytes,
+                Begun::Waiting(lines) => return Ok((done, lines)),
+                Begun::Ran(bytes) => done += bytes,
             }
         }
     }
 
-    /// Runs what a text begins with, and answers how many bytes that has; nothing where there is no item.
+    /// Runs what a text begins with, and answers how many bytes that has, or how many lines are wanted.
     fn run_next<W: Write>(
         &mut self,
         alloc: Global,
         text: &[u8],
         is_end: bool,
         writer: &mut W,
-    ) -> Result<Option<usize>, Ending>
+    ) -> Result<Begun, Ending>
         ensures told { IsQuiet self.old self.new → RunsNext text.now is_end (state_of self.old) (state_of self.new) (W.contents writer.old) (W.contents writer.new) result }
-        ensures within { IfOk result (λ found. IfSome found (λ bytes. (0 < bytes) × (bytes ≤ length text.now))) }
+        ensures begun { IfOk result (IsBegun text.now is_end) }
         ensures later { IsLater self.old self.new }
         ensures running { IsQuiet self.old self.new → self.new.volume.stopped ≡ false }
     {
         match next_item(alloc, text, is_end) {
-            Ok(Next::End) => Ok(None),
-            Ok(Next::Blank(bytes)) => Ok(Some(bytes)),
+            Ok(Next::End(lines)) => Ok(Begun::Waiting(lines)),
+            Ok(Next::Blank(bytes)) => Ok(Begun::Ran(bytes)),
             Ok(Next::Item { item, bytes }) => {
                 self.run_item(alloc, &item, writer)?;
-                Ok(Some(bytes))
+                Ok(Begun::Ran(bytes))
             }
             Err(_) => Err(Ending::Memory),
         }

@@ -1,5 +1,17 @@
-use Rattle.monitor8.proofs.PlainLemmas.{plain_create, plain_run, plain_source, plain_tape}
+use Rattle.monitor8.proofs.PlainLemmas.{plain_check, plain_create, plain_get_frames, plain_get_tape, plain_get_text, plain_list, plain_put_frames, plain_put_text, plain_run, plain_source, plain_tape}
 use Rattle.monitor8.proofs.tasks.plain_words.Goals as goal
 
 pub returns : goal.returns
-returns c = record { tape = plain_tape; source = plain_source; run = plain_run; create = plain_create }
+returns c = record {
+  tape = plain_tape;
+  source = plain_source;
+  run = plain_run;
+  create = plain_create;
+  list = plain_list;
+  get = plain_get_frames;
+  get_text = plain_get_text;
+  get_tape = plain_get_tape;
+  put = plain_put_frames;
+  put_text = plain_put_text;
+  check = plain_check;
+}

@@ -1,7 +1,7 @@
 use Rattle.std.proofs.Common.{map, subst, sym}
 use Rattle.clap.specs.Words.{app_of}
 use Rattle.monitor8.specs.Tasks.{Asks, HasMet}
-use Rattle.monitor8.proofs.TaskLemmas.{met_rows, no_fault, taken_fault, task_whole}
+use Rattle.monitor8.proofs.TaskLemmas.{fault_answer, met_rows, no_fault, taken_fault, task_whole}
 use Rattle.monitor8.proofs.tasks.task.Goals as goal
 
 pub asked-requires : goal.asked-requires
@@ -22,3 +22,8 @@ pub returns-in-Err-clause-taken : goal.returns-in-Err-clause-taken
 returns-in-Err-clause-taken c =
     taken_fault (app_of c.in_ok-command.command) (map (λ word. word.now) c.args.words.now) c.in-Err.error c.fault_of.result
     c.in_ok-command.ensures.app c.in-Err.ensures.passes c.fault_of.ensures
+
+pub returns-in-Err-clause-answer : goal.returns-in-Err-clause-answer
+returns-in-Err-clause-answer c =
+    fault_answer (app_of c.in_ok-command.command) (map (λ word. word.now) c.args.words.now) c.in-Err.error c.fault_of.result
+    c.in_ok-command.ensures.app c.in-Err.ensures.kinds c.fault_of.ensures

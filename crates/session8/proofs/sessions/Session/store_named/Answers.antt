@@ -1,9 +1,12 @@
-use Rattle.std.proofs.Common.{◌∙◌, ◌/◌, ap, subst, IsErrOf, arith}
+use Rattle.std.proofs.Common.{◌≡◌, ◌∙◌, ◌/◌, true, false, true≢false, Ok, sym, ap, subst, IsErrOf, arith}
 use Rattle.std.proofs.lemmas.Result.{err_from_is_err_and}
 use Rattle.char_pack.specs.Texts.{is_storable}
 use Rattle.char_pack.specs.declared.faults.TextFault.TheVariants.{BadText}
 use Rattle.jobs8.specs.Settled.{plain_jobs}
-use Rattle.session8.proofs.SessionLemmas.{store_refused, store_done, put_settled, storable_is, ok_err}
+use Rattle.session8.proofs.SessionLemmas.{store_refused, store_done, put_settled, storable_is, ok_err, unstored}
+use Rattle.os8_dir.specs.Entries.{contains}
+use Rattle.session8.proofs.LeavesLemmas.{store_leaves}
+use Rattle.session8.proofs.sessions.Session.store_named.Goals.{then-stopped-via-then-stopped, then-stopped-via-else-stopped+then-is_held}
 use Rattle.session8.proofs.sessions.Session.store_named.Goals as goal
 
 pub returns-in_err-put-in-Ok-clause-does : goal.returns-in_err-put-in-Ok-clause-does
@@ -23,3 +26,22 @@ returns-in_ok-put-in-Ok-clause-does g c bytes is =
     (store_done _ _ _ bytes c.args.name c.args.text.now c.deref.result.now (c.len-blocks.result / 256) is (λ name. c.held_names.ensures _ _ name c.self.invariant.0) (ap plain_jobs c.disturb.ensures ∙ c.disturbed_jobs.ensures _)
     (storable_is (is_storable c.args.text.now) (λ bad. ok_err _ _ (subst (λ r. IsErrOf r BadText) c.in-Ok.is (c.store.ensures.bad_text.1 bad))))
     (c.deref.ensures.value ∙ c.in-Ok.ensures.words) (omega (arith, c.len-blocks.ensures, c.in-Ok.ensures.length)) c.in_ok-put-in-Ok.ensures.call)
+
+pub returns-then-stopped-clause-does : goal.returns-then-stopped-clause-does
+returns-then-stopped-clause-does g c bytes is =
+    rw (← c.self.view_is)
+    (unstored _ bytes c.args.name c.args.text.now c.unstored.result is (λ name. c.held_names.ensures _ _ name c.self.invariant.0) held c.unstored.ensures.bad
+    (λ storable halted. c.unstored.ensures.stopped storable (c.stopped-then-stopped.ensures.value ∙ halted))
+    (λ storable running. c.unstored.ensures.busy storable (c.stopped-then-stopped.ensures.value ∙ running)))
+  where
+    held : c.self.inside.files.stopped ≡ false → contains c.self.inside.files.holds c.args.name ≡ true
+    held running = elim c.then-stopped.branch [
+      | then-stopped-via-then-stopped w ↦ absurd (true≢false (sym w.if-stopped.true ∙ c.stopped.ensures.value ∙ running))
+      | then-stopped-via-else-stopped+then-is_held w ↦ sym w.is_held.ensures ∙ w.if-is_held.true
+    ]
+
+pub returns-in_ok-put-in-Ok-clause-leaves : goal.returns-in_ok-put-in-Ok-clause-leaves
+returns-in_ok-put-in-Ok-clause-leaves g c bytes is =
+    rw (← c.self.view_is)
+    (store_leaves bytes c.args.text.now _ _ c.args.name is (c.block_reads.ensures.put c.self.inside.files c.put.new.self c.args.name c.deref.result.now (Ok tt) c.in_ok-put-in-Ok.ensures.call)
+    (c.file_places.ensures.put c.self.inside.files c.put.new.self c.args.name c.deref.result.now (Ok tt) c.in_ok-put-in-Ok.ensures.call))

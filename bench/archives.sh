@@ -1,0 +1,30 @@
+#!/usr/bin/env bash
+# Puts a source on a volume, assembles it there, gets its tape, and compares its words with those of Debian's palbart on the same
+# source; puts and gets a file of 1,500 blocks, and prints the seconds that each command takes on a volume of 4095 blocks.
+# Takes palbart from Debian's packages where it is missing.
+set -eu
+top=$(cd "$(dirname "${BASH_SOURCE[0]}")/.." && pwd)
+. "$top/bench/seconds.sh"
+dpkg -s palbart >/dev/null 2>&1 || { apt-get update && apt-get install -y palbart; } >&2
+folder=$(mktemp -d)
+trap 'rm -rf "$folder"' EXIT
+cd "$folder"
+program=$top/crates/pdp8/out/pdp8
+
+printf '*200\n\tCLL STA\t\t/ AC IS 7777\n\tTAD ONE\n\tHLT\nONE,\t1\n$\n' >add.pal
+"$top/pdp8" create V 4095
+"$program" put V ADD.PA --text <add.pal
+printf 'ASSEMBLE ADD.BN<ADD.PA\nFINISH\n' | "$program" run V
+"$program" get V ADD.BN --tape | "$program" tape >ours.txt
+palbart add.pal >/dev/null
+"$program" tape <add.bin >palbart.txt
+cmp ours.txt palbart.txt || { echo "the words differ" >&2; exit 1; }
+echo "$(wc -l <ours.txt) words, as palbart has them"
+
+head -c 576000 /dev/urandom >bytes
+put_bytes() { "$program" put V BYTES <bytes >/dev/null; }
+get_bytes() { "$program" get V BYTES >got; }
+for command in put_bytes get_bytes "$program list V" "$program check V" "$program create W 4095"; do
+    printf '%s: %.3f seconds\n' "${command##*/}" "$(seconds $command)"
+done
+cmp bytes got

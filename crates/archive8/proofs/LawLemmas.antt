@@ -1,0 +1,81 @@
+-- What was put is got again.
+use Rattle.std.proofs.Common.{◌≡◌, ◌≢◌, ◌∙◌, ℕ, Bool, true, false, cond, nat_eq, Some, Ok, List, [], ◌∷◌, ◌++◌, refl, sym, ap, eqb, arith, inl, inr}
+use Rattle.std.specs.FinMap.{get, insert, get-insert}
+use Rattle.std.specs.Ordering.{nat_cmp, eq_by_cmp}
+use Rattle.std.proofs.lemmas.Cmp.{nat_cmp_total}
+use Rattle.std.proofs.lemmas.Bool.{eqb-true}
+use Rattle.std.proofs.lemmas.Bool.Decides.{nat_tests, eqb_tells}
+use Rattle.volume_image.specs.Image.{IsImageOf, WrittenIsReadBack}
+use Rattle.char_pack.specs.Texts.{host_text, line_ends}
+use Rattle.os8_dir.specs.Names.{parsed_name}
+use Rattle.os8_dir.specs.Files.{Held, Files, files_of}
+use Rattle.os8_files.specs.Puts.{plain_file}
+use Rattle.archive8.specs.declared.putting.NewImage.{NewImage}
+use Rattle.archive8.specs.Getting.{IsFile, line_feeds}
+use Rattle.archive8.specs.Putting.{HasPutInto}
+use Rattle.archive8.specs.Laws.{without_returns}
+
+some_eq : {X : Type 0} (x y : X) → Some x ≡ Some y → x ≡ y
+some_eq x y same = cc
+
+-- an image is that of one list of blocks
+pub one_volume : WrittenIsReadBack → (bytes : List ℕ) (one two : List (List ℕ)) → IsImageOf bytes one → IsImageOf bytes two → two ≡ one
+one_volume law bytes one two is also = law bytes one (Ok (record { blocks = two; reads = 0; writes = 0 })) is (also, refl, refl)
+
+-- ## Maps
+
+tied : (a b : ℕ) → eq_by_cmp nat_cmp b a ≡ eqb a b
+tied a b = grind (arith, nat_tests)
+
+get-with : (m : Files) (name : ℕ) (h : Held) (q : ℕ) → get (insert m name h) q ≡ cond (eqb name q) (Some h) (get m q)
+get-with m name h q = get-insert nat_cmp_total m name h q ∙ ap (λ b. cond b (Some h) (get m q)) (tied name q)
+
+get-here : (m : Files) (name : ℕ) (h : Held) → get (insert m name h) name ≡ Some h
+get-here m name h = elim (eqb_tells name name) [
+  | inl p ↦ get-with m name h name ∙ ap (λ b. cond b (Some h) (get m name)) p.0
+  | inr p ↦ absurd (p.1 refl)
+]
+
+get-there : (m : Files) (name : ℕ) (h : Held) (q : ℕ) → name ≢ q → get (insert m name h) q ≡ get m q
+get-there m name h q other = elim (eqb_tells name q) [
+  | inl p ↦ absurd (other p.1)
+  | inr p ↦ get-with m name h q ∙ ap (λ b. cond b (Some h) (get m q)) p.0
+]
+
+-- the file that was put has the words
+pub put_found : WrittenIsReadBack → (image name words found : List ℕ) (new : NewImage) → HasPutInto image name words new → IsFile new.bytes.items name found → found ≡ words
+put_found law image name words found new put file =
+    let same : file.blocks ≡ put.after.blocks = one_volume law new.bytes.items put.after.blocks file.blocks put.is_image file.opened.is_image in
+    let number : file.number ≡ new.name = some_eq file.number new.name (sym file.named ∙ put.named) in
+    let there : get (files_of put.after.blocks) new.name ≡ Some (plain_file put.before words) =
+    ap (λ (m : Files). get m new.name) put.put.files ∙ get-here (files_of put.before.blocks) new.name (plain_file put.before words) in
+    let both : (file.info, found) ≡ plain_file put.before words = some_eq (file.info, found) (plain_file put.before words)
+    (sym file.there ∙ ap (λ (n : ℕ). get (files_of file.blocks) n) number ∙ ap (λ (blocks : List (List ℕ)). get (files_of blocks) new.name) same ∙ there) in
+    ap (λ (h : Held). h.1) both
+
+-- another file has the words that it had
+pub other_found : WrittenIsReadBack → (image name other words was found : List ℕ) (new : NewImage) → parsed_name name ≢ parsed_name other
+    → HasPutInto image name words new → IsFile image other was → IsFile new.bytes.items other found → found ≡ was
+other_found law image name other words was found new differ put before file =
+    let same : file.blocks ≡ put.after.blocks = one_volume law new.bytes.items put.after.blocks file.blocks put.is_image file.opened.is_image in
+    let old : before.blocks ≡ put.before.blocks = one_volume law image put.before.blocks before.blocks put.mounted.opened.is_image before.opened.is_image in
+    let number : file.number ≡ before.number = some_eq file.number before.number (sym file.named ∙ before.named) in
+    let apart : new.name ≢ before.number = λ one. differ (put.named ∙ ap Some one ∙ sym before.named) in
+    let kept : get (files_of put.after.blocks) before.number ≡ get (files_of put.before.blocks) before.number =
+    ap (λ (m : Files). get m before.number) put.put.files ∙ get-there (files_of put.before.blocks) new.name (plain_file put.before words) before.number apart in
+    let both : (file.info, found) ≡ (before.info, was) = some_eq (file.info, found) (before.info, was)
+    (sym file.there ∙ ap (λ (n : ℕ). get (files_of file.blocks) n) number ∙ ap (λ (blocks : List (List ℕ)). get (files_of blocks) before.number) same ∙ kept
+    ∙ ap (λ (blocks : List (List ℕ)). get (files_of blocks) before.number) (sym old) ∙ before.there) in
+    ap (λ (h : Held). h.1) both
+
+-- ## Texts
+
+pub line_feeds-host : (host : List ℕ) → line_feeds (host_text host) ≡ without_returns host
+line_feeds-host [] = refl
+line_feeds-host (byte ∷ host) = go (nat_eq byte 13) refl (nat_eq byte 10) refl (line_feeds-host host)
+  where
+    go : (cr : Bool) → nat_eq byte 13 ≡ cr → (lf : Bool) → nat_eq byte 10 ≡ lf → line_feeds (host_text host) ≡ without_returns host
+        → line_feeds (line_ends byte ++ host_text host) ≡ without_returns (byte ∷ host)
+    go true is lf also later = rw is later
+    go false is true also later = rw (is, also) (ap (λ l. 10 ∷ l) later ∙ ap (λ b. b ∷ without_returns host) (sym (eqb-true byte 10 also)))
+    go false is false also later = rw (is, also) (rw is (ap (λ l. byte ∷ l) later))

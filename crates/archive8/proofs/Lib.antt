@@ -1,0 +1,5 @@
+mod ImageLemmas
+mod TapeLemmas
+mod GetLemmas
+mod CheckLemmas
+mod LawLemmas

@@ -1,0 +1,81 @@
+-- What putting a file into an image comes to.
+use Rattle.std.specs.Prelude.{◌≡◌, ℕ, ◌<◌, true, false, None, Some, Result, Ok, Err, List, [], length}
+use Rattle.std.specs.FinMap.{insert}
+use Rattle.volume_image.specs.Image.{IsImageOf}
+use Rattle.char_pack.specs.Packing.{packed_blocks}
+use Rattle.char_pack.specs.Texts.{stored, is_storable}
+use Rattle.os8_dir.specs.Names.{parsed_name}
+use Rattle.os8_dir.specs.Files.{files_of}
+use Rattle.os8_files.specs.Mounted.{Mounted}
+use Rattle.os8_files.specs.Calls.{IsLargest, IsOver, IsReady}
+use Rattle.os8_files.specs.Puts.{HasPut, blocks_filled, plain_file}
+use Rattle.os8_files.specs.declared.faults.FileFault.TheVariants.{BadName, NoRoom, DirectoryFull, NothingWritten}
+use Rattle.script8.specs.declared.faults.SessionFault.{SessionFault}
+use Rattle.script8.specs.declared.faults.SessionFault.TheVariants.{File, BadText}
+use Rattle.archive8.specs.declared.faults.ArchiveFault.{ArchiveFault}
+use Rattle.archive8.specs.declared.faults.ArchiveFault.TheVariants.{Image, Directory, Refused}
+use Rattle.archive8.specs.declared.forms.PutForm.{PutForm}
+use Rattle.archive8.specs.declared.forms.PutForm.TheVariants.{Frames, Text}
+use Rattle.archive8.specs.declared.putting.NewImage.{NewImage}
+use Rattle.archive8.specs.Opening.{IsOpened, IsUnopened}
+
+-- an image that is mounted: no file is held
+pub record IsMounted (image : List ℕ) (m : Mounted) : Type 0 where
+  pub opened : IsOpened image m.blocks
+  pub ready : IsReady m
+  pub free : m.holds ≡ []
+
+-- the words of bytes in a file: the fewest blocks, with zeros behind the last byte
+abbrev pub put_words : PutForm → List ℕ → List ℕ
+put_words Frames bytes = packed_blocks bytes
+put_words Text bytes = stored bytes
+
+-- the bytes are those of a file: a text that can be stored, or any bytes, at least one
+abbrev pub IsFit : PutForm → List ℕ → Type 0
+IsFit Frames bytes = 0 < length bytes
+IsFit Text bytes = is_storable bytes ≡ true
+
+-- the bytes are not those of a file: a byte that may not stand in a text, or no byte at all
+abbrev pub IsUnfit : PutForm → List ℕ → SessionFault → Type 0
+IsUnfit Frames bytes (File NothingWritten) = bytes ≡ []
+IsUnfit Text bytes BadText = is_storable bytes ≡ false
+IsUnfit form bytes fault = ⊥
+
+-- the new image is that of the volume with the file, and the reply tells of it
+pub record HasPutInto (image name words : List ℕ) (new : NewImage) : Type 0 where
+  pub before : Mounted
+  pub after : Mounted
+  pub mounted : IsMounted image before
+  pub named : parsed_name name ≡ Some new.name
+  pub put : HasPut before new.name words after
+  pub is_image : IsImageOf new.bytes.items after.blocks
+  pub blocks_are : new.blocks ≡ blocks_filled words
+
+-- the volume has no room for the words, or its directory none for the entry
+abbrev pub IsFull : Mounted → ℕ → List ℕ → SessionFault → Type 0
+IsFull m name words (File (NoRoom largest)) = (largest < blocks_filled words) × IsLargest m.blocks largest
+IsFull m name words (File DirectoryFull) = IsOver m.blocks (insert (files_of m.blocks) name (plain_file m words))
+IsFull m name words fault = ⊥
+
+-- the same of the volume of an image, under a name that was typed
+pub record IsFullFor (image name words : List ℕ) (fault : SessionFault) : Type 0 where
+  pub before : Mounted
+  pub mounted : IsMounted image before
+  pub number : ℕ
+  pub named : parsed_name name ≡ Some number
+  pub full : IsFull before number words fault
+
+-- a file is not put into an image, for the first of these: no name, bytes that are not those of a file, no room
+abbrev pub PutRefused : List ℕ → List ℕ → PutForm → List ℕ → SessionFault → Type 0
+PutRefused image name form bytes (File BadName) = (blocks : List (List ℕ)) × IsOpened image blocks × (parsed_name name ≡ None)
+PutRefused image name form bytes (File NothingWritten) = IsUnfit form bytes (File NothingWritten) × (blocks : List (List ℕ)) × IsOpened image blocks × (number : ℕ) × (parsed_name name ≡ Some number)
+PutRefused image name form bytes BadText = IsUnfit form bytes BadText × (blocks : List (List ℕ)) × IsOpened image blocks × (number : ℕ) × (parsed_name name ≡ Some number)
+PutRefused image name form bytes (File (NoRoom largest)) = IsFullFor image name (put_words form bytes) (File (NoRoom largest))
+PutRefused image name form bytes (File DirectoryFull) = IsFullFor image name (put_words form bytes) (File DirectoryFull)
+PutRefused image name form bytes fault = IsUnopened image (Refused fault)
+
+abbrev pub Puts : List ℕ → List ℕ → PutForm → List ℕ → Result NewImage ArchiveFault → Type 0
+Puts image name form bytes (Ok new) = IsFit form bytes × HasPutInto image name (put_words form bytes) new
+Puts image name form bytes (Err (Image fault)) = IsUnopened image (Image fault)
+Puts image name form bytes (Err (Directory fault)) = IsUnopened image (Directory fault)
+Puts image name form bytes (Err (Refused fault)) = PutRefused image name form bytes fault

@@ -1,0 +1,105 @@
+ghost use Rattle.std.specs.Prelude.{◌≡◌, false};
+ghost use Rattle.volume_image.specs.Volume.{IsVolume};
+ghost use Rattle.archive8.specs.Getting.{Gets};
+ghost use Rattle.archive8.specs.Steps.{FindsWords, Gives, IsWhole, ReadsWords};
+
+use crate::frames::frames_of;
+use crate::opening::mounted;
+use crate::tapes::tape_of;
+use crate::texts::host_text;
+use crate::{ArchiveFault, GetForm};
+use os8_dir::Name;
+use os8_files::laws::whole_files;
+use os8_files::{FileFault, FileService};
+use script8::SessionFault;
+use std::alloc::Global;
+use volume_image::{BlockStore, MemoryVolume};
+use word12::Word;
+
+/// What a file of an image has: its frames, its text, or the tape that it begins with (OS/8 Software Support Manual; PAL III
+/// Symbolic Assembler manual, BIN format; the faults and their order are this project's profile).
+pub fn get(alloc: Global, image: &[u8], name: &[u8], form: GetForm) -> Result<Vec<u8>, ArchiveFault>
+    ensures { Gets image.now name.now form result }
+{
+    let files = mounted(alloc, image)?;
+    match Name::parse(name) {
+        None => Err(ArchiveFault::Refused(SessionFault::File(FileFault::BadName))),
+        Some(name) => {
+            let words = words_of(alloc, files, name)?;
+            let bytes = given(alloc, &words, form)?;
+            Ok(bytes)
+        }
+    }
+}
+
+/// What is given of a file of these words.
+fn given(alloc: Global, words: &[Word], form: GetForm) -> Result<Vec<u8>, SessionFault>
+    ensures { Gives form words.now result }
+{
+    match form {
+        GetForm::Frames => {
+            let frames = frames_of(alloc, words)?;
+            Ok(frames)
+        }
+        GetForm::Text => {
+            let text = host_text(alloc, words)?;
+            Ok(text)
+        }
+        GetForm::Tape => tape_of(alloc, words),
+    }
+}
+
+/// The words of the file of a name.
+fn words_of(
+    alloc: Global,
+    mut files: FileService<MemoryVolume>,
+    name: Name,
+) -> Result<Vec<Word>, SessionFault>
+    requires running { files.stopped ≡ false }
+    requires volume { IsVolume files.blocks }
+    ensures { FindsWords files name result }
+{
+    let read = read_words(alloc, &mut files, name);
+    let _volume = files.into_store();
+    match read {
+        Ok(words) => Ok(words),
+        Err(fault) => Err(SessionFault::from(fault)),
+    }
+}
+
+/// Reads the words of the file of a name.
+fn read_words<S: BlockStore>(
+    alloc: Global,
+    files: &mut FileService<S>,
+    name: Name,
+) -> Result<Vec<Word>, FileFault>
+    requires running { files.old.stopped ≡ false }
+    requires volume { IsVolume files.old.blocks }
+    ensures { ReadsWords files.old name result files.new }
+{
+    whole_files();
+    match files.lookup(&name) {
+        None => Err(FileFault::NotFound),
+        Some(blocks) => read_blocks(alloc, files, name, blocks),
+    }
+}
+
+/// Reads the blocks of a file that is there.
+fn read_blocks<S: BlockStore>(
+    alloc: Global,
+    files: &mut FileService<S>,
+    name: Name,
+    blocks: usize,
+) -> Result<Vec<Word>, FileFault>
+    requires running { files.old.stopped ≡ false }
+    requires there { IsWhole files.old name blocks }
+    ensures { ReadsWords files.old name result files.new }
+{
+    let mut words = Vec::new(alloc);
+    let mut block = [Word::ZERO; 256];
+    for k in 0..blocks {
+        files.read_block(&name, k, &mut block)?;
+        words.extend_from_slice(&block)?;
+    }
+    Ok(words)
+}

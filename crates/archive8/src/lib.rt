@@ -1,0 +1,24 @@
+//! Files in and out of the image of a volume, by their bytes.
+//!
+//! What only reads an image is handed its bytes and cannot change them; what changes a file gives the bytes of a new image. In
+//! each contract an image is the list of its bytes, and a file is the list of its words.
+#![tactic(auto)]
+
+mod checking;
+mod faults;
+mod forms;
+mod frames;
+mod getting;
+pub mod laws;
+mod listing;
+mod opening;
+mod putting;
+mod tapes;
+mod texts;
+
+pub use checking::check;
+pub use faults::ArchiveFault;
+pub use forms::{GetForm, PutForm};
+pub use getting::get;
+pub use listing::list;
+pub use putting::{NewImage, put};

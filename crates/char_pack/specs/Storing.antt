@@ -1,0 +1,20 @@
+-- A host text as it is packed, its front already in words.
+use Rattle.std.specs.Prelude.{ℕ, Bool, ◌&&◌, not, nat_eq, List, [], ◌∷◌, ◌++◌}
+use Rattle.char_pack.specs.Packing.{packed}
+use Rattle.char_pack.specs.Texts.{host_text, text_frames}
+use Rattle.char_pack.specs.declared.storing.Held.{Held}
+use Rattle.char_pack.specs.declared.storing.Held.TheVariants.{Nothing, One, Two}
+
+-- the frames of a group that are held back
+abbrev pub held_bytes : Held → List ℕ
+held_bytes Nothing = []
+held_bytes (One first) = first ∷ []
+held_bytes (Two first second) = first ∷ second ∷ []
+
+-- the words of what is held, of a host text behind it, and of control Z
+abbrev pub packed_text : Held → List ℕ → List ℕ
+packed_text held host = packed (held_bytes held ++ text_frames (host_text host))
+
+-- neither CR nor LF
+abbrev pub is_plain : ℕ → Bool
+is_plain byte = not (nat_eq byte 13) && not (nat_eq byte 10)

@@ -1,0 +1,76 @@
+-- The tags of a tape's source are all different.
+use Rattle.std.proofs.Common.{◌≡◌, ◌≢◌, ℕ, ◌<◌, ◌≤◌, Bool, true, false, Option, Some, None, zero, suc, reverse, List, [], ◌∷◌, ◌++◌, ap, sym, subst, ◌∙◌, arith, append-nil}
+use Rattle.std.proofs.lemmas.List.{reverse-append}
+use Rattle.bin_tape.specs.Items.{Item, IsFront, tape_map}
+use Rattle.pal_list.specs.Tags.{tag_name, is_tagged}
+use Rattle.pal_list.specs.Lines.{source_of}
+use Rattle.pal_list.specs.Sources.{with_word, words_below, words_of_tape}
+use Rattle.pal_list.specs.Defined.{tags_of, IsNoneOf, Differ, DefinesTags}
+use Rattle.pal_list.proofs.TagLemmas.{tags_rise}
+use Rattle.pal_list.proofs.StepLemmas.{label, listed_more}
+use Rattle.pal_list.proofs.SourceLemmas.{source_tags}
+use Rattle.pal_list.proofs.TapeLemmas.{below_none, below_more, below_pairs}
+use Rattle.pal_list.proofs.ShownLemmas.{are_shown}
+
+-- ## Names below another
+
+abbrev AreBelow : List ℕ → ℕ → Type 0
+AreBelow [] bound = Unit {0}
+AreBelow (name ∷ others) bound = (name < bound) × AreBelow others bound
+
+below_more_names : (names : List ℕ) (b : Bool) (cell bound : ℕ) → AreBelow names bound → tag_name cell < bound → AreBelow (names ++ label b cell) bound
+below_more_names [] true cell bound all low = (low, tt)
+below_more_names [] false cell bound all low = tt
+below_more_names (name ∷ names) b cell bound all low = (all.0, below_more_names names b cell bound all.1 low)
+
+other_than : (a b : ℕ) → a < b → a ≢ b
+other_than a b less e = omega (arith, less, e)
+
+none_more : (names : List ℕ) (name last : ℕ) → IsNoneOf names name → name ≢ last → IsNoneOf (names ++ last ∷ []) name
+none_more [] name last all ne = (ne, tt)
+none_more (other ∷ names) name last all ne = (all.0, none_more names name last all.1 ne)
+
+differ_more : (names : List ℕ) (b : Bool) (cell : ℕ) → Differ names → AreBelow names (tag_name cell) → Differ (names ++ label b cell)
+differ_more names false cell differ low = subst Differ (sym (append-nil names)) differ
+differ_more [] true cell differ low = (tt, tt)
+differ_more (name ∷ names) true cell differ low =
+    (none_more names name (tag_name cell) differ.0 (other_than name (tag_name cell) low.0), differ_more names true cell differ.1 low.1)
+
+-- ## The tags below a cell
+
+tags_more : (tagged : ℕ → Bool) (pair : ℕ × ℕ) (older : List (ℕ × ℕ)) → tags_of tagged (reverse (pair ∷ older)) ≡ tags_of tagged (reverse older) ++ label (tagged pair.0) pair.0
+tags_more tagged pair older = ap (tags_of tagged) (reverse-append (pair ∷ []) older) ∙ listed_more tagged (reverse older) pair.0 pair.1
+
+-- tags of cells with a word, where one cell more is looked at
+one_cell_below : (tagged : ℕ → Bool) (word : Option ℕ) (cell bound : ℕ) (below : List (ℕ × ℕ)) → AreBelow (tags_of tagged (reverse below)) bound → tag_name cell < bound
+    → AreBelow (tags_of tagged (reverse (with_word word cell below))) bound
+one_cell_below tagged None cell bound below all low = all
+one_cell_below tagged (Some word) cell bound below all low =
+    subst (λ names. AreBelow names bound) (sym (tags_more tagged (cell, word) below)) (below_more_names (tags_of tagged (reverse below)) (tagged cell) cell bound all low)
+
+one_cell_differs : (tagged : ℕ → Bool) (word : Option ℕ) (cell : ℕ) (below : List (ℕ × ℕ)) → Differ (tags_of tagged (reverse below))
+    → AreBelow (tags_of tagged (reverse below)) (tag_name cell) → Differ (tags_of tagged (reverse (with_word word cell below)))
+one_cell_differs tagged None cell below differ low = differ
+one_cell_differs tagged (Some word) cell below differ low =
+    subst Differ (sym (tags_more tagged (cell, word) below)) (differ_more (tags_of tagged (reverse below)) (tagged cell) cell differ low)
+
+tags_below : (tagged : ℕ → Bool) (items : List Item) (count cell : ℕ) → count ≤ cell → cell < 32768 → AreBelow (tags_of tagged (reverse (words_below items count))) (tag_name cell)
+tags_below tagged items zero cell high small = rw (below_none items) tt
+tags_below tagged items (suc count) cell high small =
+    rw (below_more items count)
+    (one_cell_below tagged (tape_map items count) count (tag_name cell) (words_below items count)
+    (tags_below tagged items count cell (omega (arith, high)) small)
+    (tags_rise count cell (omega (arith, high)) small))
+
+pub tags_all_differ : (tagged : ℕ → Bool) (items : List Item) (count : ℕ) → count ≤ 32768 → Differ (tags_of tagged (reverse (words_below items count)))
+tags_all_differ tagged items zero enough = rw (below_none items) tt
+tags_all_differ tagged items (suc count) enough =
+    rw (below_more items count)
+    (one_cell_differs tagged (tape_map items count) count (words_below items count)
+    (tags_all_differ tagged items count (omega (arith, enough)))
+    (tags_below tagged items count count (omega arith) (omega (arith, enough))))
+
+pub tape_tags : (items : List Item) → IsFront items → DefinesTags (source_of (words_of_tape items)) (words_of_tape items)
+tape_tags items front =
+    let words = words_of_tape items in
+    source_tags words (are_shown (is_tagged words) words (below_pairs items 32768 front)) (tags_all_differ (is_tagged words) items 32768 (omega arith))

@@ -1,0 +1,10 @@
+use Rattle.std.proofs.Common.{length, ap, ◌∙◌, arith}
+use Rattle.pal_list.specs.Tags.{tagged_in}
+use Rattle.pal_list.proofs.TapeLemmas.{whole_written}
+use Rattle.pal_list.proofs.MarkLemmas.{mark_first}
+use Rattle.pal_list.proofs.tags.tags_of.Goals as goal
+
+pub returns-clause-tags : goal.returns-clause-tags
+returns-clause-tags c = λ items holds cell small.
+    ap (λ tags. tagged_in tags cell) (whole_written c.in_ok-tags.tags.len c.mark_all.new.tags c.in_ok-tags.tags.items (c.mark_all.auto.tags ∙ c.deref_mut.ensures.len))
+    ∙ c.mark_all.ensures items holds (mark_first (length c.args.words.now) items c.deref_mut.result.now (omega (arith, c.requires)) (c.deref_mut.ensures.value ∙ c.in_ok-tags.ensures)) cell small

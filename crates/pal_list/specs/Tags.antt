@@ -1,0 +1,31 @@
+-- The cells that a source tags, and their tags (PAL III Symbolic Assembler manual, and this project's profile of it).
+use Rattle.std.specs.Prelude.{ℕ, ◌/◌, ◌%◌, nat_eq, Bool, false, ◌&&◌, ◌||◌, slice_index_or, List, [], ◌∷◌}
+use Rattle.word12.specs.Octal.{octal_digit, octal4}
+use Rattle.pal_lex.specs.Runs.{name_number}
+use Rattle.pal_list.specs.References.{is_reference, referred_cell}
+
+-- the tag of a cell: `A`, its field and its address in octal, six characters
+abbrev pub tag : ℕ → List ℕ
+tag cell = 65 ∷ octal_digit (cell / 4096) ∷ octal4 (cell % 4096)
+
+-- the same as a name
+abbrev pub tag_name : ℕ → ℕ
+tag_name cell = name_number (tag cell)
+
+-- a word stands in this cell
+abbrev pub is_given : List (ℕ × ℕ) → ℕ → Bool
+is_given [] cell = false
+is_given (pair ∷ others) cell = nat_eq pair.0 cell || is_given others cell
+
+-- one of the words is a memory reference that names this cell
+abbrev pub is_referred : List (ℕ × ℕ) → ℕ → Bool
+is_referred [] cell = false
+is_referred (pair ∷ others) cell = (is_reference (pair.0 % 4096) pair.1 && nat_eq (referred_cell pair.0 pair.1) cell) || is_referred others cell
+
+-- of cells with their words a source tags those that a memory reference among them names
+abbrev pub is_tagged : List (ℕ × ℕ) → ℕ → Bool
+is_tagged pairs cell = is_given pairs cell && is_referred pairs cell
+
+-- these cells are tagged, told by their numbers
+abbrev pub tagged_in : List Bool → ℕ → Bool
+tagged_in tags cell = slice_index_or tags cell false

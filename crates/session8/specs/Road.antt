@@ -1,0 +1,76 @@
+-- The road of a program: from the sources that a job assembles to a file, to the processor that runs with what a load of that file
+-- put into core.
+use Rattle.std.specs.Prelude.{◌≡◌, ◌≢◌, ℕ, ◌<◌, nat_eq, unwrap_or, Bool, true, false, Some, List, [], ◌∷◌, length, slice_index, Ok, Err}
+use Rattle.bin_tape.specs.declared.faults.TapeFault.{TapeFault}
+use Rattle.pal_blocks.specs.Sources.{meaning_of}
+use Rattle.jobs8.specs.Jobs.{assembling, job_of}
+use Rattle.jobs8.specs.State.{words_among}
+use Rattle.script8.specs.declared.entries.Entry.{Entry}
+use Rattle.script8.specs.declared.entries.Entry.TheVariants.{Turn}
+use Rattle.script8.specs.declared.faults.SessionFault.TheVariants.{Tape}
+use Rattle.script8.specs.declared.replies.Reply.TheVariants.{Line}
+use Rattle.script8.specs.declared.replies.Said.TheVariants.{Stored, Deleted, Assembled, Loaded}
+use Rattle.session8.specs.Console.{Shows, is_console}
+use Rattle.session8.specs.State.{Console, State}
+use Rattle.session8.specs.System.{Answer, Run, Step}
+use Rattle.session8.specs.Work.{job_state, with_core}
+
+-- ## What answers tell
+
+-- the file of a name was written or taken out
+abbrev pub changes_file : ℕ → Answer → Bool
+changes_file name (Ok (Line (Stored other blocks))) = nat_eq other name
+changes_file name (Ok (Line (Deleted other))) = nat_eq other name
+changes_file name (Ok (Line (Assembled number other blocks))) = nat_eq other name
+changes_file name answer = false
+
+-- a tape was laid over core
+abbrev pub is_loaded : Answer → Bool
+is_loaded (Ok (Line (Loaded number name))) = true
+is_loaded answer = false
+
+-- no answer tells this
+abbrev pub NoneTells : (Answer → Bool) → List Answer → Type 0
+NoneTells tells [] = Unit {0}
+NoneTells tells (answer ∷ answers) = (tells answer ≡ false) × NoneTells tells answers
+
+-- ## The console by itself
+
+-- an entry of the console that is replied to does there what it shows, and any other entry nothing
+abbrev pub Operates : Bool → Console → Entry → Answer → Console → Type 0
+Operates true old entry (Ok reply) new = Shows old entry reply new
+Operates true old entry (Err why) new = new ≡ old
+Operates false old entry answer new = new ≡ old
+
+-- Entries with these answers do this to the console, one after another, whatever the files and the jobs are. Want of memory ends
+-- them.
+abbrev pub GoesOn : Console → List Entry → List Answer → Console → Type 0
+GoesOn old [] [] new = new ≡ old
+GoesOn old (entry ∷ entries) [] new = new ≡ old
+GoesOn old (entry ∷ entries) (answer ∷ answers) new = (mid : Console) × Operates (is_console entry) old entry answer mid × GoesOn mid entries answers new
+GoesOn old [] (answer ∷ answers) new = ⊥
+
+-- ## From sources to core
+
+-- The job of a number answered that it has assembled its sources, which had these words, to the file of a name.
+pub record HasMade (number name : ℕ) (sources : List (List ℕ)) (old new : State) : Type 0 where
+  pub from : List ℕ
+  pub left : ℕ
+  pub blocks : ℕ
+  pub job : job_of number old.jobs ≡ Some (assembling name from left)
+  pub words : sources ≡ words_among (job_state old) from
+  pub step : Step old (Turn number) (Ok (Line (Assembled number name blocks))) new
+
+-- each cell has the word that the sources put into it, and where they put none the word that it had
+pub record IsLaid (sources : List (List ℕ)) (old new : List ℕ) : Type 0 where
+  pub same_size : length new ≡ length old
+  pub cells : (cell : ℕ) → cell < length old → slice_index new cell ≡ unwrap_or (meaning_of sources cell) (slice_index old cell)
+
+-- A load of what was made from the sources met no fault of a tape. Where it came to its end, the console goes on, up to the next
+-- load, as it does with core overlaid with what the sources put into it.
+pub record Arrives (sources : List (List ℕ)) (old : State) (answer : Answer) (new : State) : Type 0 where
+  pub no_fault : (fault : TapeFault) → answer ≢ Err (Tape fault)
+  pub core : List ℕ
+  pub laid : is_loaded answer ≡ true → IsLaid sources old.console.machine.core core
+  pub goes_on : is_loaded answer ≡ true → (last : State) → (entries : List Entry) → (answers : List Answer) → (stopped : Bool) → Run new entries answers stopped last
+      → NoneTells is_loaded answers → GoesOn (with_core old.console core) entries answers last.console

@@ -1,0 +1,116 @@
+//! Runs the script on standard input over a fresh volume of 20 blocks, an item at a time, where memory may run out once. Then a
+//! second session does what was done before the item, and the two must show the same; the item is done again, and its answer is
+//! what is printed. With any argument the run ends there, and the files of the two are compared, block by block.
+//!
+//! The status is 0; 3 where memory ran out outside a session; 4 where the two differ; and 5 where the item was refused again.
+#![tactic(auto)]
+
+mod compared;
+mod items;
+
+use compared::{same_files, same_sessions};
+use items::{Done, next_bytes, run_item};
+use session8::Session;
+use std::alloc::Global;
+use std::env;
+use std::io::{self, Read, Write};
+use std::process::ExitCode;
+use volume_image::MemoryVolume;
+
+/// How many bytes a script may have, and so its replies.
+const MOST: usize = 16384;
+
+fn main(rt: HostRuntime) -> ExitCode {
+    let mut script = [0u8; MOST];
+    let stops = match env::args(&rt) {
+        Ok(words) => words.count() > 1,
+        Err(_) => return ExitCode::from(3),
+    };
+    let Ok(length) = filled(&mut rt.reader(), &mut script) else {
+        return ExitCode::FAILURE;
+    };
+    let Ok(mut out) = Vec::with_capacity(rt.alloc(), MOST) else {
+        return ExitCode::from(3);
+    };
+    let text = &script[..length.min(MOST)];
+    let status = match fresh(rt.alloc()) {
+        None => 3,
+        Some(session) => run(rt.alloc(), session, text, stops, &mut out),
+    };
+    match io::writer(&rt).write_all(&out) {
+        Ok(()) => ExitCode::from(status),
+        Err(_) => ExitCode::FAILURE,
+    }
+}
+
+/// Reads into a buffer until there is no more, or it is full; how many bytes were read.
+fn filled<R: Read>(reader: &mut R, buffer: &mut [u8]) -> io::Result<usize> {
+    let mut length = 0usize;
+    for _ in 0..buffer.len() {
+        let (_, rest) = buffer.split_at_mut(length.min(buffer.len()));
+        match reader.read(rest)? {
+            0 => break,
+            read => length = length.saturating_add(read),
+        }
+    }
+    Ok(length)
+}
+
+/// A session over a fresh volume; where memory ran out, another one.
+pub(crate) fn fresh(alloc: Global) -> Option<Session<MemoryVolume>> {
+    match mounted(alloc) {
+        Some(session) => Some(session),
+        None => mounted(alloc),
+    }
+}
+
+fn mounted(alloc: Global) -> Option<Session<MemoryVolume>> {
+    match Session::mount(alloc, MemoryVolume::create(alloc, 20).ok()?) {
+        Ok(session) => Some(session),
+        Err(_) => None,
+    }
+}
+
+/// Runs the items of a script, and ends the session; the status.
+fn run(
+    alloc: Global,
+    session: Session<MemoryVolume>,
+    script: &[u8],
+    stops: bool,
+    out: &mut Vec<u8>,
+) -> u8 {
+    let mut own = session;
+    let mut rest = script;
+    let mut status = 0;
+    for _ in 0..script.len() {
+        let Some(bytes) = next_bytes(alloc, rest) else {
+            break;
+        };
+        let front = script.split_at(script.len().saturating_sub(rest.len())).0;
+        let (item, others) = rest.split_at(bytes);
+        if run_item(alloc, &mut own, item, out) == Done::Refused {
+            if stops {
+                return same_files(alloc, own.into_store(), front).status();
+            }
+            status = status.max(again(alloc, &mut own, front, item, out));
+        }
+        rest = others;
+    }
+    drop(own.into_store());
+    status
+}
+
+/// Does an item again that was refused behind a front of the script; the status.
+fn again(
+    alloc: Global,
+    session: &mut Session<MemoryVolume>,
+    front: &[u8],
+    item: &[u8],
+    out: &mut Vec<u8>,
+) -> u8 {
+    let same = same_sessions(alloc, session, front);
+    match run_item(alloc, session, item, out) {
+        Done::Whole => same.status(),
+        Done::Refused => 5,
+    }
+}
