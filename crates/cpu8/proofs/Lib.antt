@@ -7,4 +7,5 @@ pub mod InterruptLemmas
 pub mod AutoIndexLemmas
 pub mod GoLemmas
 pub mod QuietLemmas
+pub mod UnbrokenLemmas
 pub mod UnsetLemmas

@@ -38,6 +38,10 @@ turn-quiet quick s h =
 pub stays-quiet : (quick : Bool) (old new : State) → is_quiet quick old ≡ true → Stays old new → is_quiet quick new ≡ true
 stays-quiet quick old new h stays = rw (stays.running, stays.interrupts_on, stays.teletype) h
 
+-- where no field waits for a jump, none does then
+pub fields-same : (old new : State) → Stays old new → old.instruction_buffer ≡ old.instruction_field → new.instruction_buffer ≡ new.instruction_field
+fields-same old new stays same = stays.buffer ∙ (same ∙ sym (stays.field same))
+
 pub none-quiet : (quick : Bool) (breaks : List Bool) (s : State) → AreQuiet quick breaks s 0
 none-quiet quick breaks s m below = absurd (omega (arith, below))
 

@@ -1,7 +1,7 @@
 -- Steps that a run makes with no look at the Teletype, for private clauses.
-use Rattle.std.specs.Prelude.{◌≡◌, ℕ, ◌<◌, ◌≤◌, Bool, true, false, ◌&&◌, not, nat_eq, if◌then◌else◌, List, [], length, None}
+use Rattle.std.specs.Prelude.{◌≡◌, ℕ, ◌<◌, ◌≤◌, Bool, true, false, ◌&&◌, not, nat_eq, if◌then◌else◌, List, length, None, slice_index_or}
 use Rattle.tty8.specs.Teletype.{is_requesting}
-use Rattle.cpu8.specs.State.{State, next_cell}
+use Rattle.cpu8.specs.State.{State, place, next_cell}
 use Rattle.cpu8.specs.Decoding.{is_group_1, is_group_2, has_hlt}
 use Rattle.cpu8.specs.Operate.{is_group1_unassigned}
 use Rattle.cpu8.specs.Step.{executed}
@@ -16,11 +16,13 @@ is_quiet quick s = s.running && (not (s.interrupts_on && is_requesting s.teletyp
 abbrev pub is_settled : State → Bool
 is_settled s = nat_eq s.instruction_buffer s.instruction_field && (not s.waiting && not s.held_off)
 
--- what decides of the quiet stays
+-- what decides of the quiet stays, and the field of instructions does where none waits for a jump
 pub record Stays (old new : State) : Type 0 where
   pub running : new.running ≡ old.running
   pub interrupts_on : new.interrupts_on ≡ old.interrupts_on
   pub teletype : new.teletype ≡ old.teletype
+  pub buffer : new.instruction_buffer ≡ old.instruction_buffer
+  pub field : old.instruction_buffer ≡ old.instruction_field → new.instruction_field ≡ old.instruction_field
 
 -- an instruction of this word is done, prints nothing and goes on
 pub record Does (old : State) (w : ℕ) (new : State) : Type 0 where
@@ -33,10 +35,18 @@ abbrev pub DoesOrNot : State → ℕ → Bool → State → Type 0
 DoesOrNot old w true new = Does old w new
 DoesOrNot old w false new = new ≡ old
 
--- breaks tell of each cell where they are minded, and else of none
-abbrev pub AreMinded : List Bool → Bool → Type 0
-AreMinded breaks true = 32768 ≤ length breaks
-AreMinded breaks false = breaks ≡ []
+-- no cell of this field has a break
+abbrev pub IsUnbroken : List Bool → ℕ → Type 0
+IsUnbroken breaks field = (address : ℕ) → address < 4096 → is_break breaks (place field address) ≡ false
+
+-- fields that are told to have no break have none
+abbrev pub AreUnbroken : List Bool → List Bool → Type 0
+AreUnbroken breaks fields = (field : ℕ) → slice_index_or fields field false ≡ true → IsUnbroken breaks field
+
+-- breaks tell of each cell where they are minded, and else of none in this field
+abbrev pub AreMinded : List Bool → ℕ → Bool → Type 0
+AreMinded breaks field true = 32768 ≤ length breaks
+AreMinded breaks field false = IsUnbroken breaks field
 
 -- whether an operate instruction goes on
 abbrev pub operates_on : ℕ → Bool

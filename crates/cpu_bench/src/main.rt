@@ -1,6 +1,6 @@
 //! Runs a program by the debugger, to measure it: the BIN tape on standard input is loaded, started at 00200 and run until
-//! it stops; with any argument there is a break, at a cell that no program comes to. Then AC, L and PC with its field are
-//! printed.
+//! it stops; with any argument there is a break in field 0, at a cell that no program comes to. Then AC, L and PC with its
+//! field are printed.
 //!
 //! A tape of three frames, which is no program, strikes a key first: so the compiler can't know that no interrupt is ever
 //! requested.
@@ -50,7 +50,7 @@ fn main(rt: HostRuntime) -> ExitCode {
 fn run(alloc: Global, machine: &mut Machine, has_break: bool) -> Result<(), DebugFault> {
     let mut debugger = Debugger::new(alloc)?;
     if has_break {
-        debugger.set_break(Cell::of(0o77777))?;
+        debugger.set_break(Cell::of(0o7777))?;
     }
     let mut printed = Vec::with_capacity(alloc, STEPS)?;
     for _ in 0..u64::MAX {

@@ -1,11 +1,11 @@
 //! Runs of several steps.
 
 ghost use Rattle.std.specs.Prelude.{◌≡◌, ◌+◌, ◌≤◌, ◌++◌, [], true, length, vec_len, vec_capacity};
-ghost use Rattle.cpu8.specs.Quiet.{AreQuiet, is_quiet, is_settled};
+ghost use Rattle.cpu8.specs.Quiet.{AreQuiet, AreUnbroken, IsUnbroken, is_quiet, is_settled};
 ghost use Rattle.cpu8.specs.Go.{IsGo, after, break_ahead, character_of, printed_by, reason, turn};
 
 use super::Machine;
-use crate::processors::quiet::is_break;
+use crate::processors::quiet::{FIELD, is_break};
 use crate::{Gone, Stepped, Why};
 
 impl Machine {
@@ -27,6 +27,7 @@ impl Machine {
                 why: Why::Halt,
             };
         }
+        let unbroken = unbroken_fields(n, breaks);
         let mut made = 0;
         while made < n {
             if let Some(why) = self.advance(quick, breaks, printed) {
@@ -36,7 +37,7 @@ impl Machine {
                 };
             }
             made += 1;
-            made += self.run_quietly(n - made, quick, breaks);
+            made += self.run_quietly(n - made, quick, breaks, &unbroken);
             if let Some(why) = self.break_ahead(breaks) {
                 return Gone { steps: made, why };
             }
@@ -50,7 +51,14 @@ impl Machine {
     /// Makes up to n steps as long as they are quiet, and no break is ahead; none where breaks tell of some cells alone,
     /// or a field or an interrupt waits for an instruction.
     #[inline(always)]
-    fn run_quietly(&mut self, n: usize, quick: bool, breaks: &[bool]) -> usize
+    fn run_quietly(
+        &mut self,
+        n: usize,
+        quick: bool,
+        breaks: &[bool],
+        unbroken: &[bool; FIELDS],
+    ) -> usize
+        requires { AreUnbroken breaks.now unbroken.now }
         ensures within { result ≤ n }
         ensures state { self.new ≡ after quick result self.old }
         ensures quiet { AreQuiet quick breaks.now self.old result }
@@ -58,8 +66,8 @@ impl Machine {
         if !self.processor.is_quiet(quick) || !self.processor.is_settled() {
             return 0;
         }
-        if breaks.is_empty() {
-            return self.run_without_breaks(n, quick);
+        if unbroken[usize::from(self.processor.instruction_field)] {
+            return self.run_without_breaks(n, quick, breaks);
         }
         if breaks.len() >= CELLS {
             return self.run_with_breaks(n, quick, breaks);
@@ -67,19 +75,20 @@ impl Machine {
         0
     }
 
-    /// The steps of a quiet machine without breaks: on a copy of the processor, which so stays in registers of the
-    /// machine that this program runs on. That it is settled tells the compiler that these steps leave
-    /// the fields and the states of interrupts alone.
+    /// The steps of a quiet machine in a field without breaks: on a copy of the processor, which so stays in registers of
+    /// the machine that this program runs on. That it is settled tells the compiler that these steps leave the fields and
+    /// the states of interrupts alone.
     #[inline(never)]
-    fn run_without_breaks(&mut self, n: usize, quick: bool) -> usize
+    fn run_without_breaks(&mut self, n: usize, quick: bool, breaks: &[bool]) -> usize
         requires quiet { is_quiet quick self.old ≡ true }
         requires settled { is_settled self.old ≡ true }
+        requires breaks { IsUnbroken breaks.now self.old.instruction_field }
         ensures within { result ≤ n }
         ensures state { self.new ≡ after quick result self.old }
-        ensures quiet { AreQuiet quick [] self.old result }
+        ensures quiet { AreQuiet quick breaks.now self.old result }
     {
         let mut processor = self.processor.settled();
-        let steps = processor.run_quietly::<false>(&mut self.core, n, quick, &[]);
+        let steps = processor.run_quietly::<false>(&mut self.core, n, quick, breaks);
         self.processor = processor;
         steps
     }
@@ -146,4 +155,21 @@ impl Machine {
     }
 }
 
-const CELLS: usize = 32768;
+/// Which fields have no break: all where there is none. Else a run of few steps isn't worth the look, and no field is told
+/// to have none.
+fn unbroken_fields(n: usize, breaks: &[bool]) -> [bool; FIELDS]
+    ensures { AreUnbroken breaks.now result }
+{
+    let mut unbroken = [breaks.is_empty(); FIELDS];
+    if n >= FIELD && breaks.len() >= CELLS {
+        for field in 0..FIELDS {
+            let first = FIELD * field;
+            unbroken[field] = !breaks[first..first + FIELD].contains(&true);
+        }
+    }
+    unbroken
+}
+
+const FIELDS: usize = 8;
+
+const CELLS: usize = FIELDS * FIELD;

@@ -4,7 +4,7 @@
 //! once for both, which would not be inlined.
 
 ghost use Rattle.std.specs.Prelude.{◌≡◌, ◌<◌, ◌≤◌, ◌/◌, true};
-ghost use Rattle.cpu8.specs.State.{with_core};
+ghost use Rattle.cpu8.specs.State.{next_cell, with_core};
 ghost use Rattle.cpu8.specs.Step.{fetched};
 ghost use Rattle.cpu8.specs.Go.{after, is_break};
 ghost use Rattle.cpu8.specs.Quiet.{AreMinded, AreQuiet, Does, DoesOrNot, is_quiet, is_settled, operates_on};
@@ -49,7 +49,8 @@ impl Processor {
         }
     }
 
-    /// Makes up to n steps as long as they are quiet, and no break is ahead.
+    /// Makes up to n steps as long as they are quiet, and no break is ahead. None of them leaves the instruction field, so
+    /// breaks of other fields need not be minded.
     #[inline(always)]
     pub(crate) fn run_quietly<const MINDS: bool>(
         &mut self,
@@ -59,7 +60,8 @@ impl Processor {
         breaks: &[bool],
     ) -> usize
         requires quiet { is_quiet quick self.old ≡ true }
-        requires breaks { AreMinded breaks.now MINDS }
+        requires field { self.old.instruction_buffer ≡ self.old.instruction_field }
+        requires breaks { AreMinded breaks.now self.old.instruction_field MINDS }
         ensures within { result ≤ n }
         ensures state { with_core self.new core.new ≡ after quick result (with_core self.old core.old) }
         ensures quiet { AreQuiet quick breaks.now (with_core self.old core.old) result }
@@ -69,11 +71,21 @@ impl Processor {
             if !self.step_quietly::<MINDS>(core) {
                 return made;
             }
-            if is_break_minded::<MINDS>(breaks, self.next_cell()) {
+            if self.is_at_break::<MINDS>(breaks) {
                 return made + 1;
             }
         }
         n
+    }
+
+    /// Whether the next instruction is at a break, where none of its field has one or each is told of.
+    #[inline(always)]
+    fn is_at_break<const MINDS: bool>(&self, breaks: &[bool]) -> bool
+        requires { AreMinded breaks.now self.now.instruction_field MINDS }
+        ensures { result ≡ is_break breaks.now (next_cell self.now) }
+    {
+        let cell = FIELD * usize::from(self.instruction_field) + usize::from(self.pc.get());
+        if MINDS { breaks[cell] } else { false }
     }
 
     /// The next instruction, if it is one that is done here.
@@ -226,16 +238,6 @@ fn leading(bits: u16, word: Word) -> Word
     Word::low(128 * bits + word.get() % 128)
 }
 
-/// Whether a cell has a break, where none has one or each is told of.
-#[inline(always)]
-fn is_break_minded<const MINDS: bool>(breaks: &[bool], cell: Cell) -> bool
-    requires { AreMinded breaks.now MINDS }
-    ensures { result ≡ is_break breaks.now cell }
-{
-    let cell = cell.index();
-    if MINDS { breaks[cell] } else { false }
-}
-
 /// Whether a cell has a break.
 #[inline(always)]
 pub(crate) fn is_break(breaks: &[bool], cell: Cell) -> bool
@@ -246,3 +248,6 @@ pub(crate) fn is_break(breaks: &[bool], cell: Cell) -> bool
         None => false,
     }
 }
+
+/// The cells of a field.
+pub(crate) const FIELD: usize = 4096;

@@ -1,8 +1,9 @@
-use Rattle.std.proofs.Common.{arith, ap, sym, ◌∙◌}
+use Rattle.std.proofs.Common.{◌≡◌, arith, refl, ap, sym, subst, ◌∙◌}
 use Rattle.cpu8.specs.State.{with_core}
 use Rattle.cpu8.specs.Go.{is_break}
 use Rattle.cpu8.proofs.GoLemmas.{after-none}
-use Rattle.cpu8.proofs.QuietLemmas.{none-quiet, after-quiet, quiet-next, stays-quiet}
+use Rattle.cpu8.proofs.QuietLemmas.{none-quiet, after-quiet, quiet-next, stays-quiet, fields-same}
+use Rattle.cpu8.specs.Quiet.{AreMinded}
 use Rattle.cpu8.proofs.processors.Processor.run_quietly.Goals as goal
 
 pub loop-made-init : goal.loop-made-init
@@ -12,15 +13,23 @@ loop-made-init g c =
       none-quiet c.args.quick c.args.breaks.now s,
       c.requires.quiet,
       λ below. absurd (omega (arith, below)),
+      refl,
+      c.requires.field,
     )
 
-pub returns-then-is_break_minded-clause-state : goal.returns-then-is_break_minded-clause-state
-returns-then-is_break_minded-clause-state g c =
+pub is_at_break-requires : goal.is_at_break-requires
+is_at_break-requires g c =
+    let same : c.step_quietly.new.self.instruction_field ≡ c.args.self.now.instruction_field =
+        (c.if-not-step_quietly.ensures).stays.field c.loop-made.invariant.5 ∙ c.loop-made.invariant.4 in
+    subst (λ field. AreMinded c.args.breaks.now field _) (sym same) c.requires.breaks
+
+pub returns-then-is_at_break-clause-state : goal.returns-then-is_at_break-clause-state
+returns-then-is_at_break-clause-state g c =
     after-quiet c.args.quick c.loop-made.made (with_core c.args.self.now c.args.core.now) (with_core c.loop-made.self c.loop-made.core)
     (with_core c.step_quietly.new.self c.step_quietly.new.core) c.loop-made.invariant.0 c.loop-made.invariant.2 c.if-not-step_quietly.ensures
 
-pub returns-then-is_break_minded-clause-quiet : goal.returns-then-is_break_minded-clause-quiet
-returns-then-is_break_minded-clause-quiet g c =
+pub returns-then-is_at_break-clause-quiet : goal.returns-then-is_at_break-clause-quiet
+returns-then-is_at_break-clause-quiet g c =
     quiet-next c.args.quick c.args.breaks.now c.loop-made.made (with_core c.args.self.now c.args.core.now) (with_core c.loop-made.self c.loop-made.core)
     (with_core c.step_quietly.new.self c.step_quietly.new.core) c.loop-made.invariant.0 c.loop-made.invariant.2 c.loop-made.invariant.3
     c.if-not-step_quietly.ensures c.loop-made.invariant.1
@@ -34,5 +43,7 @@ loop-made-preserved g c =
       quiet-next c.args.quick c.args.breaks.now c.loop-made.made s old new c.loop-made.invariant.0 c.loop-made.invariant.2 c.loop-made.invariant.3
           c.if-not-step_quietly.ensures c.loop-made.invariant.1,
       stays-quiet c.args.quick old new c.loop-made.invariant.2 (c.if-not-step_quietly.ensures).stays,
-      λ _. ap (λ cell. is_break c.args.breaks.now cell) (sym c.next_cell.ensures.value) ∙ (sym c.is_break_minded.ensures ∙ c.if-is_break_minded.false),
+      λ _. sym c.is_at_break.ensures ∙ c.if-is_at_break.false,
+      (c.if-not-step_quietly.ensures).stays.field c.loop-made.invariant.5 ∙ c.loop-made.invariant.4,
+      fields-same old new (c.if-not-step_quietly.ensures).stays c.loop-made.invariant.5,
     )

@@ -9,3 +9,5 @@ invariant-loop-made g l = (with_core l.self l.core ≡ after l.quick l.made (wit
     × AreQuiet l.quick l.breaks (with_core l.fn.self l.fn.core) l.made
     × (is_quiet l.quick (with_core l.self l.core) ≡ true)
     × (0 < l.made → is_break l.breaks (next_cell (with_core l.self l.core)) ≡ false)
+    × (l.self.instruction_field ≡ l.fn.self.instruction_field)
+    × (l.self.instruction_buffer ≡ l.self.instruction_field)

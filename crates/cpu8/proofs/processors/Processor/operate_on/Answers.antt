@@ -1,0 +1,17 @@
+use Rattle.std.proofs.Common.{rules}
+use Rattle.cpu8.specs.Step.{executed}
+use Rattle.cpu8.proofs.processors.Processor.operate_on.Goals as goal
+
+pub returns-then-has : goal.returns-then-has
+unfolding executed
+returns-then-has c = record {
+  state = search rules;
+  answer = search rules;
+  stays = record {
+    running = search rules;
+    interrupts_on = search rules;
+    teletype = search rules;
+    buffer = search rules;
+    field = λ same. search rules;
+  };
+}
