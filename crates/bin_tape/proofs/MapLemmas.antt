@@ -12,7 +12,8 @@ use Rattle.bin_tape.specs.Front.{Reads, Keeps, IsLast}
 use Rattle.bin_tape.specs.Pairs.{last_word}
 use Rattle.bin_tape.specs.Progress.{Progress}
 use Rattle.bin_tape.specs.Reading.{StateIs, HasRead, IsWhole, Answers, words_in}
-use Rattle.bin_tape.specs.Map.{Holds, HasReadTo, ReadsTo, IsMapOf, IsMapFault}
+use Rattle.bin_tape.specs.MapSteps.{Holds, HasReadTo, ReadsTo}
+use Rattle.bin_tape.specs.Map.{IsMapOf, IsMapFault}
 use Rattle.bin_tape.specs.declared.faults.TapeFault.{TapeFault}
 use Rattle.bin_tape.specs.declared.readers.State.{State}
 use Rattle.bin_tape.specs.declared.readers.State.TheVariants.{Reading}

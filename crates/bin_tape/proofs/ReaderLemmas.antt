@@ -5,9 +5,11 @@ use Rattle.bin_tape.specs.Items.{Item, Leader, Field, Origin, spelled, words_but
 use Rattle.bin_tape.specs.Items as item
 use Rattle.bin_tape.specs.Tape.{IsTape}
 use Rattle.bin_tape.specs.Fault.{Refuses, IsRefused, IsFault, place_after}
-use Rattle.bin_tape.specs.Front.{Reads, Keeps, EndsTape}
+use Rattle.bin_tape.specs.Front.{Reads, Keeps}
+use Rattle.bin_tape.specs.FrontSteps.{EndsTape}
 use Rattle.bin_tape.specs.Progress.{Progress}
-use Rattle.bin_tape.specs.Reading.{StateIs, IsGoing, IsWhole, Counts, HasRead, Answers, Comes, words_in}
+use Rattle.bin_tape.specs.Reading.{StateIs, IsGoing, IsWhole, Counts, HasRead, Answers, words_in}
+use Rattle.bin_tape.specs.ReadSteps.{Comes}
 use Rattle.bin_tape.specs.declared.faults.TapeFault.{TapeFault}
 use Rattle.bin_tape.specs.declared.faults.TapeFault.TheVariants.{BadFrame, NoOrigin, CheckSum, NoTrailer, Memory}
 use Rattle.bin_tape.specs.declared.fronts.Front.{Front}

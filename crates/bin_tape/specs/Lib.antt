@@ -10,3 +10,7 @@ pub mod Laws
 pub mod Pairs
 pub mod Writing
 pub mod Map
+pub mod FrontSteps
+pub mod MapSteps
+pub mod ReadSteps
+pub mod WriteSteps

@@ -1,16 +1,10 @@
 -- The words that a tape gives to cells of core.
-use Rattle.std.specs.Prelude.{◌≡◌, ℕ, ◌<◌, ◌⊎◌, ◌%◌, slice_index_or, length, true, Option, None, List, [], ◌++◌}
-use Rattle.bin_tape.specs.Frames.{kept, ignore_count}
-use Rattle.bin_tape.specs.Items.{Item, spelled, has_origin, words_but_last, tape_map}
+use Rattle.std.specs.Prelude.{◌≡◌, ℕ, ◌<◌, ◌⊎◌, slice_index_or, length, Option, None, List}
+use Rattle.bin_tape.specs.Items.{Item, tape_map}
 use Rattle.bin_tape.specs.Tape.{IsTape}
 use Rattle.bin_tape.specs.Fault.{IsFault}
-use Rattle.bin_tape.specs.Front.{Reads}
-use Rattle.bin_tape.specs.Pairs.{last_word}
-use Rattle.bin_tape.specs.Progress.{Progress}
-use Rattle.bin_tape.specs.Reading.{HasRead}
 use Rattle.bin_tape.specs.declared.faults.TapeFault.{TapeFault}
 use Rattle.bin_tape.specs.declared.faults.TapeFault.TheVariants.{Memory}
-use Rattle.bin_tape.specs.declared.fronts.Front.{Front}
 
 -- a word or none for each cell of core, eight fields of 4096
 abbrev pub IsTable : List (Option ℕ) → Type 0
@@ -25,29 +19,3 @@ pub record IsMapOf (frames : List ℕ) (words : List (Option ℕ)) : Type 0 wher
 -- memory ran out, or the frames are no tape, and this is their fault
 abbrev pub IsMapFault : List ℕ → TapeFault → Type 0
 IsMapFault frames fault = (fault ≡ Memory) ⊎ IsFault frames fault
-
--- ## Up to a frame
-
--- each cell of core has the word of the last pair there
-abbrev pub Holds : List (Option ℕ) → List (ℕ × ℕ) → Type 0
-Holds words pairs = (cell : ℕ) → cell < 32768 → slice_index_or words cell None ≡ last_word pairs cell
-
--- Of these frames a reader was given all but the rest, and each cell has the last word that it handed out.
-pub record HasReadTo (frames rest : List ℕ) (reader : Progress) (words : List (Option ℕ)) : Type 0 where
-  pub before : List ℕ
-  pub split : frames ≡ before ++ rest
-  pub out : List (ℕ × ℕ)
-  pub read : HasRead reader before out
-  pub holds : Holds words out
-
--- Of these frames all but the rest are whole items, an origin among them, in no stretch that is ignored; the front keeps
--- what they come to, and each cell has its last word but for the newest of all.
-pub record ReadsTo (frames rest : List ℕ) (front : Front) (words : List (Option ℕ)) : Type 0 where
-  pub before : List ℕ
-  pub split : frames ≡ before ++ rest
-  pub even : ignore_count before % 2 ≡ 0
-  pub items : List Item
-  pub reads : Reads front items []
-  pub origin : has_origin items ≡ true
-  pub kept_is : kept before ≡ spelled items
-  pub holds : Holds words (words_but_last items)

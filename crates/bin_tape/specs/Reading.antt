@@ -1,10 +1,10 @@
 -- What a reader was given and has handed out, and what it answers to one more frame.
 use Rattle.std.specs.Prelude.{◌≡◌, ℕ, ◌%◌, nat_eq, Bool, Result, Ok, Err, option_to_list, List, [], ◌∷◌, ◌++◌, ◌⊎◌}
 use Rattle.bin_tape.specs.Frames.{kept, ignore_count}
-use Rattle.bin_tape.specs.Items.{Item, spelled, words_of, words_but_last}
+use Rattle.bin_tape.specs.Items.{Item, words_of, words_but_last}
 use Rattle.bin_tape.specs.Tape.{IsOpen, IsTape}
-use Rattle.bin_tape.specs.Fault.{Refuses, IsRefused, place_after}
-use Rattle.bin_tape.specs.Front.{Keeps, EndsTape}
+use Rattle.bin_tape.specs.Fault.{Refuses, place_after}
+use Rattle.bin_tape.specs.Front.{Keeps}
 use Rattle.bin_tape.specs.Progress.{Progress}
 use Rattle.bin_tape.specs.Handed.{word_in}
 use Rattle.bin_tape.specs.declared.faults.TapeFault.{TapeFault}
@@ -53,16 +53,3 @@ Answers frames out frame (Ok Nothing) = IsWhole frames out ⊎ IsGoing (frames +
 Answers frames out frame (Ok (Word cell word)) = IsGoing (frames ++ frame ∷ []) (out ++ (cell, word) ∷ [])
 Answers frames out frame (Ok End) = IsGoing frames out × IsWhole (frames ++ frame ∷ []) out
 Answers frames out frame (Err fault) = (rest : List ℕ) → Refuses (frames ++ frame ∷ rest) fault
-
--- the reader goes on behind these kept frames, and has handed out these words
-abbrev pub IsReading : State → List ℕ → List (ℕ × ℕ) → Type 0
-IsReading (Reading front) kept_frames out = Keeps front kept_frames out
-IsReading Ended kept_frames out = ⊥
-IsReading (Failed fault) kept_frames out = ⊥
-
--- what one more kept frame is answered, and the state behind it
-abbrev pub Comes : List Item → List ℕ → ℕ → ℕ → Result Tape TapeFault → State → Type 0
-Comes items part frame place (Ok Nothing) state = IsReading state (spelled items ++ part ++ frame ∷ []) (words_but_last items)
-Comes items part frame place (Ok (Word cell word)) state = IsReading state (spelled items ++ part ++ frame ∷ []) (words_but_last items ++ (cell, word) ∷ [])
-Comes items part frame place (Ok End) state = (state ≡ Ended) × EndsTape items part frame
-Comes items part frame place (Err fault) state = (state ≡ Failed fault) × IsRefused items part frame place fault

@@ -1,5 +1,5 @@
 -- What a tape of words with their cells says, and what its frames are.
-use Rattle.std.specs.Prelude.{◌≡◌, ℕ, ◌+◌, ◌/◌, ◌%◌, nat_eq, ◌&&◌, if◌then◌else◌, Bool, false, Option, Some, None, reverse, replicate, List, [], ◌∷◌, ◌++◌}
+use Rattle.std.specs.Prelude.{ℕ, ◌+◌, ◌/◌, ◌%◌, nat_eq, ◌&&◌, if◌then◌else◌, Bool, false, Option, Some, None, reverse, replicate, List, [], ◌∷◌, ◌++◌}
 use Rattle.bin_tape.specs.Items.{Item, Leader, Field, Origin, Word, spelled, check_sum}
 
 -- a word, and an origin, by their high and low six bits
@@ -52,8 +52,3 @@ tape_with items = spelled (word_item (check_sum items) ∷ items) ++ replicate 1
 -- the frames that are written for these cells and words, which stand in the order of the tape
 unfoldable pub tape_of : List (ℕ × ℕ) → List ℕ
 tape_of pairs = tape_with (items_of (reverse pairs))
-
--- the frames so far are those of the items, and the sum is what their check sum would be
-pub record Holds (frames : List ℕ) (sum : ℕ) (items : List Item) : Type 0 where
-  pub frames_are : frames ≡ spelled items
-  pub sum_is : sum ≡ check_sum items

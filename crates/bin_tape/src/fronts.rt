@@ -3,8 +3,10 @@ ghost use Rattle.std.specs.Bool.{MatchBool};
 ghost use Rattle.bin_tape.specs.Items as item;
 ghost use Rattle.bin_tape.specs.Items.{Item, Leader, Field, Origin, IsFront, has_origin};
 ghost use Rattle.bin_tape.specs.Tape.{IsPart};
-ghost use Rattle.bin_tape.specs.Front.{Reads, IsLast, Takes, TakesWord};
-ghost use Rattle.bin_tape.specs.Map.{IsTable, Holds, ReadsTo};
+ghost use Rattle.bin_tape.specs.Front.{Reads, IsLast};
+ghost use Rattle.bin_tape.specs.FrontSteps.{Takes, TakesWord};
+ghost use Rattle.bin_tape.specs.Map.{IsTable};
+ghost use Rattle.bin_tape.specs.MapSteps.{Holds, ReadsTo};
 ghost use Rattle.bin_tape.specs.Items.{words_of, words_but_last};
 
 use crate::TapeFault;

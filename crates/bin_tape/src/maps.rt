@@ -1,6 +1,7 @@
 ghost use Rattle.std.specs.Prelude.{◌≡◌, ℕ, List, [], ◌∷◌, Option, None, replicate, slice_index_or, vec_len, IfOk, MatchResult};
 ghost use Rattle.std.specs.Bool.{MatchBool};
-ghost use Rattle.bin_tape.specs.Map.{IsTable, IsMapOf, IsMapFault, HasReadTo, Holds};
+ghost use Rattle.bin_tape.specs.Map.{IsTable, IsMapOf, IsMapFault};
+ghost use Rattle.bin_tape.specs.MapSteps.{HasReadTo, Holds};
 
 use crate::{Tape, TapeFault, TapeReader};
 use std::alloc::{AllocError, Global};

@@ -73,8 +73,10 @@ impl Model for TapeReader {
 }
 
 impl TapeReader {
-    ghost use Rattle.bin_tape.specs.Reading.{HasRead, Counts, Answers, IsWhole, Comes, words_in};
-    ghost use Rattle.bin_tape.specs.Map.{IsTable, HasReadTo};
+    ghost use Rattle.bin_tape.specs.Reading.{HasRead, Counts, Answers, IsWhole, words_in};
+    ghost use Rattle.bin_tape.specs.ReadSteps.{Comes};
+    ghost use Rattle.bin_tape.specs.Map.{IsTable};
+    ghost use Rattle.bin_tape.specs.MapSteps.{HasReadTo};
 
     /// A reader of no frame.
     pub fn new() -> TapeReader

@@ -1,7 +1,8 @@
 ghost use Rattle.std.specs.Prelude.{◌≡◌, ℕ, ◌+◌, ◌/◌, ◌%◌, ◌<◌, List, [], ◌∷◌, ◌++◌, length, IfOk, IfErr, OnOk};
 ghost use Rattle.bin_tape.specs.Items.{Item};
 ghost use Rattle.bin_tape.specs.Pairs.{ArePairs};
-ghost use Rattle.bin_tape.specs.Writing.{tape_of, tape_with, leader, with_field, with_origin, with_pair, word_item, field_behind, is_next, Holds};
+ghost use Rattle.bin_tape.specs.Writing.{tape_of, tape_with, leader, with_field, with_origin, with_pair, word_item, field_behind, is_next};
+ghost use Rattle.bin_tape.specs.WriteSteps.{Holds};
 
 use crate::TapeFault;
 use std::alloc::{AllocError, Global};

@@ -3,7 +3,8 @@ use Rattle.std.proofs.Common.{◌≡◌, ℕ, ◌<◌, inl, inr, nat_eq, if◌th
 use Rattle.std.proofs.lemmas.Bool.Decides.{eqb_tells}
 use Rattle.std.proofs.lemmas.Grind.{get_or-set_at}
 use Rattle.bin_tape.specs.Items.{Item, Leader, Field, Origin, Word, cell_after, words_of, tape_map}
-use Rattle.core_load.specs.Load.{IsOverlaid, laid}
+use Rattle.core_load.specs.Load.{IsOverlaid}
+use Rattle.core_load.specs.Steps.{laid}
 
 laid-append : (xs ys : List (ℕ × ℕ)) (core : List ℕ) → laid (xs ++ ys) core ≡ laid ys (laid xs core)
 laid-append [] ys core = refl

@@ -1,3 +1,4 @@
 pub mod Core
 pub mod Loading
 pub mod Load
+pub mod Steps

@@ -1,5 +1,5 @@
 -- What loading a BIN tape does to core.
-use Rattle.std.specs.Prelude.{◌≡◌, ℕ, ◌<◌, unwrap_or, Result, Ok, Err, List, [], ◌∷◌, ◌++◌, ◌⊎◌, length, slice_index, slice_set}
+use Rattle.std.specs.Prelude.{◌≡◌, ℕ, ◌<◌, unwrap_or, Result, Ok, Err, List, [], ◌∷◌, ◌++◌, ◌⊎◌, length, slice_index}
 use Rattle.bin_tape.specs.Frames.{kept}
 use Rattle.bin_tape.specs.Items.{Item, tape_map}
 use Rattle.bin_tape.specs.Tape.{IsTape, IsOpen}
@@ -59,8 +59,3 @@ pub record IsComplete (loader : Loading) : Type 0 where
   pub items : List Item
   pub fed : IsFed loader frames
   pub is_tape : IsTape frames items
-
--- core after words are laid one after the other
-abbrev pub laid : List (ℕ × ℕ) → List ℕ → List ℕ
-laid [] core = core
-laid (word ∷ words) core = laid words (slice_set core word.0 word.1)

@@ -3,7 +3,8 @@ ghost use Rattle.bin_tape.specs.Items.{Item};
 ghost use Rattle.bin_tape.specs.Tape.{IsTape};
 ghost use Rattle.bin_tape.specs.Fault.{IsFault};
 ghost use Rattle.bin_tape.specs.Reading.{IsWhole};
-ghost use Rattle.core_load.specs.Load.{Loads, IsOverlaid, laid};
+ghost use Rattle.core_load.specs.Load.{Loads, IsOverlaid};
+ghost use Rattle.core_load.specs.Steps.{laid};
 
 use crate::Core;
 use bin_tape::laws::{handed_words, longer_tape};

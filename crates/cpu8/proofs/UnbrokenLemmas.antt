@@ -1,5 +1,5 @@
 -- Fields without breaks.
-use Rattle.std.proofs.Common.{◌≡◌, ℕ, ◌+◌, ◌-◌, ◌*◌, ◌<◌, ◌≤◌, ◌≢◌, Bool, true, false, true≢false, List, length, get_or, take, drop, set, arith, ap, sym, subst, ◌∙◌}
+use Rattle.std.proofs.Common.{◌≡◌, ℕ, ◌+◌, ◌*◌, ◌<◌, ◌≤◌, Bool, true, false, true≢false, List, length, get_or, take, drop, set, arith, ap, sym, subst, ◌∙◌}
 use Rattle.std.specs.List.{list_any}
 use Rattle.std.proofs.lemmas.Bool.{false_from_ne_true}
 use Rattle.std.proofs.lemmas.Bool.Decides.{eqb_tells}
@@ -18,7 +18,7 @@ unbroken-part breaks field n p tests size within none address below =
     let enough : n ≤ length rest = omega (arith, size, within, length-drop (4096 * field) breaks) in
     let inside : address < length (take n rest) = omega (arith, below, size, length-take-le n rest enough) in
     let at : get_or (take n rest) address false ≡ is_break breaks (place field address) =
-        get_or-take n rest address false (omega (arith, below, size)) ∙ get_or-drop (4096 * field) breaks address false in
+    get_or-take n rest address false (omega (arith, below, size)) ∙ get_or-drop (4096 * field) breaks address false in
     false_from_ne_true (is_break breaks (place field address))
     (λ has. true≢false (sym (list_any_at p (take n rest) address false inside (ap p (at ∙ has) ∙ tests)) ∙ none))
 
@@ -28,6 +28,6 @@ pub unbroken-set : (breaks fields : List Bool) (field : ℕ) (answer : Bool) →
 unbroken-set breaks fields field answer others within this other told =
     ⊎_elim
     (λ same. subst (λ f. IsUnbroken breaks f) (sym same.1)
-        (this (sym (get_or-set_same fields field answer false within) ∙ (ap (λ f. get_or (set fields field answer) f false) (sym same.1) ∙ told))))
+    (this (sym (get_or-set_same fields field answer false within) ∙ (ap (λ f. get_or (set fields field answer) f false) (sym same.1) ∙ told))))
     (λ differs. others other (sym (get_or-set_other fields field other answer false differs.1) ∙ told))
     (eqb_tells other field)

@@ -10,13 +10,14 @@ use Rattle.os8_files.specs.Mounted.{Mounted}
 use Rattle.os8_files.specs.declared.faults.FileFault.TheVariants as file
 use Rattle.pal_asm.specs.declared.faults.AsmFault.TheVariants as asm
 use Rattle.pal_blocks.specs.Progress.{IsAssembling}
-use Rattle.jobs8.specs.Calls.{IsQuiet, TurnsOver, LeavesJobs, TurnsJob, WorkCalls}
-use Rattle.jobs8.specs.Faults.{is_memory}
+use Rattle.jobs8.specs.Calls.{IsQuiet, TurnsOver, LeavesJobs, WorkCalls}
+use Rattle.jobs8.specs.Steps.{TurnsJob, plain_after, AreNamed, without_holds, ReadsSource, is_assembled}
+use Rattle.jobs8.specs.Steps.{is_memory}
 use Rattle.jobs8.specs.Jobs as plain
-use Rattle.jobs8.specs.Settled.{state_over, plain_job, plain_after, AreNamed}
-use Rattle.jobs8.specs.Sources.{names_of, AreFirst, without_holds, AssemblyFits, AssemblyStands, ReadsSource}
+use Rattle.jobs8.specs.Settled.{state_over, plain_job}
+use Rattle.jobs8.specs.Sources.{names_of, AreFirst, AssemblyFits, AssemblyStands}
 use Rattle.jobs8.specs.State.{words_in, AreIn}
-use Rattle.jobs8.specs.Turns.{Answer, is_assembled, AssemblingTurn}
+use Rattle.jobs8.specs.Turns.{Answer, AssemblingTurn}
 use Rattle.jobs8.specs.declared.assembly.Assembly.{Assembly}
 use Rattle.jobs8.specs.declared.kinds.Job.{Job}
 use Rattle.jobs8.specs.declared.kinds.Work.TheVariants as work

@@ -8,7 +8,7 @@ use Rattle.os8_files.specs.Calls as call
 use Rattle.core_load.specs.Loading as load
 use Rattle.core_load.specs.Load.{IsFed}
 use Rattle.jobs8.specs.Reading.{HasTaken}
-use Rattle.jobs8.specs.Calls.{HasBegunLoading}
+use Rattle.jobs8.specs.Steps.{HasBegunLoading}
 
 none_taken : (loader : load.Loading) → IsFed loader [] → HasTaken loader []
 none_taken loader fed = record {

@@ -2,7 +2,7 @@
 use Rattle.std.proofs.Common.{◌≡◌, ◌∙◌, ℕ, zero, suc, ◌+◌, ◌<◌, ◌≤◌, Option, Some, None, List, [], ◌∷◌, ◌++◌, length, take, drop, get_or, slice_set, refl, ap, sym, subst, add-one, arith}
 use Rattle.os8_files.specs.Holds.{times}
 use Rattle.os8_files.specs.Mounted.{Mounted}
-use Rattle.jobs8.specs.Calls.{without_job, without_jobs, cleared}
+use Rattle.jobs8.specs.Steps.{without_job, without_jobs, cleared}
 use Rattle.jobs8.specs.Settled.{AreHeld, IsSettled, plain_jobs}
 use Rattle.jobs8.specs.declared.kinds.Job.{Job}
 use Rattle.jobs8.specs.declared.kinds.Work.{Work}

@@ -11,7 +11,8 @@ use Rattle.os8_files.specs.declared.faults.FileFault.TheVariants as file
 use Rattle.pal_blocks.specs.Blocks.{blocks_in, blocks_among, blocks_of_each, AreFiles, assembling_turns}
 use Rattle.pal_blocks.specs.Progress.{IsAssembling}
 use Rattle.pal_blocks.specs.declared.assembling.Assembling as parts
-use Rattle.jobs8.specs.Sources.{names_of, AreFirst, without_holds, HasHeld, HoldsFirst, HoldsNext, HoldsAgain, TakesNext, TakesAll, HasBegunAssembly, BeginsAssembly}
+use Rattle.jobs8.specs.Sources.{names_of, AreFirst}
+use Rattle.jobs8.specs.Steps.{without_holds, HasHeld, HoldsFirst, HoldsNext, HoldsAgain, TakesNext, TakesAll, HasBegunAssembly, BeginsAssembly}
 use Rattle.jobs8.specs.State.{words_or, words_in, IsIn, AreIn, IsOneOut}
 use Rattle.jobs8.specs.declared.faults.JobFault.{JobFault}
 use Rattle.jobs8.specs.declared.faults.JobFault.TheVariants as fault

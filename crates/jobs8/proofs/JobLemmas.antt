@@ -4,9 +4,9 @@ use Rattle.std.specs.FinMap.{get}
 use Rattle.os8_dir.specs.Files.{files_of, above_of}
 use Rattle.os8_files.specs.Holds.{times}
 use Rattle.os8_files.specs.Mounted.{Mounted}
-use Rattle.jobs8.specs.Calls.{TurnsLoading, TurnsJob, left_holds}
+use Rattle.jobs8.specs.Steps.{TurnsLoading, TurnsJob, left_holds, plain_after, FitsAfter, FitsOn, names_in}
 use Rattle.jobs8.specs.Jobs as plain
-use Rattle.jobs8.specs.Settled.{state_over, plain_job, plain_after, FitsIn, FitsAfter, FitsOn, names_in}
+use Rattle.jobs8.specs.Settled.{state_over, plain_job, FitsIn}
 use Rattle.jobs8.specs.Turns.{Answer, LoadingTurn}
 use Rattle.jobs8.specs.declared.loading.Loading.{Loading}
 use Rattle.jobs8.specs.declared.kinds.Job.{Job}

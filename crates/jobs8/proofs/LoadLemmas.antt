@@ -14,7 +14,8 @@ use Rattle.core_load.specs.Load.{IsFed, IsFine, IsComplete, IsLoaded, IsOverlaid
 use Rattle.pal_blocks.specs.Blocks.{blocks_in, first_blocks}
 use Rattle.jobs8.specs.Schedule.{IsMet, IsMetNone, IsFirstMet}
 use Rattle.pal_blocks.specs.Blocks.{block_at}
-use Rattle.jobs8.specs.Reading.{frames_taken, HasTaken, TakesFrames, IsLoading, ReadsBlock, EndsTape}
+use Rattle.jobs8.specs.Reading.{frames_taken, HasTaken, IsLoading}
+use Rattle.jobs8.specs.Steps.{TakesFrames, ReadsBlock, EndsTape}
 use Rattle.jobs8.specs.declared.loading.Loading.{Loading}
 use Rattle.jobs8.specs.declared.faults.JobFault.{JobFault}
 use Rattle.jobs8.specs.declared.faults.JobFault.TheVariants as fault

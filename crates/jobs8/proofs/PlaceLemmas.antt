@@ -4,7 +4,8 @@ use Rattle.std.specs.FinMap.{get}
 use Rattle.os8_dir.specs.Files.{Files}
 use Rattle.os8_files.specs.Holds.{times, with_hold, without_hold}
 use Rattle.os8_files.specs.Mounted.{Mounted}
-use Rattle.jobs8.specs.Sources.{names_of, AreFirst, without_holds, HasHeld}
+use Rattle.jobs8.specs.Sources.{names_of, AreFirst}
+use Rattle.jobs8.specs.Steps.{without_holds, HasHeld}
 use Rattle.jobs8.specs.State.{words_or, words_in, AreIn}
 use Rattle.jobs8.proofs.TimesLemmas.{self_once}
 

@@ -6,7 +6,8 @@ use Rattle.std.specs.Option.{is_some, is_none}
 use Rattle.jobs8.specs.Calls.{job_at}
 use Rattle.jobs8.specs.Jobs as plain
 use Rattle.jobs8.specs.Jobs.{job_of, with_job, least_free, lowest_job, number_at, turns_left}
-use Rattle.jobs8.specs.Settled.{plain_job, plain_jobs, left_of}
+use Rattle.jobs8.specs.Settled.{plain_job, plain_jobs}
+use Rattle.jobs8.specs.Steps.{left_of, plain_after, jobs_after}
 use Rattle.jobs8.specs.Settled as settled
 use Rattle.jobs8.specs.declared.kinds.Job.{Job}
 use Rattle.jobs8.specs.declared.kinds.Work.{Work}
@@ -98,7 +99,7 @@ plain_disturbed (it ∷ jobs) = ap (λ j. j ∷ plain_jobs (settled.disturbed jo
 
 -- ## Behind a turn
 
-pub plain_is_after : (b : Bool) (jobs : List (Option Job)) → settled.plain_after b (plain_jobs jobs) ≡ plain_jobs (settled.jobs_after b jobs)
+pub plain_is_after : (b : Bool) (jobs : List (Option Job)) → plain_after b (plain_jobs jobs) ≡ plain_jobs (jobs_after b jobs)
 plain_is_after true jobs = sym (plain_disturbed jobs)
 plain_is_after false jobs = refl
 
@@ -107,6 +108,6 @@ turns_disturbed [] = refl
 turns_disturbed (None ∷ jobs) = turns_disturbed jobs
 turns_disturbed (Some it ∷ jobs) = ap (λ n. it.left + n) (turns_disturbed jobs)
 
-pub turns_after : (b : Bool) (jobs : List (Option Job)) → turns_left (plain_jobs (settled.jobs_after b jobs)) ≡ turns_left (plain_jobs jobs)
+pub turns_after : (b : Bool) (jobs : List (Option Job)) → turns_left (plain_jobs (jobs_after b jobs)) ≡ turns_left (plain_jobs jobs)
 turns_after true jobs = turns_disturbed jobs
 turns_after false jobs = refl

@@ -6,13 +6,13 @@ use Rattle.os8_dir.specs.Files.{files_of, above_of}
 use Rattle.os8_files.specs.Holds.{times}
 use Rattle.os8_files.specs.Laws.{KeepsHeld, KeepsHolds}
 use Rattle.os8_files.specs.Mounted.{Mounted}
-use Rattle.jobs8.specs.Calls.{TurnsJob}
+use Rattle.jobs8.specs.Steps.{TurnsJob, names_in, jobs_after, is_assembled}
 use Rattle.jobs8.specs.Jobs.{held_by, held_by_work}
-use Rattle.jobs8.specs.Settled.{work_of, plain_jobs, disturbed, disturbed_job, disturbed_work, Stands, StandsIn, AllStand, FitsIn, AllFit, AreHeld, IsSettled, names_in, jobs_after}
+use Rattle.jobs8.specs.Settled.{work_of, plain_jobs, disturbed, disturbed_job, disturbed_work, Stands, StandsIn, AllStand, FitsIn, AllFit, AreHeld, IsSettled}
 use Rattle.pal_blocks.specs.Progress.{IsAssembling}
 use Rattle.jobs8.specs.Sources.{names_of, AssemblyStands}
 use Rattle.jobs8.specs.declared.assembly.Assembly.{Assembly}
-use Rattle.jobs8.specs.Turns.{Answer, is_assembled}
+use Rattle.jobs8.specs.Turns.{Answer}
 use Rattle.jobs8.specs.declared.kinds.Job.{Job}
 use Rattle.jobs8.specs.declared.kinds.Work.{Work}
 use Rattle.jobs8.specs.declared.kinds.Work.TheVariants as work

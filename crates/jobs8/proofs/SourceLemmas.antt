@@ -14,8 +14,7 @@ use Rattle.pal_blocks.specs.Progress.{block_of}
 use Rattle.pal_blocks.specs.Turns.{TakesBlock}
 use Rattle.pal_blocks.specs.declared.assembling.Due.{Due}
 use Rattle.jobs8.specs.Faults.{fault_of_asm, fault_of_file}
-use Rattle.jobs8.specs.Reading.{HasReadOne}
-use Rattle.jobs8.specs.Sources.{ReadsSource}
+use Rattle.jobs8.specs.Steps.{HasReadOne, ReadsSource}
 use Rattle.jobs8.specs.State.{words_or, words_in, AreIn}
 use Rattle.jobs8.specs.declared.assembly.Assembly.{Assembly}
 

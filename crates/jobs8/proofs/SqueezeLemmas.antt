@@ -11,12 +11,13 @@ use Rattle.os8_files.specs.declared.faults.FileFault.{FileFault}
 use Rattle.os8_files.specs.declared.faults.FileFault.TheVariants as file
 use Rattle.os8_files.specs.declared.tokens.Squeezed as tokens
 use Rattle.os8_files.specs.declared.tokens.Squeezed.TheVariants as token
-use Rattle.jobs8.specs.Calls.{IsQuiet, TurnsOver, LeavesJobs, SqueezeTurns, TurnsJob}
+use Rattle.jobs8.specs.Calls.{IsQuiet, TurnsOver, LeavesJobs}
+use Rattle.jobs8.specs.Steps.{SqueezeTurns, TurnsJob, plain_after, names_in, left_of, is_assembled}
 use Rattle.jobs8.specs.Jobs as plain
 use Rattle.jobs8.specs.Jobs.{with_job, job_of, squeezing}
-use Rattle.jobs8.specs.Settled.{IsSqueezing, state_over, plain_job, plain_after, StandsIn, FitsIn, names_in, left_of}
+use Rattle.jobs8.specs.Settled.{IsSqueezing, state_over, plain_job, StandsIn, FitsIn}
 use Rattle.jobs8.specs.State.{State}
-use Rattle.jobs8.specs.Turns.{Answer, is_assembled, SqueezingTurn}
+use Rattle.jobs8.specs.Turns.{Answer, SqueezingTurn}
 use Rattle.jobs8.specs.declared.kinds.Job.{Job}
 use Rattle.jobs8.specs.declared.kinds.Work.TheVariants as work
 use Rattle.jobs8.specs.declared.turned.Turned.TheVariants.{Working, Squeezed}

@@ -9,17 +9,18 @@ use Rattle.os8_files.specs.Mounted.{Mounted}
 use Rattle.os8_files.specs.Service.{count_of}
 use Rattle.os8_files.specs.declared.faults.FileFault.{FileFault}
 use Rattle.os8_files.specs.declared.faults.FileFault.TheVariants as file
-use Rattle.jobs8.specs.Calls.{HasBegunLoading, BeginsLoading, StartsOver, StartsAssembling, StartsLoading, StartsSqueezing, TurnsJob, TakesTurn, NumberTurnsOver, CallsOf, LeavesJobs}
+use Rattle.jobs8.specs.Steps.{HasBegunLoading, BeginsLoading, TurnsJob, plain_after, jobs_after, left_of, HoldsAgain, HasBegunAssembly, BeginsAssembly, is_assembled}
+use Rattle.jobs8.specs.Calls.{StartsOver, StartsAssembling, StartsLoading, StartsSqueezing, TakesTurn, NumberTurnsOver, CallsOf, LeavesJobs}
 use Rattle.jobs8.specs.Faults.{fault_of_file}
 use Rattle.jobs8.specs.Jobs as plain
 use Rattle.pal_blocks.specs.Blocks.{blocks_in}
 use Rattle.jobs8.specs.Schedule.{loading_turns}
-use Rattle.jobs8.specs.Settled.{IsSettled, AllStand, state_over, plain_job, plain_jobs, plain_after, jobs_after, work_of, left_of}
-use Rattle.jobs8.specs.Sources.{names_of, HoldsAgain, HasBegunAssembly, BeginsAssembly}
+use Rattle.jobs8.specs.Settled.{IsSettled, AllStand, state_over, plain_job, plain_jobs, work_of}
+use Rattle.jobs8.specs.Sources.{names_of}
 use Rattle.jobs8.specs.Starts.{Begun}
 use Rattle.jobs8.specs.declared.assembly.Assembly.{Assembly}
 use Rattle.jobs8.specs.State.{words_or}
-use Rattle.jobs8.specs.Turns.{Answer, is_assembled, JobTurn, WorkTurn}
+use Rattle.jobs8.specs.Turns.{Answer, JobTurn, WorkTurn}
 use Rattle.jobs8.specs.declared.loading.Loading.{Loading}
 use Rattle.jobs8.specs.declared.kinds.Job.{Job}
 use Rattle.jobs8.specs.declared.kinds.Work.TheVariants as work

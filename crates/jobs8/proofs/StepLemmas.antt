@@ -10,11 +10,12 @@ use Rattle.os8_files.specs.Mounted.{Mounted}
 use Rattle.os8_files.specs.Holds.{without_hold}
 use Rattle.os8_files.specs.declared.faults.FileFault.{FileFault}
 use Rattle.os8_files.specs.declared.faults.FileFault.TheVariants as file
-use Rattle.jobs8.specs.Calls.{IsQuiet, LeavesHold, Tells, TurnsOver, TurnsLoading}
-use Rattle.jobs8.specs.Faults.{is_memory}
+use Rattle.jobs8.specs.Calls.{IsQuiet, Tells, TurnsOver}
+use Rattle.jobs8.specs.Steps.{LeavesHold, TurnsLoading, HasReadOne, LoadsOn}
+use Rattle.jobs8.specs.Steps.{is_memory}
 use Rattle.jobs8.specs.Jobs as plain
 use Rattle.jobs8.specs.Jobs.{job_of, with_job, loading}
-use Rattle.jobs8.specs.Reading.{HasWords, IsLoading, HasReadOne, LoadsOn}
+use Rattle.jobs8.specs.Reading.{HasWords, IsLoading}
 use Rattle.pal_blocks.specs.Blocks.{blocks_in, turn_of}
 use Rattle.jobs8.specs.Schedule.{loading_turns, IsMetNone, IsFirstMet}
 use Rattle.jobs8.specs.Settled.{state_over, StandsIn, LoadingFits}

@@ -6,7 +6,8 @@ use Rattle.bin_tape.specs.declared.faults.TapeFault.TheVariants.{BadFrame, NoOri
 use Rattle.char_pack.specs.Packing.{frames}
 use Rattle.core_load.specs.Loading.{Loading}
 use Rattle.core_load.specs.Load.{Feeds, IsFed, IsFine}
-use Rattle.jobs8.specs.Reading.{HasTaken, TakesFrames}
+use Rattle.jobs8.specs.Reading.{HasTaken}
+use Rattle.jobs8.specs.Steps.{TakesFrames}
 use Rattle.jobs8.proofs.FrameLemmas.{one_frame, split_frames}
 
 pub behind : (before fs : List ℕ) (i : ℕ) → i < length fs → (before ++ take i fs) ++ slice_index fs i ∷ [] ≡ before ++ take (i + 1) fs

@@ -15,11 +15,12 @@ use Rattle.pal_asm.specs.Faults.{fault_of}
 use Rattle.pal_blocks.specs.Blocks.{blocks_in}
 use Rattle.pal_blocks.specs.Progress.{IsAssembling}
 use Rattle.pal_blocks.specs.Sources.{newest_first, assembled_words, IsTapeOfSources}
-use Rattle.jobs8.specs.Calls.{TurnsJob}
-use Rattle.jobs8.specs.Faults.{is_memory, fault_of_file}
+use Rattle.jobs8.specs.Steps.{TurnsJob, without_holds}
+use Rattle.jobs8.specs.Steps.{is_memory}
+use Rattle.jobs8.specs.Faults.{fault_of_file}
 use Rattle.jobs8.specs.Jobs as plain
 use Rattle.jobs8.specs.Settled.{state_over}
-use Rattle.jobs8.specs.Sources.{names_of, without_holds, AssemblyFits, AssemblyStands}
+use Rattle.jobs8.specs.Sources.{names_of, AssemblyFits, AssemblyStands}
 use Rattle.jobs8.specs.State.{State, IsCrowded, IsFull, words_in, AreIn, plain_file}
 use Rattle.jobs8.specs.declared.assembly.Assembly.{Assembly}
 use Rattle.jobs8.specs.declared.turned.Turned.TheVariants.{Assembled}

@@ -4,7 +4,8 @@ use Rattle.os8_dir.specs.Files.{Held, files_of}
 use Rattle.os8_files.specs.Mounted.{Mounted}
 use Rattle.os8_files.specs.Calls.{HasRead}
 use Rattle.pal_blocks.specs.Blocks.{block_at}
-use Rattle.jobs8.specs.Reading.{HasWords, IsLoading, ReadsBlock, HasReadOne, LoadsOn}
+use Rattle.jobs8.specs.Reading.{HasWords, IsLoading}
+use Rattle.jobs8.specs.Steps.{ReadsBlock, HasReadOne, LoadsOn}
 use Rattle.jobs8.specs.declared.loading.Loading.{Loading}
 use Rattle.jobs8.specs.declared.faults.JobFault.{JobFault}
 use Rattle.jobs8.specs.declared.faults.JobFault.TheVariants as fault

@@ -1,34 +1,23 @@
 -- What jobs do to a volume and to the table of jobs, whatever fails.
-use Rattle.std.specs.Prelude.{◌≡◌, ◌≤◌, ◌<◌, ◌⊎◌, ℕ, zero, suc, get_or, ◌+◌, ◌-◌, false, true, Bool, Option, Some, None, Result, Ok, Err, List, [], ◌∷◌}
-use Rattle.std.specs.FinMap.{get}
-use Rattle.os8_dir.specs.Files.{files_of, above_of}
+use Rattle.std.specs.Prelude.{◌≡◌, ◌≤◌, ◌<◌, ◌⊎◌, ℕ, zero, suc, get_or, false, true, Option, Some, None, Result, Ok, Err, List}
+use Rattle.os8_dir.specs.Files.{files_of}
 use Rattle.os8_files.specs.Calls.{Squeezes}
 use Rattle.os8_files.specs.Failed.{Survives}
-use Rattle.os8_files.specs.Holds.{with_hold, without_hold, times}
-use Rattle.os8_files.specs.Laws.{KeepsHeld, KeepsPlaces, KeepsOtherPlaces, ReadsOne, ReadsLowest}
+use Rattle.os8_files.specs.Laws.{KeepsPlaces, KeepsOtherPlaces, ReadsOne, ReadsLowest}
 use Rattle.os8_files.specs.Mounted.{Mounted}
 use Rattle.os8_files.specs.Puts.{Puts}
 use Rattle.os8_files.specs.declared.faults.FileFault.{FileFault}
 use Rattle.os8_files.specs.declared.faults.FileFault.TheVariants as file
-use Rattle.os8_files.specs.declared.tokens.Squeezed.TheVariants as token
 use Rattle.os8_files.specs.declared.tokens.Squeezed as tokens
 use Rattle.jobs8.specs.declared.faults.JobFault.{JobFault}
 use Rattle.jobs8.specs.declared.faults.JobFault.TheVariants as fault
-use Rattle.jobs8.specs.declared.turned.Turned.TheVariants.{Working, Squeezed}
-use Rattle.jobs8.specs.declared.loading.Loading.{Loading}
 use Rattle.jobs8.specs.declared.kinds.Job.{Job}
 use Rattle.jobs8.specs.declared.kinds.Work.{Work}
 use Rattle.jobs8.specs.declared.kinds.Work.TheVariants as work
-use Rattle.jobs8.specs.Faults.{fault_of_file}
 use Rattle.jobs8.specs.Jobs as plain
-use Rattle.jobs8.specs.Reading.{HasWords, IsLoading}
-use Rattle.pal_blocks.specs.Blocks.{blocks_in}
-use Rattle.jobs8.specs.Schedule.{loading_turns}
-use Rattle.jobs8.specs.Settled.{LoadingFits, IsSettled, state_over, work_of, plain_job, plain_jobs, StandsIn, FitsIn, FitsAfter, names_in, left_of, plain_after, AreNamed}
-use Rattle.jobs8.specs.Sources.{without_holds}
-use Rattle.jobs8.specs.State.{IsIn}
+use Rattle.jobs8.specs.Settled.{IsSettled, state_over, plain_jobs}
 use Rattle.jobs8.specs.Starts.{Begun, AssembleStarts, LoadStarts, SqueezeStarts}
-use Rattle.jobs8.specs.Turns.{Answer, is_assembled, LoadingTurn, WorkTurn, Turns}
+use Rattle.jobs8.specs.Turns.{Answer, Turns}
 
 -- no block call failed between, and no write before
 pub record IsQuiet (old new : Mounted) : Type 0 where
@@ -88,16 +77,6 @@ LeavesJobs number (Ok turned) old new = Unit {0}
 LeavesJobs number (Err fault.Memory) old new = new ≡ old
 LeavesJobs number (Err why) old new = new ≡ plain.with_job number None old
 
--- the holds where a job goes on, or ends
-abbrev pub left_holds : ℕ → Option Job → List ℕ → List ℕ
-left_holds hold None holds = without_hold hold holds
-left_holds hold (Some it) holds = holds
-
--- a turn that writes no block reads one at most, and a job that ends is held once less
-pub record LeavesHold (old : Mounted) (hold : ℕ) (after : Option Job) (new : Mounted) : Type 0 where
-  pub reads : ReadsOne old new
-  pub others : new ≡ record old { reads = new.reads; failed_reads = new.failed_reads; holds = left_holds hold after old.holds }
-
 -- no block was written, and one at most was read
 abbrev pub ReadsAtMost : Mounted → Mounted → Type 0
 ReadsAtMost old new = (new.blocks ≡ old.blocks) × ReadsOne old new
@@ -125,66 +104,6 @@ abbrev pub MovesFew : plain.Work → Mounted → Mounted → Type 0
 MovesFew (plain.Assembling to from) old new = KeepsOtherPlaces to old new
 MovesFew (plain.Loading from) old new = KeepsPlaces old new
 MovesFew (plain.Squeezing clean) old new = (name : ℕ) × KeepsOtherPlaces name old new
-
--- What a turn of a job that loads comes to, with so many turns left: it answers, and hands the job back where it isn't at its
--- end.
-pub record TurnsLoading (old : Mounted) (core : List ℕ) (job : Loading) (left : ℕ) (answer : Answer) (after : Option Job) (new : Mounted) (core' : List ℕ) : Type 0 where
-  pub kind : is_assembled answer ≡ false
-  pub step : (number : ℕ) (jobs : List (Option plain.Job)) → plain.job_of number jobs ≡ Some (plain.loading job.hold left) → IsQuiet old new
-      → LoadingTurn (state_over old core jobs) number job.hold left answer (state_over new core' (plain.with_job number (plain_job after) jobs))
-  pub jobs : (number : ℕ) (jobs : List (Option plain.Job)) → plain.job_of number jobs ≡ Some (plain.loading job.hold left) → LeavesJobs number answer jobs (plain.with_job number (plain_job after) jobs)
-  pub volume : TurnsOver old answer new
-  pub same_core : (why : JobFault) → answer ≡ Err why → core' ≡ core
-  pub stands : new.stopped ≡ false → StandsIn new.blocks after
-  pub kept : LeavesHold old job.hold after new
-  pub fits : FitsAfter job.hold after
-  pub fewer : (answer ≡ Err fault.Memory → ⊥) → left_of after < left
-
--- What a turn of any job comes to: it answers, and hands the job back where it isn't at its end. A job that goes on holds what it
--- held, and one that ends holds nothing. Files that are held keep their words, and no more files have a free block below them,
--- but where a target was put.
-pub record TurnsJob (old : Mounted) (core : List ℕ) (job : Job) (answer : Answer) (after : Option Job) (new : Mounted) (core' : List ℕ) : Type 0 where
-  pub step : (number : ℕ) (jobs : List (Option plain.Job)) → plain.job_of number jobs ≡ plain_job (Some job) → AreNamed old.holds jobs → IsQuiet old new
-      → WorkTurn (state_over old core jobs) number (work_of job.work) job.left answer (state_over new core' (plain_after (is_assembled answer) (plain.with_job number (plain_job after) jobs)))
-  pub jobs : (number : ℕ) (jobs : List (Option plain.Job)) → plain.job_of number jobs ≡ plain_job (Some job) → LeavesJobs number answer jobs (plain.with_job number (plain_job after) jobs)
-  pub volume : TurnsOver old answer new
-  pub same_core : (why : JobFault) → answer ≡ Err why → core' ≡ core
-  pub stands : new.stopped ≡ false → StandsIn new.blocks after
-  pub fits : FitsIn after
-  pub holds : (name : ℕ) → times name new.holds + times name (names_in (Some job)) ≡ times name old.holds + times name (names_in after)
-  pub running : new.stopped ≡ false → old.stopped ≡ false
-  pub none : new.tentative ≡ None
-  pub kept : KeepsHeld old new
-  pub above : is_assembled answer ≡ false → new.stopped ≡ false → above_of new.blocks ≤ above_of old.blocks
-  pub fewer : (answer ≡ Err fault.Memory → ⊥) → left_of after < job.left
-  pub calls : WorkCalls job.work job.left old new
-
--- What beginning a job that loads comes to.
-pub record HasBegunLoading (old : Mounted) (name : ℕ) (it : Loading) (left : ℕ) (new : Mounted) : Type 0 where
-  pub running : old.stopped ≡ false
-  pub words : List ℕ
-  pub has : HasWords (files_of old.blocks) name words
-  pub stands : IsLoading words it left
-  pub turns : left ≡ loading_turns (blocks_in words)
-  pub holds : it.hold ≡ name
-  pub fits : LoadingFits it left
-  pub others : new ≡ record old { holds = with_hold name old.holds }
-
-abbrev pub BeginsLoading : Mounted → ℕ → Result (Loading × ℕ) FileFault → Mounted → Type 0
-BeginsLoading old name (Ok begun) new = HasBegunLoading old name begun.0 begun.1 new
-BeginsLoading old name (Err file.NotFound) new = (old.stopped ≡ false) × (get (files_of old.blocks) name ≡ None) × (new ≡ old)
-BeginsLoading old name (Err file.Stopped) new = (old.stopped ≡ true) × (new ≡ old)
-BeginsLoading old name (Err file.Memory) new = (old.stopped ≡ false) × IsIn (files_of old.blocks) name × (new ≡ old)
-BeginsLoading old name (Err why) new = ⊥
-
--- what the one call of a squeezing turn makes of its job, with so many turns left
-abbrev pub SqueezeTurns : Bool → ℕ → Result tokens.Squeezed FileFault → Answer → Option Job → Type 0
-SqueezeTurns clean left (Ok (token.Moved name)) answer after =
-    ((2 ≤ left) × (answer ≡ Ok Working) × (after ≡ Some (record { work = work.Squeezing clean; left = left - 1 })))
-    ⊎ ((left ≡ 1) × (answer ≡ Ok Squeezed) × (after ≡ None))
-SqueezeTurns clean left (Ok token.Nothing) answer after = (answer ≡ Ok Squeezed) × (after ≡ None)
-SqueezeTurns clean left (Err file.Memory) answer after = (answer ≡ Err fault.Memory) × (after ≡ Some (record { work = work.Squeezing clean; left = left }))
-SqueezeTurns clean left (Err why) answer after = (answer ≡ Err (fault_of_file why)) × (after ≡ None)
 
 -- ## The table
 
@@ -228,25 +147,3 @@ pub record StartsAssembling (old : Mounted) (jobs : List (Option Job)) (target :
 pub record StartsSqueezing (old : Mounted) (jobs : List (Option Job)) (answer : Begun) (new : Mounted) (jobs' : List (Option Job)) : Type 0 where
   pub over : StartsOver old jobs answer new jobs'
   pub step : old.stopped ≡ false → (core : List ℕ) → SqueezeStarts (state_over old core (plain_jobs jobs)) answer (state_over new core (plain_jobs jobs'))
-
--- ## The end
-
--- the holds without those of a job
-abbrev pub without_work : Work → List ℕ → List ℕ
-without_work (work.Loading it) holds = without_hold it.hold holds
-without_work (work.Assembling it) holds = without_holds it.holds holds
-without_work (work.Squeezing clean) holds = holds
-
-abbrev pub without_job : Option Job → List ℕ → List ℕ
-without_job None holds = holds
-without_job (Some it) holds = without_work it.work holds
-
--- the holds without those of some jobs
-abbrev pub without_jobs : List (Option Job) → List ℕ → List ℕ
-without_jobs [] holds = holds
-without_jobs (it ∷ jobs) holds = without_jobs jobs (without_job it holds)
-
--- no job at any place
-abbrev pub cleared : {A : Type 0} → List (Option A) → List (Option A)
-cleared [] = []
-cleared (it ∷ jobs) = None ∷ cleared jobs

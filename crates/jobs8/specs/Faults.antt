@@ -1,5 +1,4 @@
 -- The faults of lower layers among those of a job.
-use Rattle.std.specs.Prelude.{Bool, true, false}
 use Rattle.bin_tape.specs.declared.faults.TapeFault.{TapeFault}
 use Rattle.bin_tape.specs.declared.faults.TapeFault.TheVariants as tape
 use Rattle.bin_tape.specs.declared.faults.TapeFault.TheVariants.{BadFrame, NoOrigin, CheckSum, NoTrailer}
@@ -10,7 +9,7 @@ use Rattle.os8_files.specs.declared.faults.FileFault.{FileFault}
 use Rattle.os8_files.specs.declared.faults.FileFault.TheVariants as file
 use Rattle.os8_files.specs.declared.faults.FileFault.TheVariants.{NotFound, NoRoom, DirectoryFull, Busy, BadName, TooLong, TentativeOpen, Device, Stopped, NothingWritten}
 use Rattle.jobs8.specs.declared.faults.JobFault.{JobFault}
-use Rattle.jobs8.specs.declared.faults.JobFault.TheVariants.{NoJob, TooManyJobs, File, Asm, Tape, Memory}
+use Rattle.jobs8.specs.declared.faults.JobFault.TheVariants.{File, Asm, Tape, Memory}
 
 abbrev pub fault_of_tape : TapeFault → JobFault
 fault_of_tape (BadFrame at) = Tape (BadFrame at)
@@ -35,12 +34,3 @@ fault_of_file Device = File Device
 fault_of_file Stopped = File Stopped
 fault_of_file file.Memory = Memory
 fault_of_file NothingWritten = File NothingWritten
-
--- a fault is want of memory
-abbrev pub is_memory : JobFault → Bool
-is_memory NoJob = false
-is_memory TooManyJobs = false
-is_memory (File why) = false
-is_memory (Asm why) = false
-is_memory (Tape why) = false
-is_memory Memory = true

@@ -8,3 +8,4 @@ pub mod Reading
 pub mod Sources
 pub mod Settled
 pub mod Calls
+pub mod Steps

@@ -1,6 +1,5 @@
 -- What stands between entries: the holds are those of the jobs, and what a job has read is the beginning of its files as they are.
 use Rattle.std.specs.Prelude.{◌≡◌, ◌≤◌, ◌<◌, ℕ, ◌+◌, Bool, false, true, nat_eq, Option, Some, None, List, [], ◌∷◌, map, length}
-use Rattle.os8_dir.specs.Entries.{contains}
 use Rattle.os8_dir.specs.Files.{files_of, capacity_of, limit_of, above_of}
 use Rattle.os8_files.specs.Calls.{info_of}
 use Rattle.os8_files.specs.Holds.{times}
@@ -94,40 +93,6 @@ FitsIn (Some it) = Fits it.work it.left
 abbrev pub AllFit : List (Option Job) → Type 0
 AllFit [] = Unit {0}
 AllFit (it ∷ jobs) = FitsIn it × AllFit jobs
-
--- a job that goes on loads the same file
-abbrev pub FitsOn : ℕ → Work → ℕ → Type 0
-FitsOn hold (work.Loading it) left = LoadingFits it left × (it.hold ≡ hold)
-FitsOn hold (work.Assembling it) left = ⊥
-FitsOn hold (work.Squeezing clean) left = ⊥
-
-abbrev pub FitsAfter : ℕ → Option Job → Type 0
-FitsAfter hold None = Unit {0}
-FitsAfter hold (Some it) = FitsOn hold it.work it.left
-
--- the turns that a job has left, where it isn't at its end
-abbrev pub left_of : Option Job → ℕ
-left_of None = 0
-left_of (Some it) = it.left
-
--- the names that a job holds, where it isn't at its end
-abbrev pub names_in : Option Job → List ℕ
-names_in None = []
-names_in (Some it) = held_by_work (work_of it.work)
-
--- the jobs behind a turn, where its end may have changed the directory
-abbrev pub jobs_after : Bool → List (Option Job) → List (Option Job)
-jobs_after true jobs = disturbed jobs
-jobs_after false jobs = jobs
-
--- the same without what they keep
-abbrev pub plain_after : Bool → List (Option plain.Job) → List (Option plain.Job)
-plain_after true jobs = plain.disturbed jobs
-plain_after false jobs = jobs
-
--- a name is held just where a job names it
-abbrev pub AreNamed : List ℕ → List (Option plain.Job) → Type 0
-AreNamed holds jobs = (name : ℕ) → contains holds name ≡ contains (held_by jobs) name
 
 -- ## All jobs
 

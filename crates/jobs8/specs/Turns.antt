@@ -29,14 +29,6 @@ pub record HasWorked (old : State) (number : ℕ) (it : Job) (new : State) : Typ
 abbrev pub HasEnded : State → ℕ → State → Type 0
 HasEnded old number new = new ≡ record old { jobs = with_job number None old.jobs }
 
--- the file of a job that assembles has been put: other entries' squeezing jobs are clean no longer
-abbrev pub is_assembled : Answer → Bool
-is_assembled (Ok Working) = false
-is_assembled (Ok (Assembled name blocks)) = true
-is_assembled (Ok (Loaded name)) = false
-is_assembled (Ok Squeezed) = false
-is_assembled (Err why) = false
-
 -- ## Loading
 
 -- core is overlaid with the tape in the file, and the job ends

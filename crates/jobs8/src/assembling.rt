@@ -1,7 +1,7 @@
 //! The turns of a job that assembles: a block a turn, all blocks twice, and the target at the last.
 ghost use Rattle.std.specs.Prelude.{◌≡◌, ◌≤◌, ℕ, None, false, List};
 ghost use Rattle.os8_files.specs.Holds.{times};
-ghost use Rattle.jobs8.specs.Calls.{TurnsJob};
+ghost use Rattle.jobs8.specs.Steps.{TurnsJob};
 ghost use Rattle.jobs8.specs.Sources.{names_of, AssemblyFits, AssemblyStands};
 ghost use Rattle.jobs8.specs.declared.kinds.Work.TheVariants as work;
 

@@ -2,7 +2,8 @@
 ghost use Rattle.std.specs.Prelude.{◌≡◌, ◌≤◌, ◌<◌, length, None, false, IsErrOf};
 ghost use Rattle.os8_dir.specs.Entries.{IsNamed};
 ghost use Rattle.os8_dir.specs.Files.{files_of};
-ghost use Rattle.jobs8.specs.Sources.{names_of, without_holds, AssemblyFits, AssemblyStands, BeginsAssembly, ReadsSource};
+ghost use Rattle.jobs8.specs.Sources.{names_of, AssemblyFits, AssemblyStands};
+ghost use Rattle.jobs8.specs.Steps.{without_holds, BeginsAssembly, ReadsSource};
 ghost use Rattle.jobs8.specs.State.{words_in};
 
 use crate::JobFault;

@@ -1,5 +1,5 @@
 ghost use Rattle.std.specs.Prelude.{◌≡◌};
-ghost use Rattle.jobs8.specs.Faults.{is_memory};
+ghost use Rattle.jobs8.specs.Steps.{is_memory};
 
 use bin_tape::TapeFault;
 use os8_files::FileFault;

@@ -5,9 +5,9 @@ ghost use Rattle.core_load.specs.Load.{IsLoaded};
 ghost use Rattle.os8_dir.specs.Files.{files_of};
 ghost use Rattle.os8_files.specs.Holds.{without_hold};
 ghost use Rattle.jobs8.specs.declared.faults.JobFault.TheVariants as fault;
-ghost use Rattle.jobs8.specs.Calls.{BeginsLoading, TurnsLoading};
+ghost use Rattle.jobs8.specs.Steps.{BeginsLoading, TurnsLoading, LoadsOn, TakesFrames, ReadsBlock, EndsTape};
 ghost use Rattle.pal_blocks.specs.Blocks.{block_at};
-ghost use Rattle.jobs8.specs.Reading.{HasWords, LoadsOn, HasTaken, TakesFrames, IsLoading, ReadsBlock, EndsTape};
+ghost use Rattle.jobs8.specs.Reading.{HasWords, HasTaken, IsLoading};
 ghost use Rattle.jobs8.specs.Settled.{LoadingFits};
 
 use crate::faults::is_memory;

@@ -2,7 +2,8 @@
 ghost use Rattle.std.specs.Prelude.{◌≡◌, ◌≤◌, ◌<◌, ℕ, Option, Some, None, [], ◌∷◌, length, get_or, slice_set, false};
 ghost use Rattle.os8_dir.specs.Files.{files_of};
 ghost use Rattle.os8_files.specs.Mounted.{Mounted};
-ghost use Rattle.jobs8.specs.Sources.{names_of, AreFirst, without_holds, HasHeld, TakesNext, TakesAll};
+ghost use Rattle.jobs8.specs.Sources.{names_of, AreFirst};
+ghost use Rattle.jobs8.specs.Steps.{without_holds, HasHeld, TakesNext, TakesAll};
 
 use crate::JobFault;
 use os8_dir::Name;

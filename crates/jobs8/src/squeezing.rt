@@ -3,7 +3,7 @@ ghost use Rattle.std.specs.Prelude.{◌≡◌, ◌≤◌, Result};
 ghost use Rattle.os8_files.specs.Calls.{Squeezes};
 ghost use Rattle.os8_files.specs.declared.faults.FileFault as fault;
 ghost use Rattle.os8_files.specs.declared.tokens.Squeezed as token;
-ghost use Rattle.jobs8.specs.Calls.{SqueezeTurns};
+ghost use Rattle.jobs8.specs.Steps.{SqueezeTurns};
 
 use crate::faults::is_memory;
 use crate::{Job, JobFault, Turned, Work};

@@ -4,7 +4,7 @@ ghost use Rattle.std.specs.List.{position};
 ghost use Rattle.std.specs.Option.{is_some, is_none};
 ghost use Rattle.jobs8.specs.Jobs as plain;
 ghost use Rattle.os8_files.specs.Mounted.{Mounted};
-ghost use Rattle.jobs8.specs.Calls.{without_job, without_jobs};
+ghost use Rattle.jobs8.specs.Steps.{without_job, without_jobs};
 ghost use Rattle.jobs8.specs.Settled as settled;
 ghost use Rattle.jobs8.specs.declared.kinds.Job as job;
 ghost use Rattle.jobs8.specs.Settled.{IsSettled};

@@ -2,10 +2,10 @@
 ghost use Rattle.std.specs.Prelude.{◌≡◌, ◌≤◌, ◌<◌, ℕ, false, None, Some, length};
 ghost use Rattle.os8_dir.specs.Entries.{IsNamed};
 ghost use Rattle.os8_files.specs.Holds.{times};
-ghost use Rattle.jobs8.specs.Calls.{StartsAssembling, StartsLoading, StartsSqueezing, TakesTurn, TurnsJob};
+ghost use Rattle.jobs8.specs.Calls.{StartsAssembling, StartsLoading, StartsSqueezing, TakesTurn};
+ghost use Rattle.jobs8.specs.Steps.{TurnsJob, is_assembled, names_in};
 ghost use Rattle.jobs8.specs.Jobs as plain;
-ghost use Rattle.jobs8.specs.Turns as turned;
-ghost use Rattle.jobs8.specs.Settled.{IsSettled, Fits, Stands, names_in, plain_jobs};
+ghost use Rattle.jobs8.specs.Settled.{IsSettled, Fits, Stands, plain_jobs};
 
 use crate::assembling::assembling_turn;
 use crate::loading::loading_turn;
@@ -145,7 +145,7 @@ impl Jobs {
 
 /// Whether a job has put its target.
 fn is_assembled(answer: &Result<Turned, JobFault>) -> bool
-    ensures { result ≡ turned.is_assembled answer.now }
+    ensures { result ≡ is_assembled answer.now }
 {
     matches!(answer, Ok(Turned::Assembled { name: _, blocks: _ }))
 }

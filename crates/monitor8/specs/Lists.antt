@@ -15,12 +15,6 @@ pub record IsListed (frames text : List ℕ) : Type 0 where
   pub is_tape : IsTape frames items
   pub lines : text ≡ lines_below items 32768
 
--- the fault that ends the listing of frames
-abbrev pub IsListingFault : List ℕ → SessionFault → Type 0
-IsListingFault frames (Tape fault) = IsFault frames fault
-IsListingFault frames Memory = Unit {0}
-IsListingFault frames fault = ⊥
-
 -- What listing a reader's tape comes to: its lines are written and nothing else; on a fault of the tape, of the reader
 -- or of memory nothing is written.
 abbrev pub ListsTape : Option (List ℕ) → Option (List ℕ) → Option (List ℕ) → Option (List ℕ) → Result (Unit {0}) SessionFault → Type 0

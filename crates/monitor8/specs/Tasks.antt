@@ -1,13 +1,12 @@
 -- What a command line asks of the program. The words are read as the library `clap` reads them: its own definitions
 -- say which words a command takes, what they come to, and the kinds of error that others meet.
-use Rattle.std.specs.Prelude.{◌≡◌, ◌≢◌, ◌⊎◌, ◌≤◌, ⊤, Bool, true, false, if◌then◌else◌, ℕ, codes, is_some, List, [], ◌∷◌, Option, None, Some, Result, Ok, Err}
+use Rattle.std.specs.Prelude.{◌≡◌, ◌≢◌, ◌≤◌, ⊤, Bool, true, false, if◌then◌else◌, ℕ, codes, List, [], ◌∷◌, Option, None, Some, Result, Ok, Err}
 use Rattle.std.specs.Option.{option_map_or}
 use Rattle.std.specs.Str.{bytes_eq}
 use Rattle.std.specs.Str.Parse.{digits_value, without_leading_plus}
-use Rattle.clap.specs.Words.{App, Row, Rule, Text, first_of, fault_of, kind_of, new_app, new_rule, one_of, subcommand_of, takes, with_rule, with_subcommand, IsAmong, IsUnsignedIn}
+use Rattle.clap.specs.Words.{App, Row, Rule, Text, first_of, fault_of, kind_of, new_app, new_rule, one_of, subcommand_of, takes, with_rule, with_subcommand, IsAmong}
 use Rattle.clap.specs.declared.builder.value_parser.ValueParser.TheVariants.{Unsigned}
 use Rattle.clap.specs.declared.builder.action.ArgAction.TheVariants.{SetTrue}
-use Rattle.clap.specs.declared.error.Error.{Error}
 use Rattle.clap.specs.declared.error.kind.ErrorKind.TheVariants.{OutOfMemory}
 use Rattle.archive8.specs.declared.forms.GetForm.{GetForm}
 use Rattle.archive8.specs.declared.forms.GetForm.TheVariants as get_as
@@ -144,36 +143,6 @@ abbrev pub Answers : List Text → Result Task TaskFault → Type 0
 Answers words (Ok task) = (fault_of pdp8 words ≡ []) × Asks (subcommand_of pdp8 words) task × HasFitBlocks task
 Answers words (Err (Words error)) = IsAmong (kind_of error) (fault_of pdp8 words) × (kind_of error ≢ OutOfMemory)
 Answers words (Err Memory) = ⊤
-
--- an error of `clap` as a fault: its want of memory is the program's
-abbrev pub IsFaultOf : Error → TaskFault → Type 0
-IsFaultOf error (Words same) = (same ≡ error) × (kind_of error ≢ OutOfMemory)
-IsFaultOf error Memory = kind_of error ≡ OutOfMemory
-
--- ## What a subcommand has found by then
-
-abbrev pub HasImage : List Row → Type 0
-HasImage values = is_some (first_of (codes "IMAGE") values) ≡ true
-
-abbrev pub HasName : List Row → Type 0
-HasName values = is_some (first_of (codes "NAME") values) ≡ true
-
-abbrev pub HasBlocks : List Row → Type 0
-HasBlocks values = (text : Text) × (one_of (codes "BLOCKS") values ≡ Some text) × IsUnsignedIn 8 4095 text
-
--- the same of the subcommands for files of a volume
-abbrev pub HasFiles : Text → List Row → Type 0
-HasFiles name values = ((name ≡ codes "list") × HasImage values) ⊎ (((name ≡ codes "get") × HasImage values × HasName values)
-    ⊎ (((name ≡ codes "put") × HasImage values × HasName values) ⊎ ((name ≡ codes "check") × HasImage values)))
-
--- the subcommand of this name has the values that it needs
-abbrev pub IsWhole : Text → List Row → Type 0
-IsWhole name values = (name ≡ codes "tape") ⊎ ((name ≡ codes "source") ⊎ (((name ≡ codes "run") × HasImage values)
-    ⊎ (((name ≡ codes "create") × HasImage values × HasBlocks values) ⊎ HasFiles name values)))
-
-abbrev pub HasMet : Option (Text × List Row) → Type 0
-HasMet None = ⊥
-HasMet (Some met) = IsWhole met.0 met.1
 
 -- ## Plain command lines
 

@@ -3,7 +3,8 @@ ghost use Rattle.std.specs.Io.KnownBytes.{Appends};
 ghost use Rattle.bin_tape.specs.Map.{IsMapOf};
 ghost use Rattle.session8.specs.Reading.{Takes};
 ghost use Rattle.monitor8.specs.Listing.{cell_line, line_of, lines_below};
-ghost use Rattle.monitor8.specs.Lists.{IsListed, IsListingFault, ListsTape};
+ghost use Rattle.monitor8.specs.Lists.{IsListed, ListsTape};
+ghost use Rattle.monitor8.specs.ListSteps.{IsListingFault};
 ghost use Rattle.script8.specs.declared.faults.SessionFault.TheVariants as fault;
 
 use bin_tape::TapeMap;

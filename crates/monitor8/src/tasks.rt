@@ -5,7 +5,8 @@ ghost use Rattle.monitor8.specs.declared.kinds.TaskFault.TheVariants.{Memory};
 ghost use Rattle.archive8.specs.declared.forms.GetForm.TheVariants as get_as;
 ghost use Rattle.archive8.specs.declared.forms.PutForm.TheVariants as put_as;
 ghost use Rattle.monitor8.specs.Tasks.{IsCheckOf, IsCreateOf, IsGetOf, IsListOf, IsPlain, IsPutOf, IsRunOf, IsSource, IsTakenAs, IsTape};
-ghost use Rattle.monitor8.specs.Tasks.{Answers, Asks, AsksFor, HasBlocks, HasFiles, HasFitBlocks, HasImage, HasMet, HasName, IsFaultOf, IsWhole};
+ghost use Rattle.monitor8.specs.Tasks.{Answers, Asks, AsksFor, HasFitBlocks};
+ghost use Rattle.monitor8.specs.TaskSteps.{HasBlocks, HasFiles, HasImage, HasMet, HasName, IsFaultOf, IsWhole};
 ghost use Rattle.monitor8.specs.Tasks.{bare_app, blocks_rule, create_app, files_app, image_rule, number_of, pdp8, run_app, source_app, tape_app, tapes_app, volumes_app};
 ghost use Rattle.monitor8.specs.Tasks as spec;
 

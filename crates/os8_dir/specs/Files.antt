@@ -1,5 +1,5 @@
 -- The files of a volume: a map from name to information words and words of all blocks.
-use Rattle.std.specs.Prelude.{◌≡◌, ℕ, List, [], ◌∷◌, ◌++◌, take, drop, Option, Some, None, Result, Ok, Err}
+use Rattle.std.specs.Prelude.{ℕ, List, [], ◌∷◌, ◌++◌, take, drop, Option, Some, None, Result, Ok, Err}
 use Rattle.std.specs.Ordering.{nat_cmp}
 use Rattle.std.specs.FinMap.{FinMap, from_entries}
 use Rattle.os8_dir.specs.declared.faults.DirFault.{DirFault}
@@ -64,7 +64,3 @@ limit_of blocks = of_directory limit (directory_of blocks)
 -- how many files have a covered block of no file below them
 unfoldable pub above_of : List (List ℕ) → ℕ
 above_of blocks = of_directory (λ d. above d.entries) (directory_of blocks)
-
--- no file has
-abbrev pub Tight : List (List ℕ) → Type 0
-Tight blocks = above_of blocks ≡ 0

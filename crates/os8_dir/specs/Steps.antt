@@ -1,16 +1,17 @@
 -- What small steps of the code answer. No contract of a public function cites these.
 use Rattle.std.specs.Prelude.{◌≡◌, ℕ, ◌+◌, ◌==◌, Bool, true, false, not, ◌&&◌, ◌||◌, List, [], ◌∷◌, nat_lt, if◌then◌else◌, slice_set, Option, Some, None, Result, Ok, Err}
 use Rattle.std.specs.Ordering.{nat_cmp}
-use Rattle.std.specs.BTreeSet.{BTreeSet}
-use Rattle.std.specs.BTreeSet as set
+use Rattle.std.specs.BTreeSet.{BTreeSet, contains}
 use Rattle.std.specs.Borrow.{Bor}
 use Rattle.os8_dir.specs.declared.entries.DirEntry.{DirEntry}
 use Rattle.os8_dir.specs.declared.entries.DirEntry.TheVariants.{File, Empty}
-use Rattle.os8_dir.specs.Entries.{is_zero}
+use Rattle.os8_dir.specs.Entries.{is_zero, names_of, contains as listed}
 use Rattle.os8_dir.specs.Found.{room_of}
 use Rattle.os8_dir.specs.declared.faults.DirFault.{DirFault}
 use Rattle.os8_dir.specs.declared.faults.DirFault.TheVariants.{BadLink, BadCount, EntryPastSegment, PastVolume, SameName, WrongFirstBlock, MixedInfo, Device, Memory}
 use Rattle.os8_dir.specs.Reading.{Meets}
+use Rattle.os8_dir.specs.Kept.{IsKept}
+use Rattle.std.specs.BTreeSet as set
 
 -- the entry is the file of a name
 abbrev pub is_named : ℕ → DirEntry → Bool
@@ -97,3 +98,10 @@ or_better wish (Some room) other = Some (better wish room other)
 abbrev pub with_room : ℕ → Option (ℕ × ℕ) → ℕ → DirEntry → Option (ℕ × ℕ)
 with_room wish chosen place (File name info size) = chosen
 with_room wish chosen place (Empty size) = if nat_lt size wish then chosen else or_better wish chosen (Some (place, size))
+
+-- ## Kept
+
+-- the same while segments are read: a set has the names of the files
+pub record IsDraft (first info end : ℕ) (entries : List DirEntry) (names : BTreeSet ℕ) : Type 0 where
+  pub kept : IsKept first info end entries
+  pub known : (name : ℕ) → contains nat_cmp names name ≡ listed (names_of entries) name

@@ -26,7 +26,7 @@ pub struct Draft {
 
 impl Model for Draft {
     ghost use Rattle.os8_dir.specs.Entries.{Listed};
-    ghost use Rattle.os8_dir.specs.Kept.{IsDraft};
+    ghost use Rattle.os8_dir.specs.Steps.{IsDraft};
 
     ghost Value = { Listed };
 

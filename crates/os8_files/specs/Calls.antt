@@ -11,7 +11,7 @@ use Rattle.os8_dir.specs.Found.{rooms_at, largest, size_or_zero}
 use Rattle.os8_dir.specs.Files.{Held, Files, files_of, run, of_directory, limit_of, above_of, capacity_of}
 use Rattle.os8_dir.specs.Changes.{removed, placed, new_file, moved_down, fitting}
 use Rattle.os8_dir.specs.declared.faults.DirFault.{DirFault}
-use Rattle.os8_files.specs.Mounted.{Mounted, Begun, IsBegun}
+use Rattle.os8_files.specs.Mounted.{Mounted, Begun}
 use Rattle.os8_files.specs.Service.{blocks_in, blocks_of, lengths_of, used_of, count_of}
 use Rattle.os8_dir.specs.Segments.{HoldsSegments, segment_count}
 use Rattle.os8_files.specs.Failed.{extent_or, listed_or, with_list, lowest_or, KeepsDirectory, FoundAgain, FoundAgainBut, StandInFull, IsWrittenInPart}
@@ -335,23 +335,6 @@ Closes old name info (Err Device) new = (begun : Begun) × IsWriting old begun �
 Closes old name info (Err Stopped) new = (old.stopped ≡ true) × (new ≡ Spent old)
 Closes old name info (Err Memory) new = (begun : Begun) × IsWriting old begun × (0 < begun.written) × IsFree old name × (new ≡ Spent old)
 Closes old name info (Err fault) new = ⊥
-
--- no write has failed, no file is being written, and this one lies at the beginning of an empty
-pub record IsPlaced (m : Mounted) (begun : Begun) : Type 0 where
-  pub ready : IsReady m
-  pub directory : Listed
-  pub read : directory_of m.blocks ≡ Ok directory
-  pub lies : IsBegun directory begun
-
--- what placing that file in the directory answers: where it is done, the file that was being written is closed
-abbrev pub Places : Mounted → ℕ → Begun → List ℕ → Result (Unit {0}) FileFault → Mounted → Type 0
-Places old name begun info (Ok done) new = HasClosed (record old { tentative = Some begun }) name info new
-Places old name begun info (Err NothingWritten) new = (begun.written ≡ 0) × (new ≡ old)
-Places old name begun info (Err (Busy other)) new = (0 < begun.written) × (other ≡ name) × IsHeld old name × (new ≡ old)
-Places old name begun info (Err DirectoryFull) new = (0 < begun.written) × IsFree old name × (limit_of old.blocks < entries_with begun info old.blocks) × IsOver old.blocks (insert (files_of old.blocks) name (new_held old begun info)) × (new ≡ old)
-Places old name begun info (Err Device) new = PlaceFailed old begun info new
-Places old name begun info (Err Memory) new = (0 < begun.written) × IsFree old name × (new ≡ old)
-Places old name begun info (Err fault) new = ⊥
 
 -- the lowest file with an empty directly below it lies lower by that empty, with one read for each of its blocks; the files
 -- are the same

@@ -1,11 +1,14 @@
 -- What small steps of the code answer. No contract of a public function cites these.
-use Rattle.std.specs.Prelude.{◌≡◌, ◌≤◌, ℕ, suc, ◌==◌, nat_lt, if◌then◌else◌, false, Some, List, [], ◌∷◌, Result, Ok, Err}
+use Rattle.std.specs.Prelude.{◌≡◌, ◌≤◌, ℕ, suc, ◌==◌, nat_lt, if◌then◌else◌, false, Some, List, [], ◌∷◌, Result, Ok, Err, ◌<◌}
 use Rattle.os8_dir.specs.Files.{files_of, limit_of, above_of, capacity_of, run}
-use Rattle.os8_files.specs.Mounted.{Mounted, Begun}
+use Rattle.os8_files.specs.Mounted.{Mounted, Begun, IsBegun}
 use Rattle.os8_files.specs.Failed.{KeepsDirectory, Survives}
-use Rattle.os8_files.specs.Calls.{HasFailed, KeepsBlocks, RisesBy, Spent, counted_more, info_of}
+use Rattle.os8_files.specs.Calls.{HasFailed, KeepsBlocks, RisesBy, Spent, counted_more, info_of, IsFree, IsHeld, IsReady, IsOver, entries_with, new_held, HasClosed, PlaceFailed}
 use Rattle.os8_files.specs.declared.faults.FileFault.{FileFault}
-use Rattle.os8_files.specs.declared.faults.FileFault.TheVariants.{Device}
+use Rattle.os8_files.specs.declared.faults.FileFault.TheVariants.{Device, DirectoryFull, Busy, Memory, NothingWritten}
+use Rattle.std.specs.FinMap.{insert}
+use Rattle.os8_dir.specs.Entries.{Listed}
+use Rattle.os8_dir.specs.Reading.{directory_of}
 
 -- how many holds stand before the place of a name
 abbrev pub place_of : ℕ → List ℕ → ℕ
@@ -50,3 +53,22 @@ abbrev pub Fills : Mounted → List ℕ → ℕ → Result (Unit {0}) FileFault 
 Fills old words blocks (Ok done) new = (begun : Begun) × HasFilled old begun words blocks new
 Fills old words blocks (Err Device) new = FillFailed old blocks new
 Fills old words blocks (Err fault) new = ⊥
+
+-- ## Calls
+
+-- no write has failed, no file is being written, and this one lies at the beginning of an empty
+pub record IsPlaced (m : Mounted) (begun : Begun) : Type 0 where
+  pub ready : IsReady m
+  pub directory : Listed
+  pub read : directory_of m.blocks ≡ Ok directory
+  pub lies : IsBegun directory begun
+
+-- what placing that file in the directory answers: where it is done, the file that was being written is closed
+abbrev pub Places : Mounted → ℕ → Begun → List ℕ → Result (Unit {0}) FileFault → Mounted → Type 0
+Places old name begun info (Ok done) new = HasClosed (record old { tentative = Some begun }) name info new
+Places old name begun info (Err NothingWritten) new = (begun.written ≡ 0) × (new ≡ old)
+Places old name begun info (Err (Busy other)) new = (0 < begun.written) × (other ≡ name) × IsHeld old name × (new ≡ old)
+Places old name begun info (Err DirectoryFull) new = (0 < begun.written) × IsFree old name × (limit_of old.blocks < entries_with begun info old.blocks) × IsOver old.blocks (insert (files_of old.blocks) name (new_held old begun info)) × (new ≡ old)
+Places old name begun info (Err Device) new = PlaceFailed old begun info new
+Places old name begun info (Err Memory) new = (0 < begun.written) × IsFree old name × (new ≡ old)
+Places old name begun info (Err fault) new = ⊥

@@ -1,4 +1,4 @@
--- What the blocks are where a directory is written.
+-- What the blocks are where a directory is written, for private clauses.
 use lib.Pointwise.{pointwise}
 use Rattle.std.specs.Prelude.{nat_eq, if◌then◌else◌, ◌≡◌, ◌⊎◌, ◌-◌, ◌≤◌, ◌<◌, take, ℕ, zero, suc, List, [], ◌∷◌, length, drop, slice_set, Result, Ok, Err}
 use Rattle.os8_dir.specs.Entries.{Listed}

@@ -12,7 +12,7 @@ use Rattle.pal_asm.specs.declared.faults.Code.TheVariants.{DT, RD}
 use Rattle.pal_asm.specs.Expressions.{Known, value_of}
 use Rattle.pal_asm.specs.Places.{with_tags, with_body, is_among}
 use Rattle.pal_asm.specs.Faults.{past, defined_otherwise, tags_fault, body_fault}
-use Rattle.pal_asm.specs.Passes.{with_again, with_tags_again, with_body_again}
+use Rattle.pal_asm.specs.PassSteps.{with_again, with_tags_again, with_body_again}
 use Rattle.pal_asm.proofs.NameLemmas.{behind_one, first_one, with_tag_more}
 use Rattle.pal_asm.proofs.WholeLemmas.{Grows, IsKnown, first_none, second_none, some_none, or_right, same_value, valued, same_number, kept_value, in_core}
 

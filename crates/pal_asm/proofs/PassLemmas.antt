@@ -14,7 +14,8 @@ use Rattle.pal_asm.specs.Expressions.{Known}
 use Rattle.pal_asm.specs.Places.{Source, is_word, sets_location, words_since, set_by, with_tags, with_body, is_among, is_fixed, fixed_at, last_setting, values, place_at, values_at, field_by}
 use Rattle.pal_asm.specs.Faults.{first_of, tags_fault, body_fault, statement_fault, at_line}
 use Rattle.pal_asm.specs.Progress.{Progress}
-use Rattle.pal_asm.specs.Passes.{place_by, spot_by, AreDefined, PassesBody, IsRead, Reads, fault_by_table, tagged, tagged_fixed, IsFirst, AnswersFirst}
+use Rattle.pal_asm.specs.PassSteps.{place_by, spot_by, AreDefined, PassesBody, IsRead, Reads, fault_by_table, tagged, tagged_fixed}
+use Rattle.pal_asm.specs.Passes.{IsFirst, AnswersFirst}
 
 place_step : (known : Known) (body : Body) (setting words : ℕ)
     → set_by known (setting + words) body setting + (if sets_location body then 0 else ((if is_word body then 1 else 0) + words))

@@ -14,7 +14,8 @@ use Rattle.pal_asm.specs.Places.{Source, is_among, fixed_at, values, place_at, v
 use Rattle.pal_asm.specs.Words.{word_values, body_word, with_pair, pairs_by}
 use Rattle.pal_asm.specs.Faults.{first_of, tags_fault, body_fault, at_line, first_order, last_line, word_fault}
 use Rattle.pal_asm.specs.Progress.{Progress}
-use Rattle.pal_asm.specs.Passes.{place_by, spot_fault, with_tags_again, with_body_again, second_values, with_handed, IsMade, IsFirst, IsSecond, AnswersSecond}
+use Rattle.pal_asm.specs.PassSteps.{place_by, spot_fault, with_tags_again, with_body_again, IsMade}
+use Rattle.pal_asm.specs.Passes.{second_values, with_handed, IsFirst, IsSecond, AnswersSecond}
 use Rattle.pal_asm.proofs.PassLemmas.{progress, place_passed}
 use Rattle.pal_asm.proofs.WholeLemmas.{IsKnown, first_none, second_none, or_right, tags_keep, no_fault_at, no_fault_before, permanent_kept, tag_to_whole, body_to_whole, same_place, same_field, goes_on, same_pair}
 use Rattle.pal_asm.proofs.AgainLemmas.{grows_over, tags_set, body_set}

@@ -14,7 +14,8 @@ use Rattle.pal_asm.specs.Places.{Source, values}
 use Rattle.pal_asm.specs.Faults.{first_of, first_order, no_end, words_fault}
 use Rattle.pal_asm.specs.Progress.{Progress}
 use Rattle.pal_asm.specs.Passes.{IsFirst}
-use Rattle.pal_asm.specs.Texts.{texts, are_several, PausesAt, ends_source, PassesByte, Behind, HasMade, MakesByte, EndsText, JoinsAt, ReadsAll, PassesSource, MakesSource, IsFirstOf, IsFirstFault, IsWordsFault, RanOut}
+use Rattle.pal_asm.specs.Texts.{texts, Behind, RanOut}
+use Rattle.pal_asm.specs.TextSteps.{are_several, PausesAt, ends_source, PassesByte, HasMade, MakesByte, EndsText, JoinsAt, ReadsAll, PassesSource, MakesSource, IsFirstOf, IsFirstFault, IsWordsFault}
 use Rattle.pal_asm.proofs.NameLemmas.{behind_one, first_one}
 use Rattle.pal_asm.proofs.TextLemmas.{behind_others, no_lex_fault, first_stays, words_stay}
 

@@ -21,7 +21,8 @@ use Rattle.pal_asm.specs.Faults.{first_of, at_line, lexical, statement_fault, fi
 use Rattle.pal_asm.specs.Laws.{FixedNamesKeepTheirValues, FirstFaultStays, WordFaultStays, NoWordIsTold, LexicalFaultIsTold, NoLexicalFault, StatementsStay, NoFaultBefore, FirstStatementsTell, FirstWordsTell, NoEndIsTold}
 use Rattle.pal_asm.specs.Progress.{Progress}
 use Rattle.pal_asm.specs.Passes.{IsFirst, IsSecond, AnswersFirst, AnswersSecond, with_handed, TurnsOver}
-use Rattle.pal_asm.specs.Texts.{ReadsTo, PausesAt, ends_source, PassesStatement, PassesByte, Behind, HasMade, MakesStatement, EndsText, MakesByte, IsFirstOf, IsFaultOf, IsFirstFault, IsWordsFault}
+use Rattle.pal_asm.specs.TextSteps.{ReadsTo, PausesAt, ends_source, PassesStatement, PassesByte, HasMade, MakesStatement, EndsText, MakesByte, IsFirstOf, IsFirstFault, IsWordsFault}
+use Rattle.pal_asm.specs.Texts.{Behind, IsFaultOf}
 use Rattle.pal_asm.proofs.WholeLemmas.{first_none, second_none, some_none, no_fault_before, fixed_keep}
 
 -- ## Statements

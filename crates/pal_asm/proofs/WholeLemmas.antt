@@ -17,7 +17,8 @@ use Rattle.pal_asm.specs.Expressions.{Known, term_value, joined, joined_values, 
 use Rattle.pal_asm.specs.Places.{Source, with_tags, with_body, is_among, is_fixed, fixed_at, values, place_at, values_at, field_by}
 use Rattle.pal_asm.specs.Words.{body_word, with_pair}
 use Rattle.pal_asm.specs.Faults.{first_of, past, undefined, defined_otherwise, term_fault, terms_fault, tags_fault, definition_fault, body_fault, statement_fault, at_line, first_order}
-use Rattle.pal_asm.specs.Passes.{place_by, spot_fault, pair_at, with_handed}
+use Rattle.pal_asm.specs.PassSteps.{place_by, spot_fault, pair_at}
+use Rattle.pal_asm.specs.Passes.{with_handed}
 
 -- each name keeps its value
 abbrev pub Grows : Known → Known → Type 0

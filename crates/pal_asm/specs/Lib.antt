@@ -6,3 +6,5 @@ pub mod Progress
 pub mod Passes
 pub mod Texts
 pub mod Laws
+pub mod PassSteps
+pub mod TextSteps

@@ -3,7 +3,7 @@
 ghost use Rattle.std.specs.Prelude.{◌≡◌, ℕ, ◌+◌, ◌<◌, ◌≤◌, Option, Some, None, IfOk, OnOk};
 ghost use Rattle.pal_sym.specs.Values.{symbol_value};
 ghost use Rattle.pal_lex.specs.declared.phrases.Body.{Body};
-ghost use Rattle.pal_asm.specs.Passes.{Moves, Makes, SetsValue, spot_by, spot_fault, with_tags_again, with_body_again};
+ghost use Rattle.pal_asm.specs.PassSteps.{Moves, Makes, SetsValue, spot_by, spot_fault, with_tags_again, with_body_again};
 
 use crate::Code;
 use crate::expressions::value_of;

@@ -5,7 +5,8 @@ ghost use Rattle.pal_lex.specs.Reading.{with_tokens, is_pause_body};
 ghost use Rattle.pal_asm.specs.declared.faults.AsmFault.TheVariants.{At};
 ghost use Rattle.pal_asm.specs.Places.{Source};
 ghost use Rattle.pal_asm.specs.Faults.{past};
-ghost use Rattle.pal_asm.specs.Passes.{Moves, Makes, spot_by, spot_fault, with_tags_again, with_body_again, SetsValue, IsFirst, IsSecond, AnswersFirst, AnswersSecond, TurnsOver, HasTurned, HasNotTurned, StaysFailed};
+ghost use Rattle.pal_asm.specs.PassSteps.{Moves, Makes, spot_by, spot_fault, with_tags_again, with_body_again, SetsValue};
+ghost use Rattle.pal_asm.specs.Passes.{IsFirst, IsSecond, AnswersFirst, AnswersSecond, TurnsOver, HasTurned, HasNotTurned, StaysFailed};
 
 use crate::again::{made, set_tags};
 use crate::names::{definitions, pass};

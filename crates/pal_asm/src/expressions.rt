@@ -2,7 +2,7 @@ ghost use Rattle.std.specs.Prelude.{◌≡◌, ◌<◌, IfOk};
 ghost use Rattle.pal_sym.specs.Values.{symbol_value};
 ghost use Rattle.pal_asm.specs.Expressions.{term_value, value_of, joined, address_value};
 ghost use Rattle.pal_asm.specs.Faults.{undefined, past, term_fault, terms_fault, address_fault};
-ghost use Rattle.pal_asm.specs.Passes.{Gives};
+ghost use Rattle.pal_asm.specs.PassSteps.{Gives};
 
 use crate::Code;
 use pal_lex::{Expression, Joint, Name, Part, Term};

@@ -1,7 +1,8 @@
 ghost use Rattle.std.specs.Prelude.{◌≡◌, ◌+◌, ◌≤◌, length};
 ghost use Rattle.pal_sym.specs.Values.{symbol_value};
 ghost use Rattle.pal_lex.specs.declared.phrases.Body.{Body};
-ghost use Rattle.pal_asm.specs.Passes.{definitions, DefinesTags, PassesBody, Reads};
+ghost use Rattle.pal_asm.specs.Passes.{definitions};
+ghost use Rattle.pal_asm.specs.PassSteps.{DefinesTags, PassesBody, Reads};
 
 use crate::Code;
 use crate::expressions::{place_value, value_of};

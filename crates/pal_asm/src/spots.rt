@@ -3,7 +3,7 @@ ghost use Rattle.pal_sym.specs.Values.{symbol_value};
 ghost use Rattle.pal_lex.specs.declared.phrases.Body.{Body};
 ghost use Rattle.pal_asm.specs.Expressions.{value_of};
 ghost use Rattle.pal_asm.specs.Faults.{past};
-ghost use Rattle.pal_asm.specs.Passes.{Moves, spot_by, spot_fault};
+ghost use Rattle.pal_asm.specs.PassSteps.{Moves, spot_by, spot_fault};
 ghost use Rattle.pal_asm.specs.declared.spots.Spot.{Spot};
 
 use crate::Code;

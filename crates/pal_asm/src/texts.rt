@@ -11,7 +11,8 @@ ghost use Rattle.pal_lex.specs.declared.pieces.Token.{Token};
 ghost use Rattle.pal_asm.specs.Places.{Source};
 ghost use Rattle.pal_asm.specs.Faults.{first_order};
 ghost use Rattle.pal_asm.specs.Passes.{with_handed, IsFirst, IsSecond};
-ghost use Rattle.pal_asm.specs.Texts.{texts, are_several, ends_source, Behind, HasMade, ReadsTo, PassesStatement, PassesByte, MakesStatement, MakesByte, EndsText, PassesSource, MakesSource, BeginsNext, IsFirstOf, IsFirstFault, AreWordsOf, IsWordsFault, ArePairsOf, IsFaultOf};
+ghost use Rattle.pal_asm.specs.Texts.{texts, Behind, ArePairsOf, IsFaultOf};
+ghost use Rattle.pal_asm.specs.TextSteps.{are_several, ends_source, HasMade, ReadsTo, PassesStatement, PassesByte, MakesStatement, MakesByte, EndsText, PassesSource, MakesSource, BeginsNext, IsFirstOf, IsFirstFault, AreWordsOf, IsWordsFault};
 
 use crate::{AsmFault, Assembler};
 use pal_lex::laws::{byte_goes_on, join_goes_on, pause_is_bad, pause_joins, source_ends_join};

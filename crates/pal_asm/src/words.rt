@@ -2,7 +2,7 @@ ghost use Rattle.std.specs.Prelude.{◌≡◌, ◌<◌, IfOk, IfSome};
 ghost use Rattle.pal_sym.specs.Values.{symbol_value};
 ghost use Rattle.pal_asm.specs.Words.{offset_of, body_word};
 ghost use Rattle.pal_asm.specs.Faults.{word_fault};
-ghost use Rattle.pal_asm.specs.Passes.{Gives, MakesWord};
+ghost use Rattle.pal_asm.specs.PassSteps.{Gives, MakesWord};
 ghost use Rattle.pal_lex.specs.declared.phrases.Body.{Body};
 
 use crate::Code;

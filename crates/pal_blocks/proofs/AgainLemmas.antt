@@ -20,9 +20,10 @@ use Rattle.pal_blocks.specs.declared.assembling.Assembling.{Assembling}
 use Rattle.pal_blocks.specs.Blocks.{blocks_in, blocks_among, first_blocks, AreFiles, assembling_turns, turn_of}
 use Rattle.pal_blocks.specs.Sources.{newest_first, IsTapeOfSources}
 use Rattle.pal_blocks.specs.Schedule.{statements_in, joined_blocks, from_turn, known_at}
-use Rattle.pal_blocks.specs.Passing.{text_in, added, IsOver, Tells, IsWithin, IsMade, HasMade, MakesBlock, EndsSource}
+use Rattle.pal_blocks.specs.Passing.{text_in, added, IsOver, IsMade}
+use Rattle.pal_blocks.specs.Steps.{Tells, IsWithin, HasMade, MakesBlock, EndsSource, HoldsTape}
 use Rattle.pal_blocks.specs.Progress.{due_of, block_of, Place, GoesOn, IsInPass, IsSecondPass, IsAtEnd, IsAssembling}
-use Rattle.pal_blocks.specs.Turns.{TakesBlock, HoldsTape, MakesTarget}
+use Rattle.pal_blocks.specs.Turns.{TakesBlock, MakesTarget}
 use Rattle.pal_blocks.proofs.TextLemmas.{JoinedCharacters}
 use Rattle.pal_blocks.proofs.PlaceLemmas.{among_append, all_among, IsAfter, told_in, told_whole, within_whole, so_far, next_source}
 use Rattle.pal_blocks.proofs.TurnLemmas.{the_second, due_block, block_inside, more_frames, count_is, none_more, known_all, from_none, from_now, fault_all, takes_fault, lt_from, last_block, how_many, no_others, may_pause_next, next_place, end_missing, all_read}

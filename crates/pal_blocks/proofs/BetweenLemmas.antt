@@ -9,7 +9,7 @@ use Rattle.pal_asm.specs.Progress as asm
 use Rattle.pal_asm.specs.declared.faults.AsmFault.TheVariants.{At}
 use Rattle.pal_asm.specs.declared.faults.Code.TheVariants.{NE}
 use Rattle.pal_blocks.specs.declared.passing.Pass.{Pass}
-use Rattle.pal_blocks.specs.Passing.{EndsSource, TurnsPass}
+use Rattle.pal_blocks.specs.Steps.{EndsSource, TurnsPass}
 
 pub fine_there : (lexer : lex.Progress) (text : List ℕ) → HasPaused lexer text → first_fault (statements text) ≡ None
 unfolding HasPaused

@@ -16,7 +16,8 @@ use Rattle.pal_asm.specs.Progress as asm
 use Rattle.pal_asm.specs.declared.faults.AsmFault.{AsmFault}
 use Rattle.pal_asm.specs.declared.faults.AsmFault.TheVariants.{At, Memory}
 use Rattle.pal_blocks.specs.declared.passing.Pass.{Pass}
-use Rattle.pal_blocks.specs.Passing.{text_in, added, Counts, Paused, Stands, Tells, IsBehind, HasPassed, Settles, PassesTo, PassesBlock}
+use Rattle.pal_blocks.specs.Passing.{text_in, added, Counts, Paused, Stands, IsBehind}
+use Rattle.pal_blocks.specs.Steps.{Tells, HasPassed, Settles, PassesTo, PassesBlock}
 use Rattle.pal_blocks.proofs.TextLemmas.{JoinedCharacters, JoinedEnd, block_text, the_rest, all_taken}
 use Rattle.pal_blocks.proofs.PassLemmas.{paused_more, settled_by, not_settled, settle_tells}
 

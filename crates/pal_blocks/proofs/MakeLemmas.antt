@@ -23,7 +23,8 @@ use Rattle.pal_asm.specs.Progress as asm
 use Rattle.pal_asm.specs.declared.faults.AsmFault.{AsmFault}
 use Rattle.pal_asm.specs.declared.faults.AsmFault.TheVariants.{At, Memory}
 use Rattle.pal_blocks.specs.declared.passing.Pass.{Pass}
-use Rattle.pal_blocks.specs.Passing.{text_in, added, Counts, Tells, Behind, IsWithin, IsMade, HasMade, MakesStatement, MakesSome, MakesAnswer, MakesByte, MakesTo, MakesBlock}
+use Rattle.pal_blocks.specs.Passing.{text_in, added, Counts, IsMade}
+use Rattle.pal_blocks.specs.Steps.{Tells, Behind, IsWithin, HasMade, MakesStatement, MakesSome, MakesAnswer, MakesByte, MakesTo, MakesBlock}
 use Rattle.pal_blocks.proofs.TextLemmas.{JoinedCharacters, from_behind, the_rest, one_more, block_text}
 use Rattle.pal_blocks.proofs.PassLemmas.{Stays, IsNothing, same_answer, not_ok, tells_more, counts_more, pauses_here, paused_byte, goes_on_by}
 use Rattle.pal_blocks.proofs.BlockLemmas.{all_added}

@@ -17,7 +17,8 @@ use Rattle.pal_asm.specs.Passes.{IsFirst}
 use Rattle.pal_asm.specs.declared.faults.AsmFault.{AsmFault}
 use Rattle.pal_asm.specs.declared.faults.AsmFault.TheVariants.{At, Memory}
 use Rattle.pal_blocks.specs.declared.passing.Pass.{Pass}
-use Rattle.pal_blocks.specs.Passing.{Counts, Paused, Stands, Tells, is_pause_answer, IsBehind, HasPassed, Settles, PassesByte, PassesTo}
+use Rattle.pal_blocks.specs.Passing.{Counts, Paused, Stands, IsBehind}
+use Rattle.pal_blocks.specs.Steps.{Tells, is_pause_answer, HasPassed, Settles, PassesByte, PassesTo}
 use Rattle.pal_blocks.proofs.TextLemmas.{from_behind, the_rest, up_to, one_more}
 
 -- ## Faults that are told

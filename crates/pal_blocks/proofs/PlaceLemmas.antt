@@ -18,7 +18,8 @@ use Rattle.pal_asm.specs.declared.faults.Code.TheVariants.{NE}
 use Rattle.pal_blocks.specs.Blocks.{blocks_in, blocks_among, blocks_of_each, first_blocks, first_among, AreFiles}
 use Rattle.pal_blocks.specs.Sources.{texts_of, newest_first}
 use Rattle.pal_blocks.specs.Schedule.{statements_in, joined_blocks, if_paused}
-use Rattle.pal_blocks.specs.Passing.{text_in, Counts, Paused, Stands, IsOver, Tells, IsWithin, EndsSource}
+use Rattle.pal_blocks.specs.Passing.{text_in, Counts, Paused, Stands, IsOver}
+use Rattle.pal_blocks.specs.Steps.{Tells, IsWithin, EndsSource}
 use Rattle.pal_blocks.specs.Progress.{GoesOn, IsJoined}
 use Rattle.pal_blocks.proofs.TextLemmas.{JoinedCharacters, from_behind, from_both, frames-append}
 use Rattle.pal_blocks.proofs.BetweenLemmas.{fine_there}

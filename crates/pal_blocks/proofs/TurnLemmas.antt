@@ -25,7 +25,8 @@ use Rattle.pal_blocks.specs.Blocks.{blocks_in, blocks_among, blocks_of_each, fir
 use Rattle.pal_blocks.specs.Sources.{texts_of, newest_first}
 use Rattle.pal_blocks.specs.Schedule.{statements_in, joined_blocks, from_turn, known_again, known_at}
 use Rattle.pal_blocks.specs.Schedule.{if_paused}
-use Rattle.pal_blocks.specs.Passing.{text_in, added, Counts, IsMade, IsOver, Tells, IsBehind, HasPassed, Settles, PassesBlock, EndsSource, TurnsPass}
+use Rattle.pal_blocks.specs.Passing.{text_in, added, Counts, IsMade, IsOver, IsBehind}
+use Rattle.pal_blocks.specs.Steps.{Tells, HasPassed, Settles, PassesBlock, EndsSource, TurnsPass}
 use Rattle.pal_blocks.specs.Progress.{due_of, block_of, Place, text_taken, IsInPass, IsFirstPass, IsSecondPass, IsAssembling}
 use Rattle.pal_blocks.specs.Turns.{TakesBlock}
 use Rattle.pal_blocks.proofs.BeginLemmas.{lt_true, lt_false, not_yet, nothing_read, no_text, as_many, has_others, nothing_more}

@@ -4,3 +4,4 @@ pub mod Schedule
 pub mod Passing
 pub mod Progress
 pub mod Turns
+pub mod Steps

@@ -1,9 +1,6 @@
 -- What a turn of an assembling comes to.
 use Rattle.std.specs.Prelude.{◌≡◌, ℕ, ◌-◌, None, Some, List, Result, Ok, Err}
 use Rattle.std.specs.Global.{Vec}
-use Rattle.char_pack.specs.Packing.{packed_blocks, IsBlockPacking}
-use Rattle.bin_tape.specs.Pairs.{ArePairs}
-use Rattle.bin_tape.specs.Writing.{tape_of}
 use Rattle.pal_asm.specs.Faults.{fault_of}
 use Rattle.pal_asm.specs.declared.faults.AsmFault.{AsmFault}
 use Rattle.pal_asm.specs.declared.faults.AsmFault.TheVariants.{At, Memory}
@@ -20,10 +17,6 @@ TakesBlock sources left (Ok done) new =
 TakesBlock sources left (Err Memory) new = IsAssembling sources new left
 TakesBlock sources left (Err (At code line)) new =
     IsFirstKnown sources (turn_of (assembling_turns (blocks_among sources)) left) (At code line) × (fault_of (newest_first sources) ≡ Some (At code line))
-
--- words are the fewest blocks that hold the tape of pairs
-abbrev pub HoldsTape : List (ℕ × ℕ) → List ℕ → Type 0
-HoldsTape pairs words = ArePairs pairs × (words ≡ packed_blocks (tape_of pairs)) × IsBlockPacking (tape_of pairs) words
 
 -- what the last turn makes of sources
 abbrev pub MakesTarget : List (List ℕ) → Result (Vec ℕ) AsmFault → Type 0

@@ -3,7 +3,8 @@ ghost use Rattle.pal_lex.specs.Reading.{HasRead};
 ghost use Rattle.pal_asm.specs.declared.faults.AsmFault.TheVariants.{Memory};
 ghost use Rattle.pal_blocks.specs.Blocks.{blocks_among, blocks_of_each, AreFiles, assembling_turns};
 ghost use Rattle.pal_blocks.specs.Progress.{due_of, block_of, IsBlockOf, IsAssembling};
-ghost use Rattle.pal_blocks.specs.Turns.{TakesBlock, HoldsTape, MakesTarget};
+ghost use Rattle.pal_blocks.specs.Turns.{TakesBlock, MakesTarget};
+ghost use Rattle.pal_blocks.specs.Steps.{HoldsTape};
 
 use crate::making::make_block;
 use crate::passing::{Pass, end_source, pass_block, turn_pass};

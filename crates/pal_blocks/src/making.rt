@@ -5,7 +5,8 @@ ghost use Rattle.char_pack.specs.Texts.{is_ended};
 ghost use Rattle.pal_lex.specs.Text.{text_from};
 ghost use Rattle.pal_asm.specs.Places.{Source};
 ghost use Rattle.pal_asm.specs.Passes.{with_handed};
-ghost use Rattle.pal_blocks.specs.Passing.{text_in, added, HasMade, IsWithin, MakesAnswer, MakesByte, MakesTo, MakesBlock};
+ghost use Rattle.pal_blocks.specs.Passing.{text_in, added};
+ghost use Rattle.pal_blocks.specs.Steps.{HasMade, IsWithin, MakesAnswer, MakesByte, MakesTo, MakesBlock};
 
 use crate::passing::{BLOCK_FRAMES, Pass, is_pause_body, lay_characters, read_on};
 use char_pack::laws::joined_text;

@@ -8,7 +8,8 @@ ghost use Rattle.pal_lex.specs.Progress.{setting};
 ghost use Rattle.pal_lex.specs.Reading.{HasRead, HasPaused, is_pause_body};
 ghost use Rattle.pal_asm.specs.Places.{Source};
 ghost use Rattle.pal_asm.specs.Passes.{IsFirst};
-ghost use Rattle.pal_blocks.specs.Passing.{text_in, added, is_pause_answer, IsBehind, HasPassed, Settles, PassesByte, PassesTo, PassesBlock, EndsSource, TurnsPass};
+ghost use Rattle.pal_blocks.specs.Passing.{text_in, added, IsBehind};
+ghost use Rattle.pal_blocks.specs.Steps.{is_pause_answer, HasPassed, Settles, PassesByte, PassesTo, PassesBlock, EndsSource, TurnsPass};
 
 use char_pack::laws::joined_text;
 use char_pack::{CONTROL_Z, frame_at};

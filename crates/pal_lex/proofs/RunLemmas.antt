@@ -1,11 +1,12 @@
 -- Letters and digits that are taken together.
 use Rattle.std.proofs.Common.{◌≡◌, ℕ, ◌+◌, ◌-◌, ◌/◌, ◌≤◌, ◌<◌, nat_eq, min, Bool, true, false, ◌&&◌, ◌||◌, not, if◌then◌else◌, zero, suc, length, get_or, take, drop, Some, List, [], ◌∷◌, ◌++◌, refl, ap, sym, subst, ◌∙◌, arith, append-nil, append_assoc}
 use Rattle.std.proofs.lemmas.Bool.Decides.{nat_tests}
-use Rattle.pal_lex.specs.Text.{is_ignored, in_comment, is_dead, is_end, is_over, stretch, since, limit, line_after, cr_count, has_cr, text_from}
-use Rattle.pal_lex.specs.Cutting.{Piece, Run, Mark, is_coded, are_coded, has_illegal, trimmed, with_character, with_characters, pieces}
+use Rattle.pal_lex.specs.Text.{is_ignored, in_comment, is_dead, is_end, is_over, stretch, since, limit, line_after, cr_count, text_from}
+use Rattle.pal_lex.specs.Steps.{has_cr, with_characters, pending, PutsRun}
+use Rattle.pal_lex.specs.Cutting.{Piece, Run, Mark, is_coded, are_coded, has_illegal, trimmed, with_character, pieces}
 use Rattle.pal_lex.specs.Runs.{base, run_kind, token, in_order}
 use Rattle.pal_lex.specs.Growth.{IsRun, grown}
-use Rattle.pal_lex.specs.Drafting.{Cut, cut_of, cut, pending, tail_of, weight_after, PutsRun}
+use Rattle.pal_lex.specs.Drafting.{Cut, cut_of, cut, tail_of, weight_after}
 use Rattle.pal_lex.specs.Statements.{statements, with_stretch, radix_after, first_fault}
 use Rattle.pal_lex.specs.Progress.{Progress}
 use Rattle.pal_lex.specs.Reading.{HasRead, IsReading, StateIs, ReadsOn}

@@ -69,11 +69,6 @@ with_character b place [] = Run b [] place (place + 1) ∷ []
 with_character b place (Run first others start end ∷ before) = Run first (others ++ b ∷ []) start (place + 1) ∷ before
 with_character b place (Mark kind at ∷ before) = Run b [] place (place + 1) ∷ Mark kind at ∷ before
 
--- letters and digits more, from this place on
-abbrev pub with_characters : List ℕ → ℕ → List Piece → List Piece
-with_characters [] place before = before
-with_characters (b ∷ bytes) place before = with_characters bytes (place + 1) (with_character b place before)
-
 -- letters and digits alone
 abbrev pub are_coded : List ℕ → Bool
 are_coded [] = true

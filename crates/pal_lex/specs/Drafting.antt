@@ -1,10 +1,9 @@
 -- What is kept of a stretch that isn't ended yet.
-use Rattle.std.specs.Prelude.{◌≡◌, ℕ, ◌+◌, ◌/◌, ◌≤◌, Bool, true, if◌then◌else◌, zero, suc, Option, Some, None, take, length, List, [], ◌∷◌}
+use Rattle.std.specs.Prelude.{ℕ, ◌/◌, Bool, if◌then◌else◌, zero, suc, length, List, [], ◌∷◌}
 use Rattle.pal_lex.specs.Text.{limit}
-use Rattle.pal_lex.specs.Cutting.{Piece, Run, Mark, is_operand, is_blank, trimmed, pieces, has_illegal, with_characters, are_coded}
+use Rattle.pal_lex.specs.Cutting.{Piece, Run, Mark, is_operand, is_blank, trimmed, pieces, has_illegal}
 use Rattle.pal_lex.specs.Runs.{base, in_order}
 use Rattle.pal_lex.specs.declared.pieces.Token.{Token}
-use Rattle.pal_lex.specs.declared.pieces.Kind.TheVariants.{Blank}
 use Rattle.pal_lex.specs.declared.drafts.Tail.{Tail}
 use Rattle.pal_lex.specs.declared.drafts.Tail.TheVariants as tail
 use Rattle.pal_lex.specs.declared.runs.Radix.{Radix}
@@ -25,22 +24,9 @@ tail_of [] = tail.Sign
 tail_of (Run first others start end ∷ before) = tail.Run (weight_after (suc (length others)))
 tail_of (Mark kind place ∷ before) = if is_blank kind then tail.Blank (limit place) else (if is_operand kind then tail.Dot else tail.Sign)
 
--- a blank that counts once a token follows
-abbrev pub pending : Tail → List Token
-pending tail.Sign = []
-pending tail.Dot = []
-pending (tail.Blank place) = record { kind = Blank; start = place; end = limit (place + 1) } ∷ []
-pending (tail.Run weight) = []
-
 abbrev pub cut_of : ℕ → Bool → List Piece → Cut
 cut_of base illegal before = record { illegal = illegal; tail = tail_of before; tokens = in_order base (trimmed before) }
 
 -- what is kept of these live bytes
 abbrev pub cut : Radix → List (ℕ × ℕ) → Cut
 cut radix live = cut_of (base radix) (has_illegal live) (pieces live)
-
--- A letter or a digit and so many of the bytes behind it, letters and digits too, were put behind pieces, or nothing was.
-abbrev pub PutsRun : ℕ → Bool → List Piece → ℕ → List ℕ → ℕ → Option ℕ → Cut → Cut → Type 0
-PutsRun base illegal before first others at None old new = new ≡ old
-PutsRun base illegal before first others at (Some more) old new =
-    (more ≤ length others) × (are_coded (take more others) ≡ true) × (new ≡ cut_of base illegal (with_characters (first ∷ take more others) at before))

@@ -1,4 +1,4 @@
--- What one more character makes of a token.
+-- What one more character makes of a token, for private clauses.
 use Rattle.std.specs.Prelude.{◌≡◌, ℕ, ◌+◌, ◌-◌, ◌*◌, ◌≤◌, nat_lt, nat_le, true, ◌||◌, if◌then◌else◌, unwrap_or, suc, take, length, List}
 use Rattle.word12.specs.Sixbit.{is_letter, sixbit_code}
 use Rattle.pal_lex.specs.Text.{limit}

@@ -1,4 +1,4 @@
--- What a lexer makes of a byte and of a whole stretch.
+-- What a lexer makes of a byte and of a whole stretch, for private clauses.
 use Rattle.std.specs.Prelude.{◌≡◌, ℕ, ◌+◌, nat_eq, Bool, true, false, ◌||◌, if◌then◌else◌, Some, None, Result, Ok, Err, List, []}
 use Rattle.pal_lex.specs.Grammar.{said, has_bad_number}
 use Rattle.pal_lex.specs.declared.faults.LexFault.{LexFault}

@@ -13,3 +13,4 @@ pub mod Runs
 pub mod Spans
 pub mod Statements
 pub mod Text
+pub mod Steps

@@ -124,11 +124,6 @@ Answers seam text b (Err (NU line)) old new = Tells seam text b (NU line) old ne
 Answers seam text b (Err (NE line)) old new = ⊥
 Answers seam text b (Err Memory) old new = (first_fault (statements text) ≡ None) × (is_over text ≡ false) × (is_dead text b ≡ false) × (new ≡ old)
 
--- A byte behind a text that ends no statement was taken, or nothing was.
-abbrev pub TakesByte : ℕ → List ℕ → ℕ → Bool → Progress → Progress → Type 0
-TakesByte seam text b true old new = (statements (b ∷ text) ≡ statements text) × HasRead new seam (b ∷ text)
-TakesByte seam text b false old new = new ≡ old
-
 -- So many of the bytes behind a text were taken, none of which ends a statement.
 abbrev pub ReadsOn : ℕ → List ℕ → List ℕ → ℕ → Progress → Type 0
 ReadsOn seam text bytes taken new =

@@ -15,11 +15,6 @@ in_comment (b ∷ older) = if nat_eq b 13 then false else (if nat_eq b 47 then t
 abbrev pub is_dead : List ℕ → ℕ → Bool
 is_dead older b = is_ignored b || in_comment (b ∷ older)
 
--- a CR stands among bytes
-abbrev pub has_cr : List ℕ → Bool
-has_cr [] = false
-has_cr (b ∷ bytes) = nat_eq b 13 || has_cr bytes
-
 -- `;`, CR and `$`
 abbrev pub is_end : ℕ → Bool
 is_end b = nat_eq b 59 || nat_eq b 13 || nat_eq b 36

@@ -3,7 +3,8 @@ ghost use Rattle.pal_lex.specs.Text.{limit};
 ghost use Rattle.pal_lex.specs.Cutting.{Piece, Run, Mark, is_coded, is_operand, is_blank, sign_of, with_character, with_blank, with_sign};
 ghost use Rattle.pal_lex.specs.Runs.{base};
 ghost use Rattle.pal_lex.specs.Growth.{grown};
-ghost use Rattle.pal_lex.specs.Drafting.{cut, cut_of, pending, PutsRun};
+ghost use Rattle.pal_lex.specs.Drafting.{cut, cut_of};
+ghost use Rattle.pal_lex.specs.Steps.{pending, PutsRun};
 
 use crate::growing::run_of;
 use crate::runs::{Radix, begun, grown};

@@ -1,10 +1,11 @@
 ghost use Rattle.std.specs.Prelude.{◌≡◌, ℕ, ◌≤◌, ◌&&◌, not, true, false, length, take, None, Ok, Err, List, [], ◌∷◌};
-ghost use Rattle.pal_lex.specs.Text.{is_ignored, is_end, is_over, has_cr, line_after};
+ghost use Rattle.pal_lex.specs.Text.{is_ignored, is_end, is_over, line_after};
+ghost use Rattle.pal_lex.specs.Steps.{has_cr, TakesByte};
 ghost use Rattle.pal_lex.specs.Statements.{radix_by, statements, first_fault};
 ghost use Rattle.pal_lex.specs.Joins.{is_lone_pause};
 ghost use Rattle.pal_lex.specs.Cutting.{is_coded};
 ghost use Rattle.pal_lex.specs.Progress.{setting};
-ghost use Rattle.pal_lex.specs.Reading.{HasRead, HasPaused, HasFailed, Answers, Pauses, TakesByte, ReadsOn, Ends, EndsSource, BeginsNext};
+ghost use Rattle.pal_lex.specs.Reading.{HasRead, HasPaused, HasFailed, Answers, Pauses, ReadsOn, Ends, EndsSource, BeginsNext};
 ghost use Rattle.pal_lex.specs.Judging.{Judges, comment_after, dies, passed, ended, ended_statement, paused, pause_statement, next, failed};
 
 use crate::drafts::Draft;

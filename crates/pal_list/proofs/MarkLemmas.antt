@@ -6,7 +6,8 @@ use Rattle.std.proofs.lemmas.List.{get_or-replicate}
 use Rattle.bin_tape.specs.Items.{Item, tape_map}
 use Rattle.pal_list.specs.References.{is_reference, referred_cell}
 use Rattle.pal_list.specs.Tags.{is_given, is_referred}
-use Rattle.pal_list.specs.Sources.{with_word, words_below, words_of_tape, tagged_below, HoldsTags}
+use Rattle.pal_list.specs.Sources.{with_word, words_below, words_of_tape}
+use Rattle.pal_list.specs.Steps.{tagged_below, HoldsTags}
 use Rattle.pal_list.proofs.TapeLemmas.{below_none, below_more}
 
 -- ## The cells with words

@@ -1,7 +1,8 @@
 -- How pieces of letters and digits, joined by blanks, are cut into tokens.
 use Rattle.std.proofs.Common.{◌≡◌, ℕ, ◌+◌, Bool, true, false, ◌&&◌, ◌||◌, not, suc, length, List, [], ◌∷◌, ◌++◌, refl, ap, ◌∙◌, arith, append_assoc, append-nil}
 use Rattle.pal_lex.specs.Text.{limit}
-use Rattle.pal_lex.specs.Cutting.{Piece, Run, Mark, is_coded, are_coded, is_legal, has_illegal, pieces, with_byte, with_character, with_characters}
+use Rattle.pal_lex.specs.Cutting.{Piece, Run, Mark, is_coded, are_coded, is_legal, has_illegal, pieces, with_byte, with_character}
+use Rattle.pal_lex.specs.Steps.{with_characters}
 use Rattle.pal_lex.specs.Runs.{run_kind, in_order}
 use Rattle.pal_lex.specs.declared.pieces.Token.{Token}
 use Rattle.pal_lex.specs.declared.pieces.Kind.{Kind}

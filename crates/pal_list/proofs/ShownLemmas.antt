@@ -9,10 +9,11 @@ use Rattle.word12.specs.Octal.{octal4}
 use Rattle.pal_lex.specs.declared.phrases.Body.TheVariants.{Word}
 use Rattle.pal_list.specs.Patterns.{patterns, chosen, names}
 use Rattle.pal_list.specs.References.{operation_name, is_reference, referred, referred_cell}
-use Rattle.pal_list.specs.Tags.{tag, is_tagged, tagged_in}
+use Rattle.pal_list.specs.Tags.{tag, is_tagged}
+use Rattle.pal_list.specs.Steps.{tagged_in, tagged_below, HoldsTags}
 use Rattle.pal_list.specs.Statements.{reference, is_named, statement}
 use Rattle.pal_list.specs.Lines.{led, line_end, field_line, origin_line, comment, tag_part, cell_lines, lines_of, source_of}
-use Rattle.pal_list.specs.Sources.{IsReadAs, Says, words_of_tape, tagged_below, HoldsTags}
+use Rattle.pal_list.specs.Sources.{IsReadAs, Says, words_of_tape}
 use Rattle.pal_list.proofs.ByteLemmas.{coded4}
 use Rattle.pal_list.proofs.GrammarLemmas.{number_parts, number_says}
 use Rattle.pal_list.proofs.StepLemmas.{number_word}

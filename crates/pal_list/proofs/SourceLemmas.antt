@@ -5,7 +5,8 @@ use Rattle.std.proofs.lemmas.Bool.Decides.{eqb_tells}
 use Rattle.std.proofs.lemmas.List.{reverse-append}
 use Rattle.word12.specs.Octal.{octal_digit, octal4}
 use Rattle.bin_tape.specs.Writing.{field_behind, is_next, newest_cell}
-use Rattle.pal_lex.specs.Text.{in_comment, is_over, stretch, has_cr, line_after, limit, text_from, text_of}
+use Rattle.pal_lex.specs.Text.{in_comment, is_over, stretch, line_after, limit, text_from, text_of}
+use Rattle.pal_lex.specs.Steps.{has_cr}
 use Rattle.pal_lex.specs.Cutting.{Piece, Run, Mark, are_coded, trimmed, pieces, with_byte}
 use Rattle.pal_lex.specs.Runs.{in_order, tokens}
 use Rattle.pal_lex.specs.Grammar.{said, has_bad_number}

@@ -8,12 +8,10 @@ use Rattle.std.proofs.lemmas.Bool.Decides.{eqb_tells, leb_tells, nat_tests}
 use Rattle.word12.specs.Octal.{octal_digit}
 use Rattle.word12.specs.Sixbit.{is_letter, is_digit, sixbit_code, name_number}
 use Rattle.pal_lex.specs.Language.{is_reserved}
-use Rattle.pal_lex.specs.declared.pieces.Term.TheVariants.{Name}
-use Rattle.pal_lex.specs.declared.pieces.Kind.TheVariants.{Term}
 use Rattle.pal_sym.specs.Permanent.{permanent, permanent_names}
 use Rattle.pal_list.specs.Tags.{tag, tag_name}
 use Rattle.pal_list.proofs.ByteLemmas.{both, octal, coded4}
-use Rattle.pal_list.proofs.PieceLemmas.{kind_of, is_run}
+use Rattle.pal_list.proofs.PieceLemmas.{is_run}
 
 -- ## A tag is a name
 

@@ -9,7 +9,8 @@ use Rattle.bin_tape.specs.Items.{Item, Leader, Field, Origin, Word, IsFront, fie
 use Rattle.bin_tape.specs.Pairs.{last_word, ArePairs}
 use Rattle.bin_tape.specs.Progress.{Progress}
 use Rattle.bin_tape.specs.Reading.{HasRead}
-use Rattle.pal_list.specs.Sources.{with_word, words_below, HoldsRead}
+use Rattle.pal_list.specs.Sources.{with_word, words_below}
+use Rattle.pal_list.specs.Steps.{HoldsRead}
 
 -- ## The last word of a cell
 

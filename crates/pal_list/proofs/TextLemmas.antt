@@ -1,6 +1,7 @@
 -- Lines behind a text.
 use Rattle.std.proofs.Common.{◌≡◌, ℕ, nat_eq, Bool, true, false, ◌&&◌, ◌||◌, not, if◌then◌else◌, suc, length, List, [], ◌∷◌, ◌++◌, refl, ap, ◌∙◌}
-use Rattle.pal_lex.specs.Text.{is_ignored, in_comment, is_dead, is_end, is_over, stretch, has_cr, line_after, text_from}
+use Rattle.pal_lex.specs.Text.{is_ignored, in_comment, is_dead, is_end, is_over, stretch, line_after, text_from}
+use Rattle.pal_lex.specs.Steps.{has_cr}
 use Rattle.pal_lex.specs.Cutting.{is_legal}
 use Rattle.pal_lex.specs.Statements.{statements, judged, radix_after, with_stretch}
 use Rattle.pal_list.proofs.ByteLemmas.{both, neither, IsPlain, plain, all_legal}

@@ -6,3 +6,4 @@ pub mod Lines
 pub mod Sources
 pub mod Defined
 pub mod Fewest
+pub mod Steps

@@ -1,5 +1,5 @@
 -- The source that says what a tape says.
-use Rattle.std.specs.Prelude.{◌≡◌, ℕ, ◌<◌, zero, suc, Bool, ◌&&◌, slice_index_or, Option, None, Some, reverse, List, [], ◌∷◌}
+use Rattle.std.specs.Prelude.{◌≡◌, ℕ, zero, suc, Option, None, Some, reverse, List, [], ◌∷◌}
 use Rattle.pal_lex.specs.Text.{text_of}
 use Rattle.pal_asm.specs.Words.{pairs_of}
 use Rattle.pal_asm.specs.Faults.{fault_of}
@@ -7,9 +7,6 @@ use Rattle.bin_tape.specs.Items.{Item, tape_map}
 use Rattle.bin_tape.specs.Tape.{IsTape}
 use Rattle.bin_tape.specs.Fault.{IsFault}
 use Rattle.bin_tape.specs.Pairs.{last_word}
-use Rattle.bin_tape.specs.Progress.{Progress}
-use Rattle.bin_tape.specs.Reading.{HasRead}
-use Rattle.pal_list.specs.Tags.{is_given, is_referred, tagged_in}
 use Rattle.pal_list.specs.Lines.{source_of}
 use Rattle.pal_list.specs.declared.faults.ListFault.{ListFault}
 use Rattle.pal_list.specs.declared.faults.ListFault.TheVariants.{Tape, NoWord, Memory}
@@ -64,29 +61,3 @@ abbrev pub IsListFault : List ℕ → ListFault → Type 0
 IsListFault frames (Tape fault) = IsFault frames fault
 IsListFault frames NoWord = GivesNoWord frames
 IsListFault frames Memory = Unit {0}
-
--- ## Cell by cell
-
--- these are the last words of a tape's cells
-abbrev pub HoldsMap : List Item → List (Option ℕ) → Type 0
-HoldsMap items words = (cell : ℕ) → cell < 32768 → slice_index_or words cell None ≡ tape_map items cell
-
--- the frames are a tape, and these are the last words of its cells
-pub record IsHeld (frames : List ℕ) (words : List (Option ℕ)) : Type 0 where
-  pub items : List Item
-  pub is_tape : IsTape frames items
-  pub cells : HoldsMap items words
-
--- the cells hold the last words that the reader has handed out for them
-pub record HoldsRead (reader : Progress) (frames : List ℕ) (words : List (Option ℕ)) : Type 0 where
-  pub out : List (ℕ × ℕ)
-  pub read : HasRead reader frames out
-  pub cells : (cell : ℕ) → cell < 32768 → slice_index_or words cell None ≡ last_word out cell
-
--- a cell with a word is named by a memory reference in a cell below a number
-abbrev pub tagged_below : List Item → ℕ → ℕ → Bool
-tagged_below items count cell = is_given (words_of_tape items) cell && is_referred (words_below items count) cell
-
--- these tell which cells are tagged
-abbrev pub HoldsTags : (ℕ → Bool) → List Bool → Type 0
-HoldsTags tagged tags = (cell : ℕ) → cell < 32768 → tagged_in tags cell ≡ tagged cell

@@ -1,5 +1,5 @@
 -- The cells that a source tags, and their tags (PAL III Symbolic Assembler manual, and this project's profile of it).
-use Rattle.std.specs.Prelude.{ℕ, ◌/◌, ◌%◌, nat_eq, Bool, false, ◌&&◌, ◌||◌, slice_index_or, List, [], ◌∷◌}
+use Rattle.std.specs.Prelude.{ℕ, ◌/◌, ◌%◌, nat_eq, Bool, false, ◌&&◌, ◌||◌, List, [], ◌∷◌}
 use Rattle.word12.specs.Octal.{octal_digit, octal4}
 use Rattle.pal_lex.specs.Runs.{name_number}
 use Rattle.pal_list.specs.References.{is_reference, referred_cell}
@@ -25,7 +25,3 @@ is_referred (pair ∷ others) cell = (is_reference (pair.0 % 4096) pair.1 && nat
 -- of cells with their words a source tags those that a memory reference among them names
 abbrev pub is_tagged : List (ℕ × ℕ) → ℕ → Bool
 is_tagged pairs cell = is_given pairs cell && is_referred pairs cell
-
--- these cells are tagged, told by their numbers
-abbrev pub tagged_in : List Bool → ℕ → Bool
-tagged_in tags cell = slice_index_or tags cell false

@@ -1,6 +1,6 @@
 ghost use Rattle.std.specs.Prelude.{◌≡◌, ℕ, ◌/◌, ◌++◌, nat_eq, if◌then◌else◌, OnOk, List, [], ◌∷◌, length};
 ghost use Rattle.bin_tape.specs.Writing.{field_behind, is_next};
-ghost use Rattle.pal_list.specs.Tags.{tagged_in};
+ghost use Rattle.pal_list.specs.Steps.{tagged_in};
 ghost use Rattle.pal_list.specs.Lines.{line_end, field_line, origin_line, comment, tag_part, word_line, cell_lines};
 
 use crate::statements::put_statement;

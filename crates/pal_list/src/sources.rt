@@ -1,9 +1,9 @@
 ghost use Rattle.std.specs.Prelude.{◌≡◌, ℕ, ◌<◌, ◌++◌, ◌∷◌, [], None, Option, List, IfOk, IfErr, OnOk, length, replicate, vec_len, slice_index_or};
 ghost use Rattle.bin_tape.specs.Items.{Item};
 ghost use Rattle.bin_tape.specs.Writing.{newest_cell};
-ghost use Rattle.pal_list.specs.Tags.{tagged_in};
+ghost use Rattle.pal_list.specs.Steps.{tagged_in, IsHeld, HoldsMap, HoldsRead};
 ghost use Rattle.pal_list.specs.Lines.{lines_of};
-ghost use Rattle.pal_list.specs.Sources.{IsSourceOf, IsListFault, IsHeld, HoldsMap, HoldsRead, with_word, words_of_tape};
+ghost use Rattle.pal_list.specs.Sources.{IsSourceOf, IsListFault, with_word, words_of_tape};
 
 use crate::ListFault;
 use crate::lines::put_cell;

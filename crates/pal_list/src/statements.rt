@@ -1,6 +1,6 @@
 ghost use Rattle.std.specs.Prelude.{◌≡◌, ℕ, ◌/◌, ◌%◌, ◌++◌, ◌∷◌, [], codes, nat_eq, if◌then◌else◌, length, OnOk};
 ghost use Rattle.pal_list.specs.Lines.{led};
-ghost use Rattle.pal_list.specs.Tags.{tagged_in};
+ghost use Rattle.pal_list.specs.Steps.{tagged_in};
 ghost use Rattle.pal_list.specs.Statements.{address, reference, statement};
 
 use crate::patterns::{is_named, put_names};

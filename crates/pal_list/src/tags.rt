@@ -1,7 +1,7 @@
 ghost use Rattle.std.specs.Prelude.{◌≡◌, ℕ, ◌<◌, ◌&&◌, false, suc, List, IfOk, length, replicate, vec_len};
 ghost use Rattle.bin_tape.specs.Items.{Item};
 ghost use Rattle.pal_list.specs.Tags.{tag};
-ghost use Rattle.pal_list.specs.Sources.{HoldsMap, HoldsTags, tagged_below};
+ghost use Rattle.pal_list.specs.Steps.{HoldsMap, HoldsTags, tagged_below};
 
 use crate::references::{is_reference, referred_cell};
 use std::alloc::{AllocError, Global};

@@ -5,7 +5,8 @@ use Rattle.std.specs.Ordering.{nat_cmp, eq_by_cmp}
 use Rattle.std.specs.FinMap.{find}
 use Rattle.std.proofs.lemmas.Bool.Decides.{nat_tests}
 use Rattle.pal_sym.specs.declared.symbols.Symbol.{Symbol}
-use Rattle.pal_sym.specs.Entries.{Entries, no_entry, name_at, IsAt}
+use Rattle.pal_sym.specs.Entries.{Entries, no_entry, name_at}
+use Rattle.pal_sym.specs.Steps.{IsAt}
 
 -- what the first entry of a name says
 abbrev pub sought : Entries → ℕ → Option Symbol

@@ -11,7 +11,8 @@ use Rattle.std.proofs.lemmas.List.Edits.{length-insert, get_or-insert_below, get
 use Rattle.std.proofs.lemmas.Bool.Decides.{nat_tests}
 use Rattle.std.proofs.lemmas.Grind.{common_steps}
 use Rattle.pal_sym.specs.declared.symbols.Symbol.{Symbol}
-use Rattle.pal_sym.specs.Entries.{Entries, no_entry, name_at, Rise, IsAt, IsGapFor, Puts}
+use Rattle.pal_sym.specs.Entries.{Entries, no_entry, name_at, Rise}
+use Rattle.pal_sym.specs.Steps.{IsAt, IsGapFor, Puts}
 use Rattle.pal_sym.proofs.EntryLemmas.{NoneBefore, Sets, found_sought, sought_absent, sought_present, sought_set, sought_insert}
 
 -- entries that rise and have one name set

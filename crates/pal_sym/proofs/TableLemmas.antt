@@ -5,10 +5,11 @@ use Rattle.std.proofs.lemmas.Bool.Decides.{nat_tests}
 use Rattle.std.proofs.lemmas.Cmp.{nat_cmp_total}
 use Rattle.std.specs.Ordering.{nat_cmp}
 use Rattle.std.specs.FinMap.{find, from_entries, get-from_entries}
-use Rattle.pal_sym.specs.Entries.{Entries, Puts, Inserts}
+use Rattle.pal_sym.specs.Entries.{Entries}
+use Rattle.pal_sym.specs.Steps.{Puts, Inserts, IsRefused}
 use Rattle.pal_sym.specs.Permanent.{permanent}
 use Rattle.pal_sym.specs.SymbolTable.{SymbolTable}
-use Rattle.pal_sym.specs.Values.{symbol_value, is_fixed, if_none, defined_value, is_tag, set_again, IsOther, StandsFor, DefinesTag, DefinesValue, IsRefused, IsSetAgain, HasRoom}
+use Rattle.pal_sym.specs.Values.{symbol_value, is_fixed, if_none, defined_value, is_tag, set_again, IsOther, StandsFor, DefinesTag, DefinesValue, IsSetAgain, HasRoom}
 use Rattle.pal_sym.specs.declared.symbols.Symbol.{Symbol}
 use Rattle.pal_sym.specs.declared.faults.SymFault.{SymFault}
 use Rattle.pal_sym.specs.declared.faults.SymFault.TheVariants.{DT, RD, Memory}

@@ -1,10 +1,6 @@
 -- Entries in the order of their names, as a table keeps them.
-use Rattle.std.specs.Prelude.{◌≡◌, ℕ, ◌+◌, ◌<◌, ◌≤◌, false, nat_eq, if◌then◌else◌, Some, Result, Ok, Err, List, length, slice_index_or}
-use Rattle.std.specs.Ordering.{nat_cmp}
-use Rattle.std.specs.FinMap.{find}
+use Rattle.std.specs.Prelude.{ℕ, ◌<◌, false, List, length, slice_index_or}
 use Rattle.pal_sym.specs.declared.symbols.Symbol.{Symbol}
-use Rattle.pal_sym.specs.declared.faults.SymFault.{SymFault}
-use Rattle.pal_sym.specs.declared.faults.SymFault.TheVariants.{DT, RD, Memory}
 
 abbrev pub Entries : Type 0
 Entries = List (ℕ × Symbol)
@@ -20,26 +16,3 @@ name_at entries place = let entry = slice_index_or entries place no_entry in ent
 -- the names rise strictly
 abbrev pub Rise : Entries → Type 0
 Rise entries = (i j : ℕ) → i < j → j < length entries → name_at entries i < name_at entries j
-
--- The entry at a place has the name.
-pub record IsAt (entries : Entries) (name place : ℕ) : Type 0 where
-  pub in_range : place < length entries
-  pub has_name : name_at entries place ≡ name
-
--- The name would stand at a place: smaller names before it, and greater ones from it on.
-pub record IsGapFor (entries : Entries) (name place : ℕ) : Type 0 where
-  pub in_range : place ≤ length entries
-  pub smaller_before : (j : ℕ) → j < place → name_at entries j < name
-  pub greater_after : (j : ℕ) → place ≤ j → j < length entries → name < name_at entries j
-
--- The names still rise; the name is defined as this, and the others as they were.
-pub record Puts (name : ℕ) (symbol : Symbol) (old new : Entries) : Type 0 where
-  pub rise : Rise new
-  pub found : (n : ℕ) → find nat_cmp n new ≡ (if nat_eq name n then Some symbol else find nat_cmp n old)
-
--- What putting a name among entries with so much room answers: it takes the room of one, or there was none.
-abbrev pub Inserts : ℕ → Symbol → Entries → ℕ → Entries → ℕ → Result (Unit {0}) SymFault → Type 0
-Inserts name symbol old room new less (Ok done) = Puts name symbol old new × (room ≤ less + 1)
-Inserts name symbol old room new less (Err DT) = ⊥
-Inserts name symbol old room new less (Err RD) = ⊥
-Inserts name symbol old room new less (Err Memory) = (new ≡ old) × (room ≡ 0) × (less ≡ 0)

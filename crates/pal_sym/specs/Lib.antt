@@ -3,3 +3,4 @@ pub mod Names
 pub mod Permanent
 pub mod SymbolTable
 pub mod Values
+pub mod Steps

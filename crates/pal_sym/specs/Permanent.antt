@@ -1,5 +1,5 @@
 -- The permanent names (PAL III Symbolic Assembler manual; the choice of the list is this project's profile).
-use Rattle.std.specs.Prelude.{ℕ, Bool, true, ◌&&◌, nat_lt, Option, List, [], ◌∷◌, codes}
+use Rattle.std.specs.Prelude.{ℕ, Option, List, [], ◌∷◌, codes}
 use Rattle.word12.specs.Octal.{octal_number}
 use Rattle.pal_sym.specs.Names.{name_number}
 use Rattle.std.specs.Ordering.{nat_cmp}
@@ -65,8 +65,3 @@ permanent_names =
 -- the permanent value of a name
 unfoldable pub permanent : ℕ → Option ℕ
 permanent name = find nat_cmp name permanent_names
-
--- each value of a list is a word
-abbrev pub all_words : List (ℕ × ℕ) → Bool
-all_words [] = true
-all_words (entry ∷ others) = nat_lt entry.1 4096 && all_words others

@@ -32,11 +32,6 @@ abbrev pub IsOther : Option ℕ → ℕ → Type 0
 IsOther None value = ⊥
 IsOther (Some known) value = known ≢ value
 
--- a value that is known is this one, or refused
-abbrev pub IsRefused : SymFault → ℕ → ℕ → Result (Unit {0}) SymFault → Type 0
-IsRefused twice known value (Ok done) = known ≡ value
-IsRefused twice known value (Err fault) = (fault ≡ twice) × (known ≢ value)
-
 -- A name stands for this value, the other names for what they stood for. A new name takes the room of one, another none.
 pub record StandsFor (name value : ℕ) (old new : SymbolTable) : Type 0 where
   pub values : (n : ℕ) → symbol_value new n ≡ (if nat_eq name n then Some value else symbol_value old n)

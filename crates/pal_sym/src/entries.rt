@@ -3,7 +3,8 @@
 ghost use Rattle.std.specs.Prelude.{◌≡◌, ◌-◌, ◌<◌, IfOk, IfErr, IfSome, vec_len, vec_capacity};
 ghost use Rattle.std.specs.Ordering.{nat_cmp};
 ghost use Rattle.std.specs.FinMap.{find};
-ghost use Rattle.pal_sym.specs.Entries.{Rise, IsAt, IsGapFor, Inserts};
+ghost use Rattle.pal_sym.specs.Entries.{Rise};
+ghost use Rattle.pal_sym.specs.Steps.{IsAt, IsGapFor, Inserts};
 ghost use Rattle.pal_sym.specs.Values.{defined_value};
 
 use crate::symbols::Symbol;

@@ -1,7 +1,8 @@
 ghost use Rattle.std.specs.Prelude.{◌≡◌, ◌<◌, Option, IfSome, IsTrue};
 ghost use Rattle.std.specs.Ordering.{nat_cmp};
 ghost use Rattle.std.specs.FinMap.{find};
-ghost use Rattle.pal_sym.specs.Permanent.{permanent, all_words};
+ghost use Rattle.pal_sym.specs.Permanent.{permanent};
+ghost use Rattle.pal_sym.specs.Steps.{all_words};
 
 use crate::SymbolName;
 use word12::Word;

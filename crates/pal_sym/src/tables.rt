@@ -1,6 +1,7 @@
 ghost use Rattle.std.specs.Prelude.{◌≡◌, ℕ, ◌<◌, None, IfSome, is_some};
 ghost use Rattle.pal_sym.specs.Permanent.{permanent};
-ghost use Rattle.pal_sym.specs.Values.{symbol_value, is_fixed, DefinesTag, DefinesValue, IsRefused, IsSetAgain, MakesRoom};
+ghost use Rattle.pal_sym.specs.Values.{symbol_value, is_fixed, DefinesTag, DefinesValue, IsSetAgain, MakesRoom};
+ghost use Rattle.pal_sym.specs.Steps.{IsRefused};
 
 use crate::entries::{find, insert, search};
 use crate::permanent_names::permanent_value;

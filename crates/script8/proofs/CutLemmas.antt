@@ -2,7 +2,7 @@
 use Rattle.std.proofs.Common.{◌≡◌, ◌<◌, ◌≤◌, ◌+◌, ◌-◌, zero, suc, arith, true≢false, ℕ, refl, sym, ◌∙◌, ap, inl, inr, Bool, true, false, if◌then◌else◌, Option, Some, None, List, [], ◌∷◌, ◌++◌, ◌≢◌, length, take, drop, get_or, add-one, ◌⊎◌}
 use Rattle.std.specs.Prelude.{◌==◌}
 use Rattle.std.proofs.lemmas.Bool.Decides.{eqb_tells}
-use Rattle.std.proofs.lemmas.List.{drop_all}
+use Rattle.std.proofs.lemmas.List.{drop_all, drop-drop, take-append-drop, length-drop, length-take-le}
 use Rattle.script8.specs.Lines.{onto_first}
 use Rattle.script8.specs.Items.{lines_of, onto_ended, ended_lines, text_of}
 use Rattle.script8.specs.Cuts.{ended_behind, ended, Cuts, TooFew}
@@ -263,6 +263,70 @@ next_byte is_end begun (suc n) i text inside some other =
   where
     found : size_from i (taken is_end begun (suc n) (get_or text i 0 ∷ drop (suc i) text)) ≡ size_from i (onto (get_or text i 0) (taken is_end true (suc n) (drop (suc i) text)))
     found = elim (eqb_tells (get_or text i 0) 10) [ inl h ↦ absurd (other h.1) | inr h ↦ rw h.0 refl ]
+
+-- behind bytes that end fewer lines than are left, and before others, it doesn't matter whether a line is begun
+behind_block : (is_end begun : Bool) (left less i : ℕ) (block rest : List ℕ) → 0 < length rest → 0 < less → left ≡ less + length (ended_lines block)
+    → size_from i (taken is_end begun left (block ++ rest)) ≡ size_from (i + length block) (taken is_end false less rest)
+behind_block is_end begun left less i [] [] some more is = absurd (none_length some)
+behind_block is_end begun left zero i [] (b ∷ rest) some more is = absurd (none_length more)
+behind_block is_end begun zero (suc n) i [] (b ∷ rest) some more is = absurd (none_some (n + 0) (is ∙ omega arith))
+behind_block is_end begun (suc m) (suc n) i [] (b ∷ rest) some more is =
+    let same : m ≡ n = omega (arith, is) in
+    let here : i ≡ i + 0 = omega arith in
+    ap (λ k. size_from i (taken is_end false (suc k) (b ∷ rest))) same ∙ ap (λ k. size_from k (taken is_end false (suc n) (b ∷ rest))) here
+behind_block is_end begun zero less i (b ∷ block) rest some more is = absurd (none_left less (length (ended_lines (b ∷ block))) more is)
+  where
+    none_left : (k l : ℕ) → 0 < k → 0 ≡ k + l → ⊥
+    none_left k l h e = omega (arith, h, e)
+behind_block is_end begun (suc n) less i (b ∷ block) rest some more is = elim (eqb_tells b 10) [
+  | inl h ↦ rw h.0 (size_onto i b (taken is_end false n (block ++ rest))
+      ∙ behind_block is_end false n less (suc i) block rest some more (one_end h.0)
+      ∙ ap (λ m. size_from m (taken is_end false less rest)) step)
+  | inr h ↦ rw h.0 (size_onto i b (taken is_end true (suc n) (block ++ rest))
+      ∙ behind_block is_end true (suc n) less (suc i) block rest some more (no_end h.0)
+      ∙ ap (λ m. size_from m (taken is_end false less rest)) step)
+]
+  where
+    step : suc i + length block ≡ i + suc (length block)
+    step = omega arith
+
+    ends_by : Bool → ℕ
+    ends_by true = suc (length (ended_lines block))
+    ends_by false = length (onto_ended b (ended_lines block))
+
+    counted_by : (c : Bool) → (b == 10) ≡ c → length (ended_lines (b ∷ block)) ≡ ends_by c
+    counted_by true e = rw e refl
+    counted_by false e = rw e refl
+
+    one_end : (b == 10) ≡ true → n ≡ less + length (ended_lines block)
+    one_end e = let h : suc n ≡ less + suc (length (ended_lines block)) = is ∙ ap (λ k. less + k) (counted_by true e) in omega (arith, h)
+
+    no_end : (b == 10) ≡ false → suc n ≡ less + length (ended_lines block)
+    no_end e = is ∙ ap (λ k. less + k) (counted_by false e ∙ ended_length b (ended_lines block))
+
+block_before : (text block : List ℕ) (place n size : ℕ) → block ≡ take n (drop place text) → n ≡ size → drop place text ≡ block ++ drop (place + size) text
+block_before text block place n size is same =
+    sym (take-append-drop n (drop place text)) ∙ ap (λ front. front ++ drop n (drop place text)) (sym is)
+    ∙ ap (λ rest. block ++ rest) (drop-drop n place text ∙ ap (λ k. drop (place + k) text) same)
+
+-- a block that ends fewer lines than are left is passed
+pub block_passed : (text block : List ℕ) (is_end : Bool) (left less place n size : ℕ) → block ≡ take n (drop place text) → n ≡ size → place + size < length text
+    → 0 < less → left ≡ less + length (ended_lines block)
+    → size_from place (taken is_end false left (drop place text)) ≡ size_from (place + size) (taken is_end false less (drop (place + size) text))
+block_passed text block is_end left less place n size is same inside more ends =
+    ap (λ l. size_from place (taken is_end false left l)) (block_before text block place n size is same)
+    ∙ behind_block is_end false left less place block (drop (place + size) text) some more ends
+    ∙ ap (λ m. size_from (place + m) (taken is_end false less (drop (place + size) text))) long
+  where
+    some : 0 < length (drop (place + size) text)
+    some = omega (arith, inside, length-drop (place + size) text)
+
+    long : length block ≡ size
+    long = ap length is ∙ length-take-le n (drop place text) (omega (arith, inside, same, length-drop place text)) ∙ same
+
+pub block_ends : (text block : List ℕ) (place n size : ℕ) → block ≡ take n (drop place text) → n ≡ size
+    → length (ended_lines (drop place text)) ≡ length (ended_lines block) + length (ended_lines (drop (place + size) text))
+block_ends text block place n size is same = ap (λ l. length (ended_lines l)) (block_before text block place n size is same) ∙ ends_append block (drop (place + size) text)
 
 -- all lines are found
 pub all_found : (text : List ℕ) (is_end begun : Bool) (count left place end : ℕ) → size_from 0 (taken is_end false count text) ≡ size_from place (taken is_end begun left (drop place text)) → left ≡ 0 → end ≡ place → Cuts text is_end count end

@@ -1,5 +1,5 @@
 -- Decimal and octal numbers.
-use Rattle.script8.specs.Lines.{octal_limit}
+use Rattle.script8.specs.Steps.{octal_limit}
 use Rattle.std.proofs.Common.{◌<◌, ◌≤◌, ◌*◌, ◌+◌, zero, suc, ℕ, arith, add-one}
 
 -- the numbers of so many digits are below

@@ -1,4 +1,4 @@
--- How many bytes some lines of a text have, and the first part of a text.
+-- How many bytes some lines of a text have, and the first part of a text, for private clauses.
 use Rattle.std.specs.Prelude.{◌≡◌, ℕ, ◌+◌, ◌<◌, ◌≤◌, ◌==◌, Bool, true, false, if◌then◌else◌, Ok, Err, List, [], ◌∷◌, ◌++◌, length, take, drop, Result}
 use Rattle.script8.specs.Lines.{says}
 use Rattle.script8.specs.declared.faults.SessionFault.{SessionFault}

@@ -5,3 +5,4 @@ pub mod Lines
 pub mod Replies
 pub mod Shown
 pub mod Written
+pub mod Steps

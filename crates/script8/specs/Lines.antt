@@ -1,5 +1,5 @@
 -- What the lines of a script say (this project's profile).
-use Rattle.std.specs.Prelude.{◌≡◌, ◌⊎◌, ℕ, zero, suc, ◌+◌, ◌-◌, ◌*◌, codes, ◌==◌, ◌&&◌, nat_eq, nat_le, nat_lt, if◌then◌else◌, Bool, true, false, Option, Some, None, List, [], ◌∷◌, length, Result, Ok, Err}
+use Rattle.std.specs.Prelude.{◌≡◌, ◌⊎◌, ℕ, ◌+◌, ◌-◌, ◌*◌, codes, ◌==◌, ◌&&◌, nat_eq, nat_le, nat_lt, if◌then◌else◌, Bool, true, false, Option, Some, None, List, [], ◌∷◌, length, Result, Ok, Err}
 use Rattle.std.specs.List.{list_all}
 use Rattle.std.specs.Str.{bytes_eq}
 use Rattle.script8.specs.declared.entries.Entry.{Entry}
@@ -56,11 +56,6 @@ octal_from n (b ∷ bs) = if nat_le 48 b && nat_lt b 56 then octal_from (8 * n +
 -- an octal number of just so many digits
 abbrev pub octal_of : ℕ → List ℕ → Option ℕ
 octal_of count digits = if nat_eq (length digits) count then octal_from 0 digits else None
-
--- the octal numbers of so many digits are below
-abbrev pub octal_limit : ℕ → ℕ
-octal_limit zero = 1
-octal_limit (suc n) = 8 * octal_limit n
 
 -- a cell: one octal digit of field, and four of address
 abbrev pub cell_of : List ℕ → Option ℕ

@@ -144,16 +144,26 @@ pub fn one_line_wanted()
 {}
 
 /// How many bytes so many lines have, the LFs with them, or how many are missing; the last line of a script may lack its own.
+/// Where several are wanted yet, a block that ends fewer, and has bytes behind it, needs no closer look.
 fn lines_length(text: &[u8], lines: u32, is_end: bool) -> Result<usize, u32>
     ensures { Cut text.now is_end lines result }
 {
     let mut left = lines;
+    let mut begin = 0;
+    while text.len() - begin > BLOCK && left >= 2 {
+        let ends = ends_in(&text[begin..begin + BLOCK]);
+        if ends >= left as usize {
+            break;
+        }
+        left -= ends as u32;
+        begin += BLOCK;
+    }
     let mut is_begun = false;
-    for (place, byte) in text.iter().enumerate() {
+    for place in begin..text.len() {
         if left == 0 {
             return Ok(place);
         }
-        if *byte == b'\n' {
+        if text[place] == b'\n' {
             left -= 1;
             is_begun = false;
         } else {
@@ -168,6 +178,9 @@ fn lines_length(text: &[u8], lines: u32, is_end: bool) -> Result<usize, u32>
     }
     Ok(text.len())
 }
+
+/// The bytes that are looked at in one go for the ends of lines.
+const BLOCK: usize = 64;
 
 /// A line without the LF that may stand at its end.
 fn without_end(line: &[u8]) -> &[u8]

@@ -1,6 +1,7 @@
 //! The operands of entries: numbers, cells, words, characters and names.
 ghost use Rattle.std.specs.Prelude.{◌≡◌, ◌≢◌, ◌≤◌, ◌<◌, ◌⊎◌, IfSome, [], Err, length};
-ghost use Rattle.script8.specs.Lines.{name_bytes, number_of, digits_from, within as within_of, steps_of, cell_of, character_of, setting_of, octal_of, octal_from, octal_limit};
+ghost use Rattle.script8.specs.Lines.{name_bytes, number_of, digits_from, within as within_of, steps_of, cell_of, character_of, setting_of, octal_of, octal_from};
+ghost use Rattle.script8.specs.Steps.{octal_limit};
 ghost use Rattle.script8.specs.declared.faults.SessionFault.TheVariants.{Memory};
 
 use crate::{Bytes, SessionFault};

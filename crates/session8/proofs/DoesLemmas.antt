@@ -11,7 +11,8 @@ use Rattle.script8.specs.declared.replies.Reply.{Reply}
 use Rattle.session8.specs.Console.{is_console}
 use Rattle.session8.specs.Refusals.{May, MayLack, after_refusal}
 use Rattle.session8.specs.Failing.{StoppedFor, StepsStopped}
-use Rattle.session8.specs.Session.{Seen, state_of, IsQuiet, Tells, Does}
+use Rattle.session8.specs.Session.{Seen, state_of, IsQuiet, Tells}
+use Rattle.session8.specs.SessionSteps.{Does}
 use Rattle.session8.specs.System.{Answer, Done}
 
 -- an answer that is a refusal, and one that is a reply

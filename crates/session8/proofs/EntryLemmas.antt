@@ -3,7 +3,8 @@ use Rattle.std.proofs.Common.{ℕ, arith, IsErrOf, OnOk, true≢false, ◌≡◌
 use Rattle.script8.specs.declared.entries.Entry.{Entry}
 use Rattle.script8.specs.declared.faults.SessionFault.TheVariants as fault
 use Rattle.session8.specs.State.{State}
-use Rattle.session8.specs.System.{Answer, is_memory, Step, Run}
+use Rattle.session8.specs.System.{Answer, Step, Run}
+use Rattle.session8.specs.SessionSteps.{is_memory}
 
 pub memory_is : (a : Answer) → is_memory a ≡ true → a ≡ Err fault.Memory
 memory_is (Ok reply) is = absurd (true≢false (sym is))

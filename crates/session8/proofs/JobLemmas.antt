@@ -24,7 +24,8 @@ use Rattle.session8.specs.Files.{name_before, parsed_names}
 use Rattle.session8.specs.Refusals.{May, after_refusal}
 use Rattle.session8.specs.Console.{is_console}
 use Rattle.session8.specs.Failing.{StoppedFor}
-use Rattle.session8.specs.Session.{Seen, state_of, IsQuiet, IsReply, Tells, Does}
+use Rattle.session8.specs.Session.{Seen, state_of, IsQuiet, IsReply, Tells}
+use Rattle.session8.specs.SessionSteps.{Does}
 use Rattle.session8.specs.State.{State}
 use Rattle.session8.specs.System.{Answer, Done, Step}
 use Rattle.session8.specs.Work.{job_state, with_core, with_work, said_of, fault_of_job}

@@ -12,7 +12,8 @@ use Rattle.jobs8.specs.declared.kinds.Job.{Job}
 use Rattle.jobs8.specs.declared.kinds.Work.{Work}
 use Rattle.script8.specs.declared.entries.Entry.{Entry}
 use Rattle.script8.specs.declared.entries.Entry.TheVariants as entry
-use Rattle.session8.specs.Interleaving.{EntryReads, EntryPlaces, KeepsPlacesBut, TurnReads, TurnPlaces, Leaves}
+use Rattle.session8.specs.Interleaving.{EntryReads, EntryPlaces, KeepsPlacesBut, TurnReads, TurnPlaces}
+use Rattle.session8.specs.SessionSteps.{Leaves}
 use Rattle.session8.specs.Session.{Seen}
 
 -- ## Nothing is read or moved

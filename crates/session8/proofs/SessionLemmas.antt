@@ -28,11 +28,13 @@ use Rattle.script8.specs.declared.faults.SessionFault.TheVariants as fault
 use Rattle.script8.specs.declared.replies.Reply.{Reply}
 use Rattle.script8.specs.declared.replies.Reply.TheVariants.{Line}
 use Rattle.script8.specs.declared.replies.Said.TheVariants.{Stored, Deleted}
-use Rattle.session8.specs.Console.{is_console, ConsoleDoes, IsBreakTooMany, TakesMemory}
+use Rattle.session8.specs.Console.{is_console, IsBreakTooMany}
+use Rattle.session8.specs.ConsoleSteps.{ConsoleDoes, TakesMemory}
 use Rattle.session8.specs.Failing.{StepsStopped}
 use Rattle.session8.specs.Files.{text_blocks}
 use Rattle.session8.specs.Refusals.{MayLack}
-use Rattle.session8.specs.Session.{Seen, state_of, Does}
+use Rattle.session8.specs.Session.{Seen, state_of}
+use Rattle.session8.specs.SessionSteps.{Does}
 use Rattle.session8.specs.State.{Console, State}
 use Rattle.session8.specs.System.{Done}
 use Rattle.session8.specs.Work.{job_state}

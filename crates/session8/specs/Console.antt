@@ -1,6 +1,6 @@
 -- What the operator does at the console (Small Computer Handbook; breaks, runs of many steps and the characters that are kept are
 -- this project's profile).
-use Rattle.std.specs.Prelude.{◌≡◌, ◌≤◌, ◌++◌, ℕ, true, false, slice_index, Bool, List, [], Result, Ok, Err}
+use Rattle.std.specs.Prelude.{◌≡◌, ◌≤◌, ◌++◌, ℕ, true, false, slice_index, Bool, List, []}
 use Rattle.cpu8.specs.Go.{IsGo, after, printed_by, is_break}
 use Rattle.cpu8.specs.State as cpu
 use Rattle.cpu8.specs.State.{started, switches_set, deposited, key_struck, printer_done, next_cell}
@@ -8,8 +8,6 @@ use Rattle.cpu8.specs.declared.outcomes.Why as end
 use Rattle.cpu8.specs.declared.outcomes.Why.TheVariants as ended
 use Rattle.debug8.specs.Breaks.{break_set, break_cleared, count_breaks}
 use Rattle.debug8.specs.Snapshot.{snapshot}
-use Rattle.debug8.specs.declared.faults.DebugFault.{DebugFault}
-use Rattle.debug8.specs.declared.faults.DebugFault.TheVariants.{TooManyBreaks, Memory}
 use Rattle.script8.specs.declared.entries.Entry.{Entry}
 use Rattle.script8.specs.declared.entries.Entry.TheVariants as entry
 use Rattle.script8.specs.declared.replies.Reply.{Reply}
@@ -79,18 +77,3 @@ Shows old entry reply new = ⊥
 abbrev pub IsBreakTooMany : Console → Entry → Type 0
 IsBreakTooMany old (entry.Break cell true) = (is_break old.breaks cell ≡ false) × (count_breaks old.breaks ≡ 64)
 IsBreakTooMany old entry = ⊥
-
--- an entry of the console that takes memory: steps may print characters, and reports are texts
-abbrev pub TakesMemory : Entry → Type 0
-TakesMemory (entry.Step n) = Unit {0}
-TakesMemory (entry.Go n) = Unit {0}
-TakesMemory (entry.Run cell n) = Unit {0}
-TakesMemory entry.Registers = Unit {0}
-TakesMemory entry.Printed = Unit {0}
-TakesMemory entry = ⊥
-
--- What doing an entry at the console comes to.
-abbrev pub ConsoleDoes : Entry → Console → Result Reply DebugFault → Console → Type 0
-ConsoleDoes entry old (Ok reply) new = Shows old entry reply new
-ConsoleDoes entry old (Err TooManyBreaks) new = IsBreakTooMany old entry × (new ≡ old)
-ConsoleDoes entry old (Err Memory) new = TakesMemory entry × (new ≡ old)

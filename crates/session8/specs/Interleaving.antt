@@ -39,8 +39,3 @@ EntryPlaces (entry.Store name text) old new = KeepsPlacesBut (parsed_name name) 
 EntryPlaces (entry.Delete name) old new = KeepsPlacesBut (parsed_name name) old.volume new.volume
 EntryPlaces (entry.Turn number) old new = TurnPlaces (job_of number old.jobs) old.volume new.volume
 EntryPlaces entry old new = KeepsPlaces old.volume new.volume
-
--- what an entry leaves alone
-pub record Leaves (entry : Entry) (old new : Seen) : Type 0 where
-  pub reads : EntryReads entry old new
-  pub places : EntryPlaces entry old new

@@ -12,3 +12,6 @@ pub mod Reading
 pub mod Script
 pub mod RunSteps
 pub mod Road
+pub mod ConsoleSteps
+pub mod SessionSteps
+pub mod ReadSteps

@@ -1,5 +1,5 @@
 -- What is seen of a session, and the state of the system machine in it.
-use Rattle.std.specs.Prelude.{◌≡◌, ◌≤◌, ◌<◌, ◌⊎◌, true, false, nat_eq, OnOk, Option, List, Err}
+use Rattle.std.specs.Prelude.{◌≡◌, ◌≤◌, ◌⊎◌, true, nat_eq, Option, List, Err}
 use Rattle.os8_dir.specs.Files.{files_of, capacity_of, limit_of, above_of}
 use Rattle.os8_files.specs.Calls.{info_of}
 use Rattle.os8_files.specs.Mounted.{Mounted}
@@ -8,12 +8,11 @@ use Rattle.jobs8.specs.Calls as calls
 use Rattle.jobs8.specs.Calls.{Outlives, ReadFailed, WriteFailed}
 use Rattle.jobs8.specs.Jobs.{Job}
 use Rattle.script8.specs.declared.entries.Entry.{Entry}
-use Rattle.script8.specs.declared.faults.SessionFault.TheVariants.{File, Reader, Writer, Memory}
+use Rattle.script8.specs.declared.faults.SessionFault.TheVariants.{File, Reader, Writer}
 use Rattle.session8.specs.Console.{is_console}
-use Rattle.session8.specs.Failing.{StepsStopped}
 use Rattle.session8.specs.Refusals.{after_refusal}
 use Rattle.session8.specs.State.{State, Console}
-use Rattle.session8.specs.System.{Answer, Step}
+use Rattle.session8.specs.System.{Answer}
 
 pub record Seen : Type 0 where
   pub volume : Mounted
@@ -70,16 +69,3 @@ IsReply answer = Unit {0}
 -- an entry of the console needs no block; of another that was replied to, no block call failed
 abbrev pub IsSteadied : Entry → Seen → Seen → Type 0
 IsSteadied entry old new = (is_console entry ≡ true) ⊎ IsQuiet old new
-
--- What doing an entry comes to: a step of the system machine where no block call fails, or where there is a reply, and nothing
--- for want of memory; and what is refused where one fails, or a write has failed before.
-pub record Does (entry : Entry) (old : Seen) (answer : Answer) (new : Seen) : Type 0 where
-  pub step : IsQuiet old new → Step (state_of old) entry answer (state_of new)
-  pub later : IsLater old new
-  pub files : old.volume.stopped ≡ false → old.volume.failed_writes < new.volume.failed_writes → Outlives old.volume.blocks new.volume.blocks
-  pub running : IsQuiet old new → new.volume.stopped ≡ false
-  pub memory : answer ≡ Err Memory → IsSame old new
-  pub reply : IsReply answer
-  pub tells : old.volume.stopped ≡ false → Tells entry old answer new
-  pub stopped : old.volume.stopped ≡ true → StepsStopped (is_console entry) (state_of old) entry answer (state_of new)
-  pub done : OnOk answer (Step (state_of old) entry answer (state_of new) × IsSteadied entry old new)

@@ -23,11 +23,6 @@ use Rattle.session8.specs.Work.{Works, said_of}
 abbrev pub Answer : Type 0
 Answer = Result Reply SessionFault
 
--- an answer is want of memory
-abbrev pub is_memory : Answer → Bool
-is_memory (Err Memory) = true
-is_memory answer = false
-
 -- What the machine may do and reply.
 abbrev pub Done : State → Entry → Reply → State → Type 0
 Done old (entry.Store name text) (Line (Stored other blocks)) new = (parsed_name name ≡ Some other) × (blocks ≡ text_blocks text) × Works (HasStored other text) old new

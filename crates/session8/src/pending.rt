@@ -2,7 +2,7 @@
 
 ghost use Rattle.std.specs.Prelude.{◌≡◌, ◌≤◌, ◌<◌, [], length, drop};
 ghost use Rattle.script8.specs.Items.{Waits};
-ghost use Rattle.session8.specs.Reading.{Feeds};
+ghost use Rattle.session8.specs.ReadSteps.{Feeds};
 
 use crate::readings::{MOST, read_piece};
 use script8::{SessionFault, lines_left, one_line_wanted};

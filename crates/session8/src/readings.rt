@@ -1,7 +1,8 @@
 ghost use Rattle.std.specs.Prelude.{◌≡◌, ◌<◌, [], true, length, vec_len, IfOk, MatchResult};
 ghost use Rattle.std.specs.IoError.{error_kind};
 ghost use Rattle.std.specs.declared.io.ErrorKind.TheVariants.{Interrupted};
-ghost use Rattle.session8.specs.Reading.{Reads, ReadsWithin, Ends, IsReadWithin, IsReadFault};
+ghost use Rattle.session8.specs.ReadSteps.{Reads, ReadsWithin, Ends};
+ghost use Rattle.session8.specs.Reading.{IsReadWithin, IsReadFault};
 
 use script8::SessionFault;
 use std::alloc::{AllocError, Global};

@@ -1,6 +1,7 @@
 //! The writing of a file.
 ghost use Rattle.std.specs.Prelude.{◌≡◌, ◌/◌, ◌<◌, ◌+◌, nat_lt, slice_index};
-ghost use Rattle.os8_files.specs.Calls.{Enters, Writes, Closes, IsOf, IsPlaced, Places};
+ghost use Rattle.os8_files.specs.Calls.{Enters, Writes, Closes, IsOf};
+ghost use Rattle.os8_files.specs.Steps.{IsPlaced, Places};
 
 use crate::begun::Begun;
 use crate::{FileFault, FileService, Tentative};

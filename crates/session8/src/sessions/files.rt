@@ -6,8 +6,7 @@ ghost use Rattle.os8_dir.specs.Names.{parsed_name};
 ghost use Rattle.os8_files.specs.declared.faults.FileFault.TheVariants.{Busy, Stopped};
 ghost use Rattle.script8.specs.declared.entries.Entry.TheVariants as entry;
 ghost use Rattle.script8.specs.declared.faults.SessionFault.TheVariants.{BadText, File};
-ghost use Rattle.session8.specs.Interleaving.{Leaves};
-ghost use Rattle.session8.specs.Session.{Does};
+ghost use Rattle.session8.specs.SessionSteps.{Leaves, Does};
 
 use super::Session;
 use char_pack::{TextFault, is_storable, store};

@@ -4,8 +4,7 @@ ghost use Rattle.jobs8.specs.Jobs.{lowest_job, turns_left};
 ghost use Rattle.script8.specs.declared.entries.Entry.TheVariants as entry;
 ghost use Rattle.script8.specs.declared.faults.SessionFault.TheVariants.{Memory};
 ghost use Rattle.session8.specs.Files.{parsed_names};
-ghost use Rattle.session8.specs.Interleaving.{Leaves};
-ghost use Rattle.session8.specs.Session.{Does};
+ghost use Rattle.session8.specs.SessionSteps.{Leaves, Does};
 ghost use Rattle.session8.specs.Work.{said_of, fault_of_job};
 
 use super::Session;

@@ -1,6 +1,6 @@
 use Rattle.std.proofs.Common.{ℕ, List, [], length, refl, subst, arith}
 use Rattle.std.proofs.lemmas.Result.{err_from_is_err_and}
-use Rattle.bin_tape.specs.Map.{HasReadTo}
+use Rattle.bin_tape.specs.MapSteps.{HasReadTo}
 use Rattle.bin_tape.proofs.MapLemmas.{first_and_others, ended}
 use Rattle.bin_tape.proofs.maps.read_words.Goals as goal
 

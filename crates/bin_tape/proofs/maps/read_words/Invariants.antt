@@ -1,5 +1,5 @@
 use Rattle.std.proofs.Common.{length}
-use Rattle.bin_tape.specs.Map.{HasReadTo}
+use Rattle.bin_tape.specs.MapSteps.{HasReadTo}
 use Rattle.bin_tape.proofs.maps.read_words.Given as goal
 
 abbrev pub invariant-loop-rest : goal.invariant-loop-rest

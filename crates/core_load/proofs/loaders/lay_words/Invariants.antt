@@ -1,5 +1,5 @@
 use Rattle.std.proofs.Common.{◌≡◌, drop}
-use Rattle.core_load.specs.Load.{laid}
+use Rattle.core_load.specs.Steps.{laid}
 use Rattle.core_load.proofs.loaders.lay_words.Given as goal
 
 abbrev pub invariant-loop-cell : goal.invariant-loop-cell

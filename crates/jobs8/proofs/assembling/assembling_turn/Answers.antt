@@ -1,6 +1,5 @@
 use Rattle.std.proofs.Common.{◌∙◌, Err, ap, sym, subst}
-use Rattle.jobs8.specs.Calls.{TurnsJob}
-use Rattle.jobs8.specs.Sources.{without_holds}
+use Rattle.jobs8.specs.Steps.{TurnsJob, without_holds}
 use Rattle.jobs8.proofs.AssembleLemmas.{the_assembly, working_on, memory_on, refused_on, stopped_at}
 use Rattle.jobs8.proofs.assembling.assembling_turn.Goals as goal
 

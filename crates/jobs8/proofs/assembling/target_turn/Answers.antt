@@ -3,8 +3,9 @@ use Rattle.os8_dir.specs.Files.{files_of}
 use Rattle.os8_files.specs.Puts.{Puts, blocks_filled}
 use Rattle.pal_blocks.specs.Progress.{IsAssembling}
 use Rattle.os8_files.specs.declared.faults.FileFault.TheVariants as file
-use Rattle.jobs8.specs.Calls.{TurnsJob}
-use Rattle.jobs8.specs.Faults.{is_memory, fault_of_file}
+use Rattle.jobs8.specs.Steps.{TurnsJob}
+use Rattle.jobs8.specs.Steps.{is_memory}
+use Rattle.jobs8.specs.Faults.{fault_of_file}
 use Rattle.jobs8.specs.Sources.{names_of}
 use Rattle.jobs8.specs.State.{words_in}
 use Rattle.jobs8.proofs.AssembleLemmas.{the_assembly}

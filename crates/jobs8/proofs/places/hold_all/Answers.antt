@@ -1,7 +1,7 @@
 use Rattle.std.proofs.Common.{◌∙◌, Ok, Err, ap, subst, arith}
 use Rattle.os8_dir.specs.Files.{files_of}
 use Rattle.os8_files.specs.Mounted.{Mounted}
-use Rattle.jobs8.specs.Sources.{HoldsFirst, TakesNext}
+use Rattle.jobs8.specs.Steps.{HoldsFirst, TakesNext}
 use Rattle.jobs8.proofs.HoldLemmas.{none_taken, first_none, free_next, held_next, not_held, take_whole}
 use Rattle.jobs8.proofs.places.hold_all.Goals as goal
 

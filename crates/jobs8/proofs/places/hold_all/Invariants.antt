@@ -1,6 +1,6 @@
 use Rattle.std.proofs.Common.{◌≡◌, take, length}
 use Rattle.os8_dir.specs.Files.{files_of}
-use Rattle.jobs8.specs.Sources.{HasHeld, HoldsFirst}
+use Rattle.jobs8.specs.Steps.{HasHeld, HoldsFirst}
 use Rattle.jobs8.proofs.places.hold_all.Given as goal
 
 -- the first names are held

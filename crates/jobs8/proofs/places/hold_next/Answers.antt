@@ -1,5 +1,5 @@
 use Rattle.std.proofs.Common.{sym, subst}
-use Rattle.jobs8.specs.Sources.{HasHeld}
+use Rattle.jobs8.specs.Steps.{HasHeld}
 use Rattle.jobs8.proofs.PlaceLemmas.{taken_more}
 use Rattle.jobs8.proofs.places.hold_next.Goals as goal
 

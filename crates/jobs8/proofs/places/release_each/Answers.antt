@@ -1,7 +1,7 @@
 use Rattle.std.proofs.Common.{◌∙◌, None, [], ◌∷◌, length, get_or, take, ap}
 use Rattle.std.proofs.Math.ListN.{length-set}
 use Rattle.os8_files.specs.Mounted.{Mounted}
-use Rattle.jobs8.specs.Sources.{without_holds}
+use Rattle.jobs8.specs.Steps.{without_holds}
 use Rattle.jobs8.proofs.EndLemmas.{cleared_more, at_place, none_left}
 use Rattle.jobs8.proofs.PlaceLemmas.{without_next}
 use Rattle.jobs8.proofs.places.release_each.Goals as goal

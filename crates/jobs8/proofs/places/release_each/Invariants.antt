@@ -1,6 +1,5 @@
 use Rattle.std.proofs.Common.{◌≡◌, ◌++◌, take, drop, length}
-use Rattle.jobs8.specs.Calls.{cleared}
-use Rattle.jobs8.specs.Sources.{without_holds}
+use Rattle.jobs8.specs.Steps.{cleared, without_holds}
 use Rattle.jobs8.proofs.places.release_each.Given as goal
 
 -- the first places have let go

@@ -1,7 +1,7 @@
 use Rattle.std.proofs.Common.{◌∙◌, None, length, take, ap}
 use Rattle.std.proofs.Math.ListN.{length-set}
 use Rattle.os8_files.specs.Mounted.{Mounted}
-use Rattle.jobs8.specs.Calls.{without_job, without_jobs}
+use Rattle.jobs8.specs.Steps.{without_job, without_jobs}
 use Rattle.jobs8.proofs.EndLemmas.{cleared_more, at_place, without_more, none_left}
 use Rattle.jobs8.proofs.table.let_all_go.Goals as goal
 

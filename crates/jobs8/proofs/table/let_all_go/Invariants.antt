@@ -1,5 +1,5 @@
 use Rattle.std.proofs.Common.{◌≡◌, ◌++◌, take, drop, length}
-use Rattle.jobs8.specs.Calls.{without_jobs, cleared}
+use Rattle.jobs8.specs.Steps.{without_jobs, cleared}
 use Rattle.jobs8.proofs.table.let_all_go.Given as goal
 
 -- the first jobs have let go

@@ -1,7 +1,7 @@
 use Rattle.std.proofs.Common.{◌≤◌, sym, subst}
 use Rattle.os8_files.specs.Holds.{times}
 use Rattle.jobs8.specs.Jobs.{held_by_work}
-use Rattle.jobs8.specs.Calls.{TurnsJob}
+use Rattle.jobs8.specs.Steps.{TurnsJob}
 use Rattle.jobs8.specs.Settled.{Fits, Stands, work_of}
 use Rattle.jobs8.proofs.SqueezeLemmas.{squeezed_turn}
 use Rattle.jobs8.proofs.JobLemmas.{loading_job}

@@ -1,6 +1,7 @@
 use Rattle.std.proofs.Common.{map, subst, sym}
 use Rattle.clap.specs.Words.{app_of}
-use Rattle.monitor8.specs.Tasks.{Asks, HasMet}
+use Rattle.monitor8.specs.Tasks.{Asks}
+use Rattle.monitor8.specs.TaskSteps.{HasMet}
 use Rattle.monitor8.proofs.TaskLemmas.{fault_answer, met_rows, no_fault, taken_fault, task_whole}
 use Rattle.monitor8.proofs.tasks.task.Goals as goal
 

@@ -1,6 +1,6 @@
 use Rattle.std.proofs.Common.{◌≡◌, ℕ, length}
 use Rattle.pal_sym.specs.Values.{symbol_value}
-use Rattle.pal_asm.specs.Passes.{with_tags_again}
+use Rattle.pal_asm.specs.PassSteps.{with_tags_again}
 use Rattle.pal_asm.proofs.again.set_tags.Given as goal
 
 abbrev pub invariant-loop-rest : goal.invariant-loop-rest

@@ -3,7 +3,8 @@ use Rattle.pal_lex.specs.Statements.{statements}
 use Rattle.pal_lex.specs.Joins.{IsClear, join_of}
 use Rattle.pal_lex.specs.Reading.{HasRead}
 use Rattle.pal_asm.specs.Passes.{IsFirst}
-use Rattle.pal_asm.specs.Texts.{texts, are_several}
+use Rattle.pal_asm.specs.Texts.{texts}
+use Rattle.pal_asm.specs.TextSteps.{are_several}
 use Rattle.pal_asm.proofs.texts.first_pass.Given as goal
 
 abbrev pub invariant-loop-rest : goal.invariant-loop-rest

@@ -2,7 +2,7 @@ use Rattle.std.proofs.Common.{Ok, length, get_or, [], ◌∷◌, ◌++◌, ap, s
 use Rattle.pal_lex.specs.Text.{text_of}
 use Rattle.pal_lex.specs.Progress.{Setting}
 use Rattle.pal_asm.specs.Passes.{IsFirst}
-use Rattle.pal_asm.specs.Texts.{PassesByte}
+use Rattle.pal_asm.specs.TextSteps.{PassesByte}
 use Rattle.pal_asm.proofs.SourceLemmas.{with_byte, first_paused, first_failed, first_read}
 use Rattle.pal_asm.proofs.texts.first_source.Goals as goal
 

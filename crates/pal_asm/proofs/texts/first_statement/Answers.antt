@@ -1,7 +1,7 @@
 use Rattle.std.proofs.Common.{true, Ok, Err, sym, subst, ◌∙◌}
 use Rattle.std.proofs.lemmas.Result.{err_from_is_err_and}
 use Rattle.pal_lex.specs.Reading.{with_tokens}
-use Rattle.pal_asm.specs.Texts.{PassesStatement}
+use Rattle.pal_asm.specs.TextSteps.{PassesStatement}
 use Rattle.pal_asm.proofs.TextLemmas.{passes_err}
 use Rattle.pal_asm.proofs.texts.first_statement.Goals as goal
 

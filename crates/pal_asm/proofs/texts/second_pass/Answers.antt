@@ -1,7 +1,8 @@
 use Rattle.std.proofs.Common.{[], refl, sym, subst, append-nil}
 use Rattle.pal_lex.specs.Joins.{join_of}
 use Rattle.pal_lex.specs.Statements.{statements}
-use Rattle.pal_asm.specs.Texts.{texts, HasMade}
+use Rattle.pal_asm.specs.Texts.{texts}
+use Rattle.pal_asm.specs.TextSteps.{HasMade}
 use Rattle.pal_asm.proofs.TextLemmas.{nothing_read}
 use Rattle.pal_asm.proofs.texts.second_pass.Goals as goal
 

@@ -2,7 +2,8 @@ use Rattle.std.proofs.Common.{◌≡◌, ℕ, List, ◌++◌, length}
 use Rattle.pal_lex.specs.Statements.{statements}
 use Rattle.pal_lex.specs.Joins.{IsClear, join_of}
 use Rattle.pal_lex.specs.Reading.{HasRead}
-use Rattle.pal_asm.specs.Texts.{texts, are_several, HasMade}
+use Rattle.pal_asm.specs.Texts.{texts}
+use Rattle.pal_asm.specs.TextSteps.{are_several, HasMade}
 use Rattle.pal_asm.proofs.texts.second_pass.Given as goal
 
 abbrev pub invariant-loop-rest : goal.invariant-loop-rest

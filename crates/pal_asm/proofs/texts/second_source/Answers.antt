@@ -3,7 +3,7 @@ use Rattle.pal_lex.specs.Text.{text_of}
 use Rattle.pal_lex.specs.Joins.{join_of}
 use Rattle.pal_lex.specs.Statements.{statements}
 use Rattle.pal_lex.specs.Progress.{Setting}
-use Rattle.pal_asm.specs.Texts.{HasMade, MakesByte}
+use Rattle.pal_asm.specs.TextSteps.{HasMade, MakesByte}
 use Rattle.pal_asm.proofs.SourceLemmas.{with_byte, split_byte, second_paused, second_failed, second_read}
 use Rattle.pal_asm.proofs.texts.second_source.Goals as goal
 

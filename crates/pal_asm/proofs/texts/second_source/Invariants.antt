@@ -5,7 +5,7 @@ use Rattle.pal_lex.specs.Joins.{IsClear, join_of}
 use Rattle.pal_lex.specs.Laws.{has_next}
 use Rattle.pal_lex.specs.Reading.{HasRead}
 use Rattle.pal_lex.specs.Progress.{setting}
-use Rattle.pal_asm.specs.Texts.{HasMade}
+use Rattle.pal_asm.specs.TextSteps.{HasMade}
 use Rattle.pal_asm.proofs.SourceLemmas.{StandsAgain}
 use Rattle.pal_asm.proofs.texts.second_source.Given as goal
 

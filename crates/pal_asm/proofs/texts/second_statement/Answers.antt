@@ -1,6 +1,6 @@
 use Rattle.std.proofs.Common.{true, Ok, Err, sym, subst, ◌∙◌}
 use Rattle.pal_lex.specs.Reading.{with_tokens}
-use Rattle.pal_asm.specs.Texts.{MakesStatement}
+use Rattle.pal_asm.specs.TextSteps.{MakesStatement}
 use Rattle.pal_asm.specs.declared.faults.AsmFault.TheVariants.{Memory}
 use Rattle.pal_asm.proofs.TextLemmas.{makes_pair, makes_err}
 use Rattle.pal_asm.proofs.texts.second_statement.Goals as goal

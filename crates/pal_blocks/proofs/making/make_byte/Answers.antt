@@ -1,5 +1,5 @@
 use Rattle.std.proofs.Common.{ℕ, List, false, subst, sym}
-use Rattle.pal_blocks.specs.Passing.{HasMade}
+use Rattle.pal_blocks.specs.Steps.{HasMade}
 use Rattle.pal_blocks.proofs.MakeLemmas.{made_byte, made_not}
 use Rattle.pal_blocks.proofs.making.make_byte.Goals as goal
 

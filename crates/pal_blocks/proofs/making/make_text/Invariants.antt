@@ -1,7 +1,7 @@
 use Rattle.std.proofs.Common.{◌-◌, ℕ, Bool, false, List, length, take}
 use Rattle.pal_lex.specs.Text.{text_from}
 use Rattle.pal_asm.specs.Places.{Source}
-use Rattle.pal_blocks.specs.Passing.{HasMade, IsWithin}
+use Rattle.pal_blocks.specs.Steps.{HasMade, IsWithin}
 use Rattle.pal_blocks.proofs.making.make_text.Given as goal
 
 -- as many characters were taken as the offset says

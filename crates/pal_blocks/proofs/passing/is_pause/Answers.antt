@@ -1,5 +1,5 @@
 use Rattle.std.proofs.Common.{◌∙◌, ap, sym}
-use Rattle.pal_blocks.specs.Passing.{is_pause_answer}
+use Rattle.pal_blocks.specs.Steps.{is_pause_answer}
 use Rattle.pal_blocks.proofs.passing.is_pause.Goals as goal
 
 pub returns-in-Some : goal.returns-in-Some

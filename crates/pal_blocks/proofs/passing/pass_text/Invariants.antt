@@ -1,6 +1,6 @@
 use Rattle.std.proofs.Common.{◌-◌, ℕ, Bool, false, List, length, take}
 use Rattle.pal_lex.specs.Text.{text_from}
-use Rattle.pal_blocks.specs.Passing.{HasPassed}
+use Rattle.pal_blocks.specs.Steps.{HasPassed}
 use Rattle.pal_blocks.proofs.passing.pass_text.Given as goal
 
 -- as many characters were taken as the offset says

@@ -1,5 +1,5 @@
 use Rattle.std.proofs.Common.{◌≡◌, ◌-◌, ◌≤◌, false, length, take}
-use Rattle.pal_lex.specs.Text.{has_cr}
+use Rattle.pal_lex.specs.Steps.{has_cr}
 use Rattle.pal_lex.proofs.lexing.before_cr.Given as goal
 
 abbrev pub invariant-loop-count : goal.invariant-loop-count

@@ -1,5 +1,5 @@
 use Rattle.std.proofs.Common.{◌≡◌, ℕ, List, ◌++◌, ◌∷◌, ap, ◌∙◌, append_assoc}
-use Rattle.pal_list.specs.Tags.{tagged_in}
+use Rattle.pal_list.specs.Steps.{tagged_in}
 use Rattle.pal_list.specs.Lines.{led, comment, line_end, tag_part}
 use Rattle.pal_list.specs.Statements.{statement}
 use Rattle.pal_list.proofs.lines.put_word.Goals as goal

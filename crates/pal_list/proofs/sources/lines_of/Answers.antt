@@ -2,7 +2,7 @@ use Rattle.std.proofs.Common.{ℕ, ◌+◌, ◌≡◌, ◌<◌, length, None, su
 use Rattle.std.proofs.lemmas.List.{get_or_default}
 use Rattle.bin_tape.specs.Items.{tape_map}
 use Rattle.bin_tape.specs.Writing.{newest_cell}
-use Rattle.pal_list.specs.Tags.{tagged_in}
+use Rattle.pal_list.specs.Steps.{tagged_in}
 use Rattle.pal_list.specs.Lines.{lines_of}
 use Rattle.pal_list.specs.Sources.{words_below, with_word}
 use Rattle.pal_list.proofs.TapeLemmas.{below_none, below_more}

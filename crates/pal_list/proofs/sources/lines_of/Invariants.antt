@@ -1,9 +1,9 @@
 use Rattle.std.proofs.Common.{◌≡◌, List}
 use Rattle.bin_tape.specs.Items.{Item}
 use Rattle.bin_tape.specs.Writing.{newest_cell}
-use Rattle.pal_list.specs.Tags.{tagged_in}
+use Rattle.pal_list.specs.Steps.{tagged_in, HoldsMap}
 use Rattle.pal_list.specs.Lines.{lines_of}
-use Rattle.pal_list.specs.Sources.{HoldsMap, words_below}
+use Rattle.pal_list.specs.Sources.{words_below}
 use Rattle.pal_list.proofs.sources.lines_of.Given as goal
 
 abbrev pub invariant-loop-number : goal.invariant-loop-number

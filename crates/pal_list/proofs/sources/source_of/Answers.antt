@@ -1,6 +1,7 @@
 use Rattle.std.proofs.Common.{◌++◌, ◌∷◌, ap, subst, ◌∙◌, sym}
 use Rattle.pal_list.specs.Lines.{line_end}
-use Rattle.pal_list.specs.Sources.{Says, HoldsMap, HoldsTags, tagged_below}
+use Rattle.pal_list.specs.Sources.{Says}
+use Rattle.pal_list.specs.Steps.{HoldsMap, HoldsTags, tagged_below}
 use Rattle.pal_list.proofs.ShownLemmas.{tape_lines, source_says, gives_none, no_bytes, some_bytes}
 use Rattle.pal_list.proofs.sources.source_of.Goals as goal
 

@@ -1,5 +1,5 @@
 use Rattle.std.proofs.Common.{[], take}
-use Rattle.pal_list.specs.Sources.{HoldsRead}
+use Rattle.pal_list.specs.Steps.{HoldsRead}
 use Rattle.pal_list.proofs.sources.take_all.Given as goal
 
 abbrev pub invariant-loop-frame : goal.invariant-loop-frame

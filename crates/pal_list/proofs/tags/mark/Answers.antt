@@ -2,7 +2,7 @@ use Rattle.std.proofs.Common.{◌≡◌, ℕ, ◌<◌, length, Option, None, Lis
 use Rattle.std.proofs.lemmas.List.{get_or_default}
 use Rattle.bin_tape.specs.Items.{Item, tape_map}
 use Rattle.pal_list.specs.References.{is_reference}
-use Rattle.pal_list.specs.Sources.{HoldsMap}
+use Rattle.pal_list.specs.Steps.{HoldsMap}
 use Rattle.pal_list.proofs.MarkLemmas.{mark_none, mark_no_reference, mark_reference}
 use Rattle.pal_list.proofs.tags.mark.Goals as goal
 

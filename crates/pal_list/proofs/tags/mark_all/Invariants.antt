@@ -1,6 +1,6 @@
 use Rattle.std.proofs.Common.{List}
 use Rattle.bin_tape.specs.Items.{Item}
-use Rattle.pal_list.specs.Sources.{HoldsMap, HoldsTags, tagged_below}
+use Rattle.pal_list.specs.Steps.{HoldsMap, HoldsTags, tagged_below}
 use Rattle.pal_list.proofs.tags.mark_all.Given as goal
 
 abbrev pub invariant-loop-number : goal.invariant-loop-number

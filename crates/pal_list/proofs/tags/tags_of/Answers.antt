@@ -1,5 +1,5 @@
 use Rattle.std.proofs.Common.{length, ap, ◌∙◌, arith}
-use Rattle.pal_list.specs.Tags.{tagged_in}
+use Rattle.pal_list.specs.Steps.{tagged_in}
 use Rattle.pal_list.proofs.TapeLemmas.{whole_written}
 use Rattle.pal_list.proofs.MarkLemmas.{mark_first}
 use Rattle.pal_list.proofs.tags.tags_of.Goals as goal

@@ -1,7 +1,7 @@
 use Rattle.std.proofs.Common.{◌≡◌, IsTrue, length}
 use Rattle.std.specs.Ordering.{nat_cmp}
 use Rattle.std.specs.FinMap.{find}
-use Rattle.pal_sym.specs.Permanent.{all_words}
+use Rattle.pal_sym.specs.Steps.{all_words}
 use Rattle.pal_sym.proofs.permanent_names.listed.Given as goal
 
 abbrev pub invariant-loop-rest : goal.invariant-loop-rest

@@ -1,5 +1,6 @@
 use Rattle.std.proofs.Common.{◌≡◌, ◌<◌, drop}
-use Rattle.script8.specs.Lines.{octal_from, octal_limit}
+use Rattle.script8.specs.Lines.{octal_from}
+use Rattle.script8.specs.Steps.{octal_limit}
 use Rattle.script8.proofs.operands.octal_value.Given as goal
 
 -- the value is that of the digits so far

@@ -1,5 +1,5 @@
 use Rattle.std.proofs.Common.{subst, Bool, Ok, ◌+◌, ◌++◌, refl, inl, arith, length, length-append}
-use Rattle.session8.specs.Reading.{ReadsWithin}
+use Rattle.session8.specs.ReadSteps.{ReadsWithin}
 use Rattle.session8.proofs.ByteLemmas.{consumes_more}
 use Rattle.session8.proofs.readings.read_all.Goals as goal
 

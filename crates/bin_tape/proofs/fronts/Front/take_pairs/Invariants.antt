@@ -1,5 +1,5 @@
 use Rattle.std.proofs.Common.{ℕ, ◌≤◌, List, length}
-use Rattle.bin_tape.specs.Map.{ReadsTo}
+use Rattle.bin_tape.specs.MapSteps.{ReadsTo}
 use Rattle.bin_tape.proofs.fronts.Front.take_pairs.Given as goal
 
 abbrev pub invariant-loop-rest : goal.invariant-loop-rest

@@ -1,6 +1,7 @@
 use Rattle.std.proofs.Common.{ℕ, List, ap, subst, sym, ◌∙◌}
 use Rattle.core_load.specs.Loading.{Loading}
-use Rattle.core_load.specs.Load.{IsOverlaid, laid}
+use Rattle.core_load.specs.Load.{IsOverlaid}
+use Rattle.core_load.specs.Steps.{laid}
 use Rattle.core_load.proofs.LaidLemmas.{is_overlaid}
 use Rattle.core_load.proofs.loaders.Loader.lay.Goals as goal
 

@@ -1,6 +1,5 @@
-use Rattle.std.proofs.Common.{◌≡◌, arith, refl, ap, sym, subst, ◌∙◌}
+use Rattle.std.proofs.Common.{◌≡◌, arith, refl, sym, subst, ◌∙◌}
 use Rattle.cpu8.specs.State.{with_core}
-use Rattle.cpu8.specs.Go.{is_break}
 use Rattle.cpu8.proofs.GoLemmas.{after-none}
 use Rattle.cpu8.proofs.QuietLemmas.{none-quiet, after-quiet, quiet-next, stays-quiet, fields-same}
 use Rattle.cpu8.specs.Quiet.{AreMinded}
@@ -20,7 +19,7 @@ loop-made-init g c =
 pub is_at_break-requires : goal.is_at_break-requires
 is_at_break-requires g c =
     let same : c.step_quietly.new.self.instruction_field ≡ c.args.self.now.instruction_field =
-        (c.if-not-step_quietly.ensures).stays.field c.loop-made.invariant.5 ∙ c.loop-made.invariant.4 in
+    (c.if-not-step_quietly.ensures).stays.field c.loop-made.invariant.5 ∙ c.loop-made.invariant.4 in
     subst (λ field. AreMinded c.args.breaks.now field _) (sym same) c.requires.breaks
 
 pub returns-then-is_at_break-clause-state : goal.returns-then-is_at_break-clause-state

@@ -1,7 +1,8 @@
 use Rattle.std.proofs.Common.{◌∙◌, arith, ap, sym, subst, Err}
 use Rattle.os8_dir.specs.Files.{files_of}
 use Rattle.pal_blocks.specs.Progress.{block_of}
-use Rattle.jobs8.specs.Sources.{names_of, ReadsSource}
+use Rattle.jobs8.specs.Sources.{names_of}
+use Rattle.jobs8.specs.Steps.{ReadsSource}
 use Rattle.jobs8.specs.State.{words_in}
 use Rattle.jobs8.proofs.SourceLemmas.{words_count, block_inside, source_read, not_taken, not_read}
 use Rattle.jobs8.proofs.assembly.Assembly.read.Goals as goal

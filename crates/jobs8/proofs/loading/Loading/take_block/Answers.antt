@@ -1,5 +1,5 @@
 use Rattle.std.proofs.Common.{Err, ◌∙◌, sym, subst}
-use Rattle.jobs8.specs.Reading.{ReadsBlock}
+use Rattle.jobs8.specs.Steps.{ReadsBlock}
 use Rattle.jobs8.specs.declared.faults.JobFault.{JobFault}
 use Rattle.jobs8.proofs.LoadLemmas.{block_taken, went_on, ended_at, not_taken}
 use Rattle.jobs8.proofs.loading.Loading.take_block.Goals as goal

@@ -1,6 +1,7 @@
 use Rattle.std.proofs.Common.{◌∙◌, Err, ◌-◌, None, slice_set, ap, sym, subst, arith}
 use Rattle.jobs8.specs.Calls.{TakesTurn}
-use Rattle.jobs8.specs.Settled.{FitsIn, StandsIn, disturbed, jobs_after}
+use Rattle.jobs8.specs.Settled.{FitsIn, StandsIn, disturbed}
+use Rattle.jobs8.specs.Steps.{jobs_after}
 use Rattle.jobs8.specs.declared.faults.JobFault.TheVariants.{NoJob}
 use Rattle.jobs8.proofs.SettledLemmas.{fit_at, stand_at, held_enough}
 use Rattle.jobs8.proofs.StartLemmas.{takes_turn, no_turn}

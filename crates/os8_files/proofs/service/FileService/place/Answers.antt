@@ -8,7 +8,8 @@ use Rattle.os8_dir.specs.Found.{IsDirectory, rooms_at, limit}
 use Rattle.os8_dir.specs.Files.{files_of, limit_of, of_directory}
 use Rattle.os8_dir.specs.Changes.{placed, relisted, new_file}
 use Rattle.os8_files.specs.Mounted.{Mounted, Begun, IsBegun}
-use Rattle.os8_files.specs.Calls.{IsFree, StopsInPart, Places, entries_with, new_held}
+use Rattle.os8_files.specs.Calls.{IsFree, StopsInPart, entries_with, new_held}
+use Rattle.os8_files.specs.Steps.{Places}
 use Rattle.os8_files.specs.Written.{HasDirectory}
 use Rattle.os8_files.proofs.CallLemmas.{by-rewrite}
 use Rattle.os8_files.proofs.BoundLemmas.{IsMade, is-over, placed-made}

@@ -4,7 +4,8 @@ use Rattle.script8.specs.Items.{Waits}
 use Rattle.std.specs.Io.KnownBytes.{Consumes}
 use Rattle.script8.specs.declared.faults.SessionFault.{SessionFault}
 use Rattle.script8.specs.declared.faults.SessionFault.TheVariants as fault
-use Rattle.session8.specs.Reading.{IsRead, Takes, Feeds}
+use Rattle.session8.specs.Reading.{IsRead, Takes}
+use Rattle.session8.specs.ReadSteps.{Feeds}
 use Rattle.session8.specs.RunSteps.{RunsGiven, IsRunTo}
 use Rattle.session8.specs.Session.{state_of}
 use Rattle.session8.proofs.ByteLemmas.{consumes_none}

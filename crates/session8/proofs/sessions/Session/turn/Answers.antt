@@ -3,7 +3,8 @@ use Rattle.jobs8.specs.Calls.{TakesTurn}
 use Rattle.jobs8.specs.Jobs.{lowest_job, turns_left}
 use Rattle.jobs8.specs.Settled.{plain_jobs}
 use Rattle.script8.specs.declared.entries.Entry.TheVariants as entry
-use Rattle.session8.specs.Session.{Seen, Does}
+use Rattle.session8.specs.Session.{Seen}
+use Rattle.session8.specs.SessionSteps.{Does}
 use Rattle.session8.specs.State.{Console}
 use Rattle.session8.proofs.LeavesLemmas.{turn_leaves}
 use Rattle.session8.proofs.JobLemmas.{turn_done, turn_refused, turn_fewer, never_number, not_lacking}
