@@ -1,8 +1,8 @@
 #!/usr/bin/env bash
 # Runs scripts of 16,777,216 bytes, and of a tenth of that, of empty lines and of DIRECT lines over a volume of three files.
 # Prints megabytes of script a second of processor time, which are alike where the time is linear in the script, and the most
-# memory that the program held. Then scripts of STORE and DELETE over volumes of 4095 blocks: one text that fills the volume,
-# one of 999,999 lines, which is refused there, and 100,000 lines of STORE and DELETE.
+# memory that the program held. Then scripts of STORE and DELETE over volumes of 4095 blocks: one text that fills the volume, ten such
+# texts of long and of short lines, one of 999,999 lines, which is refused there, and 100,000 lines of STORE and DELETE.
 set -eu
 top=$(cd "$(dirname "${BASH_SOURCE[0]}")/.." && pwd)
 . "$top/bench/seconds.sh"
@@ -62,6 +62,13 @@ report() {
 # 4088 blocks of 384 characters less the control Z: 24,526 lines of 64 characters with CR and LF.
 store_of "$(printf '%062d' 0)" 24526 >full
 report 'a text of 4088 blocks' full
+# Ten such texts, one after the other, and ten of as many short lines as a volume holds.
+ten() { for _ in $(seq 10); do cat "$1" && echo DELETE A.TX; done; }
+ten full >texts
+report 'ten, lines of 62' texts
+store_of /23456789012345 92000 >short
+ten short >texts
+report 'ten, lines of 15' texts
 store_of /23456789012345 999999 >lines
 report '999,999 lines' lines
 store_of /23456789012345 99999 >lines
