@@ -10,7 +10,7 @@ use word12::{Word, sixbit};
 /// Support Manual).
 ///
 /// A contract sees one number, the four words to the base 4096; so names are in order of their words.
-#[derive(Clone, Copy, PartialEq, Eq, PartialOrd, Ord, Hash, Debug)]
+#[derive(Clone, Copy, PartialEq, Eq, PartialOrd, Ord, Debug)]
 pub struct Name {
     number: u64,
 }
