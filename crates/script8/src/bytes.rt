@@ -4,7 +4,7 @@ use std::alloc::{AllocError, Global};
 use std::marker::Model;
 
 /// Bytes that an entry owns: a name as its line has it, or a text.
-#[derive(Drop, Debug)]
+#[derive(Drop)]
 pub struct Bytes {
     items: Vec<u8>,
 }

@@ -2,7 +2,7 @@ use crate::{Bytes, Names};
 use word12::{Cell, Word};
 
 /// What a session is asked to do. Names are the bytes of the line; whether they name a file is judged where the entry is done.
-#[derive(Drop, Debug)]
+#[derive(Drop)]
 pub enum Entry {
     /// `STORE`: makes a file of a text, in place of any of its name.
     Store { name: Bytes, text: Bytes },

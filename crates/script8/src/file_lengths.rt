@@ -4,7 +4,7 @@ use os8_dir::Name;
 use std::marker::Model;
 
 /// The names of files with their lengths in blocks.
-#[derive(Drop, Debug)]
+#[derive(Drop)]
 pub struct FileLengths {
     files: Vec<(Name, usize)>,
 }

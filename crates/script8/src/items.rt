@@ -11,7 +11,7 @@ use crate::{Bytes, Entry, Line, SessionFault, parse_line};
 use std::alloc::{AllocError, Global};
 
 /// An item of a script.
-#[derive(Drop, Debug)]
+#[derive(Drop)]
 pub enum Item {
     /// An entry is done.
     Do(Entry),
@@ -24,7 +24,7 @@ pub enum Item {
 }
 
 /// What a text begins with.
-#[derive(Drop, Debug)]
+#[derive(Drop)]
 pub enum Next {
     /// No item; in a text that goes on none is whole before so many more lines are ended.
     End(u32),

@@ -1,7 +1,7 @@
 use crate::{Bytes, Entry};
 
 /// What a line of a script says.
-#[derive(Drop, Debug)]
+#[derive(Drop)]
 pub enum Line {
     /// Nothing: it is no entry and has no reply.
     Empty,

@@ -4,7 +4,7 @@ use crate::Bytes;
 use std::marker::Model;
 
 /// Names that an entry owns, each as its line has it, in their order.
-#[derive(Drop, Debug)]
+#[derive(Drop)]
 pub struct Names {
     items: Vec<Bytes>,
 }

@@ -3,7 +3,7 @@ use os8_dir::Name;
 use word12::{Cell, Word};
 
 /// What a session answers to an entry that it does.
-#[derive(Drop, Debug)]
+#[derive(Drop)]
 pub enum Reply {
     /// What is said in one line of at most 80 bytes.
     Line(Said),
@@ -13,7 +13,7 @@ pub enum Reply {
 }
 
 /// What is said in one line. Jobs are shown by their numbers.
-#[derive(Clone, Copy, PartialEq, Eq, Debug)]
+#[derive(Clone, Copy)]
 pub enum Said {
     /// A text was stored in a file of so many blocks.
     Stored {
@@ -82,7 +82,7 @@ pub enum Said {
 }
 
 /// What is shown in more than 80 bytes, or in more than one line.
-#[derive(Drop, Debug)]
+#[derive(Drop)]
 pub enum Report {
     /// The files in name order with their lengths in blocks, and the blocks of no file.
     Direct { files: FileLengths, free: usize },
@@ -95,7 +95,7 @@ pub enum Report {
 }
 
 /// Why the processor's steps of an entry ended, the first of these that holds.
-#[derive(Clone, Copy, PartialEq, Eq, Debug)]
+#[derive(Clone, Copy)]
 pub enum Why {
     /// It halted, or stood stopped.
     Halt,

@@ -54,7 +54,7 @@ impl<S: BlockStore> Model for Session<S> {
 }
 
 /// The answers to the entries of a run that were done, and whether want of memory ended it.
-#[derive(Drop, Debug)]
+#[derive(Drop)]
 pub struct Ran {
     pub replies: Vec<Result<Reply, SessionFault>>,
     pub stopped: bool,
