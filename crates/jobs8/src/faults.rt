@@ -7,7 +7,7 @@ use pal_asm::AsmFault;
 use thiserror::Error;
 
 /// Why a job isn't begun, or ends.
-#[derive(Clone, Copy, PartialEq, Eq, Debug, Error)]
+#[derive(Clone, Copy, Debug, Error)]
 pub enum JobFault {
     #[error("there is no job of the number")]
     NoJob,

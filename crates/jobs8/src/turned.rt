@@ -1,7 +1,7 @@
 use os8_dir::Name;
 
 /// What a turn of a job is answered, where it isn't refused.
-#[derive(Clone, Copy, PartialEq, Eq, Debug)]
+#[derive(Clone, Copy)]
 pub enum Turned {
     /// The job has turns left.
     Working,
