@@ -15,7 +15,7 @@ use Rattle.os8_dir.specs.Found.{Placed, IsDirectory, IsTight, files_at, rooms_at
 use Rattle.os8_dir.specs.Files.{Files, held, held_by, held_of, files_of, run, capacity_of, limit_of, above_of, of_directory}
 use Rattle.os8_dir.specs.Changes.{removed, placed, relisted, new_file, LieIn}
 use Rattle.os8_files.specs.Mounted.{Mounted, Begun}
-use Rattle.os8_files.specs.Calls.{IsLargest, IsOver, info_of, new_held}
+use Rattle.os8_files.specs.Calls.{IsLargest, IsOver, info_of, new_held, rooms_or}
 use Rattle.os8_files.proofs.ListingLemmas.{used_of-read, count_of-read}
 use Rattle.os8_files.proofs.MapLemmas.{files-removed, files-inserted}
 use Rattle.os8_files.proofs.RoomLemmas.{info-again}
@@ -56,6 +56,7 @@ is-largest covers aboves least most all blocks d each kept made is =
     let cover = covers blocks d kept in
     let within = subst (λ k. free_blocks d.entries ≤ n * (k + 1)) (sym count) (most d.first d.entries is.neat) in
     record {
+      is = ap (λ rs. size_or_zero (largest rs)) (sym (ap rooms_or kept));
       least = omega (arith, used, sum, cover, least d.first d.entries);
       most = omega (arith, used, sum, cover, within);
       tight = λ low. omega (arith, used, sum, cover, all d.first d.entries is.neat (sym (aboves blocks d kept) ∙ low));

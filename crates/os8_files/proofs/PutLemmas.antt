@@ -7,10 +7,11 @@ use Rattle.os8_dir.specs.Files.{files_of, capacity_of, limit_of, above_of, run}
 use Rattle.os8_dir.specs.Entries.{IsNamed, contains}
 use Rattle.os8_dir.specs.Names.{padded}
 use Rattle.os8_dir.specs.Reading.{directory_of, block}
+use Rattle.os8_dir.specs.Changes.{fitting}
 use Rattle.os8_files.specs.Mounted.{Mounted, Begun}
 use Rattle.os8_files.specs.Failed.{KeepsDirectory, Survives, extent_or, listed_or}
 use Rattle.os8_files.specs.Service.{count_of}
-use Rattle.os8_files.specs.Calls.{IsOf, IsOver, KeepsBlocks, HasWritten, HasEntered, HasFailed, Writes, Enters, Closes, info_of, new_held, Spent, counted_more, differing}
+use Rattle.os8_files.specs.Calls.{IsOf, IsOver, KeepsBlocks, HasWritten, HasEntered, HasFailed, Writes, Enters, Closes, info_of, new_held, rooms_of, Spent, counted_more, differing}
 use Rattle.os8_files.specs.Puts.{HasKept, Puts, plain_file, blocks_filled}
 use Rattle.os8_files.specs.Steps.{IsBeginning, HasFilled, Fills}
 use Rattle.os8_files.specs.declared.faults.FileFault.{FileFault}
@@ -253,9 +254,12 @@ closed old m1 m2 new name blocks token words begun (Ok done) some count e filled
   free = e.free;
   files = has.files ∙ ap (λ h. insert (files_of m2.blocks) name h) (new_is old m1 m2 name blocks token words begun has.begun e filled has.was) ∙ ap (λ fs. insert fs name (plain_file old words)) kept.files;
   place = begun.place;
+  room = e.room;
+  fits = subst (λ n. fitting n (rooms_of old.blocks) ≡ Some (begun.place, e.room)) count (e.fits ∙ ap (λ p. Some (p, e.room)) (sym lies));
   extent = has.place ∙ ap (λ (b : Begun). Some (b.place, b.written)) same ∙ ap (λ n. Some (begun.place, n)) count;
   blocks = subst (λ n. KeepsBlocks old.blocks new.blocks begun.place n) count
       (kept-none old.blocks m2.blocks new.blocks begun.place blocks (subst (λ (m : Mounted). KeepsBlocks m.blocks m2.blocks begun.place blocks) e.others filled.others_kept) has.blocks);
+  written = record { directory = has.written.directory; read = has.written.read; segments = has.written.segments; unused = λ k more low. has.written.unused k more low ∙ kept.kept.segments k (omega (arith, more)) low };
   places = λ other differ runs. has.places other differ ∙ ap (extent_or other) kept.kept.directory;
   capacity = has.capacity ∙ kept.capacity;
   limit = has.limit ∙ kept.limit;
@@ -270,6 +274,9 @@ closed old m1 m2 new name blocks token words begun (Ok done) some count e filled
 
     same : has.begun ≡ record { name = begun.name; place = begun.place; room = begun.room; written = blocks }
     same = some-same _ _ (sym has.was ∙ begun_now m1 begun words blocks m2 filled)
+
+    lies : begun.place ≡ e.place
+    lies = ap (λ (b : Begun). b.place) (some-same _ _ (sym filled.was ∙ ap (λ (m : Mounted). m.tentative) e.others))
 closed old m1 m2 new name blocks token words begun (Err NothingWritten) some count e filled has = absurd (written (ap (λ (b : Begun). b.written) (some-same _ _ (sym has.1.was ∙ begun_now m1 begun words blocks m2 filled))) has.2)
   where
     written : {n : ℕ} → n ≡ blocks → n ≡ 0 → ⊥

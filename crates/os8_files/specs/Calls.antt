@@ -125,9 +125,18 @@ pub record IsReady (m : Mounted) : Type 0 where
   pub running : m.stopped ≡ false
   pub none : m.tentative ≡ None
 
+-- the empties of a volume with their places
+abbrev pub rooms_or : Result Listed DirFault → List (ℕ × ℕ)
+rooms_or (Ok d) = rooms_at d.first d.entries
+rooms_or (Err fault) = []
+
+abbrev pub rooms_of : List (List ℕ) → List (ℕ × ℕ)
+rooms_of blocks = rooms_or (directory_of blocks)
+
 -- The largest empty has so many blocks. The free blocks are no fewer, no more than so many for each file and once more, and
 -- exactly so many where no file has a free block below it.
 pub record IsLargest (blocks : List (List ℕ)) (most_room : ℕ) : Type 0 where
+  pub is : most_room ≡ size_or_zero (largest (rooms_of blocks))
   pub least : most_room + used_of (files_of blocks) ≤ capacity_of blocks
   pub most : capacity_of blocks ≤ used_of (files_of blocks) + most_room * (count_of (files_of blocks) + 1)
   pub tight : above_of blocks ≡ 0 → most_room + used_of (files_of blocks) ≡ capacity_of blocks
@@ -198,14 +207,6 @@ Deletes old name (Err Device) new = DeleteFailed old name new
 Deletes old name (Err Stopped) new = HasStopped old new
 Deletes old name (Err Memory) new = IsReady old × IsThere old name × IsFree old name × (new ≡ old)
 Deletes old name (Err fault) new = ⊥
-
--- the empties of a volume with their places
-abbrev pub rooms_or : Result Listed DirFault → List (ℕ × ℕ)
-rooms_or (Ok d) = rooms_at d.first d.entries
-rooms_or (Err fault) = []
-
-abbrev pub rooms_of : List (List ℕ) → List (ℕ × ℕ)
-rooms_of blocks = rooms_or (directory_of blocks)
 
 -- a file is begun in the empty for a wish
 pub record HasEntered (old : Mounted) (name wish tentative : ℕ) (new : Mounted) : Type 0 where

@@ -5,9 +5,10 @@ use Rattle.std.specs.FinMap.{get, insert}
 use Rattle.os8_dir.specs.Names.{padded}
 use Rattle.os8_dir.specs.Reading.{directory_of}
 use Rattle.os8_dir.specs.Files.{Held, files_of, limit_of, above_of, capacity_of}
+use Rattle.os8_dir.specs.Changes.{fitting}
 use Rattle.os8_files.specs.Mounted.{Mounted}
 use Rattle.os8_files.specs.Failed.{KeepsDirectory, Survives, extent_or}
-use Rattle.os8_files.specs.Calls.{IsReady, IsFree, IsHeld, IsLargest, IsOver, KeepsBlocks, HasFailed, HasStopped, RisesBy, counted_more, differing, info_of}
+use Rattle.os8_files.specs.Calls.{IsReady, IsFree, IsHeld, IsLargest, IsOver, KeepsBlocks, IsWritten, rooms_of, HasFailed, HasStopped, RisesBy, counted_more, differing, info_of}
 use Rattle.os8_files.specs.Laws.{KeepsOtherPlaces}
 use Rattle.os8_files.specs.declared.faults.FileFault.{FileFault}
 use Rattle.os8_files.specs.declared.faults.FileFault.TheVariants.{NoRoom, DirectoryFull, Busy, Device, Stopped, Memory}
@@ -20,17 +21,21 @@ blocks_filled words = length words / 256
 abbrev pub plain_file : Mounted → List ℕ → Held
 plain_file m words = (padded (info_of m.blocks) [], words)
 
--- A file has these words, and an older one of its name is gone; the others stay in their places. Of block 0 and the blocks behind
--- the directory's, only those of the file may differ. Each of its blocks was written once, and each of blocks 1 to 6 that has
+-- A file has these words, and an older one of its name is gone; the others stay in their places. It lies at the beginning of the
+-- smallest empty that has enough blocks, of equals the first. Of block 0 and the blocks behind the directory's, only those of the
+-- file may differ, and the directory stands as it is written. Each of its blocks was written once, and each of blocks 1 to 6 that has
 -- other words.
 pub record HasPut (old : Mounted) (name : ℕ) (words : List ℕ) (new : Mounted) : Type 0 where
   pub ready : IsReady old
   pub free : IsFree old name
   pub files : files_of new.blocks ≡ insert (files_of old.blocks) name (plain_file old words)
   pub place : ℕ
+  pub room : ℕ
+  pub fits : fitting (blocks_filled words) (rooms_of old.blocks) ≡ Some (place, room)
   pub extent : extent_or name (directory_of new.blocks) ≡ Some (place, blocks_filled words)
   pub places : KeepsOtherPlaces name old new
   pub blocks : KeepsBlocks old.blocks new.blocks place (blocks_filled words)
+  pub written : IsWritten old.blocks new.blocks
   pub capacity : capacity_of new.blocks ≡ capacity_of old.blocks
   pub limit : limit_of new.blocks ≡ limit_of old.blocks
   pub info : info_of new.blocks ≡ info_of old.blocks
