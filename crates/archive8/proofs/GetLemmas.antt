@@ -8,7 +8,7 @@ use Rattle.script8.specs.declared.faults.SessionFault.TheVariants.{BadLine, NoJo
 use Rattle.os8_dir.specs.Names.{parsed_name}
 use Rattle.os8_dir.specs.Files.{Held, files_of}
 use Rattle.volume_image.specs.Image.{IsImage}
-use Rattle.archive8.specs.declared.forms.GetForm.{GetForm}
+use Rattle.char_pack.specs.declared.forms.GetForm.{GetForm}
 use Rattle.os8_files.specs.Mounted.{Mounted}
 use Rattle.archive8.specs.Putting.{IsMounted}
 use Rattle.archive8.specs.Getting.{GetRefused, IsFile}

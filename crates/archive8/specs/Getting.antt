@@ -18,8 +18,8 @@ use Rattle.script8.specs.declared.faults.SessionFault.TheVariants.{File, Memory}
 use Rattle.script8.specs.declared.faults.SessionFault.TheVariants as session
 use Rattle.archive8.specs.declared.faults.ArchiveFault.{ArchiveFault}
 use Rattle.archive8.specs.declared.faults.ArchiveFault.TheVariants.{Image, Directory, Refused}
-use Rattle.archive8.specs.declared.forms.GetForm.{GetForm}
-use Rattle.archive8.specs.declared.forms.GetForm.TheVariants.{Frames, Text, Tape}
+use Rattle.char_pack.specs.declared.forms.GetForm.{GetForm}
+use Rattle.char_pack.specs.declared.forms.GetForm.TheVariants.{Frames, Text, Tape}
 use Rattle.archive8.specs.Opening.{IsOpened, IsUnopened}
 
 -- ## The list

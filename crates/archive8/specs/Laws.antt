@@ -3,9 +3,9 @@ use Rattle.std.specs.Prelude.{◌≡◌, ◌≢◌, ℕ, ◌-◌, ◌*◌, ◌<�
 use Rattle.std.specs.Global.{Vec}
 use Rattle.char_pack.specs.Packing.{block_count, block_frames}
 use Rattle.os8_dir.specs.Names.{parsed_name}
-use Rattle.archive8.specs.declared.forms.GetForm.TheVariants as get_as
-use Rattle.archive8.specs.declared.forms.PutForm.{PutForm}
-use Rattle.archive8.specs.declared.forms.PutForm.TheVariants as put_as
+use Rattle.char_pack.specs.declared.forms.GetForm.TheVariants as get_as
+use Rattle.char_pack.specs.declared.forms.PutForm.{PutForm}
+use Rattle.char_pack.specs.declared.forms.PutForm.TheVariants as put_as
 use Rattle.archive8.specs.declared.putting.NewImage.{NewImage}
 use Rattle.archive8.specs.Getting.{Gets}
 use Rattle.archive8.specs.Putting.{Puts}

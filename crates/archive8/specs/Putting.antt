@@ -14,8 +14,8 @@ use Rattle.script8.specs.declared.faults.SessionFault.{SessionFault}
 use Rattle.script8.specs.declared.faults.SessionFault.TheVariants.{File, BadText}
 use Rattle.archive8.specs.declared.faults.ArchiveFault.{ArchiveFault}
 use Rattle.archive8.specs.declared.faults.ArchiveFault.TheVariants.{Image, Directory, Refused}
-use Rattle.archive8.specs.declared.forms.PutForm.{PutForm}
-use Rattle.archive8.specs.declared.forms.PutForm.TheVariants.{Frames, Text}
+use Rattle.char_pack.specs.declared.forms.PutForm.{PutForm}
+use Rattle.char_pack.specs.declared.forms.PutForm.TheVariants.{Frames, Text}
 use Rattle.archive8.specs.declared.putting.NewImage.{NewImage}
 use Rattle.archive8.specs.Opening.{IsOpened, IsUnopened}
 

@@ -18,10 +18,10 @@ use Rattle.os8_files.specs.declared.faults.FileFault.TheVariants as file
 use Rattle.script8.specs.declared.faults.SessionFault.{SessionFault}
 use Rattle.script8.specs.declared.faults.SessionFault.TheVariants.{File, Memory}
 use Rattle.script8.specs.declared.faults.SessionFault.TheVariants as session
-use Rattle.archive8.specs.declared.forms.GetForm.{GetForm}
-use Rattle.archive8.specs.declared.forms.GetForm.TheVariants.{Tape}
+use Rattle.char_pack.specs.declared.forms.GetForm.{GetForm}
+use Rattle.char_pack.specs.declared.forms.GetForm.TheVariants.{Tape}
 use Rattle.os8_files.specs.Puts.{HasPut, blocks_filled}
-use Rattle.archive8.specs.declared.forms.PutForm.{PutForm}
+use Rattle.char_pack.specs.declared.forms.PutForm.{PutForm}
 use Rattle.archive8.specs.declared.putting.NewImage.{NewImage}
 use Rattle.archive8.specs.Getting.{IsGiven}
 use Rattle.archive8.specs.Putting.{put_words, IsFit, IsUnfit, IsFull}

@@ -6,7 +6,6 @@
 
 mod checking;
 mod faults;
-mod forms;
 mod frames;
 mod getting;
 pub mod laws;
@@ -16,9 +15,9 @@ mod putting;
 mod tapes;
 mod texts;
 
+pub use char_pack::{GetForm, PutForm};
 pub use checking::check;
 pub use faults::ArchiveFault;
-pub use forms::{GetForm, PutForm};
 pub use getting::get;
 pub use listing::list;
 pub use putting::{NewImage, put};

@@ -3,7 +3,7 @@ ghost use Rattle.os8_dir.specs.Entries.{IsNamed};
 ghost use Rattle.os8_files.specs.Calls.{IsReady};
 ghost use Rattle.archive8.specs.Putting.{Puts};
 ghost use Rattle.archive8.specs.Steps.{AreBlocks, MakesWords, PutsWords};
-ghost use Rattle.archive8.specs.declared.forms.PutForm.TheVariants as form;
+ghost use Rattle.char_pack.specs.declared.forms.PutForm.TheVariants as form;
 
 use crate::opening::mounted;
 use crate::{ArchiveFault, PutForm};

@@ -1,7 +1,7 @@
 ghost use Rattle.std.specs.Prelude.{◌≡◌, ◌≤◌, ℕ, List, length};
 ghost use Rattle.archive8.specs.Getting.{trailer};
 ghost use Rattle.archive8.specs.Steps.{FindsTape, Gives, IsReading, Takes};
-ghost use Rattle.archive8.specs.declared.forms.GetForm.TheVariants as form;
+ghost use Rattle.char_pack.specs.declared.forms.GetForm.TheVariants as form;
 
 use crate::frames::frames_of;
 use bin_tape::laws::no_fault;

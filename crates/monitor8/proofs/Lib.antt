@@ -1,5 +1,1 @@
 pub mod LineLemmas
-pub mod WalkLemmas
-pub mod NumberLemmas
-pub mod TaskLemmas
-pub mod PlainLemmas

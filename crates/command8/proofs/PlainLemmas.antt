@@ -9,15 +9,15 @@ use Rattle.clap.proofs.OnLiterals.{clap_on_literals}
 use Rattle.clap.proofs.ValueTestLemmas.{Accepts-accepts}
 use Rattle.clap.specs.Words.{IsUnsignedIn, Row, Text, first_of, one_of, subcommand_of, takes}
 use Rattle.clap.specs.declared.builder.value_parser.ValueParser.TheVariants.{Unsigned}
-use Rattle.monitor8.specs.declared.kinds.Task.{Task}
-use Rattle.archive8.specs.declared.forms.GetForm.{GetForm}
-use Rattle.archive8.specs.declared.forms.GetForm.TheVariants as get_as
-use Rattle.archive8.specs.declared.forms.PutForm.{PutForm}
-use Rattle.archive8.specs.declared.forms.PutForm.TheVariants as put_as
-use Rattle.monitor8.specs.declared.kinds.Task.TheVariants.{Tape, Source, Run, Create, Get, Put, Check}
-use Rattle.monitor8.specs.declared.kinds.Task.TheVariants as task
-use Rattle.monitor8.specs.Tasks.{Asks, AsksFor, IsCheckOf, IsCreateOf, IsGetOf, IsListOf, IsPlain, IsPutOf, IsRunOf, IsSource, IsTakenAs, IsTape, get_form, number_of, pdp8, put_form}
-use Rattle.monitor8.proofs.WalkLemmas.{some_eq}
+use Rattle.command8.specs.declared.kinds.Task.{Task}
+use Rattle.char_pack.specs.declared.forms.GetForm.{GetForm}
+use Rattle.char_pack.specs.declared.forms.GetForm.TheVariants as get_as
+use Rattle.char_pack.specs.declared.forms.PutForm.{PutForm}
+use Rattle.char_pack.specs.declared.forms.PutForm.TheVariants as put_as
+use Rattle.command8.specs.declared.kinds.Task.TheVariants.{Tape, Source, Run, Create, Get, Put, Check}
+use Rattle.command8.specs.declared.kinds.Task.TheVariants as task
+use Rattle.command8.specs.Tasks.{Asks, AsksFor, IsCheckOf, IsCreateOf, IsGetOf, IsListOf, IsPlain, IsPutOf, IsRunOf, IsSource, IsTakenAs, IsTape, get_form, number_of, pdp8, put_form}
+use Rattle.command8.proofs.WalkLemmas.{some_eq}
 
 no_hyphen : (word : Text) → IsPlain word → strip_byte 45 word ≡ None
 no_hyphen [] plain = refl

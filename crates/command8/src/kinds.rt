@@ -1,7 +1,7 @@
 ghost use Rattle.std.specs.Prelude.{◌≡◌};
-ghost use Rattle.monitor8.specs.declared.kinds.TaskFault.TheVariants.{Memory};
+ghost use Rattle.command8.specs.declared.kinds.TaskFault.TheVariants.{Memory};
 
-use archive8::{GetForm, PutForm};
+use char_pack::{GetForm, PutForm};
 use std::alloc::AllocError;
 use thiserror::Error;
 

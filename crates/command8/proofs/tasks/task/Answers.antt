@@ -1,9 +1,9 @@
 use Rattle.std.proofs.Common.{map, subst, sym}
 use Rattle.clap.specs.Words.{app_of}
-use Rattle.monitor8.specs.Tasks.{Asks}
-use Rattle.monitor8.specs.TaskSteps.{HasMet}
-use Rattle.monitor8.proofs.TaskLemmas.{fault_answer, met_rows, no_fault, taken_fault, task_whole}
-use Rattle.monitor8.proofs.tasks.task.Goals as goal
+use Rattle.command8.specs.Tasks.{Asks}
+use Rattle.command8.specs.TaskSteps.{HasMet}
+use Rattle.command8.proofs.TaskLemmas.{fault_answer, met_rows, no_fault, taken_fault, task_whole}
+use Rattle.command8.proofs.tasks.task.Goals as goal
 
 pub asked-requires : goal.asked-requires
 asked-requires c =

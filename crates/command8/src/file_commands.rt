@@ -2,7 +2,7 @@
 ghost use Rattle.std.specs.Prelude.{◌≡◌, false, IfOk};
 ghost use Rattle.clap.specs.Words.{app_of, rule_of};
 ghost use Rattle.clap.specs.declared.builder.command.Command.TheViews.{out-Command as fields_of};
-ghost use Rattle.monitor8.specs.Tasks.{check_app, get_app, list_app, name_rule, plain_get_app, put_app, tape_rule, text_rule};
+ghost use Rattle.command8.specs.Tasks.{check_app, get_app, list_app, name_rule, plain_get_app, put_app, tape_rule, text_rule};
 
 use crate::tasks::image;
 use clap::{Arg, ArgAction, Command};

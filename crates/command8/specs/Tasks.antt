@@ -8,15 +8,15 @@ use Rattle.clap.specs.Words.{App, Row, Rule, Text, first_of, fault_of, kind_of, 
 use Rattle.clap.specs.declared.builder.value_parser.ValueParser.TheVariants.{Unsigned}
 use Rattle.clap.specs.declared.builder.action.ArgAction.TheVariants.{SetTrue}
 use Rattle.clap.specs.declared.error.kind.ErrorKind.TheVariants.{OutOfMemory}
-use Rattle.archive8.specs.declared.forms.GetForm.{GetForm}
-use Rattle.archive8.specs.declared.forms.GetForm.TheVariants as get_as
-use Rattle.archive8.specs.declared.forms.PutForm.{PutForm}
-use Rattle.archive8.specs.declared.forms.PutForm.TheVariants as put_as
-use Rattle.monitor8.specs.declared.kinds.Task.{Task}
-use Rattle.monitor8.specs.declared.kinds.Task.TheVariants.{Tape, Source, Run, Create, Get, Put, Check}
-use Rattle.monitor8.specs.declared.kinds.Task.TheVariants as task
-use Rattle.monitor8.specs.declared.kinds.TaskFault.{TaskFault}
-use Rattle.monitor8.specs.declared.kinds.TaskFault.TheVariants.{Words, Memory}
+use Rattle.char_pack.specs.declared.forms.GetForm.{GetForm}
+use Rattle.char_pack.specs.declared.forms.GetForm.TheVariants as get_as
+use Rattle.char_pack.specs.declared.forms.PutForm.{PutForm}
+use Rattle.char_pack.specs.declared.forms.PutForm.TheVariants as put_as
+use Rattle.command8.specs.declared.kinds.Task.{Task}
+use Rattle.command8.specs.declared.kinds.Task.TheVariants.{Tape, Source, Run, Create, Get, Put, Check}
+use Rattle.command8.specs.declared.kinds.Task.TheVariants as task
+use Rattle.command8.specs.declared.kinds.TaskFault.{TaskFault}
+use Rattle.command8.specs.declared.kinds.TaskFault.TheVariants.{Words, Memory}
 
 -- ## The command
 

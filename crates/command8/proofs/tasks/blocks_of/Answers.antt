@@ -2,9 +2,9 @@ use Rattle.std.proofs.Common.{◌∙◌, ◌≤◌, ℕ, ap, sym, subst, codes}
 use Rattle.std.specs.Str.Parse.{ParsesUnsigned, ExplainsUnsignedError, HasUnsignedDigitsIfOk}
 use Rattle.clap.proofs.WalkLemmas.{one_text-rows}
 use Rattle.clap.specs.Words.{Text, found_of}
-use Rattle.monitor8.specs.Tasks.{number_of}
-use Rattle.monitor8.proofs.NumberLemmas.{unsigned_reads, same_some, none_some}
-use Rattle.monitor8.proofs.tasks.blocks_of.Goals as goal
+use Rattle.command8.specs.Tasks.{number_of}
+use Rattle.command8.proofs.NumberLemmas.{unsigned_reads, same_some, none_some}
+use Rattle.command8.proofs.tasks.blocks_of.Goals as goal
 
 pub unreachable-requires : goal.unreachable-requires
 unreachable-requires c =

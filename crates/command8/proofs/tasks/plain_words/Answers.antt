@@ -1,5 +1,5 @@
-use Rattle.monitor8.proofs.PlainLemmas.{plain_check, plain_create, plain_get_frames, plain_get_tape, plain_get_text, plain_list, plain_put_frames, plain_put_text, plain_run, plain_source, plain_tape}
-use Rattle.monitor8.proofs.tasks.plain_words.Goals as goal
+use Rattle.command8.proofs.PlainLemmas.{plain_check, plain_create, plain_get_frames, plain_get_tape, plain_get_text, plain_list, plain_put_frames, plain_put_text, plain_run, plain_source, plain_tape}
+use Rattle.command8.proofs.tasks.plain_words.Goals as goal
 
 pub returns : goal.returns
 returns c = record {

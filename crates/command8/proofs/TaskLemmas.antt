@@ -20,12 +20,12 @@ use Rattle.clap.specs.Words.{HasMatchesOf, is_simple, is_simple_and_free, kind_o
 use Rattle.clap.specs.declared.parser.matches.ArgMatches.{ArgMatches}
 use Rattle.clap.specs.declared.error.Error.{Error}
 use Rattle.clap.specs.declared.error.kind.ErrorKind.TheVariants.{OutOfMemory}
-use Rattle.monitor8.specs.declared.kinds.TaskFault.{TaskFault}
-use Rattle.monitor8.specs.declared.kinds.TaskFault.TheVariants.{Words, Memory}
-use Rattle.monitor8.specs.Tasks.{Answers, blocks_rule, check_app, create_app, get_app, image_rule, list_app, name_rule, pdp8, put_app, run_app, source_app, tape_app, tape_rule, text_rule}
-use Rattle.monitor8.specs.TaskSteps.{HasBlocks, HasImage, HasMet, HasName, IsFaultOf}
-use Rattle.monitor8.proofs.WalkLemmas.{HeldGood, IsNoHelp, IsPlainLeaf, IsUsage, flag_met_good, found_value, leaf_given, leaf_good, level_stops, not_none, or_first, or_second, some_eq}
-use Rattle.monitor8.proofs.NumberLemmas.{none_some}
+use Rattle.command8.specs.declared.kinds.TaskFault.{TaskFault}
+use Rattle.command8.specs.declared.kinds.TaskFault.TheVariants.{Words, Memory}
+use Rattle.command8.specs.Tasks.{Answers, blocks_rule, check_app, create_app, get_app, image_rule, list_app, name_rule, pdp8, put_app, run_app, source_app, tape_app, tape_rule, text_rule}
+use Rattle.command8.specs.TaskSteps.{HasBlocks, HasImage, HasMet, HasName, IsFaultOf}
+use Rattle.command8.proofs.WalkLemmas.{HeldGood, IsNoHelp, IsPlainLeaf, IsUsage, flag_met_good, found_value, leaf_given, leaf_good, level_stops, not_none, or_first, or_second, some_eq}
+use Rattle.command8.proofs.NumberLemmas.{none_some}
 
 -- ## The subcommands as clap builds them
 

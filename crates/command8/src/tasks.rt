@@ -1,18 +1,18 @@
 ghost use Rattle.std.specs.Prelude.{◌≡◌, ◌≤◌, [], ◌∷◌, ℕ, List, false, true, codes, IfErr, IfOk, Some, map};
 ghost use Rattle.clap.specs.Words.{app_of, first_of, found_of, one_of, rows_of, rule_of, subcommand_rows_of, takes, IsUnsignedIn};
 ghost use Rattle.clap.specs.declared.builder.command.Command.TheViews.{out-Command as fields_of};
-ghost use Rattle.monitor8.specs.declared.kinds.TaskFault.TheVariants.{Memory};
-ghost use Rattle.archive8.specs.declared.forms.GetForm.TheVariants as get_as;
-ghost use Rattle.archive8.specs.declared.forms.PutForm.TheVariants as put_as;
-ghost use Rattle.monitor8.specs.Tasks.{IsCheckOf, IsCreateOf, IsGetOf, IsListOf, IsPlain, IsPutOf, IsRunOf, IsSource, IsTakenAs, IsTape};
-ghost use Rattle.monitor8.specs.Tasks.{Answers, Asks, AsksFor, HasFitBlocks};
-ghost use Rattle.monitor8.specs.TaskSteps.{HasBlocks, HasFiles, HasImage, HasMet, HasName, IsFaultOf, IsWhole};
-ghost use Rattle.monitor8.specs.Tasks.{bare_app, blocks_rule, create_app, files_app, image_rule, number_of, pdp8, run_app, source_app, tape_app, tapes_app, volumes_app};
-ghost use Rattle.monitor8.specs.Tasks as spec;
+ghost use Rattle.command8.specs.declared.kinds.TaskFault.TheVariants.{Memory};
+ghost use Rattle.char_pack.specs.declared.forms.GetForm.TheVariants as get_as;
+ghost use Rattle.char_pack.specs.declared.forms.PutForm.TheVariants as put_as;
+ghost use Rattle.command8.specs.Tasks.{IsCheckOf, IsCreateOf, IsGetOf, IsListOf, IsPlain, IsPutOf, IsRunOf, IsSource, IsTakenAs, IsTape};
+ghost use Rattle.command8.specs.Tasks.{Answers, Asks, AsksFor, HasFitBlocks};
+ghost use Rattle.command8.specs.TaskSteps.{HasBlocks, HasFiles, HasImage, HasMet, HasName, IsFaultOf, IsWhole};
+ghost use Rattle.command8.specs.Tasks.{bare_app, blocks_rule, create_app, files_app, image_rule, number_of, pdp8, run_app, source_app, tape_app, tapes_app, volumes_app};
+ghost use Rattle.command8.specs.Tasks as spec;
 
 use crate::file_commands::{check, get, list, put};
 use crate::{Task, TaskFault};
-use archive8::{GetForm, PutForm};
+use char_pack::{GetForm, PutForm};
 use clap::error::ErrorKind;
 use clap::{Arg, ArgMatches, Command};
 use std::alloc::{AllocError, Global};

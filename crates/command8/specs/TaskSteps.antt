@@ -3,8 +3,8 @@ use Rattle.std.specs.Prelude.{◌≡◌, ◌≢◌, ◌⊎◌, true, codes, is_s
 use Rattle.clap.specs.Words.{Row, Text, first_of, kind_of, one_of, IsUnsignedIn}
 use Rattle.clap.specs.declared.error.Error.{Error}
 use Rattle.clap.specs.declared.error.kind.ErrorKind.TheVariants.{OutOfMemory}
-use Rattle.monitor8.specs.declared.kinds.TaskFault.{TaskFault}
-use Rattle.monitor8.specs.declared.kinds.TaskFault.TheVariants.{Words, Memory}
+use Rattle.command8.specs.declared.kinds.TaskFault.{TaskFault}
+use Rattle.command8.specs.declared.kinds.TaskFault.TheVariants.{Words, Memory}
 
 -- ## What it asks for
 

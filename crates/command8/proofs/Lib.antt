@@ -1,0 +1,4 @@
+pub mod WalkLemmas
+pub mod NumberLemmas
+pub mod TaskLemmas
+pub mod PlainLemmas

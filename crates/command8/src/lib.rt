@@ -1,0 +1,9 @@
+//! What the words of the program's command line ask for, as the library `clap` reads them. No task is done here.
+#![tactic(auto)]
+
+mod file_commands;
+mod kinds;
+mod tasks;
+
+pub use kinds::{Task, TaskFault};
+pub use tasks::{plain_words, task};
