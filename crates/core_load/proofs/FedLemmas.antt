@@ -1,5 +1,5 @@
 -- What a loader was given.
-use Rattle.std.proofs.Common.{◌≡◌, ℕ, inl, inr, Some, Ok, Err, append_assoc, refl, subst, List, [], ◌∷◌, ◌++◌}
+use Rattle.std.proofs.Common.{◌≡◌, ℕ, inl, inr, Some, Ok, Err, append_assoc, refl, subst, sym, ◌∙◌, List, [], ◌∷◌, ◌++◌}
 use Rattle.bin_tape.specs.Items.{Item}
 use Rattle.bin_tape.specs.Tape.{IsTape}
 use Rattle.bin_tape.specs.Handed.{word_in}
@@ -47,4 +47,4 @@ load_refused frames before rest frame core old new (BadFrame at) split fed = (rw
 load_refused frames before rest frame core old new NoOrigin split fed = (rw split (rw append_assoc at (fed.1 rest)), refl)
 load_refused frames before rest frame core old new (CheckSum found computed) split fed = (rw split (rw append_assoc at (fed.1 rest)), refl)
 load_refused frames before rest frame core old new NoTrailer split fed = absurd fed
-load_refused frames before rest frame core old new Memory split fed = refl
+load_refused frames before rest frame core old new Memory split fed = ((before ++ frame ∷ [], rest, old.words, split ∙ sym (append_assoc before (frame ∷ []) rest), fed.0), refl)

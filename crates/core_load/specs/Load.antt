@@ -20,10 +20,18 @@ pub record IsLoaded (frames old new : List ℕ) : Type 0 where
   pub is_tape : IsTape frames items
   pub overlaid : IsOverlaid items old new
 
+-- the frames may go on as a tape, and the last of them shows one more word to be no check sum
+abbrev pub HandsOut : List ℕ → List (ℕ × ℕ) → Type 0
+HandsOut frames words = (word : ℕ × ℕ) × IsGoing frames (words ++ word ∷ [])
+
+-- a front of the frames may go on as a tape, and shows a word to be no check sum
+abbrev pub WantsRoom : List ℕ → Type 0
+WantsRoom frames = (before : List ℕ) × (after : List ℕ) × (words : List (ℕ × ℕ)) × (frames ≡ before ++ after) × HandsOut before words
+
 -- What loading frames over core answers: on a fault no cell is changed.
 abbrev pub Loads : List ℕ → List ℕ → List ℕ → Result (Unit {0}) TapeFault → Type 0
 Loads frames old new (Ok done) = IsLoaded frames old new
-Loads frames old new (Err Memory) = new ≡ old
+Loads frames old new (Err Memory) = WantsRoom frames × (new ≡ old)
 Loads frames old new (Err (BadFrame at)) = IsFault frames (BadFrame at) × (new ≡ old)
 Loads frames old new (Err NoOrigin) = IsFault frames NoOrigin × (new ≡ old)
 Loads frames old new (Err (CheckSum found computed)) = IsFault frames (CheckSum found computed) × (new ≡ old)
@@ -38,10 +46,6 @@ IsFed loader frames = HasRead loader.reader frames loader.words
 -- the frames are a tape, or may go on as one
 abbrev pub IsFine : List ℕ → Type 0
 IsFine frames = ((items : List Item) × IsTape frames items) ⊎ ((items : List Item) × (part : List ℕ) × IsOpen (kept frames) items part)
-
--- the frames may go on as a tape, and the last of them shows one more word to be no check sum
-abbrev pub HandsOut : List ℕ → List (ℕ × ℕ) → Type 0
-HandsOut frames words = (word : ℕ × ℕ) × IsGoing frames (words ++ word ∷ [])
 
 -- What further frames do to a loader that was given some: a fault is told by the first frame that is refused; memory
 -- runs out only where a word is handed out, and then nothing is taken.
