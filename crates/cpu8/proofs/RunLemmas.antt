@@ -38,10 +38,9 @@ subroutine_pc call back r =
     ≡ slice_set (indexed call (fetched call)) (place call.instruction_buffer (effective_address call (fetched call))) ((call.pc + 1) % 4096) =
     ap (λ r. r.0.core) (step-next Jms call r.calls) in
     let same : pointer_place back (fetched back) ≡ place call.instruction_buffer (effective_address call (fetched call)) =
-    ap (λ f. place f (direct_address back (fetched back))) r.same_field.0 ∙ ap (place call.instruction_field) r.through_first_word
-    ∙ ap (λ f. place f (effective_address call (fetched call))) (sym r.one_field) in
+    ap (λ f. place f (direct_address back (fetched back))) r.fields.0 ∙ ap (place call.instruction_buffer) r.through_first_word in
     let inside : place call.instruction_buffer (effective_address call (fetched call)) < length (indexed call (fetched call)) =
-    rw (length-indexed call (fetched call), r.one_field) r.first_word in
+    rw (length-indexed call (fetched call)) r.first_word in
     ap (λ r. r.0.pc) (step-next Jmp back r.returns)
     ∙ jmp-indirect back (fetched back) r.indirect r.no_auto_index
     ∙ r.kept
@@ -49,7 +48,7 @@ subroutine_pc call back r =
     ∙ stored (indexed call (fetched call)) (place call.instruction_buffer (effective_address call (fetched call))) ((call.pc + 1) % 4096) (pointer_place back (fetched back)) same inside
 
 pub subroutine_field : (call back : State) → IsCallAndReturn call back → (step back).0.instruction_field ≡ call.instruction_field
-subroutine_field call back r = ap (λ r. r.0.instruction_field) (step-next Jmp back r.returns) ∙ r.same_field.1
+subroutine_field call back r = ap (λ r. r.0.instruction_field) (step-next Jmp back r.returns) ∙ r.fields.1
 
 -- ISZ
 

@@ -71,14 +71,14 @@ runs_on (Ran printed) = true
 runs_on Halted = false
 runs_on (Unassigned word) = false
 
--- A subroutine is called in one field, and later there is an indirect JMP through its first word, which is still what
--- the JMS left there and is no auto-index.
+-- A subroutine is called, in the field of the instruction buffer, and later there is an indirect JMP there through its
+-- first word, which is still what the JMS left there and is no auto-index, with the caller's field in the instruction
+-- buffer.
 pub record IsCallAndReturn (call back : State) : Type 0 where
   pub calls : IsNext Jms call
-  pub one_field : call.instruction_buffer ≡ call.instruction_field
-  pub first_word : place call.instruction_field (effective_address call (fetched call)) < length call.core
+  pub first_word : place call.instruction_buffer (effective_address call (fetched call)) < length call.core
   pub returns : IsNext Jmp back
-  pub same_field : (back.instruction_field ≡ call.instruction_field) × (back.instruction_buffer ≡ call.instruction_field)
+  pub fields : (back.instruction_field ≡ call.instruction_buffer) × (back.instruction_buffer ≡ call.instruction_field)
   pub indirect : is_indirect (fetched back) ≡ true
   pub through_first_word : direct_address back (fetched back) ≡ effective_address call (fetched call)
   pub no_auto_index : is_auto_index back (fetched back) ≡ false
