@@ -2,15 +2,15 @@
 use Rattle.std.proofs.Common.{◌≡◌, ℕ, ◌+◌, ◌-◌, ◌≤◌, ◌<◌, nat_eq, nat_lt, nat_le, bit_or, Bool, true, false, ◌&&◌, ◌||◌, not, inl, inr, zero, suc, length, List, [], ◌∷◌, refl, ap, sym, subst, ◌∙◌, arith}
 use Rattle.std.proofs.lemmas.Bool.Decides.{eqb_tells, nat_tests}
 use Rattle.pal_list.specs.Patterns.{Pattern, patterns, chosen, or_behind}
-use Rattle.pal_list.specs.Fewest.{group_1, group_2, is_one_of, are_of, or_all, AreFewest}
+use Rattle.pal_list.specs.Fewest.{group_1, group_2, is_one_of, are_of, or_all, values_of, AreFewest}
 use Rattle.pal_list.proofs.ByteLemmas.{both}
 
 -- a word of group 1, and one that names of group 2 come to
 abbrev of_1 : ℕ → Bool
-of_1 word = nat_le 3584 word && nat_lt word 3840
+of_1 word = (nat_le 3584 word && nat_lt word 3840) && are_of group_1 (values_of (chosen word patterns))
 
 abbrev of_2 : ℕ → Bool
-of_2 word = nat_eq word 3712 || (nat_le 3840 word && nat_lt word 4096)
+of_2 word = (nat_eq word 3712 || (nat_le 3840 word && nat_lt word 4096)) && are_of group_2 (values_of (chosen word patterns))
 
 abbrev named : List Pattern → ℕ → Bool
 named table word = nat_lt 3071 word && nat_eq (or_behind 0 (chosen word table)) word
@@ -122,23 +122,25 @@ all_names table ok group (value ∷ values) word most checked are shown =
     let rest = all_names table ok group values (bit_or word value) (suc most) checked parts.1 next in
     record { is_ok = rest.is_ok; is_named_so = rest.is_named_so; few = let less = rest.few in omega (arith, less) }
 
-fewest : (ok : ℕ → Bool) (group : List ℕ) → IsChecked patterns ok group → AreFewest group
-fewest ok group checked value values are =
+fewest : (ok : ℕ → Bool) (group : List ℕ) → IsChecked patterns ok group
+    → ((word : ℕ) → ok word ≡ true → are_of group (values_of (chosen word patterns)) ≡ true) → AreFewest group
+fewest ok group checked own value values are =
     let parts = both (is_one_of group value) (are_of group values) are in
     let first = shown_by patterns ok value 1 1 (omega arith) (first_of_all patterns ok group value checked.firsts_are parts.0) in
     let all = all_names patterns ok group values value 1 checked parts.1 first in
     let few = all.few in
-    (all.is_named_so, omega (arith, few))
+    (all.is_named_so, omega (arith, few), own (or_all value values) all.is_ok)
 
 pub fewest_1 : AreFewest group_1
 fewest_1 = fewest of_1 group_1 record {
   firsts_are = first_1;
   step_is = λ word ok.
-      let parts = both (nat_le 3584 word) (nat_lt word 3840) ok in
+      let both_are = both (nat_le 3584 word && nat_lt word 3840) (are_of group_1 (values_of (chosen word patterns))) ok in
+      let parts = both (nat_le 3584 word) (nat_lt word 3840) both_are.0 in
       let low = at_most 3584 word parts.0 in
       let high = below word 3840 parts.1 in
       subst (λ n. step_of patterns of_1 group_1 n ≡ true) (back 3584 word low) (step_at patterns of_1 group_1 3584 256 (word - 3584) steps_1 (omega (arith, low, high)));
-}
+} (λ word ok. (both (nat_le 3584 word && nat_lt word 3840) (are_of group_1 (values_of (chosen word patterns))) ok).1)
   where
     below : (a b : ℕ) → nat_lt a b ≡ true → a < b
     below a b e = grind (arith, nat_tests)
@@ -150,13 +152,13 @@ pub fewest_2 : AreFewest group_2
 fewest_2 = fewest of_2 group_2 record {
   firsts_are = first_2;
   step_is = λ word ok.
-      let range = in_range word ok in
+      let range = in_range word (both (nat_eq word 3712 || (nat_le 3840 word && nat_lt word 4096)) (are_of group_2 (values_of (chosen word patterns))) ok).0 in
       let low = range.0 in
       let high = range.1 in
       subst (λ n. step_of patterns of_2 group_2 n ≡ true) (back 3712 word low) (step_at patterns of_2 group_2 3712 384 (word - 3712) steps_2 (omega (arith, low, high)));
-}
+} (λ word ok. (both (nat_eq word 3712 || (nat_le 3840 word && nat_lt word 4096)) (are_of group_2 (values_of (chosen word patterns))) ok).1)
   where
-    in_range : (word : ℕ) → of_2 word ≡ true → (3712 ≤ word) × (word < 4096)
+    in_range : (word : ℕ) → (nat_eq word 3712 || (nat_le 3840 word && nat_lt word 4096)) ≡ true → (3712 ≤ word) × (word < 4096)
     in_range word e = grind (arith, nat_tests)
 
     back : (base word : ℕ) → base ≤ word → base + (word - base) ≡ word

@@ -1,7 +1,7 @@
 -- That an operate is shown by the fewest names of its group (Small Computer Handbook).
 use Rattle.std.specs.Prelude.{◌≡◌, ℕ, ◌≤◌, nat_eq, Bool, true, false, ◌&&◌, ◌||◌, bit_or, length, List, [], ◌∷◌, codes}
 use Rattle.word12.specs.Octal.{octal_number}
-use Rattle.pal_list.specs.Patterns.{patterns, chosen}
+use Rattle.pal_list.specs.Patterns.{Pattern, patterns, chosen}
 use Rattle.pal_list.specs.Statements.{is_named}
 
 abbrev pub octal_numbers : List (List ℕ) → List ℕ
@@ -33,8 +33,14 @@ abbrev pub or_all : ℕ → List ℕ → ℕ
 or_all before [] = before
 or_all before (value ∷ values) = or_all (bit_or before value) values
 
--- What names of a group come to is shown by names, and by no more of them.
+-- the values of the names of patterns
+abbrev pub values_of : List Pattern → List ℕ
+values_of [] = []
+values_of (p ∷ others) = p.3 ∷ values_of others
+
+-- What names of a group come to is shown by names of that group, and by no more of them.
 abbrev pub AreFewest : List ℕ → Type 0
 AreFewest group =
     (value : ℕ) (values : List ℕ) → are_of group (value ∷ values) ≡ true
     → (is_named (or_all value values) ≡ true) × (length (chosen (or_all value values) patterns) ≤ length (value ∷ values))
+    × (are_of group (values_of (chosen (or_all value values) patterns)) ≡ true)
