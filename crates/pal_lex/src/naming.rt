@@ -8,7 +8,7 @@ use std::marker::Model;
 /// A contract sees the number of six digits to the base 64, which are the sixbit codes of those characters, with 0 for
 /// each that is missing. It is kept as two halves, which need not lie at a multiple of eight bytes: so each token and each
 /// term of an expression is that much smaller.
-#[derive(Clone, Copy, PartialEq, Eq, PartialOrd, Ord, Hash, Debug)]
+#[derive(Clone, Copy)]
 pub struct Name {
     high: u32,
     low: u32,

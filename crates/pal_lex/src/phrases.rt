@@ -7,7 +7,7 @@ use std::marker::Model;
 use word12::Word;
 
 /// How a term is joined to the terms before it.
-#[derive(Clone, Copy, PartialEq, Eq, Debug, Default)]
+#[derive(Clone, Copy, Default)]
 pub enum Joint {
     #[default]
     Add,
@@ -17,7 +17,7 @@ pub enum Joint {
 }
 
 /// A term of an expression, with what joins it to those before it; the first one is joined to 0.
-#[derive(Clone, Copy, PartialEq, Eq, Debug, Default)]
+#[derive(Clone, Copy, Default)]
 pub struct Part {
     pub joint: Joint,
     pub term: Term,
@@ -54,7 +54,7 @@ impl Expression {
 }
 
 /// The operations that refer to memory (Small Computer Handbook).
-#[derive(Clone, Copy, PartialEq, Eq, Debug)]
+#[derive(Clone, Copy)]
 pub enum Operation {
     And,
     Tad,

@@ -5,7 +5,7 @@ use std::marker::Model;
 use word12::Word;
 
 /// What an expression is made of.
-#[derive(Clone, Copy, PartialEq, Eq, Debug, Default)]
+#[derive(Clone, Copy, Default)]
 pub enum Term {
     Name(Name),
     Number(Word),
@@ -15,7 +15,7 @@ pub enum Term {
 }
 
 /// What a token is.
-#[derive(Clone, Copy, PartialEq, Eq, Debug)]
+#[derive(Clone, Copy)]
 pub enum Kind {
     Term(Term),
     /// What begins with a digit and is no number of twelve bits by the present radix.
@@ -30,7 +30,7 @@ pub enum Kind {
 
 /// A token, with the places of its first byte and behind its last one in the source of its statement, from 0; each is
 /// 2^64 - 1 where it would be more.
-#[derive(Clone, Copy, PartialEq, Eq, Debug)]
+#[derive(Clone, Copy)]
 pub struct Token {
     pub kind: Kind,
     pub start: u64,

@@ -6,7 +6,7 @@ use crate::{Kind, Name, Term};
 use word12::{Word, sixbit};
 
 /// How numbers are read.
-#[derive(Clone, Copy, PartialEq, Eq, Debug)]
+#[derive(Clone, Copy)]
 pub enum Radix {
     Octal,
     Decimal,
