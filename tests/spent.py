@@ -1,5 +1,7 @@
-"""The processor seconds and the memory that the prover takes, by crate and kind of work, read off the running processes."""
-import os, re, threading
+"""spent TREE COMMAND..: runs a command, and tells a line for each crate of the tree with the processor seconds that the prover took for
+it, then `all` with all that the command took, and `wall` with how long it ran. The gate takes its table from here.
+"""
+import os, re, resource, subprocess, sys, threading, time
 
 TICKS = os.sysconf("SC_CLK_TCK")
 KINDS = ("proof", "tests", "edits")
@@ -82,3 +84,19 @@ class Spent:
         largest = self.dearest.get(dearest, 0)
         lines.append(f"{self.most / 1e9:.1f} GB of memory at most, {largest / 1e9:.1f} GB of it in one process ({dearest})")
         return "\n".join(lines)
+
+
+def main(words):
+    spent, begun = Spent(words[0]), time.monotonic()
+    spent.begin()
+    status = subprocess.run(words[1:], cwd=words[0], stdin=subprocess.DEVNULL, stdout=sys.stderr).returncode
+    spent.end()
+    taken = resource.getrusage(resource.RUSAGE_CHILDREN)
+    for crate, cost in sorted(spent.by_crate().items()):
+        print(f"{crate} {cost['proof']:.0f}")
+    print(f"all {taken.ru_utime + taken.ru_stime:.0f}\nwall {time.monotonic() - begun:.0f}")
+    return status
+
+
+if __name__ == "__main__":
+    sys.exit(main(sys.argv[1:]))
