@@ -23,11 +23,13 @@ Pair = tuple[int, int]
 
 @dataclass
 class Fault:
-    """A code with its line, and the turn of an assembling job that meets it."""
+    """A code with its line, the turn of an assembling job that meets it, and the place of the frame that shows it, or -1 where
+    that is the end of a text."""
 
     code: str
     line: int
     turn: int
+    place: int = -1
 
 
 class Source:
@@ -163,7 +165,7 @@ def assembled(sources: list[list[int]]) -> list[Pair] | Fault:
     def fault(code: str, at: int, turns_before: int) -> Fault:
         stretch = source.stretches[at]
         number, place = join.origins[stretch.end]
-        return Fault(code, stretch.line, turns_before + sum(blocks[:number]) + place // BLOCK_FRAMES + 1)
+        return Fault(code, stretch.line, turns_before + sum(blocks[:number]) + place // BLOCK_FRAMES + 1, place)
 
     for at in range(len(source.said)):
         if code := source.tags_fault(at) or source.body_fault(at):

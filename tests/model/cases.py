@@ -1,6 +1,7 @@
 """Random cases: an image, and a script for it whose jobs' turns fall in any order."""
 from dataclasses import dataclass
 from random import Random
+from edges import cut_off, edge
 from sources import plain_text, source, tape
 from volume import Lot, made_image
 from words import BLOCK_WORDS, packed, parsed_name, stored_text
@@ -173,7 +174,9 @@ def made_case(seed: int) -> Case:
         entries += burst(random)
     for _ in range(random.randint(5, 25)):
         entries += entry(random)
+    for _ in range(random.randint(2, 5)):
+        entries += edge(random)
     entries += [b"FINISH\n", *(f"LOAD {it}\n".encode() for it in TAPES), b"FINISH\n"]
     entries += [f"EXAMINE {it}\n".encode() for it in CELLS]
     entries += [b"RUN 00200 40\n", b"PRINTED\n", b"REGISTERS\n", b"DIRECT\n"]
-    return Case(image(random), entries)
+    return Case(image(random), entries + cut_off(random))

@@ -2,22 +2,40 @@
 import re
 import subprocess
 import tempfile
+from dataclasses import dataclass
 from typing import Callable
 from cases import Case
 from system import Differs, System, Told
 from volume import Unsound, Volume, read_volume
 from words import shown_name
 
+SECONDS = 60
 
-def run_program(program: str, case: Case) -> tuple[str, bytes, int]:
-    """What the program prints for a case, the image behind it, and its status."""
+
+@dataclass
+class Ended:
+    """What the program printed for a case, on both streams, the image behind it, and its status."""
+
+    replies: bytes
+    errors: bytes
+    image: bytes
+    status: int
+
+
+def run_program(program: str, case: Case) -> Ended:
     with tempfile.TemporaryDirectory(prefix="pdp8-model-") as folder:
         path = f"{folder}/V"
         with open(path, "wb") as file:
             file.write(case.image)
-        done = subprocess.run([program, "run", path], input=case.script, stdout=subprocess.PIPE, stderr=subprocess.STDOUT, timeout=60)
+        done = subprocess.run([program, "run", path], input=case.script, capture_output=True, timeout=SECONDS)
         with open(path, "rb") as file:
-            return done.stdout.decode("latin-1"), file.read(), done.returncode
+            return Ended(done.stdout, done.stderr, file.read(), done.returncode)
+
+
+def lines_of(replies: bytes) -> list[str]:
+    """The reply lines with every byte but the LF that ends each. Where the last has none it is marked, so that no reply is like it."""
+    *lines, rest = replies.decode("latin-1").split("\n")
+    return lines + [f"{rest} (without a LF)"] if rest else lines
 
 
 def outside(image: bytes, volume: Volume) -> bytes:
@@ -41,15 +59,28 @@ def files_fault(system: System, before: bytes, image: bytes) -> str:
     return "the image has a free block below a file" if wanted.is_tight and not got.is_tight else ""
 
 
-def fault_of(program: str, case: Case) -> str:
-    """How the program and the model differ in a case, or nothing."""
-    printed, image, status = run_program(program, case)
-    system = System(read_volume(case.image), Told(printed.splitlines()))
+def compared(program: str, case: Case) -> tuple[str, set[str]]:
+    """How the program and the model differ in a case, or nothing; and which of the cases at an edge it has met."""
+    ended = run_program(program, case)
+    system = System(read_volume(case.image), Told(lines_of(ended.replies)))
     try:
         system.run(case.script)
-        return f"the status is {status}" if status else files_fault(system, case.image, image)
-    except (Differs, Unsound) as fault:
-        return str(fault)
+        fault = files_fault(system, case.image, ended.image)
+    except (Differs, Unsound) as differs:
+        fault = str(differs)
+    faults = [fault, f"the status is {ended.status}" if ended.status else ""]
+    faults += [f"standard error has {ended.errors[:200]!r}"] if ended.errors else []
+    return "\n".join(filter(None, faults)), set(system.met)
+
+
+def compared_safely(program: str, case: Case) -> tuple[str, set[str]]:
+    """The same, where whatever breaks the comparison off is a fault of the case too."""
+    try:
+        return compared(program, case)
+    except subprocess.TimeoutExpired:
+        return f"no end within {SECONDS} seconds", set()
+    except Exception as broken:
+        return f"the comparison broke off: {broken!r}", set()
 
 
 def without_some(case: Case, differs: Callable[[Case], bool]) -> Case:
@@ -81,12 +112,13 @@ def with_fewer_lines(case: Case, differs: Callable[[Case], bool]) -> Case:
 
         lines = re.findall(rb"[^\n]*\n", text)
         fewer = without_some(Case(b"", lines), lambda it, make=with_lines: differs(make(it.entries)))
-        case = with_lines(fewer.entries)
+        if differs(with_lines(fewer.entries)):
+            case = with_lines(fewer.entries)
     return case
 
 
 def shortest(program: str, case: Case) -> Case:
     def differs(shorter: Case) -> bool:
-        return fault_of(program, shorter) != ""
+        return compared_safely(program, shorter)[0] != ""
 
     return with_fewer_lines(without_some(case, differs), differs)

@@ -31,11 +31,15 @@ LIMITS = {"STORE": (0, 999_999), "STEP": (1, 1_000_000), "GO": (1, 1_000_000), "
 
 @dataclass
 class Entry:
-    """A verb with its operands, and the text of a STORE; the verb of a bad line is empty."""
+    """A verb with its operands, and the text of a STORE; the verb of a bad line is empty. And how it stands in the script: its
+    line, how many lines a STORE lacks, and whether the script ends in it without a LF."""
 
     verb: str
     operands: list[bytes]
     text: bytes = b""
+    line: bytes = b""
+    lacking: int = 0
+    is_open: bool = False
 
 
 def line_entry(line: bytes) -> Entry:
@@ -53,18 +57,20 @@ def line_entry(line: bytes) -> Entry:
 def entries_of(script: bytes) -> list[Entry]:
     """The entries of a script. An empty line is none; a STORE that the script's end cuts off is a bad line."""
     lines, found = script.split(b"\n"), []
-    if not lines[-1]:
+    is_open = bool(lines[-1])
+    if not is_open:
         lines.pop()
     while lines:
-        command = lines.pop(0)
-        command = command[:-1] if command.endswith(b"\r") else command
+        line = lines.pop(0)
+        command = line[:-1] if line.endswith(b"\r") else line
         if not command:
             continue
         entry = line_entry(command)
         if entry.verb == "STORE":
             count = int(entry.operands[1])
             entry.text = b"".join(line + b"\n" for line in lines[:count])
-            entry = entry if len(lines) >= count else Entry("", [])
+            entry = entry if len(lines) >= count else Entry("", [], lacking=count - len(lines))
             lines = lines[count:]
+        entry.line, entry.is_open = line, is_open and not lines
         found.append(entry)
     return found

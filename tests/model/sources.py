@@ -1,6 +1,7 @@
 """Random texts for the files of scripts: PAL III sources that have each fault now and then, plain texts, and tapes."""
 from random import Random
-from tape import tape_of
+from tape import TapeFault, meaning_of, tape_of
+from words import BLOCK_FRAMES
 
 VALUES = ["A", "B", "C", "ONE", "COUNT", "LONGNAME"]
 TAGS = ["LOOP", "X1", "NEXT", "END", "BACKWARDS", "T2", "TAGTAG"]
@@ -102,4 +103,8 @@ def tape(random: Random) -> list[int]:
         frames[place : place + random.randrange(3)] = random.choice([more, [], [random.randrange(256)]])
     if random.random() < 0.2:
         frames = frames[: random.randrange(len(frames))]
+    fault = meaning_of(frames)
+    if isinstance(fault, TapeFault) and random.random() < 0.5:
+        # the frame that decides the fault is the last of a block, or the first of the next
+        return [0o200] * ((random.choice([-1, 0]) - fault.place) % BLOCK_FRAMES) + frames
     return [0o200] * random.choice([0, 0, 380, 400]) + frames

@@ -4,9 +4,11 @@ allowed; all else it tells itself."""
 from __future__ import annotations
 
 import re
+from collections import Counter
 from dataclasses import dataclass, field
 from typing import Optional
 from assembler import Fault, assembled
+from edges import met_at, met_by
 from machine import Machine
 from script import Entry, entries_of
 from tape import TapeFault, meaning_of, tape_of
@@ -20,6 +22,11 @@ class Differs(Exception):
     """A reply that is not allowed."""
 
 
+def visible(line: str) -> str:
+    """A line whose characters that don't print are written out."""
+    return line.encode("unicode_escape").decode()
+
+
 class Told:
     """The lines that a program gave, one after another."""
 
@@ -31,7 +38,7 @@ class Told:
 
     def take(self, wanted: str, entry: str) -> None:
         if self.peek() != wanted:
-            raise Differs(f"{entry}\n    wanted  {wanted}\n    got     {self.peek()}")
+            raise Differs(f"{visible(entry)}\n    wanted  {wanted}\n    got     {visible(self.peek())}")
         self.at += 1
 
 
@@ -55,6 +62,7 @@ class System:
     told: Told
     machine: Machine = field(default_factory=Machine)
     jobs: dict[int, Job] = field(default_factory=dict)
+    met: Counter[str] = field(default_factory=Counter)
 
     def run(self, script: bytes) -> None:
         """Does the entries of a script, and compares each reply with the told one."""
@@ -63,10 +71,12 @@ class System:
             if entry.verb == "FINISH":
                 self.finish(shown)
                 continue
-            for line in self.replies(entry):
+            replies = self.replies(entry)
+            for line in replies:
                 self.told.take(line, shown)
+            self.met.update(met_by(entry, replies[0]))
         if self.told.at < len(self.told.lines):
-            raise Differs(f"behind the last entry\n    got     {self.told.peek()}")
+            raise Differs(f"behind the last entry\n    got     {visible(self.told.peek())}")
 
     def finish(self, shown: str) -> None:
         while self.jobs:
@@ -202,6 +212,8 @@ class System:
         if not end:
             return f"WORKING {number}"
         del self.jobs[number]
+        if is_shown and isinstance(job.outcome, (Fault, TapeFault)):
+            self.met.update(met_at(job.outcome.place, "tape" if job.kind == "LOAD" else "source"))
         return f"JOB {number} {end}"
 
     def assembling_turn(self, job: Job, shown: str) -> str:
