@@ -1,12 +1,14 @@
 """The definitions of specs/, and what they unfold to."""
-import os, re
+import functools, os, re
 
 TOP = os.path.dirname(os.path.dirname(os.path.abspath(__file__)))
 HEAD = re.compile(r"^(?:unfoldable )?(?:abbrev )?pub (?:record |data )?([^\s:({]+)|^(?:abbrev|record|data) ([^\s:({]+)")
 MUTUAL = re.compile(r"^  (?:pub )?([^\s:({]+) : ")
+DECLARED = re.compile(r"(?m)^(?:pub |ghost )?use Rattle\.(\w+)\.specs\.declared\.((?:[a-z]\w*\.)*[a-z]\w*)\.([A-Z]\w*)(?:\.TheVariants)?(?:\.\{(.*)\}| as (\w+));?\s*$")
 WORD = re.compile(r"[^\s(){}\[\],;.]+")
 
 
+@functools.cache
 def read(crate, file):
     """The definitions of a file with their texts, and where each name of its `use` lines stands."""
     path = f"{TOP}/crates/{crate}/specs/{file}.antt"
@@ -29,6 +31,21 @@ def read(crate, file):
             if name:
                 found[name] += line
     return found, uses, modules
+
+
+def types(crate, file, name):
+    """The Rust types that a definition names, by themselves or by a variant, each with its crate, module and name."""
+    path, text = f"{TOP}/crates/{crate}/specs/{file}.antt", read(crate, file)[0][name]
+    return types_in(text, DECLARED.findall(open(path, encoding="utf-8").read()))
+
+
+def types_in(text, imports):
+    found = set()
+    for below, module, named, parts, alias in imports:
+        ours = "|".join(re.escape(it.split(" as ")[-1].strip()) for it in parts.split(",")) if parts else rf"{alias}(?=\.)"
+        if os.path.isdir(f"{TOP}/crates/{below}") and re.search(rf"(?<![\w.'])(?:{ours})(?![\w'])", text):
+            found.add((below, module.replace(".", "/"), named))
+    return found
 
 
 def closure(roots):
