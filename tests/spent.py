@@ -40,7 +40,7 @@ class Spent:
         """What a prover in a folder works at: a proof, tests, or a wrong body in a copy of its crate."""
         if folder.startswith(f"{self.top}/"):
             return "tests" if "--test" in words else "proof"
-        if os.path.basename(folder).startswith("rt-edit-") and any(self.top in word for word in words):
+        if os.path.basename(folder).startswith(("rt-edit-", "pdp8-edit-")) and any(self.top in word for word in words):
             return "edits"
         return None
 

@@ -1,0 +1,51 @@
+"""The crates that crates.txt lists, and the words with which the prover is called for one of them."""
+import os, shutil
+
+TOP = os.path.dirname(os.path.dirname(os.path.abspath(__file__)))
+PARTS = ("src", "specs", "proofs")
+
+
+class Crates:
+    """The repository's crates, lowest first, with what each stands on: others of them, and libraries of the toolchain."""
+
+    def __init__(self, top=TOP):
+        self.top, self.lines = top, {}
+        for line in open(f"{top}/crates.txt", encoding="utf-8"):
+            head, colon, _ = line.split("#")[0].partition(":")
+            if colon:
+                self.lines[head.split()[0]] = line.split("#")[0].strip()
+        stands = {name: line.split(":")[1].split() for name, line in self.lines.items()}
+        self.names = list(stands)
+        self.own = {name: [it for it in below if it in stands] for name, below in stands.items()}
+        self.of_toolchain = {name: ["std", *(it for it in below if it not in stands)] for name, below in stands.items()}
+
+    def below(self, name):
+        """The crates that this one stands on, directly or not, lowest first."""
+        found = {it for own in self.own[name] for it in (own, *self.below(own))}
+        return [it for it in self.names if it in found]
+
+    def is_program(self, name):
+        return os.path.exists(f"{self.top}/crates/{name}/src/main.rt")
+
+    def files(self, name):
+        """The files that a proof of the crate reads."""
+        folders = [f"{self.top}/crates/{name}/{part}" for part in PARTS]
+        return sorted(f"{at}/{file}" for folder in folders for at, _, files in os.walk(folder) for file in files)
+
+    def words(self, name, library):
+        """The prover's words for a crate, in whose folder it is called. `library` tells where one of those below it is built."""
+        kit = toolchain()
+        words = ["--crate-name", name, "src/main.rt" if self.is_program(name) else "src/lib.rt"]
+        for it in self.of_toolchain[name]:
+            words += ["--extern", f"{it}={kit}/rlibs/{it}.rlib"]
+        for it in self.own[name]:
+            words += ["--extern", f"{it}={library(it)}"]
+        for folder in (f"{kit}/rlibs", *(os.path.dirname(library(it)) for it in self.below(name))):
+            words += ["-L", f"dependency={folder}"]
+        words += ["--antt-project", f"{kit}/rattle/logic/antt-project.json", "--logic-built", f"{kit}/logic_built"]
+        return [*words, "--links", f"{name}="]
+
+
+def toolchain():
+    """The folder of the toolchain, whose commands are on the path."""
+    return os.path.dirname(os.path.dirname(os.path.realpath(shutil.which("rt") or "/")))
