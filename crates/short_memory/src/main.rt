@@ -1,6 +1,7 @@
 //! Runs the script on standard input over a fresh volume of 20 blocks, an item at a time, where memory may run out once. Then a
 //! second session does what was done before the item, and the two must show the same; the item is done again, and its answer is
-//! what is printed. With any argument the run ends there, and the files of the two are compared, block by block.
+//! what is printed. With one argument, or three, the run ends there, and the files of the two are compared, block by block. With two or
+//! three the refused item also leaves the session spoiled, which must be told.
 //!
 //! The status is 0; 3 where memory ran out outside a session; 4 where the two differ; and 5 where the item was refused again.
 #![tactic(auto)]
@@ -20,10 +21,20 @@ use volume_image::MemoryVolume;
 /// How many bytes a script may have, and so its replies.
 const MOST: usize = 16384;
 
+/// What spoils a session: a cell and a file that it is not to have.
+const SPOILING: &[u8] = b"DEPOSIT 77777 7777\nSTORE SPOILT.PA 0\n";
+
+/// What is done behind an item that was refused.
+#[derive(Clone, Copy)]
+struct Behind {
+    spoils: bool,
+    stops: bool,
+}
+
 fn main(rt: HostRuntime) -> ExitCode {
     let mut script = [0u8; MOST];
-    let stops = match env::args(&rt) {
-        Ok(words) => words.count() > 1,
+    let behind = match env::args(&rt) {
+        Ok(words) => asked(words.count()),
         Err(_) => return ExitCode::from(3),
     };
     let Ok(length) = filled(&mut rt.reader(), &mut script) else {
@@ -35,11 +46,19 @@ fn main(rt: HostRuntime) -> ExitCode {
     let text = &script[..length.min(MOST)];
     let status = match fresh(rt.alloc()) {
         None => 3,
-        Some(session) => run(rt.alloc(), session, text, stops, &mut out),
+        Some(session) => run(rt.alloc(), session, text, behind, &mut out),
     };
     match io::writer(&rt).write_all(&out) {
         Ok(()) => ExitCode::from(status),
         Err(_) => ExitCode::FAILURE,
+    }
+}
+
+/// What the program is asked for by so many words, its name among them.
+fn asked(words: usize) -> Behind {
+    Behind {
+        spoils: words > 2,
+        stops: words == 2 || words == 4,
     }
 }
 
@@ -76,7 +95,7 @@ fn run(
     alloc: Global,
     session: Session<MemoryVolume>,
     script: &[u8],
-    stops: bool,
+    behind: Behind,
     out: &mut Vec<u8>,
 ) -> u8 {
     let mut own = session;
@@ -89,7 +108,11 @@ fn run(
         let front = script.split_at(script.len().saturating_sub(rest.len())).0;
         let (item, others) = rest.split_at(bytes);
         if run_item(alloc, &mut own, item, out) == Done::Refused {
-            if stops {
+            if behind.spoils {
+                let mut told = Vec::new(alloc);
+                let _ = run_item(alloc, &mut own, SPOILING, &mut told);
+            }
+            if behind.stops {
                 return same_files(alloc, own.into_store(), front).status();
             }
             status = status.max(again(alloc, &mut own, front, item, out));
