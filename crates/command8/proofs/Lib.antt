@@ -1,4 +1,6 @@
 pub mod WalkLemmas
+pub mod LeafLemmas
+pub mod EnterLemmas
 pub mod NumberLemmas
 pub mod TaskLemmas
 pub mod PlainLemmas

@@ -1,13 +1,16 @@
 -- Plain command lines are taken, and ask for what they say.
-use Rattle.std.proofs.Common.{◌≡◌, ◌∙◌, codes, true, false, true≢false, refl, sym, ap, List, [], ◌∷◌, Option, Some, None}
+use Rattle.std.proofs.Common.{◌≡◌, ◌∙◌, ◌&&◌, if◌then◌else◌, Bool, ℕ, codes, true, false, refl, sym, ap, ap₂, subst, List, [], ◌∷◌, Option, Some, None}
 use Rattle.std.specs.Prelude.{option_map}
 use Rattle.std.specs.Str.{bytes_eq}
 use Rattle.std.proofs.lemmas.Bool.{ne_eqb}
 use Rattle.clap.specs.Lexer.{strip_byte}
 use Rattle.clap.specs.ValueTests.{accepts}
+use Rattle.clap.specs.Walk.{nothing_held, rows_after}
+use Rattle.clap.specs.Simple.{Shape, built}
+use Rattle.clap.specs.Takes.{level_passes}
 use Rattle.clap.proofs.OnLiterals.{clap_on_literals}
 use Rattle.clap.proofs.ValueTestLemmas.{Accepts-accepts}
-use Rattle.clap.specs.Words.{IsUnsignedIn, Row, Text, first_of, one_of, subcommand_of, takes}
+use Rattle.clap.specs.Words.{IsUnsignedIn, Row, Text, first_of, one_of}
 use Rattle.clap.specs.declared.builder.value_parser.ValueParser.TheVariants.{Unsigned}
 use Rattle.command8.specs.declared.kinds.Task.{Task}
 use Rattle.char_pack.specs.declared.forms.GetForm.{GetForm}
@@ -16,7 +19,10 @@ use Rattle.char_pack.specs.declared.forms.PutForm.{PutForm}
 use Rattle.char_pack.specs.declared.forms.PutForm.TheVariants as put_as
 use Rattle.command8.specs.declared.kinds.Task.TheVariants.{Tape, Source, Run, Create, Get, Put, Check}
 use Rattle.command8.specs.declared.kinds.Task.TheVariants as task
-use Rattle.command8.specs.Tasks.{Asks, AsksFor, IsCheckOf, IsCreateOf, IsGetOf, IsListOf, IsPlain, IsPutOf, IsRunOf, IsSource, IsTakenAs, IsTape, get_form, number_of, pdp8, put_form}
+use Rattle.command8.specs.Tasks.{Asks, AsksFor, IsCheckOf, IsCreateOf, IsGetOf, IsListOf, IsPlain, IsPutOf, IsRunOf, IsSource, IsTakenAs, IsTape, create_app, get_app, get_form, number_of, pdp8, put_app, put_form, source_app, tape_app}
+use Rattle.command8.proofs.EnterLemmas.{Finds, asks_no_more, enter_met, enter_takes}
+use Rattle.command8.proofs.LeafLemmas.{below}
+use Rattle.command8.proofs.TaskLemmas.{image_shape, is_plain}
 use Rattle.command8.proofs.WalkLemmas.{some_eq}
 
 no_hyphen : (word : Text) → IsPlain word → strip_byte 45 word ≡ None
@@ -29,17 +35,51 @@ no_dashes (b ∷ rest) plain = rw (ne_eqb b 45 plain) refl
 
 -- ## The word of a task
 
-abbrev word_of : Task → Text
-word_of Tape = codes "tape"
-word_of Source = codes "source"
-word_of (Run image) = codes "run"
-word_of (Create image blocks) = codes "create"
-word_of (task.List image) = codes "list"
-word_of (Get image file form) = codes "get"
-word_of (Put image file form) = codes "put"
-word_of (Check image) = codes "check"
+data Kind : Type 0 where
+  tape : Kind
+  source : Kind
+  run : Kind
+  create : Kind
+  list : Kind
+  get : Kind
+  put : Kind
+  check : Kind
 
-asked_word : (name : Text) (rows : List Row) (task : Task) → AsksFor name rows task → name ≡ word_of task
+abbrev word : Kind → Text
+word tape = codes "tape"
+word source = codes "source"
+word run = codes "run"
+word create = codes "create"
+word list = codes "list"
+word get = codes "get"
+word put = codes "put"
+word check = codes "check"
+
+-- the kind of this word, where it is that of one
+abbrev kind_of : Text → Kind
+kind_of name = if bytes_eq name (codes "tape") then tape else if bytes_eq name (codes "source") then source else if bytes_eq name (codes "run") then run else if bytes_eq name (codes "create") then create else if bytes_eq name (codes "list") then list else if bytes_eq name (codes "get") then get else if bytes_eq name (codes "put") then put else check
+
+word_read : (kind : Kind) → kind_of (word kind) ≡ kind
+word_read tape = refl
+word_read source = refl
+word_read run = refl
+word_read create = refl
+word_read list = refl
+word_read get = refl
+word_read put = refl
+word_read check = refl
+
+abbrev of : Task → Kind
+of Tape = tape
+of Source = source
+of (Run image) = run
+of (Create image blocks) = create
+of (task.List image) = list
+of (Get image file form) = get
+of (Put image file form) = put
+of (Check image) = check
+
+asked_word : (name : Text) (rows : List Row) (task : Task) → AsksFor name rows task → name ≡ word (of task)
 asked_word name rows Tape asks = asks
 asked_word name rows Source asks = asks
 asked_word name rows (Run image) asks = asks.0
@@ -49,313 +89,279 @@ asked_word name rows (Get image file form) asks = asks.0
 asked_word name rows (Put image file form) asks = asks.0
 asked_word name rows (Check image) asks = asks.0
 
--- what is asked for by another word
-other_word : (word name : Text) (rows : List Row) (task : Task) → name ≡ word → bytes_eq word (word_of task) ≡ false → bytes_eq word word ≡ true → AsksFor name rows task → ⊥
-other_word word name rows task is other same asks =
-    true≢false (sym same ∙ (ap (bytes_eq word) (sym is ∙ asked_word name rows task asks) ∙ other))
+-- a task of a kind
+data Seen : Kind → Task → Type 0 where
+  a_tape : Seen tape Tape
+  a_source : Seen source Source
+  a_run : (image : _) → Seen run (Run image)
+  a_create : (image : _) (blocks : ℕ) → Seen create (Create image blocks)
+  a_list : (image : _) → Seen list (task.List image)
+  a_get : (image : _) (file : _) (form : GetForm) → Seen get (Get image file form)
+  a_put : (image : _) (file : _) (form : PutForm) → Seen put (Put image file form)
+  a_check : (image : _) → Seen check (Check image)
 
--- ## Tape
+seen : (task : Task) → Seen (of task) task
+seen Tape = a_tape
+seen Source = a_source
+seen (Run image) = a_run image
+seen (Create image blocks) = a_create image blocks
+seen (task.List image) = a_list image
+seen (Get image file form) = a_get image file form
+seen (Put image file form) = a_put image file form
+seen (Check image) = a_check image
 
-tape_taken : (name : Text) → takes pdp8 (name ∷ codes "tape" ∷ []) ≡ true
+-- what is asked for by the word of a kind is of that kind
+seen_as : (kind : Kind) (rows : List Row) (task : Task) → AsksFor (word kind) rows task → Seen kind task
+seen_as kind rows task asks =
+    let same : of task ≡ kind = sym (word_read (of task)) ∙ (ap kind_of (sym (asked_word (word kind) rows task asks)) ∙ word_read kind) in
+    subst (λ k. Seen k task) same (seen task)
+
+-- ## A subcommand that is entered
+
+no_more : asks_no_more (built pdp8) ≡ true
+no_more = refl
+
+-- what the subcommand takes, the program takes, and it asks for the same
+entered_as : (kind : Kind) (s : Shape) (P : Task → Type 0) → Finds (built pdp8) (word kind) s → (name : Text) (rest : List Text)
+    → level_passes s [] nothing_held rest false ≡ true
+    → ((task : Task) → Seen kind task → AsksFor (word kind) (rows_after s.rules [] rest) task → P task)
+    → IsTakenAs (name ∷ word kind ∷ rest) P
+entered_as kind s P finds name rest passes asked = (
+  ap₂ (λ (a b : Bool). a && b) is_plain (enter_takes (built pdp8) (word kind) s rest finds no_more passes),
+  λ task asks.
+      let here : AsksFor s.name (rows_after s.rules [] rest) task = subst (λ (met : Option (Text × List Row)). Asks met task) (enter_met (built pdp8) (word kind) s rest finds) asks in
+      let there : AsksFor (word kind) (rows_after s.rules [] rest) task = subst (λ (w : Text). AsksFor w (rows_after s.rules [] rest) task) finds.name here in
+      asked task (seen_as kind (rows_after s.rules [] rest) task there) there,
+)
+
+finds_tape : Finds (built pdp8) (word tape) (below tape_app.top)
+finds_tape = record { found = refl; name = refl; no_help = refl }
+
+finds_source : Finds (built pdp8) (word source) (below source_app.top)
+finds_source = record { found = refl; name = refl; no_help = refl }
+
+finds_run : Finds (built pdp8) (word run) (image_shape (word run))
+finds_run = record { found = refl; name = refl; no_help = refl }
+
+finds_create : Finds (built pdp8) (word create) (below create_app.top)
+finds_create = record { found = refl; name = refl; no_help = refl }
+
+finds_list : Finds (built pdp8) (word list) (image_shape (word list))
+finds_list = record { found = refl; name = refl; no_help = refl }
+
+finds_get : Finds (built pdp8) (word get) (below get_app.top)
+finds_get = record { found = refl; name = refl; no_help = refl }
+
+finds_put : Finds (built pdp8) (word put) (below put_app.top)
+finds_put = record { found = refl; name = refl; no_help = refl }
+
+finds_check : Finds (built pdp8) (word check) (image_shape (word check))
+finds_check = record { found = refl; name = refl; no_help = refl }
+
+-- ## No word
+
+tape_passes : level_passes (below tape_app.top) [] nothing_held [] false ≡ true
 unfolding clap_on_literals
-tape_taken name = refl
-
-tape_met : (name : Text) → option_map (λ met. met.0) (subcommand_of pdp8 (name ∷ codes "tape" ∷ [])) ≡ Some (codes "tape")
-unfolding clap_on_literals
-tape_met name = refl
-
-asks_tape : (met : Option (Text × List Row)) (task : Task) → option_map (λ met. met.0) met ≡ Some (codes "tape") → Asks met task → IsTape task
-asks_tape None task is asks = absurd asks
-asks_tape (Some met) Tape is asks = tt
-asks_tape (Some met) Source is asks = absurd (other_word (codes "tape") met.0 met.1 Source (some_eq met.0 (codes "tape") is) refl refl asks)
-asks_tape (Some met) (Run image) is asks = absurd (other_word (codes "tape") met.0 met.1 (Run image) (some_eq met.0 (codes "tape") is) refl refl asks)
-asks_tape (Some met) (Create image blocks) is asks = absurd (other_word (codes "tape") met.0 met.1 (Create image blocks) (some_eq met.0 (codes "tape") is) refl refl asks)
-asks_tape (Some met) (task.List image) is asks = absurd (other_word (codes "tape") met.0 met.1 (task.List image) (some_eq met.0 (codes "tape") is) refl refl asks)
-asks_tape (Some met) (Get image file form) is asks = absurd (other_word (codes "tape") met.0 met.1 (Get image file form) (some_eq met.0 (codes "tape") is) refl refl asks)
-asks_tape (Some met) (Put image file form) is asks = absurd (other_word (codes "tape") met.0 met.1 (Put image file form) (some_eq met.0 (codes "tape") is) refl refl asks)
-asks_tape (Some met) (Check image) is asks = absurd (other_word (codes "tape") met.0 met.1 (Check image) (some_eq met.0 (codes "tape") is) refl refl asks)
+tape_passes = refl
 
 pub plain_tape : (name : Text) → IsTakenAs (name ∷ codes "tape" ∷ []) IsTape
-plain_tape name = (tape_taken name, λ task asks. asks_tape (subcommand_of pdp8 (name ∷ codes "tape" ∷ [])) task (tape_met name) asks)
+plain_tape name = entered_as tape _ IsTape finds_tape name [] tape_passes asked
+  where
+    asked : (task : Task) → Seen tape task → AsksFor (word tape) (rows_after (below tape_app.top).rules [] []) task → IsTape task
+    asked task a_tape asks = tt
 
--- ## Source
-
-source_taken : (name : Text) → takes pdp8 (name ∷ codes "source" ∷ []) ≡ true
+source_passes : level_passes (below source_app.top) [] nothing_held [] false ≡ true
 unfolding clap_on_literals
-source_taken name = refl
-
-source_met : (name : Text) → option_map (λ met. met.0) (subcommand_of pdp8 (name ∷ codes "source" ∷ [])) ≡ Some (codes "source")
-unfolding clap_on_literals
-source_met name = refl
-
-asks_source : (met : Option (Text × List Row)) (task : Task) → option_map (λ met. met.0) met ≡ Some (codes "source") → Asks met task → IsSource task
-asks_source None task is asks = absurd asks
-asks_source (Some met) Tape is asks = absurd (other_word (codes "source") met.0 met.1 Tape (some_eq met.0 (codes "source") is) refl refl asks)
-asks_source (Some met) Source is asks = tt
-asks_source (Some met) (Run image) is asks = absurd (other_word (codes "source") met.0 met.1 (Run image) (some_eq met.0 (codes "source") is) refl refl asks)
-asks_source (Some met) (Create image blocks) is asks = absurd (other_word (codes "source") met.0 met.1 (Create image blocks) (some_eq met.0 (codes "source") is) refl refl asks)
-asks_source (Some met) (task.List image) is asks = absurd (other_word (codes "source") met.0 met.1 (task.List image) (some_eq met.0 (codes "source") is) refl refl asks)
-asks_source (Some met) (Get image file form) is asks = absurd (other_word (codes "source") met.0 met.1 (Get image file form) (some_eq met.0 (codes "source") is) refl refl asks)
-asks_source (Some met) (Put image file form) is asks = absurd (other_word (codes "source") met.0 met.1 (Put image file form) (some_eq met.0 (codes "source") is) refl refl asks)
-asks_source (Some met) (Check image) is asks = absurd (other_word (codes "source") met.0 met.1 (Check image) (some_eq met.0 (codes "source") is) refl refl asks)
+source_passes = refl
 
 pub plain_source : (name : Text) → IsTakenAs (name ∷ codes "source" ∷ []) IsSource
-plain_source name = (source_taken name, λ task asks. asks_source (subcommand_of pdp8 (name ∷ codes "source" ∷ [])) task (source_met name) asks)
+plain_source name = entered_as source _ IsSource finds_source name [] source_passes asked
+  where
+    asked : (task : Task) → Seen source task → AsksFor (word source) (rows_after (below source_app.top).rules [] []) task → IsSource task
+    asked task a_source asks = tt
 
-abbrev with_image : Text × List Row → Text × Option Text
-with_image met = (met.0, first_of (codes "IMAGE") met.1)
+-- ## An image
 
--- ## Run
-
-run_taken : (name image : Text) → strip_byte 45 image ≡ None → bytes_eq image (45 ∷ 45 ∷ []) ≡ false → takes pdp8 (name ∷ codes "run" ∷ image ∷ []) ≡ true
+image_passes : (word image : Text) → strip_byte 45 image ≡ None → bytes_eq image (45 ∷ 45 ∷ []) ≡ false
+    → level_passes (image_shape word) [] nothing_held (image ∷ []) false ≡ true
 unfolding clap_on_literals
-run_taken name image plain dashes = simp (dashes, plain)
+image_passes word image plain dashes = simp (dashes, plain)
 
-run_met : (name image : Text) → strip_byte 45 image ≡ None → bytes_eq image (45 ∷ 45 ∷ []) ≡ false
-    → option_map with_image (subcommand_of pdp8 (name ∷ codes "run" ∷ image ∷ [])) ≡ Some (codes "run", Some image)
+image_given : (word image : Text) → strip_byte 45 image ≡ None → bytes_eq image (45 ∷ 45 ∷ []) ≡ false
+    → first_of (codes "IMAGE") (rows_after (image_shape word).rules [] (image ∷ [])) ≡ Some image
 unfolding clap_on_literals
-run_met name image plain dashes = simp (dashes, plain)
+image_given word image plain dashes = simp (dashes, plain)
 
-asks_run : (image : Text) (met : Option (Text × List Row)) (task : Task) → option_map with_image met ≡ Some (codes "run", Some image) → Asks met task
-    → IsRunOf image task
-asks_run name None task is asks = absurd asks
-asks_run name (Some met) Tape is asks = absurd (other_word (codes "run") met.0 met.1 Tape (ap (λ p. p.0) (some_eq (with_image met) (codes "run", Some name) is)) refl refl asks)
-asks_run name (Some met) Source is asks = absurd (other_word (codes "run") met.0 met.1 Source (ap (λ p. p.0) (some_eq (with_image met) (codes "run", Some name) is)) refl refl asks)
-asks_run name (Some met) (Run image) is asks =
-    some_eq image.bytes.items name (sym asks.1 ∙ ap (λ p. p.1) (some_eq (with_image met) (codes "run", Some name) is))
-asks_run name (Some met) (Create image blocks) is asks = absurd (other_word (codes "run") met.0 met.1 (Create image blocks) (ap (λ p. p.0) (some_eq (with_image met) (codes "run", Some name) is)) refl refl asks)
-asks_run name (Some met) (task.List image) is asks = absurd (other_word (codes "run") met.0 met.1 (task.List image) (ap (λ p. p.0) (some_eq (with_image met) (codes "run", Some name) is)) refl refl asks)
-asks_run name (Some met) (Get image file form) is asks = absurd (other_word (codes "run") met.0 met.1 (Get image file form) (ap (λ p. p.0) (some_eq (with_image met) (codes "run", Some name) is)) refl refl asks)
-asks_run name (Some met) (Put image file form) is asks = absurd (other_word (codes "run") met.0 met.1 (Put image file form) (ap (λ p. p.0) (some_eq (with_image met) (codes "run", Some name) is)) refl refl asks)
-asks_run name (Some met) (Check image) is asks = absurd (other_word (codes "run") met.0 met.1 (Check image) (ap (λ p. p.0) (some_eq (with_image met) (codes "run", Some name) is)) refl refl asks)
+-- a task that is asked for with an image
+image_entered : (kind : Kind) (P : Task → Type 0) → Finds (built pdp8) (word kind) (image_shape (word kind)) → (name image : Text) → IsPlain image
+    → ((rows : List Row) (task : Task) → Seen kind task → AsksFor (word kind) rows task → first_of (codes "IMAGE") rows ≡ Some image → P task)
+    → IsTakenAs (name ∷ word kind ∷ image ∷ []) P
+image_entered kind P finds name image plain asked =
+    entered_as kind _ P finds name (image ∷ []) (image_passes (word kind) image (no_hyphen image plain) (no_dashes image plain))
+    (λ task is asks. asked (rows_after (image_shape (word kind)).rules [] (image ∷ [])) task is asks (image_given (word kind) image (no_hyphen image plain) (no_dashes image plain)))
 
 pub plain_run : (name image : Text) → IsPlain image → IsTakenAs (name ∷ codes "run" ∷ image ∷ []) (IsRunOf image)
-plain_run name image plain = (
-  run_taken name image (no_hyphen image plain) (no_dashes image plain),
-  λ task asks. asks_run image (subcommand_of pdp8 (name ∷ codes "run" ∷ image ∷ [])) task (run_met name image (no_hyphen image plain) (no_dashes image plain)) asks,
-)
-
--- ## List
-
-list_taken : (name image : Text) → strip_byte 45 image ≡ None → bytes_eq image (45 ∷ 45 ∷ []) ≡ false → takes pdp8 (name ∷ codes "list" ∷ image ∷ []) ≡ true
-unfolding clap_on_literals
-list_taken name image plain dashes = simp (dashes, plain)
-
-list_met : (name image : Text) → strip_byte 45 image ≡ None → bytes_eq image (45 ∷ 45 ∷ []) ≡ false
-    → option_map with_image (subcommand_of pdp8 (name ∷ codes "list" ∷ image ∷ [])) ≡ Some (codes "list", Some image)
-unfolding clap_on_literals
-list_met name image plain dashes = simp (dashes, plain)
-
-asks_list : (image : Text) (met : Option (Text × List Row)) (task : Task) → option_map with_image met ≡ Some (codes "list", Some image) → Asks met task
-    → IsListOf image task
-asks_list name None task is asks = absurd asks
-asks_list name (Some met) Tape is asks = absurd (other_word (codes "list") met.0 met.1 Tape (ap (λ p. p.0) (some_eq (with_image met) (codes "list", Some name) is)) refl refl asks)
-asks_list name (Some met) Source is asks = absurd (other_word (codes "list") met.0 met.1 Source (ap (λ p. p.0) (some_eq (with_image met) (codes "list", Some name) is)) refl refl asks)
-asks_list name (Some met) (Run image) is asks = absurd (other_word (codes "list") met.0 met.1 (Run image) (ap (λ p. p.0) (some_eq (with_image met) (codes "list", Some name) is)) refl refl asks)
-asks_list name (Some met) (Create image blocks) is asks = absurd (other_word (codes "list") met.0 met.1 (Create image blocks) (ap (λ p. p.0) (some_eq (with_image met) (codes "list", Some name) is)) refl refl asks)
-asks_list name (Some met) (task.List image) is asks =
-    some_eq image.bytes.items name (sym asks.1 ∙ ap (λ p. p.1) (some_eq (with_image met) (codes "list", Some name) is))
-asks_list name (Some met) (Get image file form) is asks = absurd (other_word (codes "list") met.0 met.1 (Get image file form) (ap (λ p. p.0) (some_eq (with_image met) (codes "list", Some name) is)) refl refl asks)
-asks_list name (Some met) (Put image file form) is asks = absurd (other_word (codes "list") met.0 met.1 (Put image file form) (ap (λ p. p.0) (some_eq (with_image met) (codes "list", Some name) is)) refl refl asks)
-asks_list name (Some met) (Check image) is asks = absurd (other_word (codes "list") met.0 met.1 (Check image) (ap (λ p. p.0) (some_eq (with_image met) (codes "list", Some name) is)) refl refl asks)
+plain_run name image plain = image_entered run (IsRunOf image) finds_run name image plain asked
+  where
+    asked : (rows : List Row) (task : Task) → Seen run task → AsksFor (word run) rows task → first_of (codes "IMAGE") rows ≡ Some image → IsRunOf image task
+    asked rows task (a_run own) asks is = some_eq own.bytes.items image (sym asks.1 ∙ is)
 
 pub plain_list : (name image : Text) → IsPlain image → IsTakenAs (name ∷ codes "list" ∷ image ∷ []) (IsListOf image)
-plain_list name image plain = (
-  list_taken name image (no_hyphen image plain) (no_dashes image plain),
-  λ task asks. asks_list image (subcommand_of pdp8 (name ∷ codes "list" ∷ image ∷ [])) task (list_met name image (no_hyphen image plain) (no_dashes image plain)) asks,
-)
-
--- ## Check
-
-check_taken : (name image : Text) → strip_byte 45 image ≡ None → bytes_eq image (45 ∷ 45 ∷ []) ≡ false → takes pdp8 (name ∷ codes "check" ∷ image ∷ []) ≡ true
-unfolding clap_on_literals
-check_taken name image plain dashes = simp (dashes, plain)
-
-check_met : (name image : Text) → strip_byte 45 image ≡ None → bytes_eq image (45 ∷ 45 ∷ []) ≡ false
-    → option_map with_image (subcommand_of pdp8 (name ∷ codes "check" ∷ image ∷ [])) ≡ Some (codes "check", Some image)
-unfolding clap_on_literals
-check_met name image plain dashes = simp (dashes, plain)
-
-asks_check : (image : Text) (met : Option (Text × List Row)) (task : Task) → option_map with_image met ≡ Some (codes "check", Some image) → Asks met task
-    → IsCheckOf image task
-asks_check name None task is asks = absurd asks
-asks_check name (Some met) Tape is asks = absurd (other_word (codes "check") met.0 met.1 Tape (ap (λ p. p.0) (some_eq (with_image met) (codes "check", Some name) is)) refl refl asks)
-asks_check name (Some met) Source is asks = absurd (other_word (codes "check") met.0 met.1 Source (ap (λ p. p.0) (some_eq (with_image met) (codes "check", Some name) is)) refl refl asks)
-asks_check name (Some met) (Run image) is asks = absurd (other_word (codes "check") met.0 met.1 (Run image) (ap (λ p. p.0) (some_eq (with_image met) (codes "check", Some name) is)) refl refl asks)
-asks_check name (Some met) (Create image blocks) is asks = absurd (other_word (codes "check") met.0 met.1 (Create image blocks) (ap (λ p. p.0) (some_eq (with_image met) (codes "check", Some name) is)) refl refl asks)
-asks_check name (Some met) (task.List image) is asks = absurd (other_word (codes "check") met.0 met.1 (task.List image) (ap (λ p. p.0) (some_eq (with_image met) (codes "check", Some name) is)) refl refl asks)
-asks_check name (Some met) (Get image file form) is asks = absurd (other_word (codes "check") met.0 met.1 (Get image file form) (ap (λ p. p.0) (some_eq (with_image met) (codes "check", Some name) is)) refl refl asks)
-asks_check name (Some met) (Put image file form) is asks = absurd (other_word (codes "check") met.0 met.1 (Put image file form) (ap (λ p. p.0) (some_eq (with_image met) (codes "check", Some name) is)) refl refl asks)
-asks_check name (Some met) (Check image) is asks =
-    some_eq image.bytes.items name (sym asks.1 ∙ ap (λ p. p.1) (some_eq (with_image met) (codes "check", Some name) is))
+plain_list name image plain = image_entered list (IsListOf image) finds_list name image plain asked
+  where
+    asked : (rows : List Row) (task : Task) → Seen list task → AsksFor (word list) rows task → first_of (codes "IMAGE") rows ≡ Some image → IsListOf image task
+    asked rows task (a_list own) asks is = some_eq own.bytes.items image (sym asks.1 ∙ is)
 
 pub plain_check : (name image : Text) → IsPlain image → IsTakenAs (name ∷ codes "check" ∷ image ∷ []) (IsCheckOf image)
-plain_check name image plain = (
-  check_taken name image (no_hyphen image plain) (no_dashes image plain),
-  λ task asks. asks_check image (subcommand_of pdp8 (name ∷ codes "check" ∷ image ∷ [])) task (check_met name image (no_hyphen image plain) (no_dashes image plain)) asks,
+plain_check name image plain = image_entered check (IsCheckOf image) finds_check name image plain asked
+  where
+    asked : (rows : List Row) (task : Task) → Seen check task → AsksFor (word check) rows task → first_of (codes "IMAGE") rows ≡ Some image → IsCheckOf image task
+    asked rows task (a_check own) asks is = some_eq own.bytes.items image (sym asks.1 ∙ is)
+
+-- ## An image and a number of blocks
+
+create_passes : (image blocks : Text) → strip_byte 45 image ≡ None → bytes_eq image (45 ∷ 45 ∷ []) ≡ false → strip_byte 45 blocks ≡ None
+    → bytes_eq blocks (45 ∷ 45 ∷ []) ≡ false → accepts false (Unsigned 8 4095) blocks ≡ true
+    → level_passes (below create_app.top) [] nothing_held (image ∷ blocks ∷ []) false ≡ true
+unfolding clap_on_literals
+create_passes image blocks plain dashes plain_too dashes_too fit = simp (dashes, plain, dashes_too, plain_too, fit)
+
+abbrev with_blocks : List Row → Option Text × Option Text
+with_blocks rows = (first_of (codes "IMAGE") rows, one_of (codes "BLOCKS") rows)
+
+create_given : (image blocks : Text) → strip_byte 45 image ≡ None → bytes_eq image (45 ∷ 45 ∷ []) ≡ false → strip_byte 45 blocks ≡ None
+    → bytes_eq blocks (45 ∷ 45 ∷ []) ≡ false → with_blocks (rows_after (below create_app.top).rules [] (image ∷ blocks ∷ [])) ≡ (Some image, Some blocks)
+unfolding clap_on_literals
+create_given image blocks plain dashes plain_too dashes_too = simp (dashes, plain, dashes_too, plain_too)
+
+asks_create : (image blocks : Text) (rows : List Row) (task : Task) → Seen create task → AsksFor (word create) rows task
+    → with_blocks rows ≡ (Some image, Some blocks) → IsCreateOf image (number_of blocks) task
+asks_create image blocks rows task (a_create own count) asks is = (
+  some_eq own.bytes.items image (sym asks.1 ∙ ap (λ p. p.0) is),
+  asks.2.2 ∙ ap number_of (some_eq asks.2.0 blocks (sym asks.2.1 ∙ ap (λ p. p.1) is)),
 )
-
--- ## Create
-
-create_taken : (name image blocks : Text) → strip_byte 45 image ≡ None → bytes_eq image (45 ∷ 45 ∷ []) ≡ false → strip_byte 45 blocks ≡ None
-    → bytes_eq blocks (45 ∷ 45 ∷ []) ≡ false → accepts false (Unsigned 8 4095) blocks ≡ true → takes pdp8 (name ∷ codes "create" ∷ image ∷ blocks ∷ []) ≡ true
-unfolding clap_on_literals
-create_taken name image blocks plain dashes plain_too dashes_too fit = simp (dashes, plain, dashes_too, plain_too, fit)
-
-abbrev with_both : Text × List Row → Text × Option Text × Option Text
-with_both met = (met.0, first_of (codes "IMAGE") met.1, one_of (codes "BLOCKS") met.1)
-
-create_met : (name image blocks : Text) → strip_byte 45 image ≡ None → bytes_eq image (45 ∷ 45 ∷ []) ≡ false → strip_byte 45 blocks ≡ None
-    → bytes_eq blocks (45 ∷ 45 ∷ []) ≡ false
-    → option_map with_both (subcommand_of pdp8 (name ∷ codes "create" ∷ image ∷ blocks ∷ [])) ≡ Some (codes "create", Some image, Some blocks)
-unfolding clap_on_literals
-create_met name image blocks plain dashes plain_too dashes_too = simp (dashes, plain, dashes_too, plain_too)
-
-asks_create : (image blocks : Text) (met : Option (Text × List Row)) (task : Task) → option_map with_both met ≡ Some (codes "create", Some image, Some blocks)
-    → Asks met task → IsCreateOf image (number_of blocks) task
-asks_create image blocks None task is asks = absurd asks
-asks_create image blocks (Some met) Tape is asks = absurd (other_word (codes "create") met.0 met.1 Tape (ap (λ p. p.0) (some_eq (with_both met) (codes "create", Some image, Some blocks) is)) refl refl asks)
-asks_create image blocks (Some met) Source is asks = absurd (other_word (codes "create") met.0 met.1 Source (ap (λ p. p.0) (some_eq (with_both met) (codes "create", Some image, Some blocks) is)) refl refl asks)
-asks_create image blocks (Some met) (Run name) is asks = absurd (other_word (codes "create") met.0 met.1 (Run name) (ap (λ p. p.0) (some_eq (with_both met) (codes "create", Some image, Some blocks) is)) refl refl asks)
-asks_create image blocks (Some met) (task.List name) is asks = absurd (other_word (codes "create") met.0 met.1 (task.List name) (ap (λ p. p.0) (some_eq (with_both met) (codes "create", Some image, Some blocks) is)) refl refl asks)
-asks_create image blocks (Some met) (Get name file form) is asks = absurd (other_word (codes "create") met.0 met.1 (Get name file form) (ap (λ p. p.0) (some_eq (with_both met) (codes "create", Some image, Some blocks) is)) refl refl asks)
-asks_create image blocks (Some met) (Put name file form) is asks = absurd (other_word (codes "create") met.0 met.1 (Put name file form) (ap (λ p. p.0) (some_eq (with_both met) (codes "create", Some image, Some blocks) is)) refl refl asks)
-asks_create image blocks (Some met) (Check name) is asks = absurd (other_word (codes "create") met.0 met.1 (Check name) (ap (λ p. p.0) (some_eq (with_both met) (codes "create", Some image, Some blocks) is)) refl refl asks)
-asks_create image blocks (Some met) (Create name count) is asks =
-    let parts = some_eq (with_both met) (codes "create", Some image, Some blocks) is in (
-      some_eq name.bytes.items image (sym asks.1 ∙ ap (λ p. p.1) parts),
-      asks.2.2 ∙ ap number_of (some_eq asks.2.0 blocks (sym asks.2.1 ∙ ap (λ p. p.2) parts)),
-    )
 
 pub plain_create : (name image blocks : Text) → IsPlain image → IsPlain blocks → IsUnsignedIn 8 4095 blocks
     → IsTakenAs (name ∷ codes "create" ∷ image ∷ blocks ∷ []) (IsCreateOf image (number_of blocks))
-plain_create name image blocks plain plain_too fit = (
-  create_taken name image blocks (no_hyphen image plain) (no_dashes image plain) (no_hyphen blocks plain_too) (no_dashes blocks plain_too)
-      (Accepts-accepts false (Unsigned 8 4095) blocks fit),
-  λ task asks. asks_create image blocks (subcommand_of pdp8 (name ∷ codes "create" ∷ image ∷ blocks ∷ [])) task
-      (create_met name image blocks (no_hyphen image plain) (no_dashes image plain) (no_hyphen blocks plain_too) (no_dashes blocks plain_too)) asks,
+plain_create name image blocks plain plain_too fit =
+    entered_as create _ (IsCreateOf image (number_of blocks)) finds_create name (image ∷ blocks ∷ [])
+    (create_passes image blocks (no_hyphen image plain) (no_dashes image plain) (no_hyphen blocks plain_too) (no_dashes blocks plain_too)
+    (Accepts-accepts false (Unsigned 8 4095) blocks fit))
+    (λ task is asks. asks_create image blocks (rows_after (below create_app.top).rules [] (image ∷ blocks ∷ [])) task is asks
+    (create_given image blocks (no_hyphen image plain) (no_dashes image plain) (no_hyphen blocks plain_too) (no_dashes blocks plain_too)))
+
+-- ## A file of the volume, written out
+
+abbrev with_get : List Row → Option Text × Option Text × GetForm
+with_get rows = (first_of (codes "IMAGE") rows, first_of (codes "NAME") rows, get_form rows)
+
+asks_get : (image file : Text) (form : GetForm) (rows : List Row) (task : Task) → Seen get task → AsksFor (word get) rows task
+    → with_get rows ≡ (Some image, Some file, form) → IsGetOf image file form task
+asks_get image file form rows task (a_get own member how) asks is = (
+  some_eq own.bytes.items image (sym asks.1 ∙ ap (λ p. p.0) is),
+  some_eq member.bytes.items file (sym asks.2 ∙ ap (λ p. p.1) is),
+  asks.3 ∙ ap (λ p. p.2) is,
 )
 
--- ## Get
-
-abbrev with_get : Text × List Row → Text × Option Text × Option Text × GetForm
-with_get met = (met.0, first_of (codes "IMAGE") met.1, first_of (codes "NAME") met.1, get_form met.1)
-
-asks_get : (image file : Text) (form : GetForm) (met : Option (Text × List Row)) (task : Task) → option_map with_get met ≡ Some (codes "get", Some image, Some file, form)
-    → Asks met task → IsGetOf image file form task
-asks_get name member kind None task is asks = absurd asks
-asks_get name member kind (Some met) Tape is asks = absurd (other_word (codes "get") met.0 met.1 Tape (ap (λ p. p.0) (some_eq (with_get met) (codes "get", Some name, Some member, kind) is)) refl refl asks)
-asks_get name member kind (Some met) Source is asks = absurd (other_word (codes "get") met.0 met.1 Source (ap (λ p. p.0) (some_eq (with_get met) (codes "get", Some name, Some member, kind) is)) refl refl asks)
-asks_get name member kind (Some met) (Run image) is asks = absurd (other_word (codes "get") met.0 met.1 (Run image) (ap (λ p. p.0) (some_eq (with_get met) (codes "get", Some name, Some member, kind) is)) refl refl asks)
-asks_get name member kind (Some met) (Create image blocks) is asks = absurd (other_word (codes "get") met.0 met.1 (Create image blocks) (ap (λ p. p.0) (some_eq (with_get met) (codes "get", Some name, Some member, kind) is)) refl refl asks)
-asks_get name member kind (Some met) (task.List image) is asks = absurd (other_word (codes "get") met.0 met.1 (task.List image) (ap (λ p. p.0) (some_eq (with_get met) (codes "get", Some name, Some member, kind) is)) refl refl asks)
-asks_get name member kind (Some met) (Get image file form) is asks =
-    let parts = some_eq (with_get met) (codes "get", Some name, Some member, kind) is in (
-      some_eq image.bytes.items name (sym asks.1 ∙ ap (λ p. p.1) parts),
-      some_eq file.bytes.items member (sym asks.2 ∙ ap (λ p. p.2) parts),
-      asks.3 ∙ ap (λ p. p.3) parts,
-    )
-asks_get name member kind (Some met) (Put image file form) is asks = absurd (other_word (codes "get") met.0 met.1 (Put image file form) (ap (λ p. p.0) (some_eq (with_get met) (codes "get", Some name, Some member, kind) is)) refl refl asks)
-asks_get name member kind (Some met) (Check image) is asks = absurd (other_word (codes "get") met.0 met.1 (Check image) (ap (λ p. p.0) (some_eq (with_get met) (codes "get", Some name, Some member, kind) is)) refl refl asks)
-
-get_frames_taken : (name image file : Text) → strip_byte 45 image ≡ None → bytes_eq image (45 ∷ 45 ∷ []) ≡ false → strip_byte 45 file ≡ None → bytes_eq file (45 ∷ 45 ∷ []) ≡ false
-    → takes pdp8 (name ∷ codes "get" ∷ image ∷ file ∷ []) ≡ true
+get_frames_passes : (image file : Text) → strip_byte 45 image ≡ None → bytes_eq image (45 ∷ 45 ∷ []) ≡ false → strip_byte 45 file ≡ None
+    → bytes_eq file (45 ∷ 45 ∷ []) ≡ false → level_passes (below get_app.top) [] nothing_held (image ∷ file ∷ []) false ≡ true
 unfolding clap_on_literals
-get_frames_taken name image file plain dashes plain_too dashes_too = simp (dashes, plain, dashes_too, plain_too)
+get_frames_passes image file plain dashes plain_too dashes_too = simp (dashes, plain, dashes_too, plain_too)
 
-get_frames_met : (name image file : Text) → strip_byte 45 image ≡ None → bytes_eq image (45 ∷ 45 ∷ []) ≡ false → strip_byte 45 file ≡ None → bytes_eq file (45 ∷ 45 ∷ []) ≡ false
-    → option_map with_get (subcommand_of pdp8 (name ∷ codes "get" ∷ image ∷ file ∷ [])) ≡ Some (codes "get", Some image, Some file, get_as.Frames)
+get_frames_given : (image file : Text) → strip_byte 45 image ≡ None → bytes_eq image (45 ∷ 45 ∷ []) ≡ false → strip_byte 45 file ≡ None
+    → bytes_eq file (45 ∷ 45 ∷ []) ≡ false → with_get (rows_after (below get_app.top).rules [] (image ∷ file ∷ [])) ≡ (Some image, Some file, get_as.Frames)
 unfolding clap_on_literals
-get_frames_met name image file plain dashes plain_too dashes_too = simp (dashes, plain, dashes_too, plain_too)
+get_frames_given image file plain dashes plain_too dashes_too = simp (dashes, plain, dashes_too, plain_too)
 
-pub plain_get_frames : (name image file : Text) → IsPlain image → IsPlain file → IsTakenAs (name ∷ codes "get" ∷ image ∷ file ∷ []) (IsGetOf image file get_as.Frames)
-plain_get_frames name image file plain plain_too = (
-  get_frames_taken name image file (no_hyphen image plain) (no_dashes image plain) (no_hyphen file plain_too) (no_dashes file plain_too),
-  λ task asks. asks_get image file get_as.Frames (subcommand_of pdp8 (name ∷ codes "get" ∷ image ∷ file ∷ [])) task (get_frames_met name image file (no_hyphen image plain) (no_dashes image plain) (no_hyphen file plain_too) (no_dashes file plain_too)) asks,
+pub plain_get_frames : (name image file : Text) → IsPlain image → IsPlain file
+    → IsTakenAs (name ∷ codes "get" ∷ image ∷ file ∷ []) (IsGetOf image file get_as.Frames)
+plain_get_frames name image file plain plain_too =
+    entered_as get _ (IsGetOf image file get_as.Frames) finds_get name (image ∷ file ∷ [])
+    (get_frames_passes image file (no_hyphen image plain) (no_dashes image plain) (no_hyphen file plain_too) (no_dashes file plain_too))
+    (λ task is asks. asks_get image file get_as.Frames (rows_after (below get_app.top).rules [] (image ∷ file ∷ [])) task is asks
+    (get_frames_given image file (no_hyphen image plain) (no_dashes image plain) (no_hyphen file plain_too) (no_dashes file plain_too)))
+
+get_text_passes : (image file : Text) → strip_byte 45 image ≡ None → bytes_eq image (45 ∷ 45 ∷ []) ≡ false → strip_byte 45 file ≡ None
+    → bytes_eq file (45 ∷ 45 ∷ []) ≡ false → level_passes (below get_app.top) [] nothing_held (image ∷ file ∷ codes "--text" ∷ []) false ≡ true
+unfolding clap_on_literals
+get_text_passes image file plain dashes plain_too dashes_too = rw (dashes, plain, plain, dashes_too, plain_too, plain_too) refl
+
+get_text_given : (image file : Text) → strip_byte 45 image ≡ None → bytes_eq image (45 ∷ 45 ∷ []) ≡ false → strip_byte 45 file ≡ None
+    → bytes_eq file (45 ∷ 45 ∷ []) ≡ false → with_get (rows_after (below get_app.top).rules [] (image ∷ file ∷ codes "--text" ∷ [])) ≡ (Some image, Some file, get_as.Text)
+unfolding clap_on_literals
+get_text_given image file plain dashes plain_too dashes_too = rw (dashes, plain, plain, dashes_too, plain_too, plain_too) refl
+
+pub plain_get_text : (name image file : Text) → IsPlain image → IsPlain file
+    → IsTakenAs (name ∷ codes "get" ∷ image ∷ file ∷ codes "--text" ∷ []) (IsGetOf image file get_as.Text)
+plain_get_text name image file plain plain_too =
+    entered_as get _ (IsGetOf image file get_as.Text) finds_get name (image ∷ file ∷ codes "--text" ∷ [])
+    (get_text_passes image file (no_hyphen image plain) (no_dashes image plain) (no_hyphen file plain_too) (no_dashes file plain_too))
+    (λ task is asks. asks_get image file get_as.Text (rows_after (below get_app.top).rules [] (image ∷ file ∷ codes "--text" ∷ [])) task is asks
+    (get_text_given image file (no_hyphen image plain) (no_dashes image plain) (no_hyphen file plain_too) (no_dashes file plain_too)))
+
+get_tape_passes : (image file : Text) → strip_byte 45 image ≡ None → bytes_eq image (45 ∷ 45 ∷ []) ≡ false → strip_byte 45 file ≡ None
+    → bytes_eq file (45 ∷ 45 ∷ []) ≡ false → level_passes (below get_app.top) [] nothing_held (image ∷ file ∷ codes "--tape" ∷ []) false ≡ true
+unfolding clap_on_literals
+get_tape_passes image file plain dashes plain_too dashes_too = rw (dashes, plain, plain, dashes_too, plain_too, plain_too) refl
+
+get_tape_given : (image file : Text) → strip_byte 45 image ≡ None → bytes_eq image (45 ∷ 45 ∷ []) ≡ false → strip_byte 45 file ≡ None
+    → bytes_eq file (45 ∷ 45 ∷ []) ≡ false → with_get (rows_after (below get_app.top).rules [] (image ∷ file ∷ codes "--tape" ∷ [])) ≡ (Some image, Some file, get_as.Tape)
+unfolding clap_on_literals
+get_tape_given image file plain dashes plain_too dashes_too = rw (dashes, plain, plain, dashes_too, plain_too, plain_too) refl
+
+pub plain_get_tape : (name image file : Text) → IsPlain image → IsPlain file
+    → IsTakenAs (name ∷ codes "get" ∷ image ∷ file ∷ codes "--tape" ∷ []) (IsGetOf image file get_as.Tape)
+plain_get_tape name image file plain plain_too =
+    entered_as get _ (IsGetOf image file get_as.Tape) finds_get name (image ∷ file ∷ codes "--tape" ∷ [])
+    (get_tape_passes image file (no_hyphen image plain) (no_dashes image plain) (no_hyphen file plain_too) (no_dashes file plain_too))
+    (λ task is asks. asks_get image file get_as.Tape (rows_after (below get_app.top).rules [] (image ∷ file ∷ codes "--tape" ∷ [])) task is asks
+    (get_tape_given image file (no_hyphen image plain) (no_dashes image plain) (no_hyphen file plain_too) (no_dashes file plain_too)))
+
+-- ## A file of the volume, stored
+
+abbrev with_put : List Row → Option Text × Option Text × PutForm
+with_put rows = (first_of (codes "IMAGE") rows, first_of (codes "NAME") rows, put_form rows)
+
+asks_put : (image file : Text) (form : PutForm) (rows : List Row) (task : Task) → Seen put task → AsksFor (word put) rows task
+    → with_put rows ≡ (Some image, Some file, form) → IsPutOf image file form task
+asks_put image file form rows task (a_put own member how) asks is = (
+  some_eq own.bytes.items image (sym asks.1 ∙ ap (λ p. p.0) is),
+  some_eq member.bytes.items file (sym asks.2 ∙ ap (λ p. p.1) is),
+  asks.3 ∙ ap (λ p. p.2) is,
 )
 
-get_text_taken : (name image file : Text) → strip_byte 45 image ≡ None → bytes_eq image (45 ∷ 45 ∷ []) ≡ false → strip_byte 45 file ≡ None → bytes_eq file (45 ∷ 45 ∷ []) ≡ false
-    → takes pdp8 (name ∷ codes "get" ∷ image ∷ file ∷ codes "--text" ∷ []) ≡ true
+put_frames_passes : (image file : Text) → strip_byte 45 image ≡ None → bytes_eq image (45 ∷ 45 ∷ []) ≡ false → strip_byte 45 file ≡ None
+    → bytes_eq file (45 ∷ 45 ∷ []) ≡ false → level_passes (below put_app.top) [] nothing_held (image ∷ file ∷ []) false ≡ true
 unfolding clap_on_literals
-get_text_taken name image file plain dashes plain_too dashes_too = rw (dashes, plain, plain, dashes_too, plain_too, plain_too) refl
+put_frames_passes image file plain dashes plain_too dashes_too = simp (dashes, plain, dashes_too, plain_too)
 
-get_text_met : (name image file : Text) → strip_byte 45 image ≡ None → bytes_eq image (45 ∷ 45 ∷ []) ≡ false → strip_byte 45 file ≡ None → bytes_eq file (45 ∷ 45 ∷ []) ≡ false
-    → option_map with_get (subcommand_of pdp8 (name ∷ codes "get" ∷ image ∷ file ∷ codes "--text" ∷ [])) ≡ Some (codes "get", Some image, Some file, get_as.Text)
+put_frames_given : (image file : Text) → strip_byte 45 image ≡ None → bytes_eq image (45 ∷ 45 ∷ []) ≡ false → strip_byte 45 file ≡ None
+    → bytes_eq file (45 ∷ 45 ∷ []) ≡ false → with_put (rows_after (below put_app.top).rules [] (image ∷ file ∷ [])) ≡ (Some image, Some file, put_as.Frames)
 unfolding clap_on_literals
-get_text_met name image file plain dashes plain_too dashes_too = rw (dashes, plain, plain, dashes_too, plain_too, plain_too) refl
+put_frames_given image file plain dashes plain_too dashes_too = simp (dashes, plain, dashes_too, plain_too)
 
-pub plain_get_text : (name image file : Text) → IsPlain image → IsPlain file → IsTakenAs (name ∷ codes "get" ∷ image ∷ file ∷ codes "--text" ∷ []) (IsGetOf image file get_as.Text)
-plain_get_text name image file plain plain_too = (
-  get_text_taken name image file (no_hyphen image plain) (no_dashes image plain) (no_hyphen file plain_too) (no_dashes file plain_too),
-  λ task asks. asks_get image file get_as.Text (subcommand_of pdp8 (name ∷ codes "get" ∷ image ∷ file ∷ codes "--text" ∷ [])) task (get_text_met name image file (no_hyphen image plain) (no_dashes image plain) (no_hyphen file plain_too) (no_dashes file plain_too)) asks,
-)
+pub plain_put_frames : (name image file : Text) → IsPlain image → IsPlain file
+    → IsTakenAs (name ∷ codes "put" ∷ image ∷ file ∷ []) (IsPutOf image file put_as.Frames)
+plain_put_frames name image file plain plain_too =
+    entered_as put _ (IsPutOf image file put_as.Frames) finds_put name (image ∷ file ∷ [])
+    (put_frames_passes image file (no_hyphen image plain) (no_dashes image plain) (no_hyphen file plain_too) (no_dashes file plain_too))
+    (λ task is asks. asks_put image file put_as.Frames (rows_after (below put_app.top).rules [] (image ∷ file ∷ [])) task is asks
+    (put_frames_given image file (no_hyphen image plain) (no_dashes image plain) (no_hyphen file plain_too) (no_dashes file plain_too)))
 
-get_tape_taken : (name image file : Text) → strip_byte 45 image ≡ None → bytes_eq image (45 ∷ 45 ∷ []) ≡ false → strip_byte 45 file ≡ None → bytes_eq file (45 ∷ 45 ∷ []) ≡ false
-    → takes pdp8 (name ∷ codes "get" ∷ image ∷ file ∷ codes "--tape" ∷ []) ≡ true
+put_text_passes : (image file : Text) → strip_byte 45 image ≡ None → bytes_eq image (45 ∷ 45 ∷ []) ≡ false → strip_byte 45 file ≡ None
+    → bytes_eq file (45 ∷ 45 ∷ []) ≡ false → level_passes (below put_app.top) [] nothing_held (image ∷ file ∷ codes "--text" ∷ []) false ≡ true
 unfolding clap_on_literals
-get_tape_taken name image file plain dashes plain_too dashes_too = rw (dashes, plain, plain, dashes_too, plain_too, plain_too) refl
+put_text_passes image file plain dashes plain_too dashes_too = simp (dashes, plain, dashes_too, plain_too)
 
-get_tape_met : (name image file : Text) → strip_byte 45 image ≡ None → bytes_eq image (45 ∷ 45 ∷ []) ≡ false → strip_byte 45 file ≡ None → bytes_eq file (45 ∷ 45 ∷ []) ≡ false
-    → option_map with_get (subcommand_of pdp8 (name ∷ codes "get" ∷ image ∷ file ∷ codes "--tape" ∷ [])) ≡ Some (codes "get", Some image, Some file, get_as.Tape)
+put_text_given : (image file : Text) → strip_byte 45 image ≡ None → bytes_eq image (45 ∷ 45 ∷ []) ≡ false → strip_byte 45 file ≡ None
+    → bytes_eq file (45 ∷ 45 ∷ []) ≡ false → with_put (rows_after (below put_app.top).rules [] (image ∷ file ∷ codes "--text" ∷ [])) ≡ (Some image, Some file, put_as.Text)
 unfolding clap_on_literals
-get_tape_met name image file plain dashes plain_too dashes_too = rw (dashes, plain, plain, dashes_too, plain_too, plain_too) refl
+put_text_given image file plain dashes plain_too dashes_too = simp (dashes, plain, dashes_too, plain_too)
 
-pub plain_get_tape : (name image file : Text) → IsPlain image → IsPlain file → IsTakenAs (name ∷ codes "get" ∷ image ∷ file ∷ codes "--tape" ∷ []) (IsGetOf image file get_as.Tape)
-plain_get_tape name image file plain plain_too = (
-  get_tape_taken name image file (no_hyphen image plain) (no_dashes image plain) (no_hyphen file plain_too) (no_dashes file plain_too),
-  λ task asks. asks_get image file get_as.Tape (subcommand_of pdp8 (name ∷ codes "get" ∷ image ∷ file ∷ codes "--tape" ∷ [])) task (get_tape_met name image file (no_hyphen image plain) (no_dashes image plain) (no_hyphen file plain_too) (no_dashes file plain_too)) asks,
-)
-
--- ## Put
-
-abbrev with_put : Text × List Row → Text × Option Text × Option Text × PutForm
-with_put met = (met.0, first_of (codes "IMAGE") met.1, first_of (codes "NAME") met.1, put_form met.1)
-
-asks_put : (image file : Text) (form : PutForm) (met : Option (Text × List Row)) (task : Task) → option_map with_put met ≡ Some (codes "put", Some image, Some file, form)
-    → Asks met task → IsPutOf image file form task
-asks_put name member kind None task is asks = absurd asks
-asks_put name member kind (Some met) Tape is asks = absurd (other_word (codes "put") met.0 met.1 Tape (ap (λ p. p.0) (some_eq (with_put met) (codes "put", Some name, Some member, kind) is)) refl refl asks)
-asks_put name member kind (Some met) Source is asks = absurd (other_word (codes "put") met.0 met.1 Source (ap (λ p. p.0) (some_eq (with_put met) (codes "put", Some name, Some member, kind) is)) refl refl asks)
-asks_put name member kind (Some met) (Run image) is asks = absurd (other_word (codes "put") met.0 met.1 (Run image) (ap (λ p. p.0) (some_eq (with_put met) (codes "put", Some name, Some member, kind) is)) refl refl asks)
-asks_put name member kind (Some met) (Create image blocks) is asks = absurd (other_word (codes "put") met.0 met.1 (Create image blocks) (ap (λ p. p.0) (some_eq (with_put met) (codes "put", Some name, Some member, kind) is)) refl refl asks)
-asks_put name member kind (Some met) (task.List image) is asks = absurd (other_word (codes "put") met.0 met.1 (task.List image) (ap (λ p. p.0) (some_eq (with_put met) (codes "put", Some name, Some member, kind) is)) refl refl asks)
-asks_put name member kind (Some met) (Get image file form) is asks = absurd (other_word (codes "put") met.0 met.1 (Get image file form) (ap (λ p. p.0) (some_eq (with_put met) (codes "put", Some name, Some member, kind) is)) refl refl asks)
-asks_put name member kind (Some met) (Put image file form) is asks =
-    let parts = some_eq (with_put met) (codes "put", Some name, Some member, kind) is in (
-      some_eq image.bytes.items name (sym asks.1 ∙ ap (λ p. p.1) parts),
-      some_eq file.bytes.items member (sym asks.2 ∙ ap (λ p. p.2) parts),
-      asks.3 ∙ ap (λ p. p.3) parts,
-    )
-asks_put name member kind (Some met) (Check image) is asks = absurd (other_word (codes "put") met.0 met.1 (Check image) (ap (λ p. p.0) (some_eq (with_put met) (codes "put", Some name, Some member, kind) is)) refl refl asks)
-
-put_frames_taken : (name image file : Text) → strip_byte 45 image ≡ None → bytes_eq image (45 ∷ 45 ∷ []) ≡ false → strip_byte 45 file ≡ None → bytes_eq file (45 ∷ 45 ∷ []) ≡ false
-    → takes pdp8 (name ∷ codes "put" ∷ image ∷ file ∷ []) ≡ true
-unfolding clap_on_literals
-put_frames_taken name image file plain dashes plain_too dashes_too = simp (dashes, plain, dashes_too, plain_too)
-
-put_frames_met : (name image file : Text) → strip_byte 45 image ≡ None → bytes_eq image (45 ∷ 45 ∷ []) ≡ false → strip_byte 45 file ≡ None → bytes_eq file (45 ∷ 45 ∷ []) ≡ false
-    → option_map with_put (subcommand_of pdp8 (name ∷ codes "put" ∷ image ∷ file ∷ [])) ≡ Some (codes "put", Some image, Some file, put_as.Frames)
-unfolding clap_on_literals
-put_frames_met name image file plain dashes plain_too dashes_too = simp (dashes, plain, dashes_too, plain_too)
-
-pub plain_put_frames : (name image file : Text) → IsPlain image → IsPlain file → IsTakenAs (name ∷ codes "put" ∷ image ∷ file ∷ []) (IsPutOf image file put_as.Frames)
-plain_put_frames name image file plain plain_too = (
-  put_frames_taken name image file (no_hyphen image plain) (no_dashes image plain) (no_hyphen file plain_too) (no_dashes file plain_too),
-  λ task asks. asks_put image file put_as.Frames (subcommand_of pdp8 (name ∷ codes "put" ∷ image ∷ file ∷ [])) task (put_frames_met name image file (no_hyphen image plain) (no_dashes image plain) (no_hyphen file plain_too) (no_dashes file plain_too)) asks,
-)
-
-put_text_taken : (name image file : Text) → strip_byte 45 image ≡ None → bytes_eq image (45 ∷ 45 ∷ []) ≡ false → strip_byte 45 file ≡ None → bytes_eq file (45 ∷ 45 ∷ []) ≡ false
-    → takes pdp8 (name ∷ codes "put" ∷ image ∷ file ∷ codes "--text" ∷ []) ≡ true
-unfolding clap_on_literals
-put_text_taken name image file plain dashes plain_too dashes_too = simp (dashes, plain, dashes_too, plain_too)
-
-put_text_met : (name image file : Text) → strip_byte 45 image ≡ None → bytes_eq image (45 ∷ 45 ∷ []) ≡ false → strip_byte 45 file ≡ None → bytes_eq file (45 ∷ 45 ∷ []) ≡ false
-    → option_map with_put (subcommand_of pdp8 (name ∷ codes "put" ∷ image ∷ file ∷ codes "--text" ∷ [])) ≡ Some (codes "put", Some image, Some file, put_as.Text)
-unfolding clap_on_literals
-put_text_met name image file plain dashes plain_too dashes_too = simp (dashes, plain, dashes_too, plain_too)
-
-pub plain_put_text : (name image file : Text) → IsPlain image → IsPlain file → IsTakenAs (name ∷ codes "put" ∷ image ∷ file ∷ codes "--text" ∷ []) (IsPutOf image file put_as.Text)
-plain_put_text name image file plain plain_too = (
-  put_text_taken name image file (no_hyphen image plain) (no_dashes image plain) (no_hyphen file plain_too) (no_dashes file plain_too),
-  λ task asks. asks_put image file put_as.Text (subcommand_of pdp8 (name ∷ codes "put" ∷ image ∷ file ∷ codes "--text" ∷ [])) task (put_text_met name image file (no_hyphen image plain) (no_dashes image plain) (no_hyphen file plain_too) (no_dashes file plain_too)) asks,
-)
+pub plain_put_text : (name image file : Text) → IsPlain image → IsPlain file
+    → IsTakenAs (name ∷ codes "put" ∷ image ∷ file ∷ codes "--text" ∷ []) (IsPutOf image file put_as.Text)
+plain_put_text name image file plain plain_too =
+    entered_as put _ (IsPutOf image file put_as.Text) finds_put name (image ∷ file ∷ codes "--text" ∷ [])
+    (put_text_passes image file (no_hyphen image plain) (no_dashes image plain) (no_hyphen file plain_too) (no_dashes file plain_too))
+    (λ task is asks. asks_put image file put_as.Text (rows_after (below put_app.top).rules [] (image ∷ file ∷ codes "--text" ∷ [])) task is asks
+    (put_text_given image file (no_hyphen image plain) (no_dashes image plain) (no_hyphen file plain_too) (no_dashes file plain_too)))

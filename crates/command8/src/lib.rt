@@ -3,6 +3,7 @@
 
 mod file_commands;
 mod kinds;
+mod parts;
 mod tasks;
 
 pub use kinds::{Task, TaskFault};

@@ -1,16 +1,17 @@
 ghost use Rattle.std.specs.Prelude.{◌≡◌, ◌≤◌, [], ◌∷◌, ℕ, List, false, true, codes, IfErr, IfOk, Some, map};
-ghost use Rattle.clap.specs.Words.{app_of, first_of, found_of, one_of, rows_of, rule_of, subcommand_rows_of, takes, IsUnsignedIn};
-ghost use Rattle.clap.specs.declared.builder.command.Command.TheViews.{out-Command as fields_of};
+ghost use Rattle.clap.specs.Words.{first_of, found_of, one_of, rows_of, subcommand_rows_of, takes, IsUnsignedIn};
 ghost use Rattle.command8.specs.declared.kinds.TaskFault.TheVariants.{Memory};
 ghost use Rattle.char_pack.specs.declared.forms.GetForm.TheVariants as get_as;
 ghost use Rattle.char_pack.specs.declared.forms.PutForm.TheVariants as put_as;
 ghost use Rattle.command8.specs.Tasks.{IsCheckOf, IsCreateOf, IsGetOf, IsListOf, IsPlain, IsPutOf, IsRunOf, IsSource, IsTakenAs, IsTape};
 ghost use Rattle.command8.specs.Tasks.{Answers, Asks, AsksFor, HasFitBlocks};
 ghost use Rattle.command8.specs.TaskSteps.{HasBlocks, HasFiles, HasImage, HasMet, HasName, IsFaultOf, IsWhole};
-ghost use Rattle.command8.specs.Tasks.{bare_app, blocks_rule, create_app, files_app, image_rule, number_of, pdp8, run_app, source_app, tape_app, tapes_app, volumes_app};
+ghost use Rattle.command8.specs.CommandSteps.{IsArgument, IsCommand};
+ghost use Rattle.command8.specs.Tasks.{bare_app, blocks_rule, create_app, files_app, number_of, pdp8, run_app, source_app, tape_app, tapes_app, volumes_app};
 ghost use Rattle.command8.specs.Tasks as spec;
 
 use crate::file_commands::{check, get, list, put};
+use crate::parts::{image_leaf, leaf, with_argument, with_image, with_leaf, with_lines};
 use crate::{Task, TaskFault};
 use char_pack::{GetForm, PutForm};
 use clap::error::ErrorKind;
@@ -56,59 +57,44 @@ pub fn plain_words()
 
 /// The command `pdp8` with its subcommands.
 fn command_line<'a>(alloc: Global) -> Result<Command<'a>, AllocError>
-    ensures app { IfOk result (λ command. app_of command ≡ pdp8) }
+    ensures { IfOk result (λ command. IsCommand command pdp8) }
 {
-    let put = put(alloc)?;
-    let check = check(alloc)?;
     let files = command_line_of_files(alloc)?;
-    let one = files.subcommand(put)?;
-    let command = one.subcommand(check)?;
-    Ok(command)
+    let one = with_leaf(files, put(alloc))?;
+    with_leaf(one, check(alloc))
 }
 
 /// The command `pdp8` with its subcommands up to those that read the files of a volume.
 fn command_line_of_files<'a>(alloc: Global) -> Result<Command<'a>, AllocError>
-    ensures app { IfOk result (λ command. app_of command ≡ files_app) }
-    ensures local { IfOk result (λ command. (fields_of command).has_globals ≡ false) }
+    ensures { IfOk result (λ command. IsCommand command files_app) }
 {
-    let list = list(alloc)?;
-    let get = get(alloc)?;
     let volumes = command_line_of_volumes(alloc)?;
-    let one = volumes.subcommand(list)?;
-    let command = one.subcommand(get)?;
-    Ok(command)
+    let one = with_leaf(volumes, list(alloc))?;
+    with_leaf(one, get(alloc))
 }
 
 /// The command `pdp8` with its subcommands for tapes and whole volumes.
 fn command_line_of_volumes<'a>(alloc: Global) -> Result<Command<'a>, AllocError>
-    ensures app { IfOk result (λ command. app_of command ≡ volumes_app) }
-    ensures local { IfOk result (λ command. (fields_of command).has_globals ≡ false) }
+    ensures { IfOk result (λ command. IsCommand command volumes_app) }
 {
-    let run = run(alloc)?;
-    let create = create(alloc)?;
     let tapes = command_line_of_tapes(alloc)?;
-    let one = tapes.subcommand(run)?;
-    let command = one.subcommand(create)?;
-    Ok(command)
+    let one = with_leaf(tapes, run(alloc))?;
+    with_leaf(one, create(alloc))
 }
 
 /// The command `pdp8` with its subcommands for tapes.
 fn command_line_of_tapes<'a>(alloc: Global) -> Result<Command<'a>, AllocError>
-    ensures app { IfOk result (λ command. app_of command ≡ tapes_app) }
-    ensures local { IfOk result (λ command. (fields_of command).has_globals ≡ false) }
+    ensures { IfOk result (λ command. IsCommand command tapes_app) }
 {
-    let tape = tape(alloc);
-    let source = source(alloc);
     let bare = bare_command_line(alloc)?;
-    let one = bare.subcommand(tape)?;
-    let command = one.subcommand(source)?;
-    Ok(command)
+    let one = with_leaf(bare, Ok(tape(alloc)))?;
+    with_leaf(one, Ok(source(alloc)))
 }
 
 /// The command `pdp8` before it has its subcommands. Its texts always name it `pdp8`, whatever the first word is.
+#[tactic(auto, unfolding(crate::specs::CommandSteps::IsCommand))]
 fn bare_command_line<'a>(alloc: Global) -> Result<Command<'a>, AllocError>
-    ensures app { IfOk result (λ command. app_of command ≡ bare_app) }
-    ensures local { IfOk result (λ command. (fields_of command).has_globals ≡ false) }
+    ensures { IfOk result (λ command. IsCommand command bare_app) }
 {
     let named = Command::new(alloc, "pdp8").bin_name("pdp8")?;
     let command = named
@@ -120,25 +106,25 @@ fn bare_command_line<'a>(alloc: Global) -> Result<Command<'a>, AllocError>
 }
 
 fn tape<'a>(alloc: Global) -> Command<'a>
-    ensures app { app_of result ≡ tape_app }
-    ensures local { (fields_of result).has_globals ≡ false }
+    ensures { IsCommand result tape_app }
 {
-    Command::new(alloc, "tape")
-        .about("List the memory words of a BIN paper tape")
-        .long_about(
-            "Reads a BIN paper tape from standard input, and prints a line F AAAA WWWW for each memory{n}word that it loads: field, address and word, in octal, by rising address.",
-        )
+    leaf(
+        alloc,
+        "tape",
+        "List the memory words of a BIN paper tape",
+        "Reads a BIN paper tape from standard input, and prints a line F AAAA WWWW for each memory{n}word that it loads: field, address and word, in octal, by rising address.",
+    )
 }
 
 fn source<'a>(alloc: Global) -> Command<'a>
-    ensures app { app_of result ≡ source_app }
-    ensures local { (fields_of result).has_globals ≡ false }
+    ensures { IsCommand result source_app }
 {
-    Command::new(alloc, "source")
-        .about("Write the PAL III source of a BIN paper tape")
-        .long_about(
-            "Reads a BIN paper tape from standard input, and prints a PAL III source that assembles to the words{n}that it loads, one line a word, with the cell and the word in octal behind it.",
-        )
+    leaf(
+        alloc,
+        "source",
+        "Write the PAL III source of a BIN paper tape",
+        "Reads a BIN paper tape from standard input, and prints a PAL III source that assembles to the words{n}that it loads, one line a word, with the cell and the word in octal behind it.",
+    )
 }
 
 /// The forms of a script's lines, as the long help shows them.
@@ -166,49 +152,32 @@ Lines of a script:
   PRINTED                shows the characters that were printed";
 
 fn run<'a>(alloc: Global) -> Result<Command<'a>, AllocError>
-    ensures app { IfOk result (λ command. app_of command ≡ run_app) }
-    ensures local { IfOk result (λ command. (fields_of command).has_globals ≡ false) }
+    ensures { IfOk result (λ command. IsCommand command run_app) }
 {
-    let image = image(alloc);
-    let command = Command::new(alloc, "run")
-        .about("Run a script on a volume")
-        .long_about(
-            "Runs the script of standard input on the OS/8 volume in the file IMAGE, prints the replies, and{n}writes the image back to the file. Each line gets its reply as it comes.",
-        )
-        .after_long_help(SCRIPT_LINES)
-        .arg(image)?;
-    Ok(command)
+    let bare = leaf(
+        alloc,
+        "run",
+        "Run a script on a volume",
+        "Runs the script of standard input on the OS/8 volume in the file IMAGE, prints the replies, and{n}writes the image back to the file. Each line gets its reply as it comes.",
+    );
+    with_image(alloc, with_lines(bare, SCRIPT_LINES))
 }
 
 fn create<'a>(alloc: Global) -> Result<Command<'a>, AllocError>
-    ensures app { IfOk result (λ command. app_of command ≡ create_app) }
-    ensures local { IfOk result (λ command. (fields_of command).has_globals ≡ false) }
+    ensures { IfOk result (λ command. IsCommand command create_app) }
 {
-    let image = image(alloc);
-    let blocks = blocks(alloc);
-    let with_image = Command::new(alloc, "create")
-        .about("Write an empty volume")
-        .long_about(
-            "Writes an empty OS/8 volume of BLOCKS blocks of 512 bytes to the file IMAGE, in place of any{n}file of that name, and prints CREATED and the number of blocks.",
-        )
-        .arg(image)?;
-    let command = with_image.arg(blocks)?;
-    Ok(command)
+    let with_image = image_leaf(
+        alloc,
+        "create",
+        "Write an empty volume",
+        "Writes an empty OS/8 volume of BLOCKS blocks of 512 bytes to the file IMAGE, in place of any{n}file of that name, and prints CREATED and the number of blocks.",
+    )?;
+    with_argument(with_image, blocks(alloc))
 }
 
-/// The name of the image's file.
-pub fn image<'a>(alloc: Global) -> Arg<'a>
-    ensures rule { rule_of result ≡ image_rule }
-    ensures local { result.global ≡ false }
-{
-    Arg::new(alloc, "IMAGE")
-        .required(true)
-        .help("The file that holds the volume")
-}
-
+#[tactic(auto, unfolding(crate::specs::CommandSteps::IsArgument))]
 fn blocks<'a>(alloc: Global) -> Arg<'a>
-    ensures rule { rule_of result ≡ blocks_rule }
-    ensures local { result.global ≡ false }
+    ensures { IsArgument result blocks_rule }
 {
     Arg::new(alloc, "BLOCKS")
         .required(true)

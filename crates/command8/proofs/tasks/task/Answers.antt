@@ -2,29 +2,29 @@ use Rattle.std.proofs.Common.{map, subst, sym}
 use Rattle.clap.specs.Words.{app_of}
 use Rattle.command8.specs.Tasks.{Asks}
 use Rattle.command8.specs.TaskSteps.{HasMet}
-use Rattle.command8.proofs.TaskLemmas.{fault_answer, met_rows, no_fault, taken_fault, task_whole}
+use Rattle.command8.proofs.TaskLemmas.{fault_answer, is_pdp8, met_rows, no_fault, taken_fault, task_whole}
 use Rattle.command8.proofs.tasks.task.Goals as goal
 
 pub asked-requires : goal.asked-requires
 asked-requires c =
     let words = map (λ word. word.now) c.args.words.now in
-    let none = no_fault (app_of c.in_ok-command.command) words c.in_ok-command.ensures.app c.in-Ok.ensures.kinds in
-    subst HasMet (sym (met_rows (app_of c.in_ok-command.command) words c.in-Ok.matches c.in_ok-command.ensures.app c.in-Ok.ensures.matches))
+    let none = no_fault (app_of c.in_ok-command.command) words (is_pdp8 c.in_ok-command.command c.in_ok-command.ensures) c.in-Ok.ensures.kinds in
+    subst HasMet (sym (met_rows (app_of c.in_ok-command.command) words c.in-Ok.matches (is_pdp8 c.in_ok-command.command c.in_ok-command.ensures) c.in-Ok.ensures.matches))
     (task_whole words none)
 
 pub returns-in_ok-asked-in-Ok-clause-answer : goal.returns-in_ok-asked-in-Ok-clause-answer
 returns-in_ok-asked-in-Ok-clause-answer c =
     let words = map (λ word. word.now) c.args.words.now in
-    let none = no_fault (app_of c.in_ok-command.command) words c.in_ok-command.ensures.app c.in-Ok.ensures.kinds in
-    let met = met_rows (app_of c.in_ok-command.command) words c.in-Ok.matches c.in_ok-command.ensures.app c.in-Ok.ensures.matches in
+    let none = no_fault (app_of c.in_ok-command.command) words (is_pdp8 c.in_ok-command.command c.in_ok-command.ensures) c.in-Ok.ensures.kinds in
+    let met = met_rows (app_of c.in_ok-command.command) words c.in-Ok.matches (is_pdp8 c.in_ok-command.command c.in_ok-command.ensures) c.in-Ok.ensures.matches in
     (none, subst (λ rows. Asks rows c.in_ok-asked-in-Ok.field-0) met c.in_ok-asked-in-Ok.ensures.task, c.in_ok-asked-in-Ok.ensures.fit)
 
 pub returns-in-Err-clause-taken : goal.returns-in-Err-clause-taken
 returns-in-Err-clause-taken c =
     taken_fault (app_of c.in_ok-command.command) (map (λ word. word.now) c.args.words.now) c.in-Err.error c.fault_of.result
-    c.in_ok-command.ensures.app c.in-Err.ensures.passes c.fault_of.ensures
+    (is_pdp8 c.in_ok-command.command c.in_ok-command.ensures) c.in-Err.ensures.passes c.fault_of.ensures
 
 pub returns-in-Err-clause-answer : goal.returns-in-Err-clause-answer
 returns-in-Err-clause-answer c =
     fault_answer (app_of c.in_ok-command.command) (map (λ word. word.now) c.args.words.now) c.in-Err.error c.fault_of.result
-    c.in_ok-command.ensures.app c.in-Err.ensures.kinds c.fault_of.ensures
+    (is_pdp8 c.in_ok-command.command c.in_ok-command.ensures) c.in-Err.ensures.kinds c.fault_of.ensures

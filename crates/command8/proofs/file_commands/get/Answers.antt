@@ -1,0 +1,6 @@
+use Rattle.clap.specs.Words.{with_rule}
+use Rattle.command8.specs.Tasks.{plain_get_app, text_rule}
+use Rattle.command8.proofs.file_commands.get.Goals as goal
+
+pub returns : goal.returns
+returns c = c.with_option-2.ensures (with_rule plain_get_app text_rule) (c.in_ok-with_text.ensures plain_get_app c.in_ok-plain.ensures)
