@@ -1,3 +1,4 @@
+pub mod CommandLemmas
 pub mod WalkLemmas
 pub mod LeafLemmas
 pub mod EnterLemmas

@@ -16,8 +16,8 @@ unfoldable pub IsArgument : Arg → Rule → Type 0
 IsArgument argument rule = (rule_of argument ≡ rule) × (argument.global ≡ false)
 
 -- a word that must be given
-abbrev pub positional_rule : Text → Rule
-positional_rule id = record (new_rule id) { required = true }
+abbrev pub required_rule : Text → Rule
+required_rule id = record (new_rule id) { required = true }
 
 -- an option that takes no value
 abbrev pub option_rule : Text → Rule

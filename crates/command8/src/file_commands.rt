@@ -3,11 +3,10 @@ ghost use Rattle.std.specs.Prelude.{IfOk};
 ghost use Rattle.command8.specs.CommandSteps.{IsCommand};
 ghost use Rattle.command8.specs.Tasks.{check_app, get_app, list_app, put_app};
 
-use crate::parts::{file_leaf, image_leaf, with_option};
-use clap::Command;
-use std::alloc::{AllocError, Global};
+use crate::parts::{Draft, file_leaf, image_leaf, with_option};
+use std::alloc::Global;
 
-pub fn list<'a>(alloc: Global) -> Result<Command<'a>, AllocError>
+pub fn list<'a>(alloc: Global) -> Draft<'a>
     ensures { IfOk result (λ command. IsCommand command list_app) }
 {
     image_leaf(
@@ -18,7 +17,7 @@ pub fn list<'a>(alloc: Global) -> Result<Command<'a>, AllocError>
     )
 }
 
-pub fn get<'a>(alloc: Global) -> Result<Command<'a>, AllocError>
+pub fn get<'a>(alloc: Global) -> Draft<'a>
     ensures { IfOk result (λ command. IsCommand command get_app) }
 {
     let plain = file_leaf(
@@ -26,13 +25,13 @@ pub fn get<'a>(alloc: Global) -> Result<Command<'a>, AllocError>
         "get",
         "Write a file of a volume to standard output",
         "Writes the file NAME of the OS/8 volume in the file IMAGE to standard output: its frames, three{n}for each two words. After a fault only its line is written. The image is not written.",
-    )?;
+    );
     let with_text = with_option(
         alloc,
         plain,
         "text",
         "Write its text, each line ended by LF",
-    )?;
+    );
     with_option(
         alloc,
         with_text,
@@ -41,7 +40,7 @@ pub fn get<'a>(alloc: Global) -> Result<Command<'a>, AllocError>
     )
 }
 
-pub fn put<'a>(alloc: Global) -> Result<Command<'a>, AllocError>
+pub fn put<'a>(alloc: Global) -> Draft<'a>
     ensures { IfOk result (λ command. IsCommand command put_app) }
 {
     let plain = file_leaf(
@@ -49,7 +48,7 @@ pub fn put<'a>(alloc: Global) -> Result<Command<'a>, AllocError>
         "put",
         "Make standard input a file of a volume",
         "Makes the bytes of standard input the file NAME of the OS/8 volume in the file IMAGE, in place of{n}an older one, and prints STORED, the name and the number of blocks. After a fault the image{n}is as it was.",
-    )?;
+    );
     with_option(
         alloc,
         plain,
@@ -58,7 +57,7 @@ pub fn put<'a>(alloc: Global) -> Result<Command<'a>, AllocError>
     )
 }
 
-pub fn check<'a>(alloc: Global) -> Result<Command<'a>, AllocError>
+pub fn check<'a>(alloc: Global) -> Draft<'a>
     ensures { IfOk result (λ command. IsCommand command check_app) }
 {
     image_leaf(

@@ -6,16 +6,16 @@ ghost use Rattle.char_pack.specs.declared.forms.PutForm.TheVariants as put_as;
 ghost use Rattle.command8.specs.Tasks.{IsCheckOf, IsCreateOf, IsGetOf, IsListOf, IsPlain, IsPutOf, IsRunOf, IsSource, IsTakenAs, IsTape};
 ghost use Rattle.command8.specs.Tasks.{Answers, Asks, AsksFor, HasFitBlocks};
 ghost use Rattle.command8.specs.TaskSteps.{HasBlocks, HasFiles, HasImage, HasMet, HasName, IsFaultOf, IsWhole};
-ghost use Rattle.command8.specs.CommandSteps.{IsArgument, IsCommand};
-ghost use Rattle.command8.specs.Tasks.{bare_app, blocks_rule, create_app, files_app, number_of, pdp8, run_app, source_app, tape_app, tapes_app, volumes_app};
+ghost use Rattle.command8.specs.CommandSteps.{IsCommand};
+ghost use Rattle.command8.specs.Tasks.{bare_app, create_app, files_app, number_of, pdp8, run_app, source_app, tape_app, tapes_app, volumes_app};
 ghost use Rattle.command8.specs.Tasks as spec;
 
 use crate::file_commands::{check, get, list, put};
-use crate::parts::{image_leaf, leaf, with_argument, with_image, with_leaf, with_lines};
+use crate::parts::{Draft, image_leaf, leaf, with_blocks, with_image, with_leaf, with_lines};
 use crate::{Task, TaskFault};
 use char_pack::{GetForm, PutForm};
 use clap::error::ErrorKind;
-use clap::{Arg, ArgMatches, Command};
+use clap::{ArgMatches, Command};
 use std::alloc::{AllocError, Global};
 
 /// What the words of a command line ask for, the program's own name first: `tape`, `source`, `run IMAGE`,
@@ -56,44 +56,40 @@ pub fn plain_words()
 {}
 
 /// The command `pdp8` with its subcommands.
-fn command_line<'a>(alloc: Global) -> Result<Command<'a>, AllocError>
+fn command_line<'a>(alloc: Global) -> Draft<'a>
     ensures { IfOk result (λ command. IsCommand command pdp8) }
 {
-    let files = command_line_of_files(alloc)?;
-    let one = with_leaf(files, put(alloc))?;
+    let one = with_leaf(command_line_of_files(alloc), put(alloc));
     with_leaf(one, check(alloc))
 }
 
 /// The command `pdp8` with its subcommands up to those that read the files of a volume.
-fn command_line_of_files<'a>(alloc: Global) -> Result<Command<'a>, AllocError>
+fn command_line_of_files<'a>(alloc: Global) -> Draft<'a>
     ensures { IfOk result (λ command. IsCommand command files_app) }
 {
-    let volumes = command_line_of_volumes(alloc)?;
-    let one = with_leaf(volumes, list(alloc))?;
+    let one = with_leaf(command_line_of_volumes(alloc), list(alloc));
     with_leaf(one, get(alloc))
 }
 
 /// The command `pdp8` with its subcommands for tapes and whole volumes.
-fn command_line_of_volumes<'a>(alloc: Global) -> Result<Command<'a>, AllocError>
+fn command_line_of_volumes<'a>(alloc: Global) -> Draft<'a>
     ensures { IfOk result (λ command. IsCommand command volumes_app) }
 {
-    let tapes = command_line_of_tapes(alloc)?;
-    let one = with_leaf(tapes, run(alloc))?;
+    let one = with_leaf(command_line_of_tapes(alloc), run(alloc));
     with_leaf(one, create(alloc))
 }
 
 /// The command `pdp8` with its subcommands for tapes.
-fn command_line_of_tapes<'a>(alloc: Global) -> Result<Command<'a>, AllocError>
+fn command_line_of_tapes<'a>(alloc: Global) -> Draft<'a>
     ensures { IfOk result (λ command. IsCommand command tapes_app) }
 {
-    let bare = bare_command_line(alloc)?;
-    let one = with_leaf(bare, Ok(tape(alloc)))?;
+    let one = with_leaf(bare_command_line(alloc), Ok(tape(alloc)));
     with_leaf(one, Ok(source(alloc)))
 }
 
 /// The command `pdp8` before it has its subcommands. Its texts always name it `pdp8`, whatever the first word is.
 #[tactic(auto, unfolding(crate::specs::CommandSteps::IsCommand))]
-fn bare_command_line<'a>(alloc: Global) -> Result<Command<'a>, AllocError>
+fn bare_command_line<'a>(alloc: Global) -> Draft<'a>
     ensures { IfOk result (λ command. IsCommand command bare_app) }
 {
     let named = Command::new(alloc, "pdp8").bin_name("pdp8")?;
@@ -151,7 +147,7 @@ Lines of a script:
   BREAK FAAAA ON|OFF     sets a break at a cell, or takes it away
   PRINTED                shows the characters that were printed";
 
-fn run<'a>(alloc: Global) -> Result<Command<'a>, AllocError>
+fn run<'a>(alloc: Global) -> Draft<'a>
     ensures { IfOk result (λ command. IsCommand command run_app) }
 {
     let bare = leaf(
@@ -163,26 +159,19 @@ fn run<'a>(alloc: Global) -> Result<Command<'a>, AllocError>
     with_image(alloc, with_lines(bare, SCRIPT_LINES))
 }
 
-fn create<'a>(alloc: Global) -> Result<Command<'a>, AllocError>
+fn create<'a>(alloc: Global) -> Draft<'a>
     ensures { IfOk result (λ command. IsCommand command create_app) }
 {
-    let with_image = image_leaf(
+    let plain = image_leaf(
         alloc,
         "create",
         "Write an empty volume",
         "Writes an empty OS/8 volume of BLOCKS blocks of 512 bytes to the file IMAGE, in place of any{n}file of that name, and prints CREATED and the number of blocks.",
-    )?;
-    with_argument(with_image, blocks(alloc))
-}
-
-#[tactic(auto, unfolding(crate::specs::CommandSteps::IsArgument))]
-fn blocks<'a>(alloc: Global) -> Arg<'a>
-    ensures { IsArgument result blocks_rule }
-{
-    Arg::new(alloc, "BLOCKS")
-        .required(true)
-        .value_parser(clap::value_parser!(usize).range(8..=4095))
-        .help("The number of blocks, 8 to 4095")
+    );
+    match plain {
+        Ok(command) => with_blocks(alloc, command),
+        Err(error) => Err(error),
+    }
 }
 
 /// An error of `clap` as a fault.
