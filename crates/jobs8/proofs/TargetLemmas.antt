@@ -181,7 +181,7 @@ put_refused law old mid new core a left words file.Device memory one enough keep
       reads = omega (arith, ap (λ (m : Mounted). m.failed_reads) gone, ap (λ (m : Mounted). m.failed_reads) put.others);
       writes = omega (arith, risen);
       running = λ quiet. absurd (more quiet.writes);
-      files = λ rise. subst (λ (m : Mounted). (x : List (List ℕ)) × (files_of x ≡ files_of old.blocks) × Survives x m.blocks) (sym gone) (old.blocks, refl, put.files);
+      files = λ rise. subst (λ (m : Mounted). (x : List (List ℕ)) × (files_of x ≡ files_of old.blocks) × Survives x m.blocks) (sym gone) (old.blocks, refl, survives (omega (arith, ap (λ (m : Mounted). m.failed_writes) put.others)));
     })
     (λ number l there held quiet. absurd (more quiet.writes))
     (λ number l there. refl)

@@ -56,7 +56,7 @@ is-largest covers aboves least most all blocks d each kept made is =
     let cover = covers blocks d kept in
     let within = subst (λ k. free_blocks d.entries ≤ n * (k + 1)) (sym count) (most d.first d.entries is.neat) in
     record {
-      is = ap (λ rs. size_or_zero (largest rs)) (sym (ap rooms_or kept));
+      exact = ap (λ rs. size_or_zero (largest rs)) (sym (ap rooms_or kept));
       least = omega (arith, used, sum, cover, least d.first d.entries);
       most = omega (arith, used, sum, cover, within);
       tight = λ low. omega (arith, used, sum, cover, all d.first d.entries is.neat (sym (aboves blocks d kept) ∙ low));

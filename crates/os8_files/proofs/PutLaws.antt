@@ -1,5 +1,5 @@
 -- What holds of putting a file, as of every call.
-use Rattle.std.proofs.Common.{◌≡◌, ◌≢◌, ℕ, ◌<◌, List, Result, Ok, Err, ap, ◌∙◌}
+use Rattle.std.proofs.Common.{◌≡◌, ◌≢◌, ℕ, ◌<◌, List, Result, Ok, Err, ap, ◌∙◌, inl, inr}
 use Rattle.std.specs.FinMap.{get}
 use Rattle.os8_dir.specs.Files.{files_of}
 use Rattle.os8_files.specs.Mounted.{Mounted}
@@ -50,7 +50,10 @@ puts-survive old new name words (Err (Busy n)) is more = same-failed old new is.
 puts-survive old new name words (Err BadName) is more = absurd is
 puts-survive old new name words (Err TooLong) is more = absurd is
 puts-survive old new name words (Err TentativeOpen) is more = absurd is
-puts-survive old new name words (Err Device) is more = is.files
+puts-survive old new name words (Err Device) is more = elim is.failed [
+  | inl file ↦ inl file.files
+  | inr entry ↦ inr (inr (inl (record { files = entry.older; directory = entry.directory; part = entry.written.part })))
+]
 puts-survive old new name words (Err Stopped) is more = same-failed old new is.1 more
 puts-survive old new name words (Err Memory) is more = none-failed old new (ap (λ (m : Mounted). m.failed_writes) is.2.others) more
 puts-survive old new name words (Err NothingWritten) is more = absurd is

@@ -3,21 +3,21 @@ use lib.Pointwise.{pointwise}
 use Rattle.std.proofs.Common.{◌≡◌, ◌⊎◌, ℕ, zero, suc, ◌+◌, ◌/◌, ◌<◌, ◌≤◌, Bool, false, true, true≢false, nat_eq, if◌then◌else◌, List, [], ◌++◌, length, Option, Some, None, Result, Ok, Err, refl, ap, sym, subst, ◌∙◌, arith, add-one, inl, inr}
 use Rattle.std.specs.FinMap.{get, insert}
 use Rattle.volume_image.specs.Volume.{counted}
-use Rattle.os8_dir.specs.Files.{files_of, capacity_of, limit_of, above_of, run}
+use Rattle.os8_dir.specs.Files.{files_of, capacity_of, limit_of, above_of, of_directory, run}
 use Rattle.os8_dir.specs.Entries.{IsNamed, contains}
 use Rattle.os8_dir.specs.Names.{padded}
 use Rattle.os8_dir.specs.Reading.{directory_of, block}
-use Rattle.os8_dir.specs.Changes.{fitting}
+use Rattle.os8_dir.specs.Changes.{fitting, placed, new_file}
 use Rattle.os8_files.specs.Mounted.{Mounted, Begun}
-use Rattle.os8_files.specs.Failed.{KeepsDirectory, Survives, extent_or, listed_or}
+use Rattle.os8_files.specs.Failed.{KeepsDirectory, FoundAgain, StandInFull, IsWrittenInPart, extent_or, listed_or, with_list}
 use Rattle.os8_files.specs.Service.{count_of}
-use Rattle.os8_files.specs.Calls.{IsOf, IsOver, KeepsBlocks, HasWritten, HasEntered, HasFailed, Writes, Enters, Closes, info_of, new_held, rooms_of, Spent, counted_more, differing}
-use Rattle.os8_files.specs.Puts.{HasKept, Puts, plain_file, blocks_filled}
+use Rattle.os8_files.specs.Calls.{IsOf, IsOver, KeepsBlocks, HasWritten, HasEntered, HasFailed, Writes, Enters, Closes, HasClosed, PlaceFailed, RisesBy, info_of, new_held, entries_with, list_with, files_with, rooms_of, Spent, counted_more, differing}
+use Rattle.os8_files.specs.Puts.{HasPut, HasKept, PutFailed, Puts, plain_file, blocks_filled, all_written, entries_put, list_put}
 use Rattle.os8_files.specs.Steps.{IsBeginning, HasFilled, Fills}
 use Rattle.os8_files.specs.declared.faults.FileFault.{FileFault}
 use Rattle.os8_files.specs.declared.faults.FileFault.TheVariants.{NotFound, NoRoom, DirectoryFull, Busy, BadName, TooLong, TentativeOpen, Device, Stopped, Memory, NothingWritten}
 use Rattle.os8_files.proofs.PlaceLemmas.{some-same}
-use Rattle.os8_files.proofs.SurviveLemmas.{keeps-trans, survives-from}
+use Rattle.os8_files.proofs.SurviveLemmas.{keeps-trans}
 
 -- ## Counts
 
@@ -78,6 +78,14 @@ kept-none old mid new place size front none = record {
   behind = λ k high apart. none.behind k high (inr (omega arith)) ∙ front.behind k high apart;
 }
 
+-- more blocks may differ
+kept-wider : (old new : List (List ℕ)) (place less size : ℕ) → less ≤ size → KeepsBlocks old new place less → KeepsBlocks old new place size
+kept-wider old new place less size few kept = record { count = kept.count; first = kept.first; behind = λ k high apart. kept.behind k high (out k apart) }
+  where
+    out : (k : ℕ) → (k < place) ⊎ (place + size ≤ k) → (k < place) ⊎ (place + less ≤ k)
+    out k (inl low) = inl low
+    out k (inr high) = inr (omega (arith, high, few))
+
 -- ## Blocks are written
 
 -- a file that was begun has no block
@@ -137,10 +145,17 @@ filled_not old begun front words all written blocks mid new TooLong running done
     past : {r w : ℕ} → r ≡ begun.room → w ≡ written → r ≤ w → ⊥
     past one two full = omega (arith, one, two, full, fits, short)
 filled_not old begun front words all written blocks mid new Device running done fits short failed = record {
-  files = survives-from old.blocks mid.blocks new.blocks done.kept done.files (inl failed.files);
+  begun = begun;
+  was = done.was;
+  files = record { kept = keeps-trans old.blocks mid.blocks new.blocks done.kept failed.files.kept; files = failed.files.files ∙ done.files };
+  others_kept = kept-wider old.blocks new.blocks begun.place (written + 1) blocks (omega (arith, short))
+      (kept-more old.blocks mid.blocks new.blocks begun.place written _ done.others_kept failed.blocks (ap (λ (b : Begun). b.place + b.written) same));
   writes = record { number = written + 1; some = omega arith; few = omega (arith, short); rise = failed.writes ∙ ap counted done.writes ∙ once-more written old.writes };
   others = failed-from (Spent old) (Spent mid) (Spent new) done.kept (ap Spent done.others) (ap Spent failed.others);
 }
+  where
+    same : failed.begun ≡ record { name = begun.name; place = begun.place; room = begun.room; written = written }
+    same = some-same _ _ (sym failed.was ∙ begun_now old begun front written mid done)
 filled_not old begun front words all written blocks mid new Stopped running done fits short failed = absurd (true≢false (sym failed.0 ∙ ap (λ (m : Mounted). m.stopped) done.others ∙ running))
 filled_not old begun front words all written blocks mid new NotFound running done fits short failed = absurd failed
 filled_not old begun front words all written blocks mid new (NoRoom n) running done fits short failed = absurd failed
@@ -164,7 +179,7 @@ entered_not old new name blocks words TentativeOpen named some count none failed
     open_none : (b : Begun) → None ≡ Some b → ⊥
     open_none b is = cc
 entered_not old new name blocks words (Busy other) named some count none failed = (failed.0, failed.2, failed.3, failed.4)
-entered_not old new name blocks words (NoRoom n) named some count none failed = (failed.0, failed.2, subst (λ most. n < most) count (failed.5 some), failed.6, failed.7)
+entered_not old new name blocks words (NoRoom n) named some count none failed = (failed.0, failed.2, subst (λ most. n < most) count (failed.5 some), failed.6, failed.7, subst (λ wish. fitting wish (rooms_of old.blocks) ≡ None) count failed.3)
 entered_not old new name blocks words Stopped named some count none failed = failed
 entered_not old new name blocks words NotFound named some count none failed = absurd failed
 entered_not old new name blocks words DirectoryFull named some count none failed = absurd failed
@@ -201,15 +216,25 @@ pub filled_failed : (old m1 m2 new : Mounted) (name blocks token : ℕ) (words :
 filled_failed old m1 m2 new name blocks token words Device count e failed is = record {
   ready = e.ready;
   free = e.free;
-  files = subst (λ (m : Mounted). Survives old.blocks m.blocks) (sym is) (subst (λ (m : Mounted). Survives m.blocks m2.blocks) e.others failed.files);
-  writes = record {
-    number = failed.writes.number;
-    some = failed.writes.some;
-    few = omega (arith, failed.writes.few, count);
-    rise = ap (λ (m : Mounted). m.writes) is ∙ failed.writes.rise ∙ ap (λ (m : Mounted). counted_more failed.writes.number m.writes) e.others;
-  };
+  place = e.place;
+  room = e.room;
+  fits = subst (λ n. fitting n (rooms_of old.blocks) ≡ Some (e.place, e.room)) count e.fits;
+  blocks = subst (λ n. KeepsBlocks old.blocks new.blocks e.place n) count
+      (subst (λ p. KeepsBlocks old.blocks new.blocks p blocks) lies
+      (subst (λ (m : Mounted). KeepsBlocks old.blocks m.blocks failed.begun.place blocks) (sym is) (subst (λ (m : Mounted). KeepsBlocks m.blocks m2.blocks failed.begun.place blocks) e.others failed.others_kept)));
+  failed = inl (record {
+    files = subst (λ (m : Mounted). FoundAgain old.blocks m.blocks) (sym is) (subst (λ (m : Mounted). FoundAgain m.blocks m2.blocks) e.others failed.files);
+    writes = subst (λ n. RisesBy n old.writes new.writes) count (record { number = failed.writes.number; some = failed.writes.some; few = failed.writes.few; rise = risen });
+  });
+  writes = record { number = failed.writes.number; some = failed.writes.some; few = omega (arith, failed.writes.few, count); rise = risen };
   others = subst (λ (m : Mounted). HasFailed old m) (sym is) (subst (λ (m : Mounted). HasFailed m (Spent m2)) (spent-entered old m1 name blocks token e) failed.others);
 }
+  where
+    risen : new.writes ≡ counted_more failed.writes.number old.writes
+    risen = ap (λ (m : Mounted). m.writes) is ∙ failed.writes.rise ∙ ap (λ (m : Mounted). counted_more failed.writes.number m.writes) e.others
+
+    lies : failed.begun.place ≡ e.place
+    lies = ap (λ (b : Begun). b.place) (some-same _ _ (sym failed.was ∙ ap (λ (m : Mounted). m.tentative) e.others))
 filled_failed old m1 m2 new name blocks token words Stopped count e failed is = absurd failed
 filled_failed old m1 m2 new name blocks token words NotFound count e failed is = absurd failed
 filled_failed old m1 m2 new name blocks token words (NoRoom n) count e failed is = absurd failed
@@ -223,9 +248,18 @@ filled_failed old m1 m2 new name blocks token words NothingWritten count e faile
 
 -- ## The file is closed
 
+-- it lies where it was begun
+place_is : (old m1 m2 : Mounted) (name blocks token : ℕ) (words : List ℕ) (begun : Begun) (e : HasEntered old name blocks token m1) → HasFilled m1 begun words blocks m2 → begun.place ≡ e.place
+place_is old m1 m2 name blocks token words begun e done = ap (λ (b : Begun). b.place) (some-same _ _ (sym done.was ∙ ap (λ (m : Mounted). m.tentative) e.others))
+
 -- a file that was filled and is gone leaves the files as they were
 spent_kept : (old m1 m2 new : Mounted) (name blocks token : ℕ) (words : List ℕ) (begun : Begun) → HasEntered old name blocks token m1 → HasFilled m1 begun words blocks m2 → new ≡ Spent m2 → HasKept old blocks new
 spent_kept old m1 m2 new name blocks token words begun e done is = record {
+  place = e.place;
+  room = e.room;
+  fits = e.fits;
+  blocks = subst (λ p. KeepsBlocks old.blocks new.blocks p blocks) (place_is old m1 m2 name blocks token words begun e done)
+      (subst (λ (m : Mounted). KeepsBlocks old.blocks m.blocks begun.place blocks) (sym is) (subst (λ (m : Mounted). KeepsBlocks m.blocks m2.blocks begun.place blocks) e.others done.others_kept));
   kept = record {
     count = ap (λ (m : Mounted). length m.blocks) is ∙ done.kept.count ∙ ap (λ (m : Mounted). length m.blocks) e.others;
     segments = λ k low high. ap (λ (m : Mounted). block m.blocks k) is ∙ done.kept.segments k low high ∙ ap (λ (m : Mounted). block m.blocks k) e.others;
@@ -247,18 +281,56 @@ new_is old m1 m2 name blocks token words begun b e done was =
     ∙ ap (λ (l : List ℕ). (padded (info_of m2.blocks) [], l)) done.text
     ∙ ap (λ (n : ℕ). (padded n [], words)) (done.info ∙ ap (λ (m : Mounted). info_of m.blocks) e.others)
 
--- the file that was filled is closed
-pub closed : (old m1 m2 new : Mounted) (name blocks token : ℕ) (words : List ℕ) (begun : Begun) (r : Result (Unit {0}) FileFault) → 0 < blocks → blocks ≡ blocks_filled words → HasEntered old name blocks token m1 → HasFilled m1 begun words blocks m2 → Closes m2 name [] r new → Puts old name words r new
-closed old m1 m2 new name blocks token words begun (Ok done) some count e filled has = record {
+-- and it is all written
+all_is : (old m1 m2 : Mounted) (name blocks token : ℕ) (words : List ℕ) (begun b : Begun) (e : HasEntered old name blocks token m1) → HasFilled m1 begun words blocks m2 → m2.tentative ≡ Some b → blocks ≡ blocks_filled words
+    → b ≡ all_written name e.place e.room words
+all_is old m1 m2 name blocks token words begun b e done was count =
+    some-same _ _ (sym was ∙ begun_now m1 begun words blocks m2 done)
+    ∙ ap (λ (x : Begun). record { name = x.name; place = x.place; room = x.room; written = blocks }) (some-same _ _ (sym done.was ∙ ap (λ (m : Mounted). m.tentative) e.others))
+    ∙ ap (λ (n : ℕ). record { name = name; place = e.place; room = e.room; written = n }) count
+
+-- the same number of blocks
+sized : (old new : Mounted) (blocks size : ℕ) → blocks ≡ size → HasKept old blocks new → HasKept old size new
+sized old new blocks size is k = record {
+  place = k.place;
+  room = k.room;
+  fits = subst (λ n. fitting n (rooms_of old.blocks) ≡ Some (k.place, k.room)) is k.fits;
+  blocks = subst (λ n. KeepsBlocks old.blocks new.blocks k.place n) is k.blocks;
+  kept = k.kept;
+  files = k.files;
+  capacity = k.capacity;
+  limit = k.limit;
+  info = k.info;
+  above = k.above;
+  writes = k.writes ∙ ap (λ n. counted_more n old.writes) is;
+  others = k.others;
+}
+
+-- the same directory comes to the same list with a file
+entries_are : (one two : Begun) (old new : List (List ℕ)) → one ≡ two → directory_of new ≡ directory_of old → entries_with one [] new ≡ entries_with two [] old
+entries_are one two old new is same =
+    ap (of_directory (λ d. length (placed d.first (new_file d one.name [] one.place one.written) d.entries))) same ∙ ap (λ (b : Begun). entries_with b [] old) is
+
+list_is : (one two : Begun) (old new : Mounted) → one ≡ two → directory_of new.blocks ≡ directory_of old.blocks → list_with new one [] ≡ list_with old two []
+list_is one two old new is same =
+    ap (with_list (λ d. placed d.first (new_file d one.name [] one.place one.written) d.entries)) same ∙ ap (λ (b : Begun). list_with old b []) is
+
+-- ## The file is closed or not
+
+-- the file that was filled is placed
+closed_done : (old m1 m2 new : Mounted) (name blocks token : ℕ) (words : List ℕ) (begun : Begun) → blocks ≡ blocks_filled words → HasEntered old name blocks token m1 → HasFilled m1 begun words blocks m2 → HasClosed m2 name [] new → HasPut old name words new
+unfolding spent_kept
+closed_done old m1 m2 new name blocks token words begun count e filled has = record {
   ready = e.ready;
   free = e.free;
   files = has.files ∙ ap (λ h. insert (files_of m2.blocks) name h) (new_is old m1 m2 name blocks token words begun has.begun e filled has.was) ∙ ap (λ fs. insert fs name (plain_file old words)) kept.files;
-  place = begun.place;
+  place = e.place;
   room = e.room;
-  fits = subst (λ n. fitting n (rooms_of old.blocks) ≡ Some (begun.place, e.room)) count (e.fits ∙ ap (λ p. Some (p, e.room)) (sym lies));
-  extent = has.place ∙ ap (λ (b : Begun). Some (b.place, b.written)) same ∙ ap (λ n. Some (begun.place, n)) count;
-  blocks = subst (λ n. KeepsBlocks old.blocks new.blocks begun.place n) count
-      (kept-none old.blocks m2.blocks new.blocks begun.place blocks (subst (λ (m : Mounted). KeepsBlocks m.blocks m2.blocks begun.place blocks) e.others filled.others_kept) has.blocks);
+  fits = subst (λ n. fitting n (rooms_of old.blocks) ≡ Some (e.place, e.room)) count e.fits;
+  few = omega (arith, has.fits, kept.limit, entries_are has.begun _ old.blocks m2.blocks is kept.kept.directory);
+  list = has.list ∙ ap (λ n. list_with m2 (record { name = n; place = has.begun.place; room = has.begun.room; written = has.begun.written }) []) (sym has.names) ∙ list_is has.begun _ old m2 is kept.kept.directory;
+  extent = has.place ∙ ap (λ (b : Begun). Some (b.place, b.written)) is;
+  blocks = subst (λ n. KeepsBlocks old.blocks new.blocks e.place n) count (kept-none old.blocks m2.blocks new.blocks e.place blocks kept.blocks has.blocks);
   written = record { directory = has.written.directory; read = has.written.read; segments = has.written.segments; unused = λ k more low. has.written.unused k more low ∙ kept.kept.segments k (omega (arith, more)) low };
   places = λ other differ runs. has.places other differ ∙ ap (extent_or other) kept.kept.directory;
   capacity = has.capacity ∙ kept.capacity;
@@ -272,11 +344,70 @@ closed old m1 m2 new name blocks token words begun (Ok done) some count e filled
     kept : HasKept old blocks (Spent m2)
     kept = spent_kept old m1 m2 (Spent m2) name blocks token words begun e filled refl
 
-    same : has.begun ≡ record { name = begun.name; place = begun.place; room = begun.room; written = blocks }
-    same = some-same _ _ (sym has.was ∙ begun_now m1 begun words blocks m2 filled)
+    is : has.begun ≡ all_written name e.place e.room words
+    is = all_is old m1 m2 name blocks token words begun has.begun e filled has.was count
 
-    lies : begun.place ≡ e.place
-    lies = ap (λ (b : Begun). b.place) (some-same _ _ (sym filled.was ∙ ap (λ (m : Mounted). m.tentative) e.others))
+-- the directory with it was not written
+closed_not : (old m1 m2 new : Mounted) (name blocks token : ℕ) (words : List ℕ) (begun b : Begun) → blocks ≡ blocks_filled words → HasEntered old name blocks token m1 → HasFilled m1 begun words blocks m2 → m2.tentative ≡ Some b
+    → PlaceFailed (Spent m2) b [] new → PutFailed old name words new
+unfolding spent_kept
+closed_not old m1 m2 new name blocks token words begun b count e filled was has = record {
+  ready = e.ready;
+  free = e.free;
+  place = e.place;
+  room = e.room;
+  fits = subst (λ n. fitting n (rooms_of old.blocks) ≡ Some (e.place, e.room)) count e.fits;
+  blocks = subst (λ n. KeepsBlocks old.blocks new.blocks e.place n) count (kept-none old.blocks m2.blocks new.blocks e.place blocks kept.blocks has.blocks);
+  failed = inr (record {
+    few = omega (arith, has.fits, kept.limit, entries_are b _ old.blocks m2.blocks is kept.kept.directory);
+    older = subst (λ r. StandInFull new.blocks r (files_of old.blocks)) kept.kept.directory (subst (λ fs. StandInFull new.blocks (directory_of m2.blocks) fs) kept.files has.older);
+    newer = subst (λ r. StandInFull new.blocks r (insert (files_of old.blocks) name (plain_file old words))) list (subst (λ fs. StandInFull new.blocks (list_with m2 b []) fs) files has.newer);
+    directory = has.written.0;
+    list = sym list ∙ has.written.1;
+    written = record {
+      part = record {
+        number = part.number;
+        taken = part.taken;
+        low = part.low;
+        below = part.below;
+        above = λ k high few. part.above k high few ∙ kept.kept.segments k (omega (arith, high)) few;
+      };
+      writes = has.written.2.writes ∙ ap counted (ap (λ n. counted_more n m2.writes) (differ-same part.number old.blocks m2.blocks new.blocks low) ∙ ap (counted_more (differing part.number old.blocks new.blocks)) (kept.writes ∙ ap (λ n. counted_more n old.writes) count));
+    };
+  });
+  writes = record {
+    number = suc (differing part.number m2.blocks new.blocks + blocks);
+    some = omega arith;
+    few = omega (arith, part.low, few-differ part.number m2.blocks new.blocks, count);
+    rise = has.written.2.writes ∙ ap counted (ap (λ n. counted_more (differing part.number m2.blocks new.blocks) n) kept.writes ∙ more-counted (differing part.number m2.blocks new.blocks) blocks old.writes);
+  };
+  others = failed-from old (Spent m2) new kept.kept kept.others has.others;
+}
+  where
+    kept : HasKept old blocks (Spent m2)
+    kept = spent_kept old m1 m2 (Spent m2) name blocks token words begun e filled refl
+
+    is : b ≡ all_written name e.place e.room words
+    is = all_is old m1 m2 name blocks token words begun b e filled was count
+
+    list : list_with m2 b [] ≡ list_put old name e.place e.room words
+    list = list_is b _ old m2 is kept.kept.directory
+
+    files : files_with m2 b [] ≡ insert (files_of old.blocks) name (plain_file old words)
+    files =
+        ap (λ (x : Begun). insert (files_of m2.blocks) x.name (new_held m2 b [])) is
+        ∙ ap (λ h. insert (files_of m2.blocks) name h) (new_is old m1 m2 name blocks token words begun b e filled was)
+        ∙ ap (λ fs. insert fs name (plain_file old words)) kept.files
+
+    part : IsWrittenInPart m2.blocks new.blocks has.written.0
+    part = has.written.2.part
+
+    low : (k : ℕ) → 1 ≤ k → k ≤ part.number → block m2.blocks k ≡ block old.blocks k
+    low k one few = kept.kept.segments k one (omega (arith, few, part.low))
+
+-- the file that was filled is closed
+pub closed : (old m1 m2 new : Mounted) (name blocks token : ℕ) (words : List ℕ) (begun : Begun) (r : Result (Unit {0}) FileFault) → 0 < blocks → blocks ≡ blocks_filled words → HasEntered old name blocks token m1 → HasFilled m1 begun words blocks m2 → Closes m2 name [] r new → Puts old name words r new
+closed old m1 m2 new name blocks token words begun (Ok done) some count e filled has = closed_done old m1 m2 new name blocks token words begun count e filled has
 closed old m1 m2 new name blocks token words begun (Err NothingWritten) some count e filled has = absurd (written (ap (λ (b : Begun). b.written) (some-same _ _ (sym has.1.was ∙ begun_now m1 begun words blocks m2 filled))) has.2)
   where
     written : {n : ℕ} → n ≡ blocks → n ≡ 0 → ⊥
@@ -285,10 +416,19 @@ closed old m1 m2 new name blocks token words begun (Err (Busy other)) some count
   where
     held : contains old.holds name ≡ true
     held = subst (λ (l : List ℕ). contains l name ≡ true) (ap (λ (m : Mounted). m.holds) filled.others ∙ ap (λ (m : Mounted). m.holds) e.others) has.4
-closed old m1 m2 new name blocks token words begun (Err DirectoryFull) some count e filled has = (e.ready, e.free, over, subst (λ n. HasKept old n new) count (spent_kept old m1 m2 new name blocks token words begun e filled has.6))
+closed old m1 m2 new name blocks token words begun (Err DirectoryFull) some count e filled has = (
+  e.ready,
+  e.free,
+  over,
+  sized old new blocks (blocks_filled words) count (spent_kept old m1 m2 new name blocks token words begun e filled has.6),
+  record { place = e.place; room = e.room; fits = subst (λ n. fitting n (rooms_of old.blocks) ≡ Some (e.place, e.room)) count e.fits; over = over_limit },
+)
   where
     kept : HasKept old blocks (Spent m2)
     kept = spent_kept old m1 m2 (Spent m2) name blocks token words begun e filled refl
+
+    over_limit : limit_of old.blocks < entries_put name e.place e.room words old.blocks
+    over_limit = omega (arith, has.4, kept.limit, entries_are has.0 _ old.blocks m2.blocks (all_is old m1 m2 name blocks token words begun has.0 e filled has.1.was count) kept.kept.directory)
 
     files : insert (files_of m2.blocks) name (new_held m2 has.0 []) ≡ insert (files_of old.blocks) name (plain_file old words)
     files = ap (λ h. insert (files_of m2.blocks) name h) (new_is old m1 m2 name blocks token words begun has.0 e filled has.1.was) ∙ ap (λ fs. insert fs name (plain_file old words)) kept.files
@@ -298,23 +438,9 @@ closed old m1 m2 new name blocks token words begun (Err DirectoryFull) some coun
       files = omega (arith, has.5.files, kept.limit, ap count_of files);
       tight = λ low. omega (arith, has.5.tight (kept.above ∙ low), kept.limit, ap count_of kept.files);
     }
-closed old m1 m2 new name blocks token words begun (Err Device) some count e filled has = record {
-  ready = e.ready;
-  free = e.free;
-  files = survives-from old.blocks m2.blocks new.blocks kept.kept kept.files (inr (inr (inl (record { files = has.3.older; directory = has.3.written.0; part = has.3.written.2.part }))));
-  writes = record {
-    number = suc (differing has.3.written.2.part.number m2.blocks new.blocks + blocks);
-    some = omega arith;
-    few = omega (arith, has.3.written.2.part.low, few-differ has.3.written.2.part.number m2.blocks new.blocks, count);
-    rise = has.3.written.2.writes ∙ ap counted (ap (λ n. counted_more (differing has.3.written.2.part.number m2.blocks new.blocks) n) kept.writes ∙ more-counted (differing has.3.written.2.part.number m2.blocks new.blocks) blocks old.writes);
-  };
-  others = failed-from old (Spent m2) new kept.kept kept.others has.3.others;
-}
-  where
-    kept : HasKept old blocks (Spent m2)
-    kept = spent_kept old m1 m2 (Spent m2) name blocks token words begun e filled refl
+closed old m1 m2 new name blocks token words begun (Err Device) some count e filled has = closed_not old m1 m2 new name blocks token words begun has.0 count e filled has.1.was has.3
 closed old m1 m2 new name blocks token words begun (Err Stopped) some count e filled has = absurd (true≢false (sym has.0 ∙ ap (λ (m : Mounted). m.stopped) filled.others ∙ ap (λ (m : Mounted). m.stopped) e.others ∙ e.ready.running))
-closed old m1 m2 new name blocks token words begun (Err Memory) some count e filled has = (e.ready, e.free, subst (λ n. HasKept old n new) count (spent_kept old m1 m2 new name blocks token words begun e filled has.4))
+closed old m1 m2 new name blocks token words begun (Err Memory) some count e filled has = (e.ready, e.free, sized old new blocks (blocks_filled words) count (spent_kept old m1 m2 new name blocks token words begun e filled has.4))
 closed old m1 m2 new name blocks token words begun (Err NotFound) some count e filled has = absurd has
 closed old m1 m2 new name blocks token words begun (Err (NoRoom n)) some count e filled has = absurd has
 closed old m1 m2 new name blocks token words begun (Err BadName) some count e filled has = absurd has

@@ -133,10 +133,10 @@ rooms_or (Err fault) = []
 abbrev pub rooms_of : List (List ℕ) → List (ℕ × ℕ)
 rooms_of blocks = rooms_or (directory_of blocks)
 
--- The largest empty has so many blocks. The free blocks are no fewer, no more than so many for each file and once more, and
+-- The largest empty has exactly so many blocks. The free blocks are no fewer, no more than so many for each file and once more, and
 -- exactly so many where no file has a free block below it.
 pub record IsLargest (blocks : List (List ℕ)) (most_room : ℕ) : Type 0 where
-  pub is : most_room ≡ size_or_zero (largest (rooms_of blocks))
+  pub exact : most_room ≡ size_or_zero (largest (rooms_of blocks))
   pub least : most_room + used_of (files_of blocks) ≤ capacity_of blocks
   pub most : capacity_of blocks ≤ used_of (files_of blocks) + most_room * (count_of (files_of blocks) + 1)
   pub tight : above_of blocks ≡ 0 → most_room + used_of (files_of blocks) ≡ capacity_of blocks

@@ -1,14 +1,16 @@
 -- What putting words under a name comes to: a file is begun, its blocks are written, and it is closed or given up (this
 -- project's profile).
-use Rattle.std.specs.Prelude.{◌≡◌, ℕ, ◌+◌, ◌/◌, ◌<◌, Some, None, List, [], length, Result, Ok, Err}
+use Rattle.std.specs.Prelude.{◌≡◌, ◌⊎◌, ℕ, ◌+◌, ◌/◌, ◌<◌, ◌≤◌, Some, None, List, [], length, Result, Ok, Err}
 use Rattle.std.specs.FinMap.{get, insert}
 use Rattle.os8_dir.specs.Names.{padded}
+use Rattle.os8_dir.specs.Entries.{Listed}
 use Rattle.os8_dir.specs.Reading.{directory_of}
 use Rattle.os8_dir.specs.Files.{Held, files_of, limit_of, above_of, capacity_of}
 use Rattle.os8_dir.specs.Changes.{fitting}
-use Rattle.os8_files.specs.Mounted.{Mounted}
-use Rattle.os8_files.specs.Failed.{KeepsDirectory, Survives, extent_or}
-use Rattle.os8_files.specs.Calls.{IsReady, IsFree, IsHeld, IsLargest, IsOver, KeepsBlocks, IsWritten, rooms_of, HasFailed, HasStopped, RisesBy, counted_more, differing, info_of}
+use Rattle.os8_dir.specs.declared.faults.DirFault.{DirFault}
+use Rattle.os8_files.specs.Mounted.{Mounted, Begun}
+use Rattle.os8_files.specs.Failed.{KeepsDirectory, FoundAgain, StandInFull, extent_or}
+use Rattle.os8_files.specs.Calls.{IsReady, IsFree, IsHeld, IsLargest, IsOver, KeepsBlocks, IsWritten, rooms_of, HasFailed, HasStopped, RisesBy, StopsInPart, counted_more, differing, info_of, entries_with, list_with}
 use Rattle.os8_files.specs.Laws.{KeepsOtherPlaces}
 use Rattle.os8_files.specs.declared.faults.FileFault.{FileFault}
 use Rattle.os8_files.specs.declared.faults.FileFault.TheVariants.{NoRoom, DirectoryFull, Busy, Device, Stopped, Memory}
@@ -21,6 +23,18 @@ blocks_filled words = length words / 256
 abbrev pub plain_file : Mounted → List ℕ → Held
 plain_file m words = (padded (info_of m.blocks) [], words)
 
+-- the file that is being written when these words are: it lies at the beginning of an empty with so many blocks
+abbrev pub all_written : ℕ → ℕ → ℕ → List ℕ → Begun
+all_written name place room words = record { name = name; place = place; room = room; written = blocks_filled words }
+
+-- how many entries the directory has with the file of these words in that empty
+abbrev pub entries_put : ℕ → ℕ → ℕ → List ℕ → List (List ℕ) → ℕ
+entries_put name place room words blocks = entries_with (all_written name place room words) [] blocks
+
+-- what the directory is read as with it
+abbrev pub list_put : Mounted → ℕ → ℕ → ℕ → List ℕ → Result Listed DirFault
+list_put m name place room words = list_with m (all_written name place room words) []
+
 -- A file has these words, and an older one of its name is gone; the others stay in their places. It lies at the beginning of the
 -- smallest empty that has enough blocks, of equals the first. Of block 0 and the blocks behind the directory's, only those of the
 -- file may differ, and the directory stands as it is written. Each of its blocks was written once, and each of blocks 1 to 6 that has
@@ -32,6 +46,8 @@ pub record HasPut (old : Mounted) (name : ℕ) (words : List ℕ) (new : Mounted
   pub place : ℕ
   pub room : ℕ
   pub fits : fitting (blocks_filled words) (rooms_of old.blocks) ≡ Some (place, room)
+  pub few : entries_put name place room words old.blocks ≤ limit_of old.blocks
+  pub list : directory_of new.blocks ≡ list_put old name place room words
   pub extent : extent_or name (directory_of new.blocks) ≡ Some (place, blocks_filled words)
   pub places : KeepsOtherPlaces name old new
   pub blocks : KeepsBlocks old.blocks new.blocks place (blocks_filled words)
@@ -43,31 +59,67 @@ pub record HasPut (old : Mounted) (name : ℕ) (words : List ℕ) (new : Mounted
   pub writes : new.writes ≡ counted_more (differing 6 old.blocks new.blocks) (counted_more (blocks_filled words) old.writes)
   pub others : new ≡ record old { blocks = new.blocks; writes = new.writes }
 
--- so many blocks were written that belong to no file, and no file is changed
-pub record HasKept (old : Mounted) (blocks : ℕ) (new : Mounted) : Type 0 where
+-- So many blocks were written from the beginning of the smallest empty that has them, of equals the first. They belong to no file,
+-- no other block differs, and no file is changed.
+pub record HasKept (old : Mounted) (size : ℕ) (new : Mounted) : Type 0 where
+  pub place : ℕ
+  pub room : ℕ
+  pub fits : fitting size (rooms_of old.blocks) ≡ Some (place, room)
+  pub blocks : KeepsBlocks old.blocks new.blocks place size
   pub kept : KeepsDirectory old.blocks new.blocks
   pub files : files_of new.blocks ≡ files_of old.blocks
   pub capacity : capacity_of new.blocks ≡ capacity_of old.blocks
   pub limit : limit_of new.blocks ≡ limit_of old.blocks
   pub info : info_of new.blocks ≡ info_of old.blocks
   pub above : above_of new.blocks ≡ above_of old.blocks
-  pub writes : new.writes ≡ counted_more blocks old.writes
+  pub writes : new.writes ≡ counted_more size old.writes
   pub others : new ≡ record old { blocks = new.blocks; writes = new.writes }
 
--- a write failed, of so many blocks or of the directory
-pub record PutFailed (old : Mounted) (name blocks : ℕ) (new : Mounted) : Type 0 where
+-- The directory would have too many entries with a file of these words in the smallest empty that has its blocks.
+pub record HasNoEntry (blocks : List (List ℕ)) (name : ℕ) (words : List ℕ) : Type 0 where
+  pub place : ℕ
+  pub room : ℕ
+  pub fits : fitting (blocks_filled words) (rooms_of blocks) ≡ Some (place, room)
+  pub over : limit_of blocks < entries_put name place room words blocks
+
+-- a write failed of one of so many blocks, and mounting finds all files with their words
+pub record FileFailed (old : Mounted) (size : ℕ) (new : Mounted) : Type 0 where
+  pub files : FoundAgain old.blocks new.blocks
+  pub writes : RisesBy size old.writes new.writes
+
+-- A write of the directory failed, when the words of a file were written in an empty. Each older file, a replaced one too, stands
+-- in full in its blocks, and so does the new one.
+pub record EntryFailed (old : Mounted) (name place room : ℕ) (words : List ℕ) (new : Mounted) : Type 0 where
+  pub few : entries_put name place room words old.blocks ≤ limit_of old.blocks
+  pub older : StandInFull new.blocks (directory_of old.blocks) (files_of old.blocks)
+  pub newer : StandInFull new.blocks (list_put old name place room words) (insert (files_of old.blocks) name (plain_file old words))
+  pub directory : Listed
+  pub list : list_put old name place room words ≡ Ok directory
+  pub written : StopsInPart old.blocks new.blocks directory (counted_more (blocks_filled words) old.writes) new.writes
+
+-- A write failed, of the blocks of the file or behind these of the directory. Of block 0 and the blocks behind the directory's, only
+-- those of the file may differ.
+pub record PutFailed (old : Mounted) (name : ℕ) (words : List ℕ) (new : Mounted) : Type 0 where
   pub ready : IsReady old
   pub free : IsFree old name
-  pub files : Survives old.blocks new.blocks
-  pub writes : RisesBy (blocks + 6) old.writes new.writes
+  pub place : ℕ
+  pub room : ℕ
+  pub fits : fitting (blocks_filled words) (rooms_of old.blocks) ≡ Some (place, room)
+  pub blocks : KeepsBlocks old.blocks new.blocks place (blocks_filled words)
+  pub failed : FileFailed old (blocks_filled words) new ⊎ EntryFailed old name place room words new
+  pub writes : RisesBy (blocks_filled words + 6) old.writes new.writes
   pub others : HasFailed old new
 
 abbrev pub Puts : Mounted → ℕ → List ℕ → Result (Unit {0}) FileFault → Mounted → Type 0
 Puts old name words (Ok done) new = HasPut old name words new
 Puts old name words (Err (Busy other)) new = IsReady old × (other ≡ name) × IsHeld old name × (new ≡ old)
-Puts old name words (Err (NoRoom largest)) new = IsReady old × IsFree old name × (largest < blocks_filled words) × IsLargest old.blocks largest × (new ≡ old)
-Puts old name words (Err DirectoryFull) new = IsReady old × IsFree old name × IsOver old.blocks (insert (files_of old.blocks) name (plain_file old words)) × HasKept old (blocks_filled words) new
-Puts old name words (Err Device) new = PutFailed old name (blocks_filled words) new
+Puts old name words (Err (NoRoom largest)) new =
+    IsReady old × IsFree old name × (largest < blocks_filled words) × IsLargest old.blocks largest × (new ≡ old)
+    × (fitting (blocks_filled words) (rooms_of old.blocks) ≡ None)
+Puts old name words (Err DirectoryFull) new =
+    IsReady old × IsFree old name × IsOver old.blocks (insert (files_of old.blocks) name (plain_file old words))
+    × HasKept old (blocks_filled words) new × HasNoEntry old.blocks name words
+Puts old name words (Err Device) new = PutFailed old name words new
 Puts old name words (Err Stopped) new = HasStopped old new
 Puts old name words (Err Memory) new = IsReady old × IsFree old name × HasKept old (blocks_filled words) new
 Puts old name words (Err fault) new = ⊥

@@ -2,7 +2,7 @@
 use Rattle.std.specs.Prelude.{◌≡◌, ◌≤◌, ℕ, suc, ◌==◌, nat_lt, if◌then◌else◌, false, Some, List, [], ◌∷◌, Result, Ok, Err, ◌<◌}
 use Rattle.os8_dir.specs.Files.{files_of, limit_of, above_of, capacity_of, run}
 use Rattle.os8_files.specs.Mounted.{Mounted, Begun, IsBegun}
-use Rattle.os8_files.specs.Failed.{KeepsDirectory, Survives}
+use Rattle.os8_files.specs.Failed.{KeepsDirectory, FoundAgain}
 use Rattle.os8_files.specs.Calls.{HasFailed, KeepsBlocks, RisesBy, Spent, counted_more, info_of, IsFree, IsHeld, IsReady, IsOver, entries_with, new_held, HasClosed, PlaceFailed}
 use Rattle.os8_files.specs.declared.faults.FileFault.{FileFault}
 use Rattle.os8_files.specs.declared.faults.FileFault.TheVariants.{Device, DirectoryFull, Busy, Memory, NothingWritten}
@@ -43,9 +43,12 @@ pub record HasFilled (old : Mounted) (begun : Begun) (words : List ℕ) (blocks 
   pub writes : new.writes ≡ counted_more blocks old.writes
   pub others : new ≡ record old { blocks = new.blocks; writes = new.writes; tentative = Some (record { name = begun.name; place = begun.place; room = begun.room; written = blocks }) }
 
--- a write of one of so many blocks failed
+-- a write of one of so many blocks of a file that was begun failed
 pub record FillFailed (old : Mounted) (blocks : ℕ) (new : Mounted) : Type 0 where
-  pub files : Survives old.blocks new.blocks
+  pub begun : Begun
+  pub was : old.tentative ≡ Some begun
+  pub files : FoundAgain old.blocks new.blocks
+  pub others_kept : KeepsBlocks old.blocks new.blocks begun.place blocks
   pub writes : RisesBy blocks old.writes new.writes
   pub others : HasFailed (Spent old) (Spent new)
 

@@ -138,9 +138,12 @@ delete_done s v js bytes name is alike told has = replied _ _ _ _ has.ready.runn
   ),
 )
 
-put_failed : (v v' : Mounted) (name blocks : ℕ) → PutFailed v name blocks v' → HasFailed v v'
-put_failed v v' name blocks has = record {
-  left = has.files;
+put_failed : (v v' : Mounted) (name : ℕ) (words : List ℕ) → PutFailed v name words v' → HasFailed v v'
+put_failed v v' name words has = record {
+  left = elim has.failed [
+    | inl file ↦ inl file.files
+    | inr entry ↦ inr (inr (inl (record { files = entry.older; directory = entry.directory; part = entry.written.part })))
+  ];
   behind = record {
     reads = omega (arith, ap (λ (m : Mounted). m.failed_reads) has.others);
     writes = omega (arith, ap (λ (m : Mounted). m.failed_writes) has.others);
