@@ -8,7 +8,7 @@ use Rattle.os8_dir.specs.Names.{parsed_name}
 use Rattle.os8_dir.specs.Files.{files_of}
 use Rattle.os8_files.specs.Mounted.{Mounted}
 use Rattle.os8_files.specs.Calls.{IsLargest, IsOver, IsReady}
-use Rattle.os8_files.specs.Puts.{HasPut, blocks_filled, plain_file}
+use Rattle.os8_files.specs.Puts.{HasPut, HasNoEntry, blocks_filled, plain_file}
 use Rattle.os8_files.specs.declared.faults.FileFault.TheVariants.{BadName, NoRoom, DirectoryFull, NothingWritten}
 use Rattle.script8.specs.declared.faults.SessionFault.{SessionFault}
 use Rattle.script8.specs.declared.faults.SessionFault.TheVariants.{File, BadText}
@@ -51,10 +51,10 @@ pub record HasPutInto (image name words : List ℕ) (new : NewImage) : Type 0 wh
   pub is_image : IsImageOf new.bytes.items after.blocks
   pub blocks_are : new.blocks ≡ blocks_filled words
 
--- the volume has no room for the words, or its directory none for the entry
+-- the largest empty of the volume, which has so many blocks, has no room for the words, or its directory none for the entry
 abbrev pub IsFull : Mounted → ℕ → List ℕ → SessionFault → Type 0
 IsFull m name words (File (NoRoom largest)) = (largest < blocks_filled words) × IsLargest m.blocks largest
-IsFull m name words (File DirectoryFull) = IsOver m.blocks (insert (files_of m.blocks) name (plain_file m words))
+IsFull m name words (File DirectoryFull) = IsOver m.blocks (insert (files_of m.blocks) name (plain_file m words)) × HasNoEntry m.blocks name words
 IsFull m name words fault = ⊥
 
 -- the same of the volume of an image, under a name that was typed

@@ -10,7 +10,7 @@ use Rattle.os8_files.specs.Mounted.{Mounted}
 use Rattle.os8_files.specs.declared.faults.FileFault.TheVariants as file
 use Rattle.pal_asm.specs.declared.faults.AsmFault.TheVariants as asm
 use Rattle.pal_blocks.specs.Progress.{IsAssembling}
-use Rattle.jobs8.specs.Calls.{IsQuiet, TurnsOver, LeavesJobs, WorkCalls}
+use Rattle.jobs8.specs.Calls.{IsQuiet, TurnsOver, LeavesJobs, WorkCalls, IfFile, WorkTellsRoom}
 use Rattle.jobs8.specs.Steps.{TurnsJob, plain_after, AreNamed, without_holds, ReadsSource, is_assembled}
 use Rattle.jobs8.specs.Steps.{is_memory}
 use Rattle.jobs8.specs.Jobs as plain
@@ -50,8 +50,8 @@ LeavesFor a left answer after = (number : ℕ) (l : List (Option plain.Job)) →
 
 pub ended_by : ReleasedLaw → (old mid new : Mounted) (core : List ℕ) (a : Assembly) (left : ℕ) (answer : Answer) → KeepsHolds old mid → mid.tentative ≡ None → new ≡ record mid { holds = without_holds a.holds mid.holds } → IsEnough old a → 1 ≤ left
     → TurnsOver old answer new → StepsTo old core a left answer None new → LeavesFor a left answer None → (is_assembled answer ≡ false → mid.stopped ≡ false → above_of mid.blocks ≤ above_of old.blocks) → WorkCalls (work.Assembling a) left old new
-    → TurnsJob old core (the_assembly a left) answer None new core
-ended_by law old mid new core a left answer keeps none is enough some volume step leaves above calls = record {
+    → IfFile (WorkTellsRoom (plain.Assembling a.to (names_of a.holds)) old) answer → TurnsJob old core (the_assembly a left) answer None new core
+ended_by law old mid new core a left answer keeps none is enough some volume step leaves above calls room = record {
   step = step;
   jobs = leaves;
   volume = volume;
@@ -65,12 +65,14 @@ ended_by law old mid new core a left answer keeps none is enough some volume ste
   above = λ kind still. omega (arith, ap (λ (m : Mounted). above_of m.blocks) is, above kind (sym (ap (λ (m : Mounted). m.stopped) is) ∙ still));
   fewer = λ other. omega (arith, some);
   calls = calls;
+  room = room;
 }
 
 pub on_by : (old new : Mounted) (core : List ℕ) (a b : Assembly) (left rest : ℕ) (answer : Answer) → is_assembled answer ≡ false → KeepsHolds old new → new.tentative ≡ None → b.to ≡ a.to → b.holds ≡ a.holds → AssemblyFits a left → 1 ≤ rest
     → TurnsOver old answer new → StepsTo old core a left answer (Some (the_assembly b rest)) new → LeavesFor a left answer (Some (the_assembly b rest)) → (new.stopped ≡ false → AssemblyStands new.blocks b rest) → (new.stopped ≡ false → above_of new.blocks ≤ above_of old.blocks)
-    → ((answer ≡ Err fault.Memory → ⊥) → rest < left) → WorkCalls (work.Assembling a) left old new → TurnsJob old core (the_assembly a left) answer (Some (the_assembly b rest)) new core
-on_by old new core a b left rest answer kind keeps none to holds fits some volume step leaves stands above fewer calls = record {
+    → ((answer ≡ Err fault.Memory → ⊥) → rest < left) → WorkCalls (work.Assembling a) left old new
+    → IfFile (WorkTellsRoom (plain.Assembling a.to (names_of a.holds)) old) answer → TurnsJob old core (the_assembly a left) answer (Some (the_assembly b rest)) new core
+on_by old new core a b left rest answer kind keeps none to holds fits some volume step leaves stands above fewer calls room = record {
   step = step;
   jobs = leaves;
   volume = volume;
@@ -89,6 +91,7 @@ on_by old new core a b left rest answer kind keeps none to holds fits some volum
   above = λ other. above;
   fewer = fewer;
   calls = calls;
+  room = room;
 }
 
 -- ## Reading
@@ -130,7 +133,7 @@ working_on old new core a b left none fits is more to holds on =
     (λ running. stands_read old new a b (left - 1) (ap (λ (m : Mounted). m.blocks) on.0.1) holds is.there on.1.0)
     (λ running. omega (arith, ap (λ (m : Mounted). above_of m.blocks) on.0.1))
     (λ other. omega (arith, more))
-    (inl (ap (λ (m : Mounted). m.blocks) on.0.1, inr (ap (λ (m : Mounted). m.reads) on.0.1)))
+    (inl (ap (λ (m : Mounted). m.blocks) on.0.1, inr (ap (λ (m : Mounted). m.reads) on.0.1))) tt
 
 same_job : (a b : Assembly) (left number : ℕ) (l : List (Option plain.Job)) → b.to ≡ a.to → b.holds ≡ a.holds → plain.job_of number l ≡ Some (plain.assembling a.to (names_of a.holds) left) → plain.with_job number (plain_job (Some (the_assembly b left))) l ≡ l
 same_job a b left number l to holds there = ap (λ (w : plain.Work). plain.with_job number (Some (record { work = w; left = left })) l) (same_work a b to holds) ∙ same_put number (plain.assembling a.to (names_of a.holds) left) l there
@@ -153,7 +156,7 @@ memory_on old new core a b left why memory none fits is to holds reads =
         (λ running. stands_read old new a b left (ap (λ (m : Mounted). m.blocks) on.0.1) holds is.there on.1)
         (λ running. omega (arith, ap (λ (m : Mounted). above_of m.blocks) on.0.1))
         (λ other. absurd (other refl))
-        (inl (ap (λ (m : Mounted). m.blocks) on.0.1, inr (ap (λ (m : Mounted). m.reads) on.0.1)))
+        (inl (ap (λ (m : Mounted). m.blocks) on.0.1, inr (ap (λ (m : Mounted). m.reads) on.0.1))) tt
 
 -- what is left where the job has let go behind a read
 gone_from : (old mid new : Mounted) (places : List (Option ℕ)) (reads failed : ℕ) → mid ≡ record old { reads = reads; failed_reads = failed } → new ≡ record mid { holds = without_holds places mid.holds } → new ≡ record old { reads = reads; failed_reads = failed; holds = without_holds places old.holds }
@@ -168,7 +171,7 @@ refused_on law old mid new core a b left (fault.Asm (asm.At code line)) memory n
     (λ number l there named quiet. (more, on.1.1, on.1.0, state_same old new core _ (ap (λ (m : Mounted). m.blocks) all)))
     (λ number l there. refl)
     (λ kind running. omega (arith, ap (λ (m : Mounted). above_of m.blocks) on.0.1))
-    (inl (ap (λ (m : Mounted). m.blocks) all, inr (ap (λ (m : Mounted). m.reads) all)))
+    (inl (ap (λ (m : Mounted). m.blocks) all, inr (ap (λ (m : Mounted). m.reads) all))) tt
   where
     all : new ≡ record old { reads = counted old.reads; holds = without_holds a.holds old.holds }
     all = gone_from old mid new a.holds (counted old.reads) old.failed_reads on.0.1 gone
@@ -178,7 +181,7 @@ refused_on law old mid new core a b left (fault.File file.Device) memory none mo
     (λ number l there named quiet. absurd (never quiet.reads))
     (λ number l there. refl)
     (λ kind running. omega (arith, ap (λ (m : Mounted). above_of m.blocks) on.1))
-    (inl (ap (λ (m : Mounted). m.blocks) all, inr (ap (λ (m : Mounted). m.reads) all)))
+    (inl (ap (λ (m : Mounted). m.blocks) all, inr (ap (λ (m : Mounted). m.reads) all))) tt
   where
     all : new ≡ record old { reads = counted old.reads; failed_reads = old.failed_reads + 1; holds = without_holds a.holds old.holds }
     all = gone_from old mid new a.holds (counted old.reads) (old.failed_reads + 1) on.1 gone
@@ -209,4 +212,4 @@ stopped_at law old new core a left stopped none some enough gone =
     (λ number l there named quiet. absurd (true≢false (sym stopped ∙ quiet.running)))
     (λ number l there. refl)
     (λ kind running. omega arith)
-    (inl (ap (λ (m : Mounted). m.blocks) gone, inl (ap (λ (m : Mounted). m.reads) gone)))
+    (inl (ap (λ (m : Mounted). m.blocks) gone, inl (ap (λ (m : Mounted). m.reads) gone))) tt

@@ -4,6 +4,7 @@ use Rattle.std.specs.FinMap.{get}
 use Rattle.os8_dir.specs.Files.{files_of, above_of}
 use Rattle.os8_files.specs.Holds.{times}
 use Rattle.os8_files.specs.Mounted.{Mounted}
+use Rattle.jobs8.specs.Calls.{WorkTellsRoom}
 use Rattle.jobs8.specs.Steps.{TurnsLoading, TurnsJob, left_holds, plain_after, FitsAfter, FitsOn, names_in}
 use Rattle.jobs8.specs.Jobs as plain
 use Rattle.jobs8.specs.Settled.{state_over, plain_job, FitsIn}
@@ -13,6 +14,7 @@ use Rattle.jobs8.specs.declared.kinds.Job.{Job}
 use Rattle.jobs8.specs.declared.kinds.Work.{Work}
 use Rattle.jobs8.specs.declared.kinds.Work.TheVariants as work
 use Rattle.jobs8.proofs.PlaceLemmas.{ReleasedLaw}
+use Rattle.jobs8.proofs.StepLemmas.{of_each}
 use Rattle.jobs8.proofs.TimesLemmas.{self_once}
 
 fits_in : (hold : ℕ) (after : Option Job) → FitsAfter hold after → FitsIn after
@@ -49,4 +51,5 @@ loading_job law old new core core2 it left answer after none held t = record {
   above = λ kind still. omega (arith, ap (λ (m : Mounted). above_of m.blocks) t.kept.others);
   fewer = t.fewer;
   calls = (ap (λ (m : Mounted). m.blocks) t.kept.others, t.kept.reads);
+  room = of_each (WorkTellsRoom (plain.Loading it.hold) old) (λ why. tt) answer;
 }

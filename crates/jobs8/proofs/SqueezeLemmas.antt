@@ -11,7 +11,7 @@ use Rattle.os8_files.specs.declared.faults.FileFault.{FileFault}
 use Rattle.os8_files.specs.declared.faults.FileFault.TheVariants as file
 use Rattle.os8_files.specs.declared.tokens.Squeezed as tokens
 use Rattle.os8_files.specs.declared.tokens.Squeezed.TheVariants as token
-use Rattle.jobs8.specs.Calls.{IsQuiet, TurnsOver, LeavesJobs}
+use Rattle.jobs8.specs.Calls.{IsQuiet, TurnsOver, LeavesJobs, WorkTellsRoom}
 use Rattle.jobs8.specs.Steps.{SqueezeTurns, TurnsJob, plain_after, names_in, left_of, is_assembled}
 use Rattle.jobs8.specs.Jobs as plain
 use Rattle.jobs8.specs.Jobs.{with_job, job_of, squeezing}
@@ -22,7 +22,7 @@ use Rattle.jobs8.specs.declared.kinds.Job.{Job}
 use Rattle.jobs8.specs.declared.kinds.Work.TheVariants as work
 use Rattle.jobs8.specs.declared.turned.Turned.TheVariants.{Working, Squeezed}
 use Rattle.jobs8.specs.declared.faults.JobFault.TheVariants as fault
-use Rattle.jobs8.proofs.StepLemmas.{moved_over, quiet_over, missed_over, stood_over, same_put}
+use Rattle.jobs8.proofs.StepLemmas.{moved_over, quiet_over, missed_over, stood_over, same_put, of_each}
 
 -- a squeezing job of the code
 abbrev pub the_job : Bool → ℕ → Job
@@ -72,6 +72,7 @@ turn_by old new core clean left call answer after other keeps squeezes none abov
   above = λ kind. above;
   fewer = fewer;
   calls = (call, squeezes);
+  room = of_each (WorkTellsRoom (plain.Squeezing clean) old) (λ why. tt) answer;
 }
 
 -- the answer and the job behind it, by what they are

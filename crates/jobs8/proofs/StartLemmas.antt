@@ -10,7 +10,7 @@ use Rattle.os8_files.specs.Service.{count_of}
 use Rattle.os8_files.specs.declared.faults.FileFault.{FileFault}
 use Rattle.os8_files.specs.declared.faults.FileFault.TheVariants as file
 use Rattle.jobs8.specs.Steps.{HasBegunLoading, BeginsLoading, TurnsJob, plain_after, jobs_after, left_of, HoldsAgain, HasBegunAssembly, BeginsAssembly, is_assembled}
-use Rattle.jobs8.specs.Calls.{StartsOver, StartsAssembling, StartsLoading, StartsSqueezing, TakesTurn, NumberTurnsOver, CallsOf, LeavesJobs}
+use Rattle.jobs8.specs.Calls.{StartsOver, StartsAssembling, StartsLoading, StartsSqueezing, TakesTurn, NumberTurnsOver, IfFile, NumberTellsRoom, CallsOf, LeavesJobs}
 use Rattle.jobs8.specs.Faults.{fault_of_file}
 use Rattle.jobs8.specs.Jobs as plain
 use Rattle.pal_blocks.specs.Blocks.{blocks_in}
@@ -46,6 +46,7 @@ takes_turn law old new core core2 jobs number place it answer after settled next
   left = leaves answer (subst (λ l. LeavesJobs number answer (plain_jobs jobs) l) put (turns.jobs number (plain_jobs jobs) here));
   fewer = λ it not_memory there. omega (arith, turns_put jobs place after inside, turns.fewer not_memory, ap left_of is, turns_after (is_assembled answer) (slice_set jobs place after));
   calls = subst (λ o. CallsOf o old new) (sym (number_at_place jobs number place next ∙ is)) turns.calls;
+  room = subst (λ o. IfFile (NumberTellsRoom o old) answer) (sym here) turns.room;
 }
   where
     inside : place < length jobs
@@ -71,6 +72,7 @@ no_turn old core jobs number place settled next none = record {
   left = sym (number_put jobs number place None next ∙ ap plain_jobs (unchanged place jobs none));
   fewer = λ it other there. absurd (no_job it (sym here ∙ there));
   calls = subst (λ o. CallsOf o old old) (sym (number_at_place jobs number place next ∙ none)) refl;
+  room = tt;
 }
   where
     here : plain.job_of number (plain_jobs jobs) ≡ None

@@ -10,7 +10,7 @@ use Rattle.os8_files.specs.Mounted.{Mounted}
 use Rattle.os8_files.specs.Holds.{without_hold}
 use Rattle.os8_files.specs.declared.faults.FileFault.{FileFault}
 use Rattle.os8_files.specs.declared.faults.FileFault.TheVariants as file
-use Rattle.jobs8.specs.Calls.{IsQuiet, Tells, TurnsOver}
+use Rattle.jobs8.specs.Calls.{IsQuiet, IfFile, Tells, TurnsOver}
 use Rattle.jobs8.specs.Steps.{LeavesHold, TurnsLoading, HasReadOne, LoadsOn}
 use Rattle.jobs8.specs.Steps.{is_memory}
 use Rattle.jobs8.specs.Jobs as plain
@@ -255,3 +255,15 @@ refused_turn words old mid new core job job2 left fault.NoJob memory has is more
 refused_turn words old mid new core job job2 left fault.TooManyJobs memory has is more same loads gone = absurd loads
 refused_turn words old mid new core job job2 left (fault.Asm why) memory has is more same loads gone = absurd loads
 refused_turn words old mid new core job job2 left fault.Memory memory has is more same loads gone = absurd (true≢false memory)
+
+-- ## Answers
+
+-- what holds of each fault of files
+pub of_each : (has : FileFault → Type 0) → ((why : FileFault) → has why) → (answer : Answer) → IfFile has answer
+of_each has each (Ok turned) = tt
+of_each has each (Err (fault.File why)) = each why
+of_each has each (Err fault.NoJob) = tt
+of_each has each (Err fault.TooManyJobs) = tt
+of_each has each (Err (fault.Asm why)) = tt
+of_each has each (Err (fault.Tape why)) = tt
+of_each has each (Err fault.Memory) = tt

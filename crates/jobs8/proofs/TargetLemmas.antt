@@ -8,7 +8,7 @@ use Rattle.os8_files.specs.Failed.{Survives}
 use Rattle.os8_files.specs.Laws.{KeepsHolds}
 use Rattle.os8_files.specs.Mounted.{Mounted}
 use Rattle.os8_files.specs.Puts as puts
-use Rattle.os8_files.specs.Puts.{Puts, HasKept, PutFailed, blocks_filled}
+use Rattle.os8_files.specs.Puts.{Puts, HasKept, HasNoEntry, PutFailed, blocks_filled}
 use Rattle.os8_files.specs.declared.faults.FileFault.{FileFault}
 use Rattle.os8_files.specs.declared.faults.FileFault.TheVariants as file
 use Rattle.pal_asm.specs.Faults.{fault_of}
@@ -76,7 +76,7 @@ no_target old core a left running none fits is =
     (λ number l there named quiet. ap (state_over old core) (same_put number (plain.assembling a.to (names_of a.holds) left) l there))
     (λ number l there. same_put number (plain.assembling a.to (names_of a.holds) left) l there)
     (λ still. is) (λ still. omega arith) (λ other. absurd (other refl))
-    (inl (refl, inl refl))
+    (inl (refl, inl refl)) tt
 
 pub memory_of_file : (why : FileFault) → is_memory (fault_of_file why) ≡ true → why ≡ file.Memory
 memory_of_file file.Memory is = refl
@@ -103,7 +103,7 @@ put_memory old new core a left words one fits is keeps none put =
       reads = subst (λ f. IsAssembling (words_in f (names_of a.holds)) a.assembling left) (sym put.2.files) is.reads;
     })
     (λ still. omega (arith, put.2.above)) (λ other. absurd (other refl))
-    (inr (one, (words, Err file.Memory, new, put, refl)))
+    (inr (one, (words, Err file.Memory, new, put, refl))) tt
 
 -- the target was put
 pub put_done : ReleasedLaw → (old mid new : Mounted) (core : List ℕ) (a : Assembly) (left name blocks : ℕ) (words : List ℕ) → left ≡ 1 → IsEnough old a → KeepsHolds old mid → mid.tentative ≡ None → name ≡ a.to → blocks ≡ blocks_in words
@@ -134,7 +134,7 @@ put_done law old mid new core a left name blocks words one enough keeps none nam
     ))
     (λ number l there. tt)
     (λ kind still. absurd (true≢false kind))
-    (inr (one, (words, Ok tt, mid, put, gone ∙ ap (λ (m : Mounted). record mid { holds = m.holds }) (sym gone))))
+    (inr (one, (words, Ok tt, mid, put, gone ∙ ap (λ (m : Mounted). record mid { holds = m.holds }) (sym gone)))) tt
 
 -- the target was refused
 pub put_refused : ReleasedLaw → (old mid new : Mounted) (core : List ℕ) (a : Assembly) (left : ℕ) (words : List ℕ) (why : FileFault) → is_memory (fault_of_file why) ≡ false → left ≡ 1 → IsEnough old a → KeepsHolds old mid → mid.tentative ≡ None
@@ -146,7 +146,7 @@ put_refused law old mid new core a left words (file.Busy other) memory one enoug
     (λ number l there held quiet. (one, no_fault, (put.1, sym (held a.to) ∙ put.2), let_go_state old new _ core (plain.with_job number None l) all))
     (λ number l there. refl)
     (λ kind still. omega (arith, ap (λ (m : Mounted). above_of m.blocks) put.3))
-    (inr (one, (words, Err (file.Busy other), mid, put, gone ∙ ap (λ (m : Mounted). record mid { holds = m.holds }) (sym gone))))
+    (inr (one, (words, Err (file.Busy other), mid, put, gone ∙ ap (λ (m : Mounted). record mid { holds = m.holds }) (sym gone)))) tt
   where
     all : new ≡ record old { holds = without_holds a.holds old.holds }
     all = gone ∙ ap (λ (m : Mounted). record m { holds = without_holds a.holds m.holds }) put.3
@@ -156,7 +156,7 @@ put_refused law old mid new core a left words (file.NoRoom n) memory one enough 
     (λ number l there held quiet. (one, no_fault, (sym (held a.to) ∙ put.1, subst (λ w. IsCrowded (state_over old core l) (blocks_in w) n) is (crowded old core l (blocks_in words) n put.2 put.3)), let_go_state old new _ core (plain.with_job number None l) all))
     (λ number l there. refl)
     (λ kind still. omega (arith, ap (λ (m : Mounted). above_of m.blocks) put.4))
-    (inr (one, (words, Err (file.NoRoom n), mid, put, gone ∙ ap (λ (m : Mounted). record mid { holds = m.holds }) (sym gone))))
+    (inr (one, (words, Err (file.NoRoom n), mid, put, gone ∙ ap (λ (m : Mounted). record mid { holds = m.holds }) (sym gone)))) put.3
   where
     all : new ≡ record old { holds = without_holds a.holds old.holds }
     all = gone ∙ ap (λ (m : Mounted). record m { holds = without_holds a.holds m.holds }) put.4
@@ -173,7 +173,7 @@ put_refused law old mid new core a left words file.DirectoryFull memory one enou
     ))
     (λ number l there. refl)
     (λ kind still. omega (arith, put.3.above))
-    (inr (one, (words, Err file.DirectoryFull, mid, put, gone ∙ ap (λ (m : Mounted). record mid { holds = m.holds }) (sym gone))))
+    (inr (one, (words, Err file.DirectoryFull, mid, put, gone ∙ ap (λ (m : Mounted). record mid { holds = m.holds }) (sym gone)))) (subst (λ w. HasNoEntry old.blocks a.to w) is put.4)
 put_refused law old mid new core a left words file.Device memory one enough keeps none running is no_fault survives put gone =
     ended_by law old mid new core a left (Err (fault.File file.Device)) keeps none gone enough (omega (arith, one))
     (record {
@@ -186,7 +186,7 @@ put_refused law old mid new core a left words file.Device memory one enough keep
     (λ number l there held quiet. absurd (more quiet.writes))
     (λ number l there. refl)
     (λ kind still. absurd (true≢false (sym (ap (λ (m : Mounted). m.stopped) put.others) ∙ still)))
-    (inr (one, (words, Err file.Device, mid, put, gone ∙ ap (λ (m : Mounted). record mid { holds = m.holds }) (sym gone))))
+    (inr (one, (words, Err file.Device, mid, put, gone ∙ ap (λ (m : Mounted). record mid { holds = m.holds }) (sym gone)))) tt
   where
     risen : new.failed_writes ≡ old.failed_writes + 1
     risen = ap (λ (m : Mounted). m.failed_writes) gone ∙ ap (λ (m : Mounted). m.failed_writes) put.others

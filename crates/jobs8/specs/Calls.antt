@@ -5,7 +5,8 @@ use Rattle.os8_files.specs.Calls.{Squeezes}
 use Rattle.os8_files.specs.Failed.{Survives}
 use Rattle.os8_files.specs.Laws.{KeepsPlaces, KeepsOtherPlaces, ReadsOne, ReadsLowest}
 use Rattle.os8_files.specs.Mounted.{Mounted}
-use Rattle.os8_files.specs.Puts.{Puts}
+use Rattle.os8_files.specs.Puts.{Puts, TellsRoom}
+use Rattle.pal_blocks.specs.Sources.{assembled_words}
 use Rattle.os8_files.specs.declared.faults.FileFault.{FileFault}
 use Rattle.os8_files.specs.declared.faults.FileFault.TheVariants as file
 use Rattle.os8_files.specs.declared.tokens.Squeezed as tokens
@@ -17,6 +18,7 @@ use Rattle.jobs8.specs.declared.kinds.Work.TheVariants as work
 use Rattle.jobs8.specs.Jobs as plain
 use Rattle.jobs8.specs.Settled.{IsSettled, state_over, plain_jobs}
 use Rattle.jobs8.specs.Starts.{Begun, AssembleStarts, LoadStarts, SqueezeStarts}
+use Rattle.jobs8.specs.State.{words_in}
 use Rattle.jobs8.specs.Turns.{Answer, Turns}
 
 -- no block call failed between, and no write before
@@ -92,6 +94,22 @@ WorkCalls (work.Assembling it) left old new = ReadsAtMost old new ⊎ ((left ≡
 WorkCalls (work.Loading it) left old new = ReadsAtMost old new
 WorkCalls (work.Squeezing clean) left old new = (call : Result tokens.Squeezed FileFault) × Squeezes old call new
 
+-- an answer that is a fault of files has this
+abbrev pub IfFile : (FileFault → Type 0) → Answer → Type 0
+IfFile has (Ok turned) = Unit {0}
+IfFile has (Err (fault.File why)) = has why
+IfFile has (Err why) = Unit {0}
+
+-- What a refusal of a job's target tells of the store's blocks, of which the map of files says nothing.
+abbrev pub WorkTellsRoom : plain.Work → Mounted → FileFault → Type 0
+WorkTellsRoom (plain.Assembling to from) old why = TellsRoom old.blocks to (assembled_words (words_in (files_of old.blocks) from)) why
+WorkTellsRoom (plain.Loading from) old why = Unit {0}
+WorkTellsRoom (plain.Squeezing clean) old why = Unit {0}
+
+abbrev pub NumberTellsRoom : Option plain.Job → Mounted → FileFault → Type 0
+NumberTellsRoom None old why = Unit {0}
+NumberTellsRoom (Some it) old why = WorkTellsRoom it.work old why
+
 -- How many blocks of the store a turn of a job reads: one at most, but that one that squeezes reads each block of the file that
 -- it moves once.
 abbrev pub ReadsFew : plain.Work → Mounted → Mounted → Type 0
@@ -126,6 +144,7 @@ pub record TakesTurn (old : Mounted) (core : List ℕ) (jobs : List (Option Job)
   pub left : LeavesJobs number answer (plain_jobs jobs) (plain_jobs jobs')
   pub fewer : (it : plain.Job) → (answer ≡ Err fault.Memory → ⊥) → plain.job_of number (plain_jobs jobs) ≡ Some it → plain.turns_left (plain_jobs jobs') < plain.turns_left (plain_jobs jobs)
   pub calls : CallsOf (job_at number jobs) old new
+  pub room : IfFile (NumberTellsRoom (plain.job_of number (plain_jobs jobs)) old) answer
 
 -- What a start of a job leaves: no block is read or written. Where a write has failed before, that is the first refusal.
 pub record StartsOver (old : Mounted) (jobs : List (Option Job)) (answer : Begun) (new : Mounted) (jobs' : List (Option Job)) : Type 0 where

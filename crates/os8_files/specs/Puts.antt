@@ -123,3 +123,10 @@ Puts old name words (Err Device) new = PutFailed old name words new
 Puts old name words (Err Stopped) new = HasStopped old new
 Puts old name words (Err Memory) new = IsReady old × IsFree old name × HasKept old (blocks_filled words) new
 Puts old name words (Err fault) new = ⊥
+
+-- What a refusal of words under a name tells of the blocks, beside the files: NO ROOM tells their largest empty, and DIRECTORY FULL
+-- that their list of entries would be too long with the file.
+abbrev pub TellsRoom : List (List ℕ) → ℕ → List ℕ → FileFault → Type 0
+TellsRoom blocks name words (NoRoom most) = IsLargest blocks most
+TellsRoom blocks name words DirectoryFull = HasNoEntry blocks name words
+TellsRoom blocks name words fault = Unit {0}
