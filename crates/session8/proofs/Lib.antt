@@ -4,6 +4,7 @@ pub mod QuietLemmas
 pub mod DoesLemmas
 pub mod SessionLemmas
 pub mod LeavesLemmas
+pub mod RoomLemmas
 pub mod ToldLemmas
 pub mod EntryLemmas
 pub mod TextLemmas

@@ -8,6 +8,7 @@ pub mod Failing
 pub mod Same
 pub mod Session
 pub mod Interleaving
+pub mod Room
 pub mod Reading
 pub mod Script
 pub mod RunSteps

@@ -8,6 +8,7 @@ ghost use Rattle.session8.specs.Failing.{StepsStopped};
 ghost use Rattle.session8.specs.System.{Step, Run};
 ghost use Rattle.session8.specs.SessionSteps.{is_memory, Leaves, Does};
 ghost use Rattle.session8.specs.Interleaving.{EntryReads, EntryPlaces};
+ghost use Rattle.session8.specs.Room.{EntryTellsRoom};
 ghost use Rattle.session8.specs.Session.{state_of, IsQuiet, IsLater, IsSame, IsReply, IsSteadied, Tells};
 ghost use Rattle.core_load.specs.Core.{zeros};
 ghost use Rattle.cpu8.specs.State.{stopped};
@@ -120,6 +121,7 @@ impl<S: BlockStore> Session<S> {
         ensures stopped { self.old.volume.stopped ≡ true → StepsStopped (is_console entry) (state_of self.old) entry result (state_of self.new) }
         ensures reads { EntryReads entry self.old self.new }
         ensures places { EntryPlaces entry self.old self.new }
+        ensures room { EntryTellsRoom entry self.old result }
     {
         self.step(alloc, &entry)
     }
@@ -157,6 +159,7 @@ impl<S: BlockStore> Session<S> {
     fn step(&mut self, alloc: Global, entry: &Entry) -> Result<Reply, SessionFault>
         ensures does { Does entry.now self.old result self.new }
         ensures leaves { Leaves entry.now self.old self.new }
+        ensures room { EntryTellsRoom entry.now self.old result }
     {
         match entry {
             Entry::Store { name, text } => self.store(alloc, name.as_slice(), text.as_slice()),
@@ -186,6 +189,7 @@ impl<S: BlockStore> Session<S> {
         requires { is_console entry.now ≡ true }
         ensures does { Does entry.now self.old result self.new }
         ensures leaves { Leaves entry.now self.old self.new }
+        ensures room { EntryTellsRoom entry.now self.old result }
     {
         match self.console.enter(alloc, entry) {
             Ok(reply) => Ok(reply),

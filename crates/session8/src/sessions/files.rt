@@ -3,9 +3,11 @@ ghost use Rattle.std.specs.Prelude.{◌≡◌, ℕ, true, false, List, Some};
 ghost use Rattle.char_pack.specs.Texts as spec;
 ghost use Rattle.os8_dir.specs.Entries.{IsNamed};
 ghost use Rattle.os8_dir.specs.Names.{parsed_name};
+ghost use Rattle.os8_files.specs.Puts.{TellsRoom};
 ghost use Rattle.os8_files.specs.declared.faults.FileFault.TheVariants.{Busy, Stopped};
 ghost use Rattle.script8.specs.declared.entries.Entry.TheVariants as entry;
 ghost use Rattle.script8.specs.declared.faults.SessionFault.TheVariants.{BadText, File};
+ghost use Rattle.session8.specs.Room.{IfFile, EntryTellsRoom};
 ghost use Rattle.session8.specs.SessionSteps.{Leaves, Does};
 
 use super::Session;
@@ -28,6 +30,7 @@ impl<S: BlockStore> Session<S> {
     ) -> Result<Reply, SessionFault>
         ensures does { Does (entry.Store name.now text.now) self.old result self.new }
         ensures leaves { Leaves (entry.Store name.now text.now) self.old self.new }
+        ensures room { EntryTellsRoom (entry.Store name.now text.now) self.old result }
     {
         match Name::parse(name) {
             None => Err(SessionFault::File(FileFault::BadName)),
@@ -40,6 +43,7 @@ impl<S: BlockStore> Session<S> {
         requires { IsNamed name }
         ensures does { (bytes : List ℕ) → parsed_name bytes ≡ Some name → Does (entry.Store bytes text.now) self.old result self.new }
         ensures leaves { (bytes : List ℕ) → parsed_name bytes ≡ Some name → Leaves (entry.Store bytes text.now) self.old self.new }
+        ensures room { IfFile (TellsRoom self.old.volume.blocks name (spec.stored text.now)) result }
     {
         block_reads();
         disturbed_jobs();

@@ -4,6 +4,7 @@ ghost use Rattle.jobs8.specs.Jobs.{lowest_job, turns_left};
 ghost use Rattle.script8.specs.declared.entries.Entry.TheVariants as entry;
 ghost use Rattle.script8.specs.declared.faults.SessionFault.TheVariants.{Memory};
 ghost use Rattle.session8.specs.Files.{parsed_names};
+ghost use Rattle.session8.specs.Room.{EntryTellsRoom};
 ghost use Rattle.session8.specs.SessionSteps.{Leaves, Does};
 ghost use Rattle.session8.specs.Work.{said_of, fault_of_job};
 
@@ -75,6 +76,7 @@ impl<S: BlockStore> Session<S> {
     pub(super) fn turn(&mut self, alloc: Global, number: u32) -> Result<Reply, SessionFault>
         ensures does { Does (entry.Turn number) self.old result self.new }
         ensures leaves { Leaves (entry.Turn number) self.old self.new }
+        ensures room { EntryTellsRoom (entry.Turn number) self.old result }
         ensures fewer { (IsErrOf result Memory → ⊥) → lowest_job self.old.jobs ≡ Some number → turns_left self.new.jobs < turns_left self.old.jobs }
     {
         job_calls();

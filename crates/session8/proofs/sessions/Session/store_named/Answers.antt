@@ -1,11 +1,16 @@
-use Rattle.std.proofs.Common.{◌≡◌, ◌∙◌, ◌/◌, true, false, true≢false, Ok, sym, ap, subst, IsErrOf, arith}
+use Rattle.std.proofs.Common.{◌≡◌, ◌∙◌, ◌/◌, true, false, true≢false, Ok, Err, sym, ap, subst, IsErrOf, arith}
 use Rattle.std.proofs.lemmas.Result.{err_from_is_err_and}
-use Rattle.char_pack.specs.Texts.{is_storable}
+use Rattle.char_pack.specs.Texts.{is_storable, stored}
 use Rattle.char_pack.specs.declared.faults.TextFault.TheVariants.{BadText}
 use Rattle.jobs8.specs.Settled.{plain_jobs}
+use Rattle.os8_files.specs.Puts.{TellsRoom}
+use Rattle.script8.specs.Faults.{fault_of_file}
+use Rattle.session8.specs.Room.{IfFile}
+use Rattle.session8.specs.Session.{Seen}
 use Rattle.session8.proofs.SessionLemmas.{store_refused, store_done, put_settled, storable_is, ok_err, unstored}
 use Rattle.os8_dir.specs.Entries.{contains}
 use Rattle.session8.proofs.LeavesLemmas.{store_leaves}
+use Rattle.session8.proofs.RoomLemmas.{store_room, unstored_room}
 use Rattle.session8.proofs.sessions.Session.store_named.Goals.{then-stopped-via-then-stopped, then-stopped-via-else-stopped+then-is_held}
 use Rattle.session8.proofs.sessions.Session.store_named.Goals as goal
 
@@ -45,3 +50,14 @@ returns-in_ok-put-in-Ok-clause-leaves g c bytes is =
     rw (← c.self.view_is)
     (store_leaves bytes c.args.text.now _ _ c.args.name is (c.block_reads.ensures.put c.self.inside.files c.put.new.self c.args.name c.deref.result.now (Ok tt) c.in_ok-put-in-Ok.ensures.call)
     (c.file_places.ensures.put c.self.inside.files c.put.new.self c.args.name c.deref.result.now (Ok tt) c.in_ok-put-in-Ok.ensures.call))
+
+pub returns-in_err-put-in-Ok-clause-room : goal.returns-in_err-put-in-Ok-clause-room
+returns-in_err-put-in-Ok-clause-room g c =
+    let p = err_from_is_err_and c.from_residual.result c.from_residual.ensures.1 in
+    rw (p.1, p.2)
+    (subst (λ (s : Seen). IfFile (TellsRoom s.volume.blocks c.args.name (stored c.args.text.now)) (Err (fault_of_file c.in_err-put-in-Ok.field-0.0))) c.self.view_is
+    (store_room _ _ c.args.name c.deref.result.now (stored c.args.text.now) c.in_err-put-in-Ok.field-0.0 (c.deref.ensures.value ∙ c.in-Ok.ensures.words) c.in_err-put-in-Ok.ensures.call))
+
+pub returns-then-stopped-clause-room : goal.returns-then-stopped-clause-room
+returns-then-stopped-clause-room g c =
+    unstored_room _ c.args.name (stored c.args.text.now) c.unstored.result (is_storable c.args.text.now) c.stopped-then-stopped.result c.unstored.ensures.bad c.unstored.ensures.stopped c.unstored.ensures.busy

@@ -1,12 +1,14 @@
 use Rattle.std.proofs.Common.{◌<◌, Err, refl, sym, subst, ap, ◌∙◌}
-use Rattle.jobs8.specs.Calls.{TakesTurn}
-use Rattle.jobs8.specs.Jobs.{lowest_job, turns_left}
+use Rattle.jobs8.specs.Calls as calls
+use Rattle.jobs8.specs.Calls.{NumberTellsRoom, TakesTurn}
+use Rattle.jobs8.specs.Jobs.{job_of, lowest_job, turns_left}
 use Rattle.jobs8.specs.Settled.{plain_jobs}
 use Rattle.script8.specs.declared.entries.Entry.TheVariants as entry
 use Rattle.session8.specs.Session.{Seen}
 use Rattle.session8.specs.SessionSteps.{Does}
 use Rattle.session8.specs.State.{Console}
 use Rattle.session8.proofs.LeavesLemmas.{turn_leaves}
+use Rattle.session8.proofs.RoomLemmas.{turn_room}
 use Rattle.session8.proofs.JobLemmas.{turn_done, turn_refused, turn_fewer, never_number, not_lacking}
 use Rattle.session8.proofs.sessions.Session.turn.Goals.{in-Ok, in-Err}
 use Rattle.session8.proofs.sessions.Session.turn.Goals as goal
@@ -30,3 +32,12 @@ returns-clause-fewer g c other low =
 
 pub returns-clause-leaves : goal.returns-clause-leaves
 returns-clause-leaves g c = rw (← c.self.view_is) (turn_leaves c.job_calls.ensures.places c.job_calls.ensures.reads c.args.number _ _ c.self.inside.jobs refl c.turn.ensures.turn.calls)
+
+pub returns-clause-room : goal.returns-clause-room
+returns-clause-room g c =
+    rw (← c.self.view_is) (elim c.match-turn.branch [
+      | in-Ok w ↦ rw (w.result-is) tt
+      | in-Err w ↦ rw (w.result-is, w.fault_of_job.ensures)
+          (turn_room (NumberTellsRoom (job_of c.args.number (plain_jobs c.self.inside.jobs)) c.self.inside.files) w.in-Err.fault
+          (subst (λ r. calls.IfFile (NumberTellsRoom (job_of c.args.number (plain_jobs c.self.inside.jobs)) c.self.inside.files) r) w.in-Err.is c.turn.ensures.turn.room))
+    ])

@@ -1,0 +1,27 @@
+-- What a refusal for want of room tells of the store's blocks, of which the system machine, to which a volume is a map of files, says
+-- bounds alone.
+use Rattle.std.specs.Prelude.{◌≡◌, ℕ, Option, Some, Ok, Err}
+use Rattle.char_pack.specs.Texts.{stored}
+use Rattle.os8_dir.specs.Names.{parsed_name}
+use Rattle.os8_files.specs.Puts.{TellsRoom}
+use Rattle.os8_files.specs.declared.faults.FileFault.{FileFault}
+use Rattle.jobs8.specs.Calls.{NumberTellsRoom}
+use Rattle.jobs8.specs.Jobs.{job_of}
+use Rattle.script8.specs.declared.entries.Entry.{Entry}
+use Rattle.script8.specs.declared.entries.Entry.TheVariants as entry
+use Rattle.script8.specs.declared.faults.SessionFault.TheVariants.{File}
+use Rattle.session8.specs.Session.{Seen}
+use Rattle.session8.specs.System.{Answer}
+
+-- an answer that is a fault of files has this
+abbrev pub IfFile : (FileFault → Type 0) → Answer → Type 0
+IfFile has (Ok reply) = Unit {0}
+IfFile has (Err (File why)) = has why
+IfFile has (Err fault) = Unit {0}
+
+-- Where a text is stored, and where a turn puts a target, NO ROOM tells the blocks of the store's largest empty, and DIRECTORY FULL that
+-- the list of its entries would be too long with the file.
+abbrev pub EntryTellsRoom : Entry → Seen → Answer → Type 0
+EntryTellsRoom (entry.Store bytes text) old answer = (name : ℕ) → parsed_name bytes ≡ Some name → IfFile (TellsRoom old.volume.blocks name (stored text)) answer
+EntryTellsRoom (entry.Turn number) old answer = IfFile (NumberTellsRoom (job_of number old.jobs) old.volume) answer
+EntryTellsRoom entry old answer = Unit {0}
