@@ -56,7 +56,7 @@ def files_fault(system: System, before: bytes, image: bytes) -> str:
     changed = [shown_name(name) for name, file in wanted.files.items() if got.files[name] != file]
     if changed:
         return "the image has other words in " + ", ".join(sorted(changed))
-    return "the image has a free block below a file" if wanted.is_tight and not got.is_tight else ""
+    return "the image has a file elsewhere" if wanted.runs != got.runs else ""
 
 
 def compared(program: str, case: Case) -> tuple[str, set[str]]:

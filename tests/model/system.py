@@ -1,9 +1,7 @@
-"""The system machine: files as a map, jobs by their schedule, and the console. It follows the replies that a program gave: where
-the definitions leave a choice (room, entries of the directory, how far a squeeze has come) it takes the told one, if it is
-allowed; all else it tells itself."""
+"""The system machine: files and where they lie, jobs by their schedule, and the console. It compares each reply that a program gave
+with its own."""
 from __future__ import annotations
 
-import re
 from collections import Counter
 from dataclasses import dataclass, field
 from typing import Optional
@@ -53,7 +51,6 @@ class Job:
     turns: int
     outcome: Optional[list[tuple[int, int]] | dict[int, int] | Fault | TapeFault] = None
     taken: int = 0
-    is_clean: bool = True
 
 
 @dataclass
@@ -104,35 +101,16 @@ class System:
     def is_held(self, name: Name, but: Optional[Job] = None) -> bool:
         return any(name in job.holds for job in self.jobs.values() if job is not but)
 
-    def disturb(self) -> None:
-        for job in self.jobs.values():
-            job.is_clean = False
-
-    def may_be_full(self, files_after: int) -> bool:
+    def put(self, name: Name, words: list[int]) -> str:
+        """Puts a file in, new or in place of an older one; or why it is refused."""
         volume = self.volume
-        return volume.limit < 2 * files_after + 1 and not (volume.is_tight and volume.limit >= len(volume.files) + 2)
-
-    def may_lack_room(self, wanted: int, largest: int) -> bool:
-        volume = self.volume
-        free = volume.capacity - volume.used
-        return largest < wanted and (
-            largest == free if volume.is_tight else largest <= free <= largest * (len(volume.files) + 1)
-        )
-
-    def put(self, name: Name, words: list[int], job: str = "") -> str:
-        """Puts a file in, new or in place of an older one; or the refusal, if the told one is allowed."""
-        volume, told = self.volume, self.told.peek()
         file = File((0,) * volume.info, words)
-        if crowded := re.fullmatch(re.escape(job) + r"\? 4\.2 NO ROOM (\d+)", told):
-            if self.may_lack_room(file.blocks, int(crowded[1])):
-                return told
-        if volume.used + file.blocks > volume.capacity:
-            return f"{job}? 4.2 NO ROOM (less than {file.blocks})"
-        if told == job + FULL and self.may_be_full(len({*volume.files, name})):
-            return told
-        volume.is_tight = volume.is_tight and name not in volume.files
-        volume.files[name] = file
-        self.disturb()
+        runs = volume.with_file(name, file.blocks)
+        if runs is None:
+            return f"? 4.2 NO ROOM {volume.largest}"
+        if len(runs) > volume.limit:
+            return FULL
+        volume.files[name], volume.runs = file, runs
         return ""
 
     def store(self, entry: Entry) -> str:
@@ -153,11 +131,11 @@ class System:
             return "? 4.1 NOT FOUND"
         if self.is_held(name):
             return f"? 4.4 BUSY {shown_name(name)}"
-        if self.told.peek() == FULL and self.may_be_full(len(self.volume.files) - 1):
+        runs = self.volume.without(name)
+        if len(runs) > self.volume.limit:
             return FULL
         del self.volume.files[name]
-        self.volume.is_tight = False
-        self.disturb()
+        self.volume.runs = runs
         return f"DELETED {shown_name(name)}"
 
     # Jobs
@@ -204,11 +182,8 @@ class System:
         if job is None:
             return "? 2 NO JOB"
         job.taken += 1
-        kinds = {"ASSEMBLE": self.assembling_turn, "LOAD": self.loading_turn}
-        if job.kind == "SQUEEZE":
-            end = self.squeezing_turn(job, number, is_shown)
-        else:
-            end = kinds[job.kind](job, f"JOB {number} ")
+        kinds = {"ASSEMBLE": self.assembling_turn, "LOAD": self.loading_turn, "SQUEEZE": self.squeezing_turn}
+        end = kinds[job.kind](job)
         if not end:
             return f"WORKING {number}"
         del self.jobs[number]
@@ -216,17 +191,16 @@ class System:
             self.met.update(met_at(job.outcome.place, "tape" if job.kind == "LOAD" else "source"))
         return f"JOB {number} {end}"
 
-    def assembling_turn(self, job: Job, shown: str) -> str:
+    def assembling_turn(self, job: Job) -> str:
         if isinstance(job.outcome, Fault):
             return f"? 5 {job.outcome.code} {job.outcome.line}" if job.taken == job.outcome.turn else ""
         if job.taken < job.turns or not isinstance(job.outcome, list):
             return ""
         if self.is_held(job.name, job):
             return f"? 4.4 BUSY {shown_name(job.name)}"
-        refusal = self.put(job.name, packed(tape_of(job.outcome)), shown)
-        return refusal.removeprefix(shown) or f"ASSEMBLED {shown_name(job.name)} {self.volume.files[job.name].blocks}"
+        return self.put(job.name, packed(tape_of(job.outcome))) or f"ASSEMBLED {shown_name(job.name)} {self.volume.files[job.name].blocks}"
 
-    def loading_turn(self, job: Job, shown: str) -> str:
+    def loading_turn(self, job: Job) -> str:
         if isinstance(job.outcome, TapeFault):
             place = job.outcome.place
             return job.outcome.line if job.taken == (place // BLOCK_FRAMES + 1 if place >= 0 else job.turns - 1) else ""
@@ -236,15 +210,15 @@ class System:
             self.machine.core[cell] = word
         return f"LOADED {shown_name(job.name)}"
 
-    def squeezing_turn(self, job: Job, number: int, is_shown: bool) -> str:
-        """No file is changed. Where none can be moved, and at its last turn, the job is at its end."""
-        volume, told = self.volume, self.told.peek()
-        if told == f"JOB {number} {FULL}" and not volume.is_tight and self.may_be_full(len(volume.files)):
+    def squeezing_turn(self, job: Job) -> str:
+        """Moves a file down. Where none can be moved, and at its last turn, the job is at its end."""
+        runs = self.volume.moved_down()
+        if runs is None:
+            return "SQUEEZED"
+        if len(runs) > self.volume.limit:
             return FULL
-        if is_shown and told == f"WORKING {number}" and job.taken < job.turns and not volume.is_tight:
-            return ""
-        volume.is_tight = volume.is_tight or job.is_clean
-        return "SQUEEZED"
+        self.volume.runs = runs
+        return "" if job.taken < job.turns else "SQUEEZED"
 
     # The console
 

@@ -18,16 +18,31 @@ class File:
         return len(self.words) // BLOCK_WORDS
 
 
+# A file's name, or none where its blocks are free, and how many blocks
+Run = tuple[Optional[Name], int]
+
+
+def tidied(runs: list[Run]) -> list[Run]:
+    """The same runs, where free blocks that lie side by side are one run."""
+    tidy: list[Run] = []
+    for name, blocks in runs:
+        if tidy and name is None and tidy[-1][0] is None:
+            tidy[-1] = (None, tidy[-1][1] + blocks)
+        elif blocks:
+            tidy.append((name, blocks))
+    return tidy
+
+
 @dataclass
 class Volume:
-    """What a directory says: the files by name, the blocks that it covers, how many information words a file has, and whether no
-    free block is known to lie below a file."""
+    """What a directory says: the files by name, the blocks that it covers, how many information words a file has, and which runs of
+    blocks, from the first on, are those of files."""
 
     files: dict[Name, File]
     first: int
     capacity: int
     info: int
-    is_tight: bool
+    runs: list[Run]
 
     @property
     def limit(self) -> int:
@@ -37,6 +52,32 @@ class Volume:
     @property
     def used(self) -> int:
         return sum(file.blocks for file in self.files.values())
+
+    @property
+    def largest(self) -> int:
+        """The longest run of free blocks."""
+        return max((blocks for name, blocks in self.runs if name is None), default=0)
+
+    def without(self, name: Name) -> list[Run]:
+        """The runs where the file of a name is gone."""
+        return tidied([(None if it == name else it, blocks) for it, blocks in self.runs])
+
+    def with_file(self, name: Name, blocks: int) -> Optional[list[Run]]:
+        """The runs with one more file, where it has room: at the beginning of the shortest free run that is long enough, the first of
+        equals. The blocks of an older file of the name are free from then on, and no room for it before."""
+        rooms = [(free, at) for at, (it, free) in enumerate(self.runs) if it is None and free >= blocks]
+        if not rooms:
+            return None
+        free, at = min(rooms)
+        runs: list[Run] = [(None if it == name else it, size) for it, size in self.runs]
+        return tidied([*runs[:at], (name, blocks), (None, free - blocks), *runs[at + 1 :]])
+
+    def moved_down(self) -> Optional[list[Run]]:
+        """The runs where the lowest file with free blocks directly below it lies lower by these, where there is one."""
+        for at, (name, blocks) in enumerate(self.runs[:-1]):
+            if name is None:
+                return tidied([*self.runs[:at], self.runs[at + 1], (None, blocks), *self.runs[at + 2 :]])
+        return None
 
 
 class Unsound(Exception):
@@ -77,18 +118,17 @@ def read_volume(image: bytes) -> Volume:
     words = words_of_image(image)
     first, info, entries = read_entries(words)
     files: dict[Name, File] = {}
-    place, is_tight, was_free = first, True, False
+    place, runs = first, []
     for name, data, length in entries:
         if name and length:
             if name in files:
                 raise Unsound("two files of one name")
             files[name] = File(data, words[BLOCK_WORDS * place : BLOCK_WORDS * (place + length)])
-            is_tight = is_tight and not was_free
-        was_free = was_free or (length > 0 and not name)
+        runs.append((name, length))
         place += length
     if 512 * place > len(image):
         raise Unsound("past the volume")
-    return Volume(files, first, place - first, info, is_tight)
+    return Volume(files, first, place - first, info, tidied(runs))
 
 
 @dataclass
