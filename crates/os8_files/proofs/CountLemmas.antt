@@ -1,6 +1,6 @@
 -- How many blocks are written where a directory is.
 use lib.Pointwise.{pointwise}
-use Rattle.std.proofs.Common.{◌≡◌, ℕ, zero, suc, ◌+◌, ◌<◌, ◌≤◌, true, List, [], nat_eq, length, slice_set, if◌then◌else◌, refl, ap, sym, ◌∙◌, arith, add-one, get_or-set_other, inl, inr}
+use Rattle.std.proofs.Common.{◌≡◌, ℕ, zero, suc, ◌+◌, ◌<◌, ◌≤◌, Bool, true, false, List, [], nat_eq, length, slice_set, if◌then◌else◌, refl, ap, sym, ◌∙◌, arith, add-one, get_or-set_other, inl, inr}
 use Rattle.std.proofs.lemmas.Bool.Decides.{Decides-eqb, eqb_tells}
 use Rattle.std.proofs.lemmas.Slice.Eq.{slice_eq-Decides}
 use Rattle.os8_dir.specs.Entries.{Listed}
@@ -71,3 +71,18 @@ differing-same zero old mid new same = refl
 differing-same (suc m) old mid new same =
     ap (λ ws. if pointwise nat_eq ws (block new (suc m)) then differing m mid new else suc (differing m mid new)) (same (suc m) (omega arith))
     ∙ ap (λ j. if pointwise nat_eq (block old (suc m)) (block new (suc m)) then j else suc j) (differing-same m old mid new (λ k low. same k (omega (arith, low))))
+
+-- one segment more is written, or not where it has the words
+pub count-next : (k : ℕ) (d : Listed) (old mid : List (List ℕ)) (words : List ℕ) (before now after : ℕ) → mid ≡ with_segments k d old → words ≡ segment_of d k → now ≡ counted_more (changed k d old) before
+    → after ≡ (if pointwise nat_eq (block mid (k + 1)) words then now else counted now) → after ≡ counted_more (changed (k + 1) d old) before
+count-next k d old mid words before now after is segment sofar told =
+    told
+    ∙ ap (λ b. if pointwise nat_eq b words then now else counted now) (ap (λ bs. block bs (k + 1)) is ∙ unused-segments k d old (k + 1) (omega arith) ∙ ap (block old) (add-one k))
+    ∙ ap (λ w. if pointwise nat_eq (block old (suc k)) w then now else counted now) segment
+    ∙ ap (λ n. if pointwise nat_eq (block old (suc k)) (segment_of d k) then n else counted n) sofar
+    ∙ cases (pointwise nat_eq (block old (suc k)) (segment_of d k)) (changed k d old)
+    ∙ ap (λ j. counted_more (changed j d old) before) (sym (add-one k))
+  where
+    cases : (b : Bool) (n : ℕ) → (if b then counted_more n before else counted (counted_more n before)) ≡ counted_more (if b then n else suc n) before
+    cases true n = refl
+    cases false n = refl

@@ -1,7 +1,8 @@
-use Rattle.std.proofs.Common.{arith, ap, ◌∙◌}
+use Rattle.std.proofs.Common.{◌+◌, arith, ap, sym, ◌∙◌, slice_set}
 use Rattle.volume_image.specs.Volume.{counted}
-use Rattle.os8_files.proofs.WrittenLemmas.{keeps-high}
-use Rattle.os8_files.proofs.CountLemmas.{stops-in-part}
+use Rattle.os8_files.specs.Written.{with_segments}
+use Rattle.os8_files.proofs.WrittenLemmas.{keeps-high, segments-next}
+use Rattle.os8_files.proofs.CountLemmas.{stops-in-part, count-next}
 use Rattle.os8_files.proofs.segments.write_segments.Goals as goal
 
 pub returns-in-Err-clause-err : goal.returns-in-Err-clause-err
@@ -17,3 +18,22 @@ returns-in-Err-clause-part g c =
     (omega (arith, c.loop-number-test.true, c.segment_count-number-end.ensures.value, c.segment_count-number-end.ensures.six c.requires.fits))
     (omega (arith, c.loop-number-test.true, c.segment_count-number-end.ensures.value, c.segment_count-number-end.ensures.six c.requires.fits, c.blocks-blocks.ensures.volume.least)) c.loop-number.invariant.contents c.in-Err.ensures.err.rest
     (c.in-Err.ensures.tried ∙ ap counted c.loop-number.invariant.writes)
+
+pub loop-number-preserved : goal.loop-number-preserved
+loop-number-preserved g c =
+    let old = g.S.BlockStore.contents c.args.store.now in
+    let d = c.args.directory.now in
+    record {
+      contents =
+          c.in-Ok.ensures.ok
+          ∙ ap (λ bs. slice_set bs (c.loop-number.number + 1) c.segment.new.words) c.loop-number.invariant.contents
+          ∙ ap (λ ws. slice_set (with_segments c.loop-number.number d old) (c.loop-number.number + 1) ws) c.segment.ensures.words
+          ∙ sym (segments-next c.loop-number.number d old);
+      kept = c.in-Ok.ensures.kept;
+      volume = c.in-Ok.ensures.volume;
+      reads = c.in-Ok.ensures.reads ∙ c.loop-number.invariant.reads;
+      failed_reads = omega (arith, c.in-Ok.ensures.failed_reads, c.loop-number.invariant.failed_reads);
+      writes =
+          count-next c.loop-number.number d old _ c.segment.new.words (g.S.BlockStore.writes c.args.store.now) _ _ c.loop-number.invariant.contents c.segment.ensures.words c.loop-number.invariant.writes c.in-Ok.ensures.writes;
+      failed_writes = c.in-Ok.ensures.failed_writes ∙ c.loop-number.invariant.failed_writes;
+    }
