@@ -3,6 +3,7 @@ pub mod TurnLemmas
 pub mod StepLemmas
 pub mod RunLemmas
 pub mod OutcomeLemmas
+pub mod InstructionLemmas
 pub mod InterruptLemmas
 pub mod AutoIndexLemmas
 pub mod GoLemmas

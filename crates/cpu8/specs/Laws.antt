@@ -2,7 +2,7 @@
 use Rattle.std.specs.Prelude.{◌≡◌, ◌≢◌, ℕ, ◌+◌, ◌*◌, ◌%◌, ◌<◌, Bool, true, false, length, slice_index}
 use Rattle.tty8.specs.Teletype.{is_requesting}
 use Rattle.cpu8.specs.State.{State, place, grants_interrupt}
-use Rattle.cpu8.specs.Decoding.{operation_of, is_indirect}
+use Rattle.cpu8.specs.Decoding.{operation_of, is_indirect, is_group_1, is_group_2, is_reversed}
 use Rattle.cpu8.specs.Reference.{direct_address, is_auto_index, pointer_place, effective_address, operand_place}
 use Rattle.cpu8.specs.Step.{executed, fetched, step}
 use Rattle.cpu8.specs.Go as Go
@@ -11,34 +11,43 @@ use Rattle.cpu8.specs.declared.decoding.Operation.TheVariants.{And, Tad, Isz, Dc
 use Rattle.cpu8.specs.declared.outcomes.Stepped.{Stepped}
 use Rattle.cpu8.specs.declared.outcomes.Stepped.TheVariants.{Stopped, Interrupted, Ran, Halted, Unassigned}
 
--- ## Words, in octal 7004, 7006, 7010, 7012, 7120, 6001, 62N2, 6244, 5400
+-- ## Words
 
 abbrev pub ral : ℕ
-ral = 3588
+ral = 0o7004
 
 abbrev pub rtl : ℕ
-rtl = 3590
+rtl = 0o7006
 
 abbrev pub rar : ℕ
-rar = 3592
+rar = 0o7010
 
 abbrev pub rtr : ℕ
-rtr = 3594
+rtr = 0o7012
 
 abbrev pub cll_cml : ℕ
-cll_cml = 3664
+cll_cml = 0o7120
+
+abbrev pub cia : ℕ
+cia = 0o7041
+
+abbrev pub tsf : ℕ
+tsf = 0o6041
+
+abbrev pub tls : ℕ
+tls = 0o6046
 
 abbrev pub ion : ℕ
-ion = 3073
+ion = 0o6001
 
 abbrev pub cif : ℕ → ℕ
-cif n = 3202 + 8 * n
+cif n = 0o6202 + 0o10 * n
 
 abbrev pub rmf : ℕ
-rmf = 3236
+rmf = 0o6244
 
 abbrev pub jmp_i_0 : ℕ
-jmp_i_0 = 2816
+jmp_i_0 = 0o5400
 
 -- ## L and AC
 
@@ -107,6 +116,23 @@ pub record Resumes (program s : State) : Type 0 where
   pub instruction_buffer : s.instruction_buffer ≡ program.instruction_field
   pub data_field : s.data_field ≡ program.data_field
   pub held_off : s.held_off ≡ false
+
+-- ## Skips
+
+-- an instruction of this word skips the next one
+abbrev pub Skips : ℕ → State → Type 0
+Skips word s = (after word s).pc ≡ (s.pc + 2) % 4096
+
+-- the next one comes
+abbrev pub SkipsNot : ℕ → State → Type 0
+SkipsNot word s = (after word s).pc ≡ (s.pc + 1) % 4096
+
+-- a word of group 2 of the operates that has 0010 clear
+pub record IsTest (word : ℕ) : Type 0 where
+  pub operation : operation_of word ≡ Opr
+  pub not_group_1 : is_group_1 word ≡ false
+  pub group_2 : is_group_2 word ≡ true
+  pub sense : is_reversed word ≡ false
 
 -- ## Interrupts after ION, CIF and RMF
 

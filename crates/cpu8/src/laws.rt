@@ -1,15 +1,15 @@
 //! Laws of the machine, above the instruction table.
 
-ghost use Rattle.std.specs.Prelude.{◌≡◌, ◌≢◌, ℕ, ◌+◌, ◌%◌, ◌<◌, Bool, true, false, List, [], length, slice_index};
-ghost use Rattle.cpu8.specs.State.{State};
-ghost use Rattle.cpu8.specs.Reference.{effective_address, operand_place, pointer_place};
+ghost use Rattle.std.specs.Prelude.{◌≡◌, ◌≢◌, ℕ, ◌+◌, ◌-◌, ◌%◌, ◌<◌, Bool, true, false, List, [], length, slice_index};
+ghost use Rattle.cpu8.specs.State.{State, printer_done};
+ghost use Rattle.cpu8.specs.Reference.{effective_address, operand, operand_place, pointer_place};
 ghost use Rattle.cpu8.specs.Step.{fetched, step};
 ghost use Rattle.cpu8.specs.declared.decoding.Operation.{Operation};
-ghost use Rattle.cpu8.specs.declared.decoding.Operation.TheVariants.{Isz, Jms, Jmp};
+ghost use Rattle.cpu8.specs.declared.decoding.Operation.TheVariants.{Tad, Isz, Jms, Jmp};
 ghost use Rattle.cpu8.specs.declared.outcomes.Stepped.TheVariants.{Interrupted};
 ghost use Rattle.cpu8.specs.Go.{IsGo, is_break};
 ghost use Rattle.cpu8.specs.declared.outcomes.Why.{Why};
-ghost use Rattle.cpu8.specs.Laws.{cif, rmf, later, next_pointer, IsIon, IsNextWord, IsRequested, NoJump, UsesAutoIndex, ral, rtl, rar, rtr, cll_cml, after, link_and_ac, HasLinkAndAc, IsNext, runs_on, IsCallAndReturn, IsInterruptAndReturn, Resumes};
+ghost use Rattle.cpu8.specs.Laws.{cia, tsf, tls, cif, rmf, later, next_pointer, IsIon, IsNextWord, IsRequested, NoJump, UsesAutoIndex, ral, rtl, rar, rtr, cll_cml, after, link_and_ac, HasLinkAndAc, IsNext, runs_on, Skips, SkipsNot, IsTest, IsCallAndReturn, IsInterruptAndReturn, Resumes};
 
 /// RTL leaves L and AC as two RAL do, and RTR as two RAR do.
 pub fn double_rotation()
@@ -26,6 +26,29 @@ pub fn rotation_back()
 /// CLL CML sets the link, and leaves AC.
 pub fn link_set()
     ensures { (s : State) → HasLinkAndAc s → link_and_ac (after cll_cml s) ≡ 4096 + s.ac }
+{}
+
+/// TAD adds its operand to L and AC as one number of thirteen bits.
+pub fn addition()
+    ensures { (s : State) → IsNext Tad s → link_and_ac (step s).0 ≡ (link_and_ac s + operand s (fetched s)) % 8192 }
+{}
+
+/// CIA negates AC: what it leaves is 4096 less AC, or 0 where AC is 0.
+pub fn negation()
+    ensures { (s : State) → HasLinkAndAc s → (after cia s).ac ≡ (4096 - s.ac) % 4096 }
+{}
+
+/// Bit 0010 of group 2 turns the skip round: with it a word skips where it doesn't without.
+pub fn reversed_skip()
+    ensures skips { (word : ℕ) (s : State) → IsTest word → SkipsNot word s → Skips (0o10 + word) s }
+    ensures skips_not { (word : ℕ) (s : State) → IsTest word → Skips word s → SkipsNot (0o10 + word) s }
+{}
+
+/// TSF behind TLS doesn't skip until the printer is done, and skips then.
+pub fn printing()
+    ensures before { (s : State) → IsNextWord tls s → IsNextWord tsf (step s).0 → (step (step s).0).0.pc ≡ ((step s).0.pc + 1) % 4096 }
+    ensures done { (s : State) → IsNextWord tls s → IsNextWord tsf (printer_done (step s).0)
+        → (step (printer_done (step s).0)).0.pc ≡ ((step s).0.pc + 2) % 4096 }
 {}
 
 /// An indirect JMP through the first word of a subroutine comes back to the cell after the JMS that called it.
