@@ -5,3 +5,4 @@ pub mod ReaderLemmas
 pub mod Scan
 pub mod WritingLemmas
 pub mod MapLemmas
+pub mod OpenLemmas

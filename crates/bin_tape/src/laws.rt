@@ -5,7 +5,7 @@ ghost use Rattle.bin_tape.specs.Frames.{kept};
 ghost use Rattle.bin_tape.specs.Items.{Item, words_of, words_but_last};
 ghost use Rattle.bin_tape.specs.Tape.{IsTape, IsOpen};
 ghost use Rattle.bin_tape.specs.Fault.{IsFault, Refuses};
-ghost use Rattle.bin_tape.specs.Laws.{IsClosed};
+ghost use Rattle.bin_tape.specs.Laws.{IsClosed, GoesOn};
 ghost use Rattle.bin_tape.specs.Progress.{Progress};
 ghost use Rattle.bin_tape.specs.Reading.{HasRead};
 ghost use Rattle.bin_tape.specs.Pairs.{ArePairs, IsTapeOf};
@@ -37,6 +37,11 @@ pub fn one_fault()
 pub fn first_closing()
     ensures { (frames rest : List ℕ) (fault : TapeFault) (refused : Refuses frames fault)
         → IsClosed (refused.before ++ refused.frame ∷ rest) }
+{}
+
+/// What is open can go on as a tape: some further frames make it one, and leave its items.
+pub fn open_goes_on()
+    ensures { (frames : List ℕ) (items : List Item) (part : List ℕ) → IsOpen (kept frames) items part → GoesOn frames items }
 {}
 
 /// The words that a reader has handed out are those of the tape that it was given, or all but the last of what may go
