@@ -1,3 +1,4 @@
+pub mod BlankLemmas
 pub mod CoverLemmas
 pub mod DraftLemmas
 pub mod FinishLemmas

@@ -1,10 +1,12 @@
 -- The places of tokens in one of several sources.
-use Rattle.std.proofs.Common.{◌≡◌, ℕ, ◌-◌, Bool, true, false, if◌then◌else◌, length, List, [], ◌∷◌, ◌++◌, refl, ap, sym, subst, ◌∙◌, arith, length-append}
-use Rattle.pal_lex.specs.Text.{in_comment, is_dead, is_end, stretch, since}
+use Rattle.std.proofs.Common.{◌≡◌, ℕ, ◌-◌, Bool, true, false, ◌&&◌, not, if◌then◌else◌, length, List, [], ◌∷◌, ◌++◌, refl, ap, sym, subst, ◌∙◌, arith, length-append}
+use Rattle.pal_lex.specs.Text.{in_comment, is_dead, is_end, ends_statement, stretch, since}
 use Rattle.pal_lex.specs.Cutting.{has_illegal}
 use Rattle.pal_lex.specs.Runs.{base, tokens}
+use Rattle.pal_lex.specs.Joins.{is_lone_pause, pauses}
 use Rattle.pal_lex.specs.Statements.{radix_after, statements}
-use Rattle.pal_lex.specs.Spans.{AllSpell, joined, HasSourceSpans, HasAllOfSource}
+use Rattle.pal_lex.specs.Spans.{AllSpell, joined, HasSourceSpans, HasAllOfSource, PauseHasSpans, PauseHasAll}
+use Rattle.pal_lex.specs.declared.runs.Radix.TheVariants.{Octal}
 use Rattle.pal_lex.proofs.CoverLemmas.{covers_in}
 use Rattle.pal_lex.proofs.JoinLemmas.{clear_comment, clear_stretch, dead_joined, bytes_joined}
 use Rattle.pal_lex.proofs.ShapeLemmas.{same_illegal}
@@ -42,3 +44,29 @@ source_has_all before here later b statement clear small e =
     let radix = radix_after (statements (here ++ before)) in
     ap (λ l. joined (later ++ b ∷ here) (tokens radix l)) (since_joined here before quiet none)
     ∙ covers_in radix here later b small (legal_here here before quiet none (has_tokens (here ++ before) b statement e).0)
+
+-- ## PAUSE
+
+legal_by : (ends illegal alone : Bool) → (ends && (not illegal && alone)) ≡ true → illegal ≡ false
+legal_by ends false alone e = refl
+legal_by true true alone e = absurd cc
+legal_by false true alone e = absurd cc
+
+pause_is_legal : (text : List ℕ) (b : ℕ) → pauses text b ≡ true → has_illegal (stretch text) ≡ false
+pause_is_legal text b e = legal_by (ends_statement text b) (has_illegal (stretch text)) (is_lone_pause (tokens Octal (stretch text))) e
+
+pub pause_spells : PauseHasSpans
+pause_spells before here later b clear e =
+    let quiet = clear_comment before clear.0 in
+    let none = clear_stretch before clear.0 in
+    let radix = radix_after (statements (here ++ before)) in
+    subst (λ (l : List (ℕ × ℕ)). AllSpell (later ++ b ∷ here) (base radix) (tokens radix l)) (sym (since_joined here before quiet none))
+    (spells_in radix here later b (legal_here here before quiet none (pause_is_legal (here ++ before) b e)))
+
+pub pause_has_all : PauseHasAll
+pause_has_all before here later b clear small e =
+    let quiet = clear_comment before clear.0 in
+    let none = clear_stretch before clear.0 in
+    let radix = radix_after (statements (here ++ before)) in
+    ap (λ l. joined (later ++ b ∷ here) (tokens radix l)) (since_joined here before quiet none)
+    ∙ covers_in radix here later b small (legal_here here before quiet none (pause_is_legal (here ++ before) b e))

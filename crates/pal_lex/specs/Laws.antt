@@ -1,13 +1,15 @@
 -- Laws about the statements of a text.
-use Rattle.std.specs.Prelude.{◌≡◌, ℕ, ◌+◌, Bool, true, false, ◌&&◌, Some, None, Result, List, [], ◌∷◌, ◌++◌}
+use Rattle.std.specs.Prelude.{◌≡◌, ℕ, ◌+◌, Bool, true, false, ◌&&◌, ◌||◌, Some, None, is_some, Result, List, [], ◌∷◌, ◌++◌}
 use Rattle.pal_lex.specs.Text.{is_over, up_to_end, line_after, text_of}
 use Rattle.pal_lex.specs.Statements.{statements, first_fault}
-use Rattle.pal_lex.specs.Cutting.{Piece, Run, Mark, is_coded, is_legal, has_illegal, pieces}
+use Rattle.pal_lex.specs.Cutting.{Piece, Run, Mark, is_coded, is_space, sign_of, is_legal, has_illegal, pieces}
+use Rattle.pal_lex.specs.Runs.{tokens}
 use Rattle.pal_lex.specs.Joins.{pauses, IsClear, join_of}
 use Rattle.pal_lex.specs.declared.faults.LexFault.{LexFault}
 use Rattle.pal_lex.specs.declared.faults.LexFault.TheVariants.{IC, SY, NU, NE, Memory}
 use Rattle.pal_lex.specs.declared.pieces.Kind.{Kind}
 use Rattle.pal_lex.specs.declared.phrases.Statement.{Statement}
+use Rattle.pal_lex.specs.declared.runs.Radix.{Radix}
 
 -- Bytes in their order, with one behind them, are a text with that byte as its newest.
 abbrev pub TextGrows : Type 0
@@ -108,3 +110,22 @@ RunsEnd =
     (b place : ℕ) (live : List (ℕ × ℕ)) (first : ℕ) (others : List ℕ) (start end : ℕ) (before : List Piece) → is_coded b ≡ false → is_legal b ≡ true
     → pieces live ≡ Run first others start end ∷ before
     → (kind : Kind) × (pieces ((b, place) ∷ live) ≡ Mark kind place ∷ Run first others start end ∷ before)
+
+-- ## Blanks of a stretch
+
+-- behind these live bytes a blank means nothing: there are none, or the newest is a sign or a blank
+abbrev pub ends_idle : List (ℕ × ℕ) → Bool
+ends_idle [] = true
+ends_idle (live ∷ older) = is_space live.0 || is_some (sign_of live.0)
+
+-- before these live bytes a blank means nothing: there are none, or the oldest is a sign
+abbrev pub begins_idle : List (ℕ × ℕ) → Bool
+begins_idle [] = true
+begins_idle (live ∷ []) = is_some (sign_of live.0)
+begins_idle (live ∷ next ∷ older) = begins_idle (next ∷ older)
+
+-- A blank beside a sign, at an end or behind a blank leaves the tokens as they are.
+abbrev pub BlanksMeanNothing : Type 0
+BlanksMeanNothing =
+    (radix : Radix) (b place : ℕ) (before later : List (ℕ × ℕ)) → is_space b ≡ true → (ends_idle before || begins_idle later) ≡ true
+    → tokens radix (later ++ (b, place) ∷ before) ≡ tokens radix (later ++ before)

@@ -1,10 +1,10 @@
 -- What stands in a source between the places of a token.
-use Rattle.std.specs.Prelude.{◌≡◌, ℕ, ◌<◌, ◌≤◌, nat_eq, nat_le, nat_lt, ◌&&◌, not, if◌then◌else◌, Option, Some, None, Ok, length, List, [], ◌∷◌, ◌++◌}
+use Rattle.std.specs.Prelude.{◌≡◌, ℕ, ◌<◌, ◌≤◌, nat_eq, nat_le, nat_lt, true, ◌&&◌, not, if◌then◌else◌, Option, Some, None, Ok, length, List, [], ◌∷◌, ◌++◌}
 use Rattle.pal_lex.specs.Text.{is_ignored, stretch}
 use Rattle.pal_lex.specs.Cutting.{is_coded, are_coded, is_space, sign_of, is_blank}
 use Rattle.pal_lex.specs.Runs.{base, run_kind}
 use Rattle.pal_lex.specs.Statements.{radix_after, statements}
-use Rattle.pal_lex.specs.Joins.{IsClear}
+use Rattle.pal_lex.specs.Joins.{pauses, IsClear}
 use Rattle.pal_lex.specs.Reading.{tokens_since}
 use Rattle.pal_lex.specs.declared.pieces.Token.{Token}
 use Rattle.pal_lex.specs.declared.pieces.Term.TheVariants.{Here}
@@ -69,4 +69,15 @@ abbrev pub HasAllOfSource : Type 0
 HasAllOfSource =
     (before here later : List ℕ) (b : ℕ) (statement : Statement) → IsClear before → length here ≤ 18446744073709551615
     → statements (b ∷ here ++ before) ≡ Ok statement ∷ statements (here ++ before)
+    → joined (later ++ b ∷ here) (tokens_since (length before) (here ++ before)) ≡ solid (stretch here)
+
+-- So it is with the tokens of PAUSE, which ends one of several sources.
+abbrev pub PauseHasSpans : Type 0
+PauseHasSpans =
+    (before here later : List ℕ) (b : ℕ) → IsClear before → pauses (here ++ before) b ≡ true
+    → AllSpell (later ++ b ∷ here) (base (radix_after (statements (here ++ before)))) (tokens_since (length before) (here ++ before))
+
+abbrev pub PauseHasAll : Type 0
+PauseHasAll =
+    (before here later : List ℕ) (b : ℕ) → IsClear before → length here ≤ 18446744073709551615 → pauses (here ++ before) b ≡ true
     → joined (later ++ b ∷ here) (tokens_since (length before) (here ++ before)) ≡ solid (stretch here)

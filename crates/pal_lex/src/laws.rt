@@ -1,7 +1,7 @@
 //! Laws about the statements of a text, which hold whatever reads it. A call of one does nothing, and lets its caller use it.
 
-ghost use Rattle.pal_lex.specs.Laws.{TextGrows, StatementsStay, EndsSource, FaultStays, FaultsAreOfStatements, PauseIsBad, PauseJoins, JoinGoesOn, ByteGoesOn, EndsJoin, RunsAreMaximal, RunsEnd};
-ghost use Rattle.pal_lex.specs.Spans.{HasSpans, HasAll, HasSourceSpans, HasAllOfSource};
+ghost use Rattle.pal_lex.specs.Laws.{TextGrows, StatementsStay, EndsSource, FaultStays, FaultsAreOfStatements, PauseIsBad, PauseJoins, JoinGoesOn, ByteGoesOn, EndsJoin, RunsAreMaximal, RunsEnd, BlanksMeanNothing};
+ghost use Rattle.pal_lex.specs.Spans.{HasSpans, HasAll, HasSourceSpans, HasAllOfSource, PauseHasSpans, PauseHasAll};
 
 /// The bytes between the places of a token are its text, apart from those that are as if they weren't there.
 pub fn spans()
@@ -71,6 +71,17 @@ pub fn source_spans()
 /// In one of several sources the tokens of a statement leave nothing of it out but blanks.
 pub fn whole_source_statement()
     ensures { HasAllOfSource }
+{}
+
+/// The tokens of PAUSE, which ends one of several sources, have their places, too, and leave nothing of it out but blanks.
+pub fn pause_spans()
+    ensures spans { PauseHasSpans }
+    ensures whole { PauseHasAll }
+{}
+
+/// A blank beside a sign, at an end of a statement or behind a blank means nothing: the tokens are the same without it.
+pub fn blanks_mean_nothing()
+    ensures { BlanksMeanNothing }
 {}
 
 /// Letters and digits that stand together are one name or number, however many.
