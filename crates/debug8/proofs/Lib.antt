@@ -1,3 +1,4 @@
 pub mod BreakLemmas
 pub mod Json
 pub mod Digits
+pub mod SameLemmas

@@ -1,3 +1,4 @@
 pub mod Breaks
+pub mod Laws
 pub mod Snapshot
 pub mod Values

@@ -5,6 +5,7 @@
 
 mod debuggers;
 mod faults;
+pub mod laws;
 mod snapshots;
 
 pub use cpu8::{Gone, Why};
