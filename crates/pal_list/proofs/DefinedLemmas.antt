@@ -1,15 +1,20 @@
--- The tags of a tape's source are all different.
-use Rattle.std.proofs.Common.{◌≡◌, ◌≢◌, ℕ, ◌<◌, ◌≤◌, Bool, true, false, Option, Some, None, zero, suc, reverse, List, [], ◌∷◌, ◌++◌, ap, sym, subst, ◌∙◌, arith, append-nil}
+-- The tags of a tape's source are all different, and its references name them.
+use Rattle.std.proofs.Common.{◌≡◌, ◌≢◌, ℕ, ◌<◌, ◌≤◌, Bool, true, false, Option, Some, None, Ok, zero, suc, reverse, List, [], ◌∷◌, ◌++◌, ap, sym, subst, ◌∙◌, arith, append-nil}
 use Rattle.std.proofs.lemmas.List.{reverse-append}
 use Rattle.bin_tape.specs.Items.{Item, IsFront, tape_map}
+use Rattle.bin_tape.specs.Pairs.{last_word}
+use Rattle.pal_lex.specs.declared.phrases.Body.TheVariants.{Nothing}
+use Rattle.pal_asm.specs.Places.{Source}
+use Rattle.pal_list.specs.References.{referred_cell}
 use Rattle.pal_list.specs.Tags.{tag_name, is_tagged}
+use Rattle.pal_list.specs.Named.{NamesThere, NamesTags}
 use Rattle.pal_list.specs.Lines.{source_of}
 use Rattle.pal_list.specs.Sources.{with_word, words_below, words_of_tape}
 use Rattle.pal_list.specs.Defined.{tags_of, IsNoneOf, Differ, DefinesTags}
 use Rattle.pal_list.proofs.TagLemmas.{tags_rise}
-use Rattle.pal_list.proofs.StepLemmas.{label, listed_more}
-use Rattle.pal_list.proofs.SourceLemmas.{source_tags}
-use Rattle.pal_list.proofs.TapeLemmas.{below_none, below_more, below_pairs}
+use Rattle.pal_list.proofs.StepLemmas.{names_older, statement_of, label, listed_more}
+use Rattle.pal_list.proofs.SourceLemmas.{source_whole, source_tags}
+use Rattle.pal_list.proofs.TapeLemmas.{last_of_tape, below_none, below_more, below_pairs}
 use Rattle.pal_list.proofs.ShownLemmas.{are_shown}
 
 -- ## Names below another
@@ -74,3 +79,12 @@ pub tape_tags : (items : List Item) → IsFront items → DefinesTags (source_of
 tape_tags items front =
     let words = words_of_tape items in
     source_tags words (are_shown (is_tagged words) words (below_pairs items 32768 front)) (tags_all_differ (is_tagged words) items 32768 (omega arith))
+
+pub tape_names : (items : List Item) → IsFront items → NamesTags (source_of (words_of_tape items)) items
+tape_names items front = λ cell word there r g.
+    let words = words_of_tape items in
+    let name = tag_name (referred_cell cell word) in
+    let whole = source_whole words (are_shown (is_tagged words) words (below_pairs items 32768 front)) in
+    let last : last_word (reverse words) cell ≡ Some word = last_of_tape 32768 items (omega arith) front cell ∙ there in
+    subst (λ (s : Source). NamesThere s cell word name) (sym whole.statements_are)
+    (names_older (Ok (statement_of whole.line true [] [] Nothing)) whole.lines cell word name (whole.stands.named_are cell word last r g))

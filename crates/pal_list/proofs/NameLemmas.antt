@@ -1,5 +1,5 @@
 -- Names that are shown come to their words.
-use Rattle.std.proofs.Common.{◌≡◌, ℕ, ◌+◌, ◌%◌, ◌<◌, nat_eq, nat_lt, bit_and, bit_or, Bool, true, false, ◌&&◌, ◌||◌, not, if◌then◌else◌, Option, Some, None, suc, length, List, [], ◌∷◌, refl, ap, sym, ◌∙◌, arith}
+use Rattle.std.proofs.Common.{◌≡◌, ℕ, ◌+◌, ◌%◌, ◌<◌, nat_eq, nat_lt, bit_and, bit_or, Bool, true, false, true≢false, ◌&&◌, ◌||◌, not, if◌then◌else◌, Option, Some, None, suc, length, List, [], ◌∷◌, refl, ap, sym, ◌∙◌, arith}
 use Rattle.std.specs.Prelude.{codes}
 use Rattle.std.specs.Int.Bits.{or_zero_l}
 use Rattle.std.proofs.lemmas.Bool.Decides.{nat_tests}
@@ -20,6 +20,7 @@ use Rattle.pal_asm.specs.Expressions.{Known, term_value, joined_values, value_be
 use Rattle.pal_asm.specs.Faults.{first_of, undefined, term_fault, terms_fault}
 use Rattle.pal_list.specs.Patterns.{Pattern, patterns, chosen, or_behind, shown_name, names}
 use Rattle.pal_list.specs.Statements.{is_named}
+use Rattle.pal_list.specs.References.{is_reference}
 use Rattle.pal_list.proofs.ByteLemmas.{both}
 use Rattle.pal_list.proofs.PieceLemmas.{kind_of, run_token, blank_token, tokens_at, is_run, are_runs}
 use Rattle.pal_list.proofs.GrammarLemmas.{Say, with_kind}
@@ -306,9 +307,10 @@ names_word tagged p (q ∷ others) word place e comes =
           ap (λ f. first_of f (terms_fault known place (or_parts (q ∷ others)))) (is.no_fault known knows.keeps place) ∙ rest.no_fault known knows.keeps place;
     }
 
-named : (tagged : ℕ → Bool) (cell word : ℕ) (list : List Pattern) → all_fit list ≡ true → or_behind 0 list ≡ word → 0 < word → IsShown tagged cell word (names list)
-named tagged cell word [] e comes some = absurd (omega (arith, comes, some))
-named tagged cell word (p ∷ others) e comes some = record {
+named : (tagged : ℕ → Bool) (cell word : ℕ) (list : List Pattern) → all_fit list ≡ true → or_behind 0 list ≡ word → 0 < word → is_reference (cell % 4096) word ≡ false
+    → IsShown tagged cell word (names list)
+named tagged cell word [] e comes some apart = absurd (omega (arith, comes, some))
+named tagged cell word (p ∷ others) e comes some apart = record {
   first = (shown_name p.2);
   others = names others;
   some = refl;
@@ -316,12 +318,13 @@ named tagged cell word (p ∷ others) e comes some = record {
   body = Word (all_parts p others);
   says = λ at. names_say p others at e;
   means = names_word tagged p others word (cell % 4096) e comes;
+  names = λ r g. absurd (true≢false (sym r ∙ apart));
 }
 
-pub shown_names : (tagged : ℕ → Bool) (cell word : ℕ) → is_named word ≡ true → IsShown tagged cell word (names (chosen word patterns))
-shown_names tagged cell word shown =
+pub shown_names : (tagged : ℕ → Bool) (cell word : ℕ) → is_reference (cell % 4096) word ≡ false → is_named word ≡ true → IsShown tagged cell word (names (chosen word patterns))
+shown_names tagged cell word apart shown =
     let split = both (nat_lt 3071 word) (nat_eq (or_behind 0 (chosen word patterns)) word) shown in
-    named tagged cell word (chosen word patterns) (chosen_fit word patterns table_fits) (equal (or_behind 0 (chosen word patterns)) word split.1) (some word split.0)
+    named tagged cell word (chosen word patterns) (chosen_fit word patterns table_fits) (equal (or_behind 0 (chosen word patterns)) word split.1) (some word split.0) apart
   where
     some : (n : ℕ) → nat_lt 3071 n ≡ true → 0 < n
     some n e = grind (arith, nat_tests)

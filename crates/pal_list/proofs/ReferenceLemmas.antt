@@ -1,5 +1,5 @@
 -- Memory references that are shown are their words.
-use Rattle.std.proofs.Common.{◌≡◌, ℕ, ◌+◌, ◌*◌, ◌/◌, ◌%◌, ◌<◌, ◌≤◌, nat_eq, nat_lt, nat_le, Bool, true, false, ◌||◌, if◌then◌else◌, inl, inr, Some, None, zero, suc, length, List, [], ◌∷◌, ◌++◌, refl, ap, sym, subst, ◌∙◌, arith}
+use Rattle.std.proofs.Common.{◌≡◌, ℕ, ◌+◌, ◌*◌, ◌/◌, ◌%◌, ◌<◌, ◌≤◌, nat_eq, nat_lt, nat_le, Bool, true, false, true≢false, ◌||◌, if◌then◌else◌, inl, inr, Some, None, zero, suc, length, List, [], ◌∷◌, ◌++◌, refl, ap, sym, subst, ◌∙◌, arith}
 use Rattle.std.specs.Prelude.{codes}
 use Rattle.std.proofs.lemmas.Bool.Decides.{eqb_tells, nat_tests}
 use Rattle.word12.specs.Octal.{octal4}
@@ -59,26 +59,28 @@ record IsAddressTerm (t : term.Term) : Type 0 where
   no_i : is_named (name_number (codes "I")) (Term t) ≡ false
   no_z : is_named (name_number (codes "Z")) (Term t) ≡ false
 
--- what is shown for an address is a term that stands for it
-record IsAddress (tagged : ℕ → Bool) (shown : List ℕ) (address : ℕ) : Type 0 where
+-- what is shown for an address is a term that stands for it, the name of a cell's tag where the cell has one
+record IsAddress (tagged : ℕ → Bool) (target : ℕ) (shown : List ℕ) (address : ℕ) : Type 0 where
   t : term.Term
   kind_is : kind_of shown ≡ Term t
   run : is_run shown ≡ true
   is_term : IsAddressTerm t
   value : (known : Known) → Knows tagged known → (place : ℕ) → term_value known place t ≡ Some address
   no_fault : (known : Known) → Knows tagged known → (place : ℕ) → term_fault known place t ≡ None
+  is_name : tagged target ≡ true → t ≡ Name (tag_name target)
 
-number_address : (tagged : ℕ → Bool) (a : ℕ) → a < 4096 → IsAddress tagged (octal4 a) a
-number_address tagged a small = record {
+number_address : (tagged : ℕ → Bool) (target a : ℕ) → tagged target ≡ false → a < 4096 → IsAddress tagged target (octal4 a) a
+number_address tagged target a none small = record {
   t = Number a;
   kind_is = octal_kind a small;
   run = coded4 a;
   is_term = record { free = refl; no_i = refl; no_z = refl };
   value = λ known knows place. refl;
   no_fault = λ known knows place. refl;
+  is_name = λ is_marked. absurd (true≢false (sym is_marked ∙ none));
 }
 
-tag_address : (tagged : ℕ → Bool) (cell : ℕ) → cell < 32768 → tagged cell ≡ true → IsAddress tagged (tag cell) (cell % 4096)
+tag_address : (tagged : ℕ → Bool) (cell : ℕ) → cell < 32768 → tagged cell ≡ true → IsAddress tagged cell (tag cell) (cell % 4096)
 tag_address tagged cell small is_marked =
     let n = tag_name cell in
     let plain = tag_ordinary cell in
@@ -89,6 +91,7 @@ tag_address tagged cell small is_marked =
       is_term = record { free = ap (λ (b : Bool). if b then None else Some (Name n)) plain.reserved; no_i = plain.no_i; no_z = plain.no_z };
       value = λ known knows place. knows.tags_are cell small is_marked;
       no_fault = λ known knows place. ap undefined (knows.tags_are cell small is_marked);
+      is_name = λ is_marked. refl;
     }
 
 -- the tokens of a reference with its address
@@ -152,9 +155,9 @@ abbrev indirection : Bool → List (List ℕ)
 indirection true = codes "I" ∷ []
 indirection false = []
 
-reference_says : (tagged : ℕ → Bool) (op : Operation) (indirect : Bool) (shown : List ℕ) (a at : ℕ) (is : IsAddress tagged shown a)
+reference_says : (tagged : ℕ → Bool) (target : ℕ) (op : Operation) (indirect : Bool) (shown : List ℕ) (a at : ℕ) (is : IsAddress tagged target shown a)
     → Say (tokens_at at (name_of op ∷ (indirection indirect ++ shown ∷ []))) [] (Reference op indirect (Some (term_parts is.t)))
-reference_says tagged op true shown a at is =
+reference_says tagged target op true shown a at is =
     let t = run_token (suc (suc (at + 3) + 1)) shown in
     let long = three_long op in
     record {
@@ -167,7 +170,7 @@ reference_says tagged op true shown a at is =
           ∙ ap (λ k. said (indirect_tokens at (name_of op) (with_kind t k))) is.kind_is
           ∙ indirect_said op is.t at t.start t.end is.is_term;
     }
-reference_says tagged op false shown a at is =
+reference_says tagged target op false shown a at is =
     let t = run_token (suc (at + 3)) shown in
     let long = three_long op in
     record {
@@ -241,10 +244,10 @@ address_small at word inside =
 small_mod : (a : ℕ) → a < 4096 → (0 + a) % 4096 ≡ a
 small_mod a small = omega arith
 
-reference_word : (tagged : ℕ → Bool) (op : Operation) (indirect : Bool) (shown : List ℕ) (at a word offset : ℕ) (is : IsAddress tagged shown a) → a < 4096
+reference_word : (tagged : ℕ → Bool) (target : ℕ) (op : Operation) (indirect : Bool) (shown : List ℕ) (at a word offset : ℕ) (is : IsAddress tagged target shown a) → a < 4096
     → offset_of at a ≡ Some offset → word_of op + (if indirect then 256 else 0) + offset ≡ word
     → IsWordOf tagged (Reference op indirect (Some (term_parts is.t))) at word
-reference_word tagged op indirect shown at a word offset is small there comes = record {
+reference_word tagged target op indirect shown at a word offset is small there comes = record {
   is_word = refl;
   value = λ known knows.
       ap (λ v. with_offset op indirect (offset_to at (joined_values Add (Some 0) v))) (is.value known knows at)
@@ -288,19 +291,19 @@ referred_inside cell word small = inside (cell / 4096) (referred (cell % 4096) w
     inside field at low small = omega (arith, low, small)
 
 -- the address that is shown
-address_shown : (tagged : ℕ → Bool) (cell word : ℕ) → cell < 32768 → IsAddress tagged (address tagged cell word) (referred (cell % 4096) word)
+address_shown : (tagged : ℕ → Bool) (cell word : ℕ) → cell < 32768 → IsAddress tagged (referred_cell cell word) (address tagged cell word) (referred (cell % 4096) word)
 address_shown tagged cell word small = either (tagged (referred_cell cell word)) refl
   where
     back : (field at : ℕ) → at < 4096 → (4096 * field + at) % 4096 ≡ at
     back field at small = omega (arith, small)
 
     either : (b : Bool) → tagged (referred_cell cell word) ≡ b
-        → IsAddress tagged (if b then tag (referred_cell cell word) else octal4 (referred (cell % 4096) word)) (referred (cell % 4096) word)
+        → IsAddress tagged (referred_cell cell word) (if b then tag (referred_cell cell word) else octal4 (referred (cell % 4096) word)) (referred (cell % 4096) word)
     either true e =
         let low = address_small (cell % 4096) word (omega arith) in
-        subst (IsAddress tagged (tag (referred_cell cell word))) (back (cell / 4096) (referred (cell % 4096) word) low)
+        subst (IsAddress tagged (referred_cell cell word) (tag (referred_cell cell word))) (back (cell / 4096) (referred (cell % 4096) word) low)
         (tag_address tagged (referred_cell cell word) (referred_inside cell word small) e)
-    either false e = number_address tagged (referred (cell % 4096) word) (address_small (cell % 4096) word (omega arith))
+    either false e = number_address tagged (referred_cell cell word) (referred (cell % 4096) word) e (address_small (cell % 4096) word (omega arith))
 
 pub shown_reference : (tagged : ℕ → Bool) (cell word : ℕ) → cell < 32768 → is_reference (cell % 4096) word ≡ true → IsShown tagged cell word (reference tagged cell word)
 shown_reference tagged cell word inside shown =
@@ -324,8 +327,13 @@ shown_reference tagged cell word inside shown =
           ∙ ap (λ l. name_of op.operation ∷ l ++ named ∷ []) (indirection_is (word / 256 % 2));
       runs = runs_named op.operation (indirection indirect ++ named ∷ []) (runs_are indirect named is.run);
       body = Reference op.operation indirect (Some (term_parts is.t));
-      says = λ place. reference_says tagged op.operation indirect named a place is;
-      means = reference_word tagged op.operation indirect named at a word there.offset is small there.is (whole (word_of op.operation) (if indirect then 256 else 0) there.offset word v bit o);
+      says = λ place. reference_says tagged (referred_cell cell word) op.operation indirect named a place is;
+      means = reference_word tagged (referred_cell cell word) op.operation indirect named at a word there.offset is small there.is (whole (word_of op.operation) (if indirect then 256 else 0) there.offset word v bit o);
+      names = λ r is_marked. record {
+        operation = op.operation;
+        is_operation = v;
+        body_is = ap (λ t. Reference op.operation indirect (Some (term_parts t))) (is.is_name is_marked);
+      };
     }
   where
     whole : (op bit offset word : ℕ) → op ≡ 512 * (word / 512) → bit ≡ 256 * (word / 256 % 2) → offset ≡ word % 256 → op + bit + offset ≡ word

@@ -1,5 +1,5 @@
 -- Each statement that is shown is its word.
-use Rattle.std.proofs.Common.{◌≡◌, ◌≢◌, ℕ, ◌/◌, ◌%◌, ◌<◌, nat_eq, Bool, true, false, if◌then◌else◌, None, inl, inr, length, reverse, List, [], ◌∷◌, ◌++◌, refl, ap, sym, ◌∙◌, arith}
+use Rattle.std.proofs.Common.{◌≡◌, ◌≢◌, ℕ, ◌/◌, ◌%◌, ◌<◌, nat_eq, Bool, true, false, true≢false, if◌then◌else◌, None, inl, inr, length, reverse, List, [], ◌∷◌, ◌++◌, refl, ap, sym, ◌∙◌, arith}
 use Rattle.std.specs.Prelude.{codes}
 use Rattle.std.proofs.lemmas.Bool.Decides.{eqb_tells}
 use Rattle.bin_tape.specs.Items.{Item, IsFront, tape_map}
@@ -22,8 +22,8 @@ use Rattle.pal_list.proofs.NameLemmas.{shown_names}
 use Rattle.pal_list.proofs.TapeLemmas.{last_of_tape, below_pairs}
 use Rattle.pal_list.proofs.SourceLemmas.{IsShown, AreShown, source_read}
 
-shown_number : (tagged : ℕ → Bool) (cell word : ℕ) → word < 4096 → IsShown tagged cell word (octal4 word ∷ [])
-shown_number tagged cell word small = record {
+shown_number : (tagged : ℕ → Bool) (cell word : ℕ) → is_reference (cell % 4096) word ≡ false → word < 4096 → IsShown tagged cell word (octal4 word ∷ [])
+shown_number tagged cell word apart small = record {
   first = octal4 word;
   others = [];
   some = refl;
@@ -31,19 +31,20 @@ shown_number tagged cell word small = record {
   body = Word (number_parts word);
   says = λ at. number_says word at small;
   means = number_word tagged (cell % 4096) word small;
+  names = λ r g. absurd (true≢false (sym r ∙ apart));
 }
 
 shown : (tagged : ℕ → Bool) (cell word : ℕ) → cell < 32768 → word < 4096 → IsShown tagged cell word (statement tagged cell word)
 shown tagged cell word inside small = first_kind (is_reference (cell % 4096) word) refl
   where
-    second_kind : (n : Bool) → is_named word ≡ n → IsShown tagged cell word (if n then names (chosen word patterns) else octal4 word ∷ [])
-    second_kind true e = shown_names tagged cell word e
-    second_kind false e = shown_number tagged cell word small
+    second_kind : (n : Bool) → is_reference (cell % 4096) word ≡ false → is_named word ≡ n → IsShown tagged cell word (if n then names (chosen word patterns) else octal4 word ∷ [])
+    second_kind true apart e = shown_names tagged cell word apart e
+    second_kind false apart e = shown_number tagged cell word apart small
 
     first_kind : (r : Bool) → is_reference (cell % 4096) word ≡ r
         → IsShown tagged cell word (if r then reference tagged cell word else (if is_named word then names (chosen word patterns) else octal4 word ∷ []))
     first_kind true e = shown_reference tagged cell word inside e
-    first_kind false e = second_kind (is_named word) refl
+    first_kind false e = second_kind (is_named word) e refl
 
 pub are_shown : (tagged : ℕ → Bool) (pairs : List (ℕ × ℕ)) → ArePairs pairs → AreShown tagged pairs
 are_shown tagged [] all = tt

@@ -30,7 +30,7 @@ use Rattle.pal_list.proofs.TextLemmas.{laid, text_append, Ends, ends, ends_comme
 use Rattle.pal_list.proofs.PieceLemmas.{spaced, led_spaced, laid_append, legal_laid, run, run_token, are_runs, tokens_at, EndsInRun, starts_of, cut_runs}
 use Rattle.pal_list.proofs.TagLemmas.{tag_run}
 use Rattle.pal_list.proofs.GrammarLemmas.{Say, number_parts, comma_token, origin_says, field_says, tagged_says}
-use Rattle.pal_list.proofs.StepLemmas.{Knows, Stands, stands_first, stands_keeps, statement_of, is_some_pair, tag_value, label, given_more, origin_step, field_step, word_step, IsWordOf}
+use Rattle.pal_list.proofs.StepLemmas.{Knows, Stands, stands_first, stands_keeps, statement_of, is_some_pair, tag_value, label, given_more, origin_step, field_step, word_step, IsWordOf, NamesTag}
 
 -- ## The live bytes of a line
 
@@ -206,6 +206,7 @@ pub record IsShown (tagged : ℕ → Bool) (cell word : ℕ) (words : List (List
   pub body : Body
   pub says : (at : ℕ) → Say (tokens_at at (first ∷ others)) [] body
   pub means : IsWordOf tagged body (cell % 4096) word
+  pub names : NamesTag tagged cell word body
 
 field_part : (tagged : ℕ → Bool) (text : List ℕ) (before : Option ℕ) (cell place field : ℕ) (pairs : List (ℕ × ℕ)) → cell < 32768 → StandsAt tagged text place field pairs
     → field ≡ field_behind before
@@ -268,7 +269,7 @@ word_part tagged text cell word pairs small shown is =
     let done =
     line_step tagged text code tags (text_from text line) place field pairs (place + 1) field (pairs ++ (cell, word) ∷ []) shown.body is codes_here
     (ends_commented text code (octal_digit field ∷ octal4 place ++ 32 ∷ octal4 word) is.no_comment is.not_over codes_here.legal (no_return cell word))
-    (λ line tokens. word_step tagged (statements text) pairs line tokens shown.body cell word small shown.means is.stands) in
+    (λ line tokens. word_step tagged (statements text) pairs line tokens shown.body cell word small shown.means shown.names is.stands) in
     subst (λ t. StandsAt tagged (text_from text t) (place + 1) field (pairs ++ (cell, word) ∷ [])) (sym shape) done
   where
     regroup : (p w c e : List ℕ) → ((p ++ (9 ∷ w)) ++ 9 ∷ c) ++ e ≡ (p ++ 9 ∷ (w ++ 9 ∷ [])) ++ (c ++ e)

@@ -1,7 +1,12 @@
 -- What one statement more does to what a source says, where it names none but permanent names and the tags of its cells.
-use Rattle.std.proofs.Common.{◌≡◌, ◌≢◌, ℕ, ◌+◌, ◌*◌, ◌/◌, ◌%◌, ◌<◌, nat_eq, nat_lt, Bool, true, false, ◌&&◌, ◌||◌, if◌then◌else◌, inl, inr, ◌⊎◌, Option, Some, None, Ok, List, [], ◌∷◌, ◌++◌, refl, ap, sym, subst, ◌∙◌, arith, append_assoc, append-nil}
+use Rattle.std.proofs.Common.{◌≡◌, ◌≢◌, ℕ, ◌+◌, ◌*◌, ◌/◌, ◌%◌, ◌<◌, nat_eq, nat_lt, Bool, true, false, ◌&&◌, ◌||◌, if◌then◌else◌, inl, inr, ◌⊎◌, Option, Some, None, Result, Ok, List, [], ◌∷◌, ◌++◌, refl, ap, sym, subst, ◌∙◌, arith, append_assoc, append-nil}
 use Rattle.std.proofs.lemmas.Bool.Decides.{eqb_tells, nat_tests}
+use Rattle.bin_tape.specs.Pairs.{last_word}
+use Rattle.pal_lex.specs.Language.{word_of}
 use Rattle.pal_lex.specs.Statements.{radix_after}
+use Rattle.pal_lex.specs.declared.faults.LexFault.{LexFault}
+use Rattle.pal_lex.specs.declared.pieces.Term.TheVariants.{Name}
+use Rattle.pal_lex.specs.declared.phrases.Operation.{Operation}
 use Rattle.pal_lex.specs.declared.runs.Radix.TheVariants as radix
 use Rattle.pal_lex.specs.declared.phrases.Body.{Body}
 use Rattle.pal_lex.specs.declared.phrases.Body.TheVariants.{Nothing, Origin, Define, Decimal, Octal, Pause, Field, Reference, Word}
@@ -15,10 +20,13 @@ use Rattle.pal_asm.specs.Words.{body_word, with_pair, word_values, pairs_by}
 use Rattle.pal_asm.specs.Faults.{first_of, at_line, past, defined_otherwise, tags_fault, statement_fault, first_order, word_fault, words_fault, has_word}
 use Rattle.pal_asm.specs.declared.faults.Code.TheVariants.{DT, PF}
 use Rattle.pal_asm.specs.declared.faults.AsmFault.{AsmFault}
+use Rattle.pal_list.specs.References.{is_reference, referred_cell}
 use Rattle.pal_list.specs.Tags.{tag_name, is_given}
+use Rattle.pal_list.specs.Named.{NamesThere}
 use Rattle.pal_list.specs.Defined.{tags_in, tags_of, IsNoTag}
-use Rattle.pal_list.proofs.GrammarLemmas.{number_parts}
+use Rattle.pal_list.proofs.GrammarLemmas.{term_parts, number_parts}
 use Rattle.pal_list.proofs.TagLemmas.{tags_differ, tag_not_permanent}
+use Rattle.pal_list.proofs.TapeLemmas.{last_append}
 
 -- there is a pair
 abbrev pub is_some_pair : List (ℕ × ℕ) → Bool
@@ -44,6 +52,22 @@ pub record Knows (tagged : ℕ → Bool) (known : Known) : Type 0 where
 abbrev pub tag_value : (ℕ → Bool) → List (ℕ × ℕ) → ℕ → Option ℕ
 tag_value tagged pairs cell = if is_given pairs cell && tagged cell then Some (cell % 4096) else None
 
+-- a body is a reference of a word's operation by a name, and indirect where the word is
+pub record IsNamed (word name : ℕ) (body : Body) : Type 0 where
+  pub operation : Operation
+  pub is_operation : word_of operation ≡ 512 * (word / 512)
+  pub body_is : body ≡ Reference operation (nat_eq (word / 256 % 2) 1) (Some (term_parts (Name name)))
+
+-- the body of a memory reference whose cell has a tag is one by that tag's name
+abbrev pub NamesTag : (ℕ → Bool) → ℕ → ℕ → Body → Type 0
+NamesTag tagged cell word body =
+    is_reference (cell % 4096) word ≡ true → tagged (referred_cell cell word) ≡ true → IsNamed word (tag_name (referred_cell cell word)) body
+
+-- so it is with the statement there
+abbrev pub NamesTagThere : (ℕ → Bool) → Source → ℕ → ℕ → Type 0
+NamesTagThere tagged source cell word =
+    is_reference (cell % 4096) word ≡ true → tagged (referred_cell cell word) ≡ true → NamesThere source cell word (tag_name (referred_cell cell word))
+
 -- Behind these statements the next word goes to this place of this field, and these words stand in cells; no statement has
 -- a fault, and names stand for their permanent values, but for the tags of these words' cells.
 pub record Stands (tagged : ℕ → Bool) (source : Source) (place field : ℕ) (pairs : List (ℕ × ℕ)) : Type 0 where
@@ -57,6 +81,23 @@ pub record Stands (tagged : ℕ → Bool) (source : Source) (place field : ℕ) 
   pub no_word_fault : (last : Known) → Knows tagged last → words_fault last source ≡ None
   pub pairs_are : (last : Known) → Knows tagged last → pairs_by last source ≡ pairs
   pub word_is : has_word source ≡ is_some_pair pairs
+  pub named_are : (cell word : ℕ) → last_word pairs cell ≡ Some word → NamesTagThere tagged source cell word
+
+not_some : (value : ℕ) → None ≡ Some value → ⊥
+not_some value e = cc
+
+-- what is named before stays so
+pub names_older : (s : Result Statement LexFault) (source : Source) (cell word name : ℕ) → NamesThere source cell word name → NamesThere (s ∷ source) cell word name
+names_older s source cell word name is = record {
+  newer = s ∷ is.newer;
+  older = is.older;
+  statement = is.statement;
+  split = ap (λ l. s ∷ l) is.split;
+  place = is.place;
+  operation = is.operation;
+  is_operation = is.is_operation;
+  body = is.body;
+}
 
 pub stands_first : (tagged : ℕ → Bool) → Stands tagged [] 128 0 []
 stands_first tagged = record {
@@ -70,13 +111,11 @@ stands_first tagged = record {
   no_word_fault = λ last knows. refl;
   pairs_are = λ last knows. refl;
   word_is = refl;
+  named_are = λ cell word e. absurd (not_some word e);
 }
 
 abbrev pub statement_of : ℕ → Bool → List Token → List ℕ → Body → Statement
 statement_of line last tokens tags body = record { line = line; tags = tags; body = body; last = last; source = 0; tokens = tokens }
-
-not_some : (value : ℕ) → None ≡ Some value → ⊥
-not_some value e = cc
 
 -- a permanent name is no tag
 permanent_is_no_tag : (name value : ℕ) → permanent name ≡ Some value → IsNoTag name
@@ -100,6 +139,7 @@ origin_step tagged source place field pairs line tokens a small is = record {
   no_word_fault = λ last knows. ap (λ f. first_of f None) (is.no_word_fault last knows);
   pairs_are = is.pairs_are;
   word_is = is.word_is;
+  named_are = λ cell word e r g. names_older _ source cell word (tag_name (referred_cell cell word)) (is.named_are cell word e r g);
 }
   where
     small_mod : (a : ℕ) → a < 4096 → (0 + a) % 4096 + 0 ≡ a
@@ -120,6 +160,7 @@ field_step tagged source place field pairs line tokens n small is = record {
   no_word_fault = λ last knows. ap (λ f. first_of f None) (is.no_word_fault last knows);
   pairs_are = is.pairs_are;
   word_is = is.word_is;
+  named_are = λ cell word e r g. names_older _ source cell word (tag_name (referred_cell cell word)) (is.named_are cell word e r g);
 }
   where
     small_mod : (a : ℕ) → a < 8 → (0 + a) % 4096 ≡ a
@@ -285,10 +326,46 @@ listed_more tagged (pair ∷ pairs) cell word =
     let first = if tagged pair.0 then tag_name pair.0 ∷ [] else [] in
     ap (λ l. first ++ l) (listed_more tagged pairs cell word) ∙ sym (append_assoc first (tags_of tagged pairs) (label (tagged cell) cell))
 
+again : (cell : ℕ) → 4096 * (cell / 4096) + cell % 4096 ≡ cell
+again cell = omega arith
+
+names_here : (tagged : ℕ → Bool) (source : Source) (pairs : List (ℕ × ℕ)) (s : Statement) (cell word : ℕ) → NamesTag tagged cell word s.body
+    → Stands tagged source (cell % 4096) (cell / 4096) pairs → NamesTagThere tagged (Ok s ∷ source) cell word
+names_here tagged source pairs s cell word names is r g =
+    let named = names r g in
+    record {
+      newer = [];
+      older = source;
+      statement = s;
+      split = refl;
+      place = ap (λ f. 4096 * f + place_at source) is.field_is ∙ ap (λ p. 4096 * (cell / 4096) + p) is.place_is ∙ again cell;
+      operation = named.operation;
+      is_operation = named.is_operation;
+      body = named.body_is;
+    }
+
+same_word : (a b : ℕ) → Some a ≡ Some b → a ≡ b
+same_word a b e = cc
+
+names_behind : (tagged : ℕ → Bool) (source : Source) (pairs : List (ℕ × ℕ)) (s : Statement) (cell word : ℕ) → NamesTag tagged cell word s.body
+    → Stands tagged source (cell % 4096) (cell / 4096) pairs
+    → (other there : ℕ) → last_word (pairs ++ (cell, word) ∷ []) other ≡ Some there → NamesTagThere tagged (Ok s ∷ source) other there
+names_behind tagged source pairs s cell word names is other there e =
+    let step = sym (last_append pairs cell word other) ∙ e in
+    elim (eqb_tells cell other) [
+      | inl same ↦
+          let word_is = same_word word there (ap (λ (b : Bool). if b then Some word else last_word pairs other) (sym same.0) ∙ step) in
+          subst (λ (c : ℕ). NamesTagThere tagged (Ok s ∷ source) c there) same.1
+          (subst (λ (w : ℕ). NamesTagThere tagged (Ok s ∷ source) cell w) word_is (names_here tagged source pairs s cell word names is))
+      | inr apart ↦
+          λ r g. names_older (Ok s) source other there (tag_name (referred_cell other there))
+          (is.named_are other there (ap (λ (b : Bool). if b then Some word else last_word pairs other) (sym apart.0) ∙ step) r g)
+    ]
+
 pub word_step : (tagged : ℕ → Bool) (source : Source) (pairs : List (ℕ × ℕ)) (line : ℕ) (tokens : List Token) (body : Body) (cell word : ℕ) → cell < 32768
-    → IsWordOf tagged body (cell % 4096) word → Stands tagged source (cell % 4096) (cell / 4096) pairs
+    → IsWordOf tagged body (cell % 4096) word → NamesTag tagged cell word body → Stands tagged source (cell % 4096) (cell / 4096) pairs
     → Stands tagged (Ok (statement_of line false tokens (label (tagged cell) cell) body) ∷ source) (cell % 4096 + 1) (cell / 4096) (pairs ++ (cell, word) ∷ [])
-word_step tagged source pairs line tokens body cell word small means is =
+word_step tagged source pairs line tokens body cell word small means names is =
     let tags = label (tagged cell) cell in
     let place = cell % 4096 in
     let stated = word_stated source line tokens tags body means.is_word in
@@ -320,13 +397,11 @@ word_step tagged source pairs line tokens body cell word small means is =
           ∙ ap (λ f. pairs ++ (4096 * f + place, word) ∷ []) is.field_is
           ∙ ap (λ c. pairs ++ (c, word) ∷ []) (again cell);
       word_is = stated.word_is ∙ one_more pairs (cell, word);
+      named_are = names_behind tagged source pairs (statement_of line false tokens tags body) cell word names is;
     }
   where
     next : (a b c : ℕ) → a + b ≡ c → a + (1 + b) ≡ c + 1
     next a b c e = omega (arith, e)
-
-    again : (cell : ℕ) → 4096 * (cell / 4096) + cell % 4096 ≡ cell
-    again cell = omega arith
 
     word_first : (older : Option AsmFault) (line place : ℕ) → place < 4096 → older ≡ None → first_of older (at_line line (first_of None (past place))) ≡ None
     word_first older line place small none = rw (none, not_past place small) refl

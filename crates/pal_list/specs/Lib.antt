@@ -3,6 +3,7 @@ pub mod References
 pub mod Tags
 pub mod Statements
 pub mod Lines
+pub mod Named
 pub mod Sources
 pub mod Defined
 pub mod Fewest

@@ -9,6 +9,7 @@ ghost use Rattle.pal_sym.specs.Permanent.{permanent};
 ghost use Rattle.pal_list.specs.Defined.{DefinesTags, TagsWhatIsNamed};
 ghost use Rattle.pal_list.specs.Fewest.{AreFewest, group_1, group_2};
 ghost use Rattle.pal_list.specs.Lines.{source_of};
+ghost use Rattle.pal_list.specs.Named.{NamesTags};
 ghost use Rattle.pal_list.specs.Sources.{IsReadAs, IsSourceOf, SaysTheSame, words_of_tape};
 ghost use Rattle.pal_list.specs.Tags.{tag_name};
 
@@ -40,6 +41,12 @@ pub fn named_cells_are_tagged()
 /// stands for the address of its cell, and every other name for its permanent value.
 pub fn tags_are_defined_once()
     ensures { (frames text : List ℕ) (source : IsSourceOf frames text) → DefinesTags text (words_of_tape source.items) }
+{}
+
+/// At each memory reference of a tape whose cell has a tag, the statement of the tape's source there is a reference by that
+/// tag's name.
+pub fn references_are_by_tags()
+    ensures { (frames text : List ℕ) (source : IsSourceOf frames text) → NamesTags text source.items }
 {}
 
 /// No two cells have the same tag, and no tag is a permanent name.

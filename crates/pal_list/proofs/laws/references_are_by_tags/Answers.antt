@@ -1,0 +1,8 @@
+use Rattle.std.proofs.Common.{sym, subst}
+use Rattle.pal_list.specs.Named.{NamesTags}
+use Rattle.pal_list.proofs.DefinedLemmas.{tape_names}
+use Rattle.pal_list.proofs.laws.references_are_by_tags.Goals as goal
+
+pub returns : goal.returns
+returns c = λ frames text source.
+    subst (λ t. NamesTags t source.items) (sym source.lines) (tape_names source.items source.is_tape.is_front.3)
