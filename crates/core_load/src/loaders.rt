@@ -58,9 +58,9 @@ impl Loader {
                         self.words.push_reserved(word);
                         Ok(())
                     }
-                    Err(_) => {
+                    Err(refused) => {
                         self.reader = before;
-                        Err(TapeFault::Memory)
+                        Err(TapeFault::from(refused))
                     }
                 },
                 None => Ok(()),

@@ -1,7 +1,9 @@
 ghost use Rattle.std.specs.Prelude.{◌≡◌};
 ghost use Rattle.pal_asm.specs.Faults.{lexical};
+ghost use Rattle.pal_asm.specs.declared.faults.AsmFault.TheVariants.{Memory};
 
 use pal_lex::LexFault;
+use std::alloc::AllocError;
 use thiserror::Error;
 
 /// What is wrong with a statement or a source.
@@ -45,6 +47,14 @@ pub enum AsmFault {
 
     #[error("out of memory")]
     Memory,
+}
+
+impl From<AllocError> for AsmFault {
+    ghost from_gives = { λ _ fault. fault ≡ Memory };
+
+    fn from(_error: AllocError) -> AsmFault {
+        AsmFault::Memory
+    }
 }
 
 impl From<LexFault> for AsmFault {

@@ -194,7 +194,7 @@ fn second_statement(
     match assembler.second(statement) {
         Ok(pair) => match keep(pairs, pair) {
             Ok(()) => Ok(true),
-            Err(_) => Err(AsmFault::Memory),
+            Err(refused) => Err(AsmFault::from(refused)),
         },
         Err(word) => Err(word),
     }

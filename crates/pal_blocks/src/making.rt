@@ -68,7 +68,7 @@ fn make_byte(pass: &mut Pass, pairs: &mut Vec<(Cell, Word)>, byte: u8) -> Result
             Ok(answer) => make_answer(pass, pairs, &answer),
             Err(fault) => Err(AsmFault::from(fault)),
         },
-        Err(_) => Err(AsmFault::Memory),
+        Err(refused) => Err(AsmFault::from(refused)),
     }
 }
 

@@ -26,4 +26,5 @@ returns-in-Err-keep c = λ whole older tokens split made.
     let goes = sym c.is_pause.ensures ∙ c.if-is_pause.false in
     let behind = split goes in
     let answers = c.in-Ok.ensures.answers whole behind.0 older tokens goes behind.1 made.0 in
-    subst (λ p. MakesStatement p whole older (with_tokens tokens c.args.statement.now) (Err Memory) c.keep.new.pairs.items c.second.new.self) (sym goes) answers.1.words
+    rw c.from.ensures
+    (subst (λ p. MakesStatement p whole older (with_tokens tokens c.args.statement.now) (Err Memory) c.keep.new.pairs.items c.second.new.self) (sym goes) answers.1.words)

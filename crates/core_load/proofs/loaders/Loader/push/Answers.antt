@@ -30,7 +30,8 @@ returns-in-Ok-reserve c = λ frames fed.
 
 pub returns-in-Err-reserve : goal.returns-in-Err-reserve
 returns-in-Err-reserve c = λ frames fed.
-    let before = subst (λ (l : Loading). HasRead l.reader frames l.words) (sym c.self.view_is) fed in (
+    let before = subst (λ (l : Loading). HasRead l.reader frames l.words) (sym c.self.view_is) fed in
+    rw c.from.ensures (
       (
         c.in-Some.word,
         subst (λ (l : Loading). IsGoing (frames ++ c.args.frame ∷ []) (l.words ++ c.in-Some.word ∷ [])) c.self.view_is
