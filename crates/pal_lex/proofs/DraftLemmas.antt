@@ -1,9 +1,9 @@
 -- What is kept of a stretch, a byte at a time.
-use Rattle.std.proofs.Common.{◌≡◌, ℕ, ◌+◌, ◌-◌, ◌/◌, ◌≤◌, ◌⊎◌, inl, inr, Bool, true, false, if◌then◌else◌, suc, length, get_or, List, [], ◌∷◌, ◌++◌, refl, ap, sym, ◌∙◌, arith, length-append}
+use Rattle.std.proofs.Common.{◌≡◌, ℕ, ◌+◌, ◌-◌, ◌/◌, ◌≤◌, Bool, true, false, if◌then◌else◌, suc, length, get_or, List, [], ◌∷◌, ◌++◌, refl, ap, sym, ◌∙◌, arith, length-append}
 use Rattle.std.proofs.Math.ListN.{set}
 use Rattle.std.proofs.Math.Seq.{set-append_seam}
 use Rattle.pal_lex.specs.Text.{limit}
-use Rattle.pal_lex.specs.Cutting.{Piece, Run, Mark, is_blank, is_operand, with_character, with_blank, pieces, has_illegal}
+use Rattle.pal_lex.specs.Cutting.{Piece, Run, Mark, is_blank, is_operand, with_character, pieces, has_illegal}
 use Rattle.pal_lex.specs.Runs.{base, token, in_order, run_kind}
 use Rattle.pal_lex.specs.Growth.{grown}
 use Rattle.pal_lex.specs.Drafting.{Cut, cut_of, cut, weight_after}
@@ -33,11 +33,17 @@ lengthened tokens before last item more e at =
     ap (λ l. set l (length l - 1) (more item)) e ∙ ap (λ n. set (before ++ last ∷ []) n (more item)) (last_place before last)
     ∙ set-append_seam before last [] (more item) ∙ ap (λ v. before ++ more v ∷ []) same
 
--- a blank or a tab
-pub blank_put : (radix : Radix) (byte at : ℕ) (live : List (ℕ × ℕ)) → (byte ≡ 9) ⊎ (byte ≡ 32)
-    → cut_of (base radix) (has_illegal live) (with_blank at (pieces live)) ≡ cut radix ((byte, at) ∷ live)
-blank_put radix byte at live (inl e) = rw e refl
-blank_put radix byte at live (inr e) = rw e refl
+-- ## A stretch with no illegal byte
+
+cut_legal : (base : ℕ) (illegal : Bool) (before : List Piece) → (cut_of base illegal before).illegal ≡ illegal
+cut_legal base true before = refl
+cut_legal base false before = refl
+
+pub cut_illegal : (old : Cut) (base : ℕ) (illegal : Bool) (before : List Piece) → old ≡ cut_of base illegal before → illegal ≡ old.illegal
+cut_illegal old base illegal before e = sym (ap (λ (c : Cut). c.illegal) e ∙ cut_legal base illegal before)
+
+pub put_legal : (radix : Radix) (live : List (ℕ × ℕ)) (old : Cut) → old ≡ cut radix live → old.illegal ≡ false → old ≡ cut_of (base radix) false (pieces live)
+put_legal radix live old e legal = e ∙ ap (λ (b : Bool). cut_of (base radix) b (pieces live)) (cut_illegal old (base radix) (has_illegal live) (pieces live) e ∙ legal)
 
 abbrev weight_of : Tail → ℕ
 weight_of tail.Sign = 0
@@ -55,17 +61,17 @@ mark_is_no_run false true place weight e = cc
 mark_is_no_run false false place weight e = cc
 
 -- a letter or a digit behind others
-pub run_more : (base : ℕ) (illegal : Bool) (before : List Piece) (b at weight : ℕ) (is_bad : Bool) (tokens longer : List Token) (end : ℕ)
-    → 1 ≤ base → record { illegal = is_bad; tail = tail.Run weight; tokens = tokens } ≡ cut_of base illegal before
+pub run_more : (base : ℕ) (before : List Piece) (b at weight : ℕ) (is_bad : Bool) (tokens longer : List Token) (end : ℕ)
+    → 1 ≤ base → record { illegal = is_bad; tail = tail.Run weight; tokens = tokens } ≡ cut_of base false before
     → end ≡ limit (at + 1)
     → ((front : List Token) (last : Token) → tokens ≡ front ++ last ∷ []
     → longer ≡ front ++ record { kind = grown base weight b last.kind; start = last.start; end = end } ∷ [])
-    → record { illegal = is_bad; tail = tail.Run (weight / 64); tokens = longer } ≡ cut_of base illegal (with_character b at before)
-run_more base illegal [] b at weight is_bad tokens longer end least e ends more =
+    → record { illegal = is_bad; tail = tail.Run (weight / 64); tokens = longer } ≡ cut_of base false (with_character b at before)
+run_more base [] b at weight is_bad tokens longer end least e ends more =
     let no : tail.Run weight ≡ tail.Sign = ap (λ (cut : Cut). cut.tail) e in cc
-run_more base illegal (Mark kind place ∷ before) b at weight is_bad tokens longer end least e ends more =
+run_more base (Mark kind place ∷ before) b at weight is_bad tokens longer end least e ends more =
     absurd (mark_is_no_run (is_blank kind) (is_operand kind) (limit place) weight (ap (λ (cut : Cut). cut.tail) e))
-run_more base illegal (Run first others start stop ∷ before) b at weight is_bad tokens longer end least e ends more =
+run_more base (Run first others start stop ∷ before) b at weight is_bad tokens longer end least e ends more =
     let weighs : weight ≡ weight_after (suc (length others)) = ap (λ (cut : Cut). weight_of cut.tail) e in
     let listed : tokens ≡ in_order base before ++ token base (Run first others start stop) ∷ [] = ap (λ (cut : Cut). cut.tokens) e in
     let new : longer ≡ in_order base before ++ token base (Run first (others ++ b ∷ []) start (at + 1)) ∷ [] =
@@ -76,5 +82,5 @@ run_more base illegal (Run first others start stop ∷ before) b at weight is_ba
     let lighter : weight / 64 ≡ weight_after (suc (length (others ++ b ∷ []))) =
     ap (λ w. w / 64) weighs ∙ ap (λ n. weight_after (suc n)) (sym (length_more others b)) in
     ap (λ bad. record { illegal = bad; tail = tail.Run (weight / 64); tokens = longer }) (ap (λ (cut : Cut). cut.illegal) e)
-    ∙ ap (λ w. record { illegal = illegal; tail = tail.Run w; tokens = longer }) lighter
-    ∙ ap (λ l. record { illegal = illegal; tail = tail.Run (weight_after (suc (length (others ++ b ∷ [])))); tokens = l }) new
+    ∙ ap (λ w. record { illegal = false; tail = tail.Run w; tokens = longer }) lighter
+    ∙ ap (λ l. record { illegal = false; tail = tail.Run (weight_after (suc (length (others ++ b ∷ [])))); tokens = l }) new

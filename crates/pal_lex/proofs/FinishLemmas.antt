@@ -1,8 +1,8 @@
 -- The end of a statement, and of a source.
 use Rattle.std.proofs.Common.{◌≡◌, ℕ, ◌+◌, ◌≤◌, nat_eq, Bool, true, false, ◌&&◌, not, if◌then◌else◌, Some, None, Ok, Err, length, take, List, [], ◌∷◌, refl, ap, sym, subst, ◌∙◌, arith}
 use Rattle.pal_lex.specs.Text.{is_dead, is_end, is_over, ends_statement, stretch, since, up_to_end, cr_count, limit, line_after, text_from}
-use Rattle.pal_lex.specs.Cutting.{has_illegal}
-use Rattle.pal_lex.specs.Runs.{tokens}
+use Rattle.pal_lex.specs.Cutting.{has_illegal, pieces}
+use Rattle.pal_lex.specs.Runs.{base, tokens}
 use Rattle.pal_lex.specs.Grammar.{said, has_bad_number}
 use Rattle.pal_lex.specs.Drafting.{Cut, cut}
 use Rattle.pal_lex.specs.Statements.{radix_by, radix_after, statements, fault_of, first_of, first_fault}
@@ -17,6 +17,7 @@ use Rattle.pal_lex.specs.declared.lexing.State.TheVariants.{Reading, Over, Faile
 use Rattle.pal_lex.specs.declared.phrases.Said.{Said}
 use Rattle.pal_lex.specs.declared.phrases.Statement.{Statement}
 use Rattle.pal_lex.specs.declared.runs.Radix.TheVariants.{Octal}
+use Rattle.pal_lex.proofs.DraftLemmas.{cut_illegal, put_legal}
 use Rattle.pal_lex.proofs.LawLemmas.{one_more, newest, ends_source}
 use Rattle.pal_lex.proofs.JoinLemmas.{cut_statements, cut_line, cut_over, cut_twice, clear_comment, clear_stretch}
 use Rattle.pal_lex.proofs.PauseLemmas.{said_no_pause}
@@ -46,24 +47,30 @@ newest_is old seam text b h =
     one_more b text ∙ ap (λ (t : Bool). if t then newest text b ∷ statements text else statements text) (ends old seam text b h)
 
 illegal_is : (old : Progress) (seam : ℕ) (text : List ℕ) (b : ℕ) → Here old seam text b → has_illegal (stretch text) ≡ old.draft.illegal
-illegal_is old seam text b h = sym (same_illegal (live seam text) (stretch text) (bytes_since seam (stretch text))) ∙ sym (ap (λ (c : Cut). c.illegal) h.now.draft)
+illegal_is old seam text b h = sym (same_illegal (live seam text) (stretch text) (bytes_since seam (stretch text)))
+    ∙ cut_illegal old.draft (base (radix_after (statements text))) (has_illegal (live seam text)) (pieces (live seam text)) h.now.draft
 
-tokens_are : (old : Progress) (seam : ℕ) (text : List ℕ) (b : ℕ) → Here old seam text b → old.draft.tokens ≡ tokens_since seam text
-tokens_are old seam text b h = ap (λ (c : Cut). c.tokens) h.now.draft
+tokens_are : (old : Progress) (seam : ℕ) (text : List ℕ) (b : ℕ) → Here old seam text b → old.draft.illegal ≡ false → old.draft.tokens ≡ tokens_since seam text
+tokens_are old seam text b h legal = ap (λ (c : Cut). c.tokens) (put_legal (radix_after (statements text)) (live seam text) old.draft h.now.draft legal)
 
-bad_is : (old : Progress) (seam : ℕ) (text : List ℕ) (b : ℕ) → Here old seam text b → has_bad_number (tokens_behind text) ≡ has_bad_number old.draft.tokens
-bad_is old seam text b h =
-    sym (same_bad (radix_after (statements text)) (live seam text) (stretch text) (bytes_since seam (stretch text))) ∙ sym (ap has_bad_number (tokens_are old seam text b h))
+bad_is : (old : Progress) (seam : ℕ) (text : List ℕ) (b : ℕ) → Here old seam text b → old.draft.illegal ≡ false → has_bad_number (tokens_behind text) ≡ has_bad_number old.draft.tokens
+bad_is old seam text b h legal =
+    sym (same_bad (radix_after (statements text)) (live seam text) (stretch text) (bytes_since seam (stretch text))) ∙ sym (ap has_bad_number (tokens_are old seam text b h legal))
 
-said_is : (old : Progress) (seam : ℕ) (text : List ℕ) (b : ℕ) → Here old seam text b → said (tokens_behind text) ≡ said old.draft.tokens
-said_is old seam text b h =
-    sym (same_said (radix_after (statements text)) (live seam text) (stretch text) (bytes_since seam (stretch text))) ∙ sym (ap said (tokens_are old seam text b h))
+said_is : (old : Progress) (seam : ℕ) (text : List ℕ) (b : ℕ) → Here old seam text b → old.draft.illegal ≡ false → said (tokens_behind text) ≡ said old.draft.tokens
+said_is old seam text b h legal =
+    sym (same_said (radix_after (statements text)) (live seam text) (stretch text) (bytes_since seam (stretch text))) ∙ sym (ap said (tokens_are old seam text b h legal))
 
 pause_is : (old : Progress) (seam : ℕ) (text : List ℕ) (b : ℕ) → Here old seam text b → is_pause (stretch text) ≡ (not old.draft.illegal && is_lone_pause old.draft.tokens)
 pause_is old seam text b h =
     ap (λ (t : Bool). not t && is_lone_pause (tokens Octal (stretch text))) (illegal_is old seam text b h)
-    ∙ ap (λ (t : Bool). not old.draft.illegal && t)
-    (sym (same_lone_pause (radix_after (statements text)) Octal (live seam text) (stretch text) (bytes_since seam (stretch text))) ∙ sym (ap is_lone_pause (tokens_are old seam text b h)))
+    ∙ where_legal old.draft.illegal (is_lone_pause (tokens Octal (stretch text))) (is_lone_pause old.draft.tokens) (λ legal.
+    sym (same_lone_pause (radix_after (statements text)) Octal (live seam text) (stretch text) (bytes_since seam (stretch text)))
+    ∙ sym (ap is_lone_pause (tokens_are old seam text b h legal)))
+  where
+    where_legal : (illegal a b : Bool) → (illegal ≡ false → a ≡ b) → (not illegal && a) ≡ (not illegal && b)
+    where_legal true a b f = refl
+    where_legal false a b f = f refl
 
 -- ## A statement
 
@@ -97,7 +104,7 @@ handed_out : (old : Progress) (seam : ℕ) (text : List ℕ) (b : ℕ) (s : Said
     → IsHandedOut seam text b (ended_statement b s old) old (ended b s.body old)
 handed_out old seam text b s state h judges =
     let good : newest text b ≡ Ok (with_tokens (tokens_behind text) (record (ended_statement b s old) { line = line_after text })) =
-    rw (illegal_is old seam text b h ∙ judges.0, bad_is old seam text b h ∙ judges.1, said_is old seam text b h ∙ judges.2) refl in
+    rw (illegal_is old seam text b h ∙ judges.0, bad_is old seam text b h judges.0 ∙ judges.1, said_is old seam text b h judges.0 ∙ judges.2) refl in
     let is : statements (b ∷ text) ≡ Ok (with_tokens (tokens_behind text) (ended_statement b s old)) ∷ statements text =
     newest_is old seam text b h ∙ ap (λ n. n ∷ statements text) good
     ∙ ap (λ n. Ok (with_tokens (tokens_behind text) (record (ended_statement b s old) { line = n })) ∷ statements text) (sym h.now.line) in
@@ -105,7 +112,7 @@ handed_out old seam text b s state h judges =
     record {
       no_fault = none;
       newest = is;
-      tokens = ap (λ l. if old.keeps_tokens then l else []) (tokens_are old seam text b h);
+      tokens = ap (λ l. if old.keeps_tokens then l else []) (tokens_are old seam text b h judges.0);
       source = refl;
       read = has_ended old seam text b s (read_by (nat_eq b 36) old seam text b s h state refl none (ap radix_after is));
     }
@@ -128,6 +135,10 @@ pub is_paused : (l : Progress) (text : List ℕ) → HasPaused l text → IsPaus
 unfolding HasPaused
 is_paused l text h = h
 
+alone_legal : (illegal alone : Bool) → (not illegal && alone) ≡ true → illegal ≡ false
+alone_legal true alone e = absurd cc
+alone_legal false alone e = refl
+
 pause_out : (old : Progress) (seam : ℕ) (text : List ℕ) (b : ℕ) → Here old seam text b → old.may_pause ≡ true → (not old.draft.illegal && is_lone_pause old.draft.tokens) ≡ true
     → Pauses seam text b (pause_statement old) old (paused old)
 pause_out old seam text b h may alone =
@@ -138,7 +149,7 @@ pause_out old seam text b h may alone =
       line = h.now.line;
       tags = refl;
       last = refl;
-      tokens = ap (λ l. if old.keeps_tokens then l else []) (tokens_are old seam text b h);
+      tokens = ap (λ l. if old.keeps_tokens then l else []) (tokens_are old seam text b h (alone_legal old.draft.illegal (is_lone_pause old.draft.tokens) alone));
       source = refl;
       same = cut_statements text;
       clear = (cut_twice text, cut_over text ∙ h.now.not_over);
@@ -188,11 +199,11 @@ fault_finished old new seam text b (IC line) h quiet judges becomes =
 fault_finished old new seam text b (NU line) h quiet judges becomes =
     subst (λ (n : Progress). Tells seam text b (NU line) old n) (sym becomes)
     (tells old seam text b (NU line) h quiet
-    (rw (illegal_is old seam text b h ∙ judges.1, bad_is old seam text b h ∙ judges.2) (ap (λ l. Err (NU l)) (sym h.now.line ∙ sym judges.0))))
+    (rw (illegal_is old seam text b h ∙ judges.1, bad_is old seam text b h judges.1 ∙ judges.2) (ap (λ l. Err (NU l)) (sym h.now.line ∙ sym judges.0))))
 fault_finished old new seam text b (SY line) h quiet judges becomes =
     subst (λ (n : Progress). Tells seam text b (SY line) old n) (sym becomes)
     (tells old seam text b (SY line) h quiet
-    (rw (illegal_is old seam text b h ∙ judges.1, bad_is old seam text b h ∙ judges.2, said_is old seam text b h ∙ judges.3) (ap (λ l. Err (SY l)) (sym h.now.line ∙ sym judges.0))))
+    (rw (illegal_is old seam text b h ∙ judges.1, bad_is old seam text b h judges.1 ∙ judges.2, said_is old seam text b h judges.1 ∙ judges.3) (ap (λ l. Err (SY l)) (sym h.now.line ∙ sym judges.0))))
 fault_finished old new seam text b (NE line) h quiet judges becomes = absurd judges
 fault_finished old new seam text b Memory h quiet judges becomes = (h.now.no_fault, h.now.not_over, h.dead, becomes)
 

@@ -1,5 +1,5 @@
 -- Letters and digits that are taken together.
-use Rattle.std.proofs.Common.{◌≡◌, ℕ, ◌+◌, ◌-◌, ◌/◌, ◌≤◌, ◌<◌, nat_eq, min, Bool, true, false, ◌&&◌, ◌||◌, not, if◌then◌else◌, zero, suc, length, get_or, take, drop, Some, List, [], ◌∷◌, ◌++◌, refl, ap, sym, subst, ◌∙◌, arith, append-nil, append_assoc}
+use Rattle.std.proofs.Common.{◌≡◌, ℕ, ◌+◌, ◌-◌, ◌/◌, ◌≤◌, ◌<◌, nat_eq, min, Bool, true, false, true≢false, ◌&&◌, ◌||◌, not, if◌then◌else◌, zero, suc, length, get_or, take, drop, Some, List, [], ◌∷◌, ◌++◌, refl, ap, sym, subst, ◌∙◌, arith, append-nil, append_assoc}
 use Rattle.std.proofs.lemmas.Bool.Decides.{nat_tests}
 use Rattle.pal_lex.specs.Text.{is_ignored, in_comment, is_dead, is_end, is_over, stretch, since, limit, line_after, cr_count, text_from}
 use Rattle.pal_lex.specs.Steps.{has_cr, with_characters, pending, PutsRun}
@@ -111,11 +111,11 @@ all_tokens base (Mark Equals place ∷ before) apart = append-nil _
 all_tokens base (Mark Comma place ∷ before) apart = append-nil _
 all_tokens base (Mark Star place ∷ before) apart = append-nil _
 
-pub run_put : (base : ℕ) (illegal : Bool) (before : List Piece) (first : ℕ) (others : List ℕ) (at : ℕ) (run : Grown) (old new : Cut)
-    → ((weight : ℕ) → old.tail ≡ tail.Run weight → ⊥) → IsRun base first others at run → old ≡ cut_of base illegal before
+pub run_put : (base : ℕ) (before : List Piece) (first : ℕ) (others : List ℕ) (at : ℕ) (run : Grown) (old new : Cut)
+    → ((weight : ℕ) → old.tail ≡ tail.Run weight → ⊥) → IsRun base first others at run → old ≡ cut_of base false before
     → new ≡ record { illegal = old.illegal; tail = tail.Run run.weight; tokens = old.tokens ++ pending old.tail ++ run.token ∷ [] }
-    → PutsRun base illegal before first others at (Some run.more) old new
-run_put base illegal before first others at run old new apart is was put = (is.range, is.coded, put ∙ same ∙ ap (cut_of base illegal) (sym joined))
+    → PutsRun base false before first others at (Some run.more) old new
+run_put base before first others at run old new apart is was put = (is.range, is.coded, put ∙ same ∙ ap (cut_of base false) (sym joined))
   where
     front : List ℕ
     front = take run.more others
@@ -135,11 +135,17 @@ run_put base illegal before first others at run old new apart is was put = (is.r
         ∙ ap (λ t. in_order base before ++ t ∷ []) is.token
         ∙ ap (λ n. in_order base before ++ record { kind = run_kind base first front; start = limit at; end = limit (at + 1 + n) } ∷ []) (sym many)
 
-    same : record { illegal = old.illegal; tail = tail.Run run.weight; tokens = old.tokens ++ pending old.tail ++ run.token ∷ [] } ≡ cut_of base illegal (Run first front at (at + 1 + length front) ∷ before)
+    same : record { illegal = old.illegal; tail = tail.Run run.weight; tokens = old.tokens ++ pending old.tail ++ run.token ∷ [] } ≡ cut_of base false (Run first front at (at + 1 + length front) ∷ before)
     same =
         ap (λ b. record { illegal = b; tail = tail.Run run.weight; tokens = old.tokens ++ pending old.tail ++ run.token ∷ [] }) (ap (λ (c : Cut). c.illegal) was)
-        ∙ ap (λ v. record { illegal = illegal; tail = tail.Run v; tokens = old.tokens ++ pending old.tail ++ run.token ∷ [] }) (is.weight ∙ ap (λ n. weight_after (suc n)) (sym many))
-        ∙ ap (λ t. record { illegal = illegal; tail = tail.Run (weight_after (suc (length front))); tokens = t }) tokens
+        ∙ ap (λ v. record { illegal = false; tail = tail.Run v; tokens = old.tokens ++ pending old.tail ++ run.token ∷ [] }) (is.weight ∙ ap (λ n. weight_after (suc n)) (sym many))
+        ∙ ap (λ t. record { illegal = false; tail = tail.Run (weight_after (suc (length front))); tokens = t }) tokens
+
+-- a run of a stretch with no illegal byte
+pub puts_legal : (base : ℕ) (illegal : Bool) (before : List Piece) (first : ℕ) (others : List ℕ) (at more : ℕ) (old new : Cut) → old ≡ cut_of base illegal before → old.illegal ≡ false
+    → (old ≡ cut_of base false before → PutsRun base false before first others at (Some more) old new) → PutsRun base illegal before first others at (Some more) old new
+puts_legal base false before first others at more old new e legal put = put e
+puts_legal base true before first others at more old new e legal put = absurd (true≢false (sym (ap (λ (c : Cut). c.illegal) e) ∙ legal))
 
 -- ## A run in a text
 

@@ -1,5 +1,5 @@
 -- What is kept of a stretch that isn't ended yet.
-use Rattle.std.specs.Prelude.{ℕ, ◌/◌, Bool, if◌then◌else◌, zero, suc, length, List, [], ◌∷◌}
+use Rattle.std.specs.Prelude.{ℕ, ◌/◌, Bool, true, false, if◌then◌else◌, zero, suc, length, List, [], ◌∷◌}
 use Rattle.pal_lex.specs.Text.{limit}
 use Rattle.pal_lex.specs.Cutting.{Piece, Run, Mark, is_operand, is_blank, trimmed, pieces, has_illegal}
 use Rattle.pal_lex.specs.Runs.{base, in_order}
@@ -24,8 +24,13 @@ tail_of [] = tail.Sign
 tail_of (Run first others start end ∷ before) = tail.Run (weight_after (suc (length others)))
 tail_of (Mark kind place ∷ before) = if is_blank kind then tail.Blank (limit place) else (if is_operand kind then tail.Dot else tail.Sign)
 
+-- no token of a stretch that an illegal byte spoils
+abbrev pub spoiled : Cut
+spoiled = record { illegal = true; tail = tail.Sign; tokens = [] }
+
 abbrev pub cut_of : ℕ → Bool → List Piece → Cut
-cut_of base illegal before = record { illegal = illegal; tail = tail_of before; tokens = in_order base (trimmed before) }
+cut_of base illegal before =
+    if illegal then spoiled else record { illegal = false; tail = tail_of before; tokens = in_order base (trimmed before) }
 
 -- what is kept of these live bytes
 abbrev pub cut : Radix → List (ℕ × ℕ) → Cut

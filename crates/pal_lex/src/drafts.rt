@@ -3,7 +3,7 @@ ghost use Rattle.pal_lex.specs.Text.{limit};
 ghost use Rattle.pal_lex.specs.Cutting.{Piece, Run, Mark, is_coded, is_operand, is_blank, sign_of, with_character, with_blank, with_sign};
 ghost use Rattle.pal_lex.specs.Runs.{base};
 ghost use Rattle.pal_lex.specs.Growth.{grown};
-ghost use Rattle.pal_lex.specs.Drafting.{cut, cut_of};
+ghost use Rattle.pal_lex.specs.Drafting.{cut, cut_of, spoiled};
 ghost use Rattle.pal_lex.specs.Steps.{pending, PutsRun};
 
 use crate::growing::run_of;
@@ -119,6 +119,9 @@ impl Draft {
         ensures put { (live : List (ℕ × ℕ)) (at : ℕ) → place ≡ limit at → self.old ≡ cut radix live
             → OnOk result (self.new ≡ cut radix ((byte, at) ∷ live)) }
     {
+        if self.illegal {
+            return Ok(());
+        }
         match byte {
             b'A'..=b'Z' | b'0'..=b'9' => self.put_character(radix, byte, place),
             b' ' | b'\t' => {
@@ -129,11 +132,20 @@ impl Draft {
             _ => match sign_of(byte) {
                 Some(sign) => self.put_sign(sign, place),
                 None => {
-                    self.illegal = true;
+                    self.spoil();
                     Ok(())
                 }
             },
         }
+    }
+
+    /// Keeps no token of a stretch that has an illegal byte: nothing asks for them.
+    fn spoil(&mut self)
+        ensures { self.new ≡ spoiled }
+    {
+        self.illegal = true;
+        self.tail = Tail::Sign;
+        self.tokens.clear();
     }
 
     /// Puts a token behind the others, and a blank before it where one is pending.
@@ -163,8 +175,8 @@ impl Draft {
     fn put_character(&mut self, radix: Radix, byte: u8, place: u64) -> Result<(), AllocError>
         requires { is_coded byte ≡ true }
         ensures refused { OnErr result (self.new ≡ self.old) }
-        ensures put { (illegal : Bool) (before : List Piece) (at : ℕ) → place ≡ limit at → self.old ≡ cut_of (base radix) illegal before
-            → OnOk result (self.new ≡ cut_of (base radix) illegal (with_character byte at before)) }
+        ensures put { (before : List Piece) (at : ℕ) → place ≡ limit at → self.old ≡ cut_of (base radix) false before
+            → OnOk result (self.new ≡ cut_of (base radix) false (with_character byte at before)) }
     {
         let end = place.saturating_add(1);
         if let Tail::Run(weight) = self.tail {
@@ -190,6 +202,9 @@ impl Draft {
         ensures put { (illegal : Bool) (before : List Piece) (at : ℕ) → place ≡ limit at → self.old ≡ cut_of (base radix) illegal before
             → PutsRun (base radix) illegal before first others.now at result self.old self.new }
     {
+        if self.illegal {
+            return Some(0);
+        }
         if let Tail::Run(_) = self.tail {
             return match self.put_character(radix, first, place) {
                 Ok(()) => Some(0),
@@ -205,8 +220,8 @@ impl Draft {
 
     #[inline(always)]
     fn put_blank(&mut self, place: u64)
-        ensures { (base : ℕ) (illegal : Bool) (before : List Piece) (at : ℕ) → place ≡ limit at → self.old ≡ cut_of base illegal before
-            → self.new ≡ cut_of base illegal (with_blank at before) }
+        ensures { (base : ℕ) (before : List Piece) (at : ℕ) → place ≡ limit at → self.old ≡ cut_of base false before
+            → self.new ≡ cut_of base false (with_blank at before) }
     {
         match self.tail {
             Tail::Sign => {}
@@ -219,8 +234,8 @@ impl Draft {
     #[inline(always)]
     fn put_dot(&mut self, place: u64) -> Result<(), AllocError>
         ensures refused { OnErr result (self.new ≡ self.old) }
-        ensures put { (base : ℕ) (illegal : Bool) (before : List Piece) (at : ℕ) → place ≡ limit at → self.old ≡ cut_of base illegal before
-            → OnOk result (self.new ≡ cut_of base illegal (Mark (Kind.Term Term.Here) at ∷ before)) }
+        ensures put { (base : ℕ) (before : List Piece) (at : ℕ) → place ≡ limit at → self.old ≡ cut_of base false before
+            → OnOk result (self.new ≡ cut_of base false (Mark (Kind.Term Term.Here) at ∷ before)) }
     {
         let token = Token {
             kind: Kind::Term(Term::Here),
@@ -236,8 +251,8 @@ impl Draft {
         requires operand { is_operand sign ≡ false }
         requires blank { is_blank sign ≡ false }
         ensures refused { OnErr result (self.new ≡ self.old) }
-        ensures put { (base : ℕ) (illegal : Bool) (before : List Piece) (at : ℕ) → place ≡ limit at → self.old ≡ cut_of base illegal before
-            → OnOk result (self.new ≡ cut_of base illegal (with_sign (Some sign) at before)) }
+        ensures put { (base : ℕ) (before : List Piece) (at : ℕ) → place ≡ limit at → self.old ≡ cut_of base false before
+            → OnOk result (self.new ≡ cut_of base false (with_sign (Some sign) at before)) }
     {
         self.tokens.push(Token {
             kind: sign,
