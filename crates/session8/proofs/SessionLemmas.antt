@@ -173,6 +173,24 @@ store_refused s v bytes name text words file.TooLong is alike storable words_are
 store_refused s v bytes name text words file.TentativeOpen is alike storable words_are has = absurd has
 store_refused s v bytes name text words file.NothingWritten is alike storable words_are has = absurd has
 
+-- a text that can't be stored
+pub no_text_stored : (s : Seen) (bytes : List ℕ) (name : ℕ) (text : List ℕ) → parsed_name bytes ≡ Some name → is_storable text ≡ false → Does (entry.Store bytes text) s (Err fault.BadText) s
+no_text_stored s bytes name text is no_text = record {
+  step = λ quiet. ((name, is, no_text), refl);
+  later = record { reads = omega arith; writes = omega arith };
+  files = λ running more. absurd (omega (arith, more));
+  running = λ quiet. quiet.running;
+  memory = λ is. cc;
+  reply = tt;
+  tells = λ running. record { running = running; reads = refl; writes = refl };
+  stopped = λ halted. (((name, is), no_text), refl);
+  done = tt;
+}
+
+-- a text for whose words memory was lacking
+pub text_lacks : (s : Seen) (bytes : List ℕ) (name : ℕ) (text : List ℕ) → parsed_name bytes ≡ Some name → HoldAlike s → is_storable text ≡ true → s.volume.stopped ≡ false → contains s.volume.holds name ≡ false → Does (entry.Store bytes text) s (Err fault.Memory) s
+text_lacks s bytes name text is alike storable running free = undone _ _ _ (λ halted. absurd (true≢false (sym halted ∙ running))) (name, is, storable, sym (alike name) ∙ free) (steady_same _ _ refl) refl
+
 -- a text that is not stored, since it can't be, or a write has failed, or a job holds the name
 pub unstored : (s : Seen) (bytes : List ℕ) (name : ℕ) (text : List ℕ) (why : SessionFault) → parsed_name bytes ≡ Some name → HoldAlike s → (s.volume.stopped ≡ false → contains s.volume.holds name ≡ true) → (is_storable text ≡ false → why ≡ fault.BadText)
     → (is_storable text ≡ true → s.volume.stopped ≡ true → why ≡ fault.File file.Stopped) → (is_storable text ≡ true → s.volume.stopped ≡ false → why ≡ fault.File (file.Busy name)) → Does (entry.Store bytes text) s (Err why) s
@@ -182,17 +200,7 @@ unstored s bytes name text why is alike held bad halts busy = by_text (is_storab
     it f = Does (entry.Store bytes text) s (Err f) s
 
     by_text : (storable halted : Bool) → is_storable text ≡ storable → s.volume.stopped ≡ halted → it why
-    by_text false halted no_text stands = subst it (sym (bad no_text)) (record {
-      step = λ quiet. ((name, is, no_text), refl);
-      later = record { reads = omega arith; writes = omega arith };
-      files = λ running more. absurd (omega (arith, more));
-      running = λ quiet. quiet.running;
-      memory = λ is. cc;
-      reply = tt;
-      tells = λ running. record { running = running; reads = refl; writes = refl };
-      stopped = λ halted. (((name, is), no_text), refl);
-      done = tt;
-    })
+    by_text false halted no_text stands = subst it (sym (bad no_text)) (no_text_stored s bytes name text is no_text)
     by_text true true storable stands = subst it (sym (halts storable stands)) (stopped _ _ _ refl ((name, is), storable) refl stands (behind_same _ _ refl))
     by_text true false storable stands = subst it (sym (busy storable stands)) (refused _ _ _ _ stands (λ quiet. quiet) (steady_same _ _ refl) (name, is, storable, (refl, sym (alike name) ∙ held stands)) refl)
 

@@ -1,15 +1,17 @@
-use Rattle.std.proofs.Common.{◌≡◌, ◌∙◌, ◌/◌, true, false, true≢false, Ok, Err, sym, ap, subst, IsErrOf, arith}
+use Rattle.std.proofs.Common.{◌≡◌, ◌∙◌, ◌/◌, true, false, true≢false, Ok, Err, refl, sym, ap, subst, IsErrOf, arith, Result}
 use Rattle.std.proofs.lemmas.Result.{err_from_is_err_and}
 use Rattle.char_pack.specs.Texts.{is_storable, stored}
-use Rattle.char_pack.specs.declared.faults.TextFault.TheVariants.{BadText}
+use Rattle.char_pack.specs.declared.faults.TextFault.{TextFault}
+use Rattle.char_pack.specs.declared.faults.TextFault.TheVariants.{BadText, Memory}
 use Rattle.jobs8.specs.Settled.{plain_jobs}
 use Rattle.os8_files.specs.Puts.{TellsRoom}
 use Rattle.script8.specs.Faults.{fault_of_file}
 use Rattle.session8.specs.Room.{IfFile}
 use Rattle.session8.specs.Session.{Seen}
-use Rattle.session8.proofs.SessionLemmas.{store_refused, store_done, put_settled, storable_is, ok_err, unstored}
+use Rattle.session8.proofs.SessionLemmas.{store_refused, store_done, put_settled, storable_is, ok_err, unstored, no_text_stored, text_lacks}
 use Rattle.os8_dir.specs.Entries.{contains}
-use Rattle.session8.proofs.LeavesLemmas.{store_leaves}
+use Rattle.script8.specs.declared.entries.Entry.TheVariants as entry
+use Rattle.session8.proofs.LeavesLemmas.{leaves_same, store_leaves}
 use Rattle.session8.proofs.RoomLemmas.{store_room, unstored_room}
 use Rattle.session8.proofs.sessions.Session.store_named.Goals.{then-stopped-via-then-stopped, then-stopped-via-else-stopped+then-is_held}
 use Rattle.session8.proofs.sessions.Session.store_named.Goals as goal
@@ -61,3 +63,34 @@ returns-in_err-put-in-Ok-clause-room g c =
 pub returns-then-stopped-clause-room : goal.returns-then-stopped-clause-room
 returns-then-stopped-clause-room g c =
     unstored_room _ c.args.name (stored c.args.text.now) c.unstored.result (is_storable c.args.text.now) c.stopped-then-stopped.result c.unstored.ensures.bad c.unstored.ensures.stopped c.unstored.ensures.busy
+
+pub returns-in_err-put-in-Ok-clause-leaves : goal.returns-in_err-put-in-Ok-clause-leaves
+returns-in_err-put-in-Ok-clause-leaves g c bytes is =
+    rw (← c.self.view_is)
+    (store_leaves bytes c.args.text.now _ _ c.args.name is (c.block_reads.ensures.put c.self.inside.files c.put.new.self c.args.name c.deref.result.now (Err c.in_err-put-in-Ok.field-0.0) c.in_err-put-in-Ok.ensures.call)
+    (c.file_places.ensures.put c.self.inside.files c.put.new.self c.args.name c.deref.result.now (Err c.in_err-put-in-Ok.field-0.0) c.in_err-put-in-Ok.ensures.call))
+
+pub returns-then-stopped-clause-leaves : goal.returns-then-stopped-clause-leaves
+returns-then-stopped-clause-leaves g c bytes is = leaves_same (entry.Store bytes c.args.text.now) c.args.self.now _ refl
+
+pub returns-in-Err-BadText-clause-does : goal.returns-in-Err-BadText-clause-does
+returns-in-Err-BadText-clause-does g c bytes is =
+    rw (← c.self.view_is)
+    (no_text_stored _ bytes c.args.name c.args.text.now is (c.store.ensures.bad_text.0 (subst (λ r. IsErrOf r BadText) (sym (c.in-Err-BadText.is ∙ ap Err c.in-Err-BadText.field-0-is)) refl)))
+
+pub returns-in-Err-BadText-clause-leaves : goal.returns-in-Err-BadText-clause-leaves
+returns-in-Err-BadText-clause-leaves g c bytes is = leaves_same (entry.Store bytes c.args.text.now) c.args.self.now _ refl
+
+-- a fault of a text is one of two
+other_fault : {A : Type 0} → ◌≡◌ {A = Result A TextFault} (Err Memory) (Err BadText) → ⊥
+other_fault same = cc
+
+pub returns-in-Err-Memory-clause-does : goal.returns-in-Err-Memory-clause-does
+returns-in-Err-Memory-clause-does g c bytes is =
+    rw (← c.self.view_is)
+    (text_lacks _ bytes c.args.name c.args.text.now is (λ name. c.held_names.ensures _ _ name c.self.invariant.0)
+    (storable_is (is_storable c.args.text.now) (λ bad. other_fault (subst (λ r. IsErrOf r BadText) (c.in-Err-Memory.is ∙ ap Err c.in-Err-Memory.field-0-is) (c.store.ensures.bad_text.1 bad))))
+    (sym c.stopped.ensures.value ∙ c.if-stopped.false) (sym c.is_held.ensures ∙ c.if-is_held.false))
+
+pub returns-in-Err-Memory-clause-leaves : goal.returns-in-Err-Memory-clause-leaves
+returns-in-Err-Memory-clause-leaves g c bytes is = leaves_same (entry.Store bytes c.args.text.now) c.args.self.now _ refl
