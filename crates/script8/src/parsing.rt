@@ -123,25 +123,25 @@ fn parse_entry_with_word(verb: &[u8], word: &[u8]) -> Option<Entry>
     ensures { result ≡ entry_with_word verb.now word.now }
 {
     if verb == b"TURN".as_slice() {
-        return Some(Entry::Turn(number(word)?));
+        return number(word).map(Entry::Turn);
     }
     if verb == b"START".as_slice() {
-        return Some(Entry::Start(cell(word)?));
+        return cell(word).map(Entry::Start);
     }
     if verb == b"STEP".as_slice() {
-        return Some(Entry::Step(steps(word)?));
+        return steps(word).map(Entry::Step);
     }
     if verb == b"GO".as_slice() {
-        return Some(Entry::Go(steps(word)?));
+        return steps(word).map(Entry::Go);
     }
     if verb == b"KEY".as_slice() {
-        return Some(Entry::Key(character(word)?));
+        return character(word).map(Entry::Key);
     }
     if verb == b"SWITCHES".as_slice() {
-        return Some(Entry::Switches(octal_word(word)?));
+        return octal_word(word).map(Entry::Switches);
     }
     if verb == b"EXAMINE".as_slice() {
-        return Some(Entry::Examine(cell(word)?));
+        return cell(word).map(Entry::Examine);
     }
     None
 }
