@@ -5,7 +5,7 @@ use Rattle.std.proofs.Math.ListN.{length-set}
 use Rattle.std.proofs.Math.Nat.{mul-le-mul_right, div-mul-le_self, zero-min}
 use Rattle.os8_dir.specs.declared.entries.DirEntry.{DirEntry}
 use Rattle.os8_dir.specs.declared.entries.DirEntry.TheVariants.{File, Empty}
-use Rattle.os8_dir.specs.Names.{padded}
+use Rattle.os8_dir.specs.Names.{padded, words_of_name}
 use Rattle.os8_dir.specs.Entries.{Listed, minus, total, IsTidy}
 use Rattle.os8_dir.specs.Found.{per_segment}
 use Rattle.os8_dir.specs.Segments.{words_of_entry, words_of_entries, words_of_segment, before_segment, entries_of}
@@ -78,12 +78,21 @@ pub length-entry : (info : ℕ) (e : DirEntry) → length (words_of_entry info e
 length-entry info (File name words size) = omega (arith, length-append (take info words) (minus size ∷ []), length-take-least info words)
 length-entry info (Empty size) = omega arith
 
+pub length-file : (info name size : ℕ) (kept : List ℕ) → length (take info kept) ≡ info → length (words_of_entry info (File name kept size)) ≡ 5 + info
+length-file info name size kept all = omega (arith, length-append (take info kept) (minus size ∷ []), all)
+
 pub length-entries : (info : ℕ) (es : List DirEntry) → length (words_of_entries info es) ≤ length es * (5 + info)
 length-entries info [] = omega arith
 length-entries info (e ∷ es) = omega (arith, length-append (words_of_entry info e) (words_of_entries info es), length-entry info e, length-entries info es)
 
 pub drop-item : (k : ℕ) (xs : List DirEntry) (x : DirEntry) → k < length xs → x ≡ get_or xs k x → drop k xs ≡ x ∷ drop (k + 1) xs
 drop-item k xs x inside is = rw add-one (drop-cons xs k x inside ∙ ap (λ y. y ∷ drop (suc k) xs) (sym is))
+
+-- a file: its name, its information words and its length
+pub written-file : (segment named told words first kept : List ℕ) (at info name size word : ℕ) → words ≡ words_of_name name → named ≡ written segment at words → first ≡ take info kept → length first ≡ info → told ≡ written named (at + 4) first → word ≡ minus size
+    → set told (at + 4 + info) word ≡ written segment at (words_of_entry info (File name kept size))
+written-file segment named told words first kept at info name size word spelled names front all tells is =
+    rw (tells, names, spelled, is, ← front) (sym (written-append segment at (words_of_name name) (first ++ minus size ∷ []) ∙ written-append (written segment at (words_of_name name)) (at + 4) first (minus size ∷ []) ∙ rw all refl))
 
 -- one more entry
 pub written-entry : (segment : List ℕ) (at info : ℕ) (es rest : List DirEntry) (e : DirEntry) → es ≡ e ∷ rest → written segment at (words_of_entries info es) ≡ written (written segment at (words_of_entry info e)) (at + length (words_of_entry info e)) (words_of_entries info rest)
