@@ -123,25 +123,25 @@ fn parse_entry_with_word(verb: &[u8], word: &[u8]) -> Option<Entry>
     ensures { result ≡ entry_with_word verb.now word.now }
 {
     if verb == b"TURN".as_slice() {
-        return number(word).map(Entry::Turn);
+        return Some(Entry::Turn(number(word)?));
     }
     if verb == b"START".as_slice() {
-        return cell(word).map(Entry::Start);
+        return Some(Entry::Start(cell(word)?));
     }
     if verb == b"STEP".as_slice() {
-        return steps(word).map(Entry::Step);
+        return Some(Entry::Step(steps(word)?));
     }
     if verb == b"GO".as_slice() {
-        return steps(word).map(Entry::Go);
+        return Some(Entry::Go(steps(word)?));
     }
     if verb == b"KEY".as_slice() {
-        return character(word).map(Entry::Key);
+        return Some(Entry::Key(character(word)?));
     }
     if verb == b"SWITCHES".as_slice() {
-        return octal_word(word).map(Entry::Switches);
+        return Some(Entry::Switches(octal_word(word)?));
     }
     if verb == b"EXAMINE".as_slice() {
-        return cell(word).map(Entry::Examine);
+        return Some(Entry::Examine(cell(word)?));
     }
     None
 }
