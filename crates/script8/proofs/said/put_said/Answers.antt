@@ -1,4 +1,4 @@
-use Rattle.std.proofs.Common.{ℕ, List, ◌≡◌, ◌++◌, ◌∷◌, [], ◌∙◌, ap, sym, append_assoc}
+use Rattle.std.proofs.Common.{◌++◌, ◌∷◌, [], ◌∙◌, ap, sym, append_assoc}
 use Rattle.std.specs.Prelude.{codes, decimal}
 use Rattle.word12.specs.Octal.{octal4}
 use Rattle.script8.specs.Shown.{shown}
