@@ -29,6 +29,7 @@ abbrev pub program_text : ProgramLine → List ℕ
 program_text (line.Created blocks) = codes "CREATED " ++ decimal blocks
 program_text line.HostRead = codes "? HOST READ"
 program_text line.HostWrite = codes "? HOST WRITE"
+program_text line.HostBusy = codes "? HOST BUSY"
 program_text line.NoWord = codes "? SOURCE 1 NO WORD"
 program_text (line.Image fault) = image_text fault
 program_text (line.Directory fault) = directory_text fault

@@ -2,21 +2,22 @@
 //! files are read and written, and exit statuses are given.
 
 use crate::{ProgramLine, SourceFault, Task, TaskFault, put_program, source_text, tape_text, task};
+use host8::Unwritten;
 use os8_dir::DirFault;
 use script8::{SessionFault, put_reply};
-use session8::{MOST, Session};
+use session8::Session;
 use std::alloc::{AllocError, Global};
 use std::env::{self, Env};
-use std::fs::{self, Files};
-use std::io::{self, BufWriter, ErrorKind, Input, Read, Write};
+use std::fs::{File, Files};
+use std::io::{self, BufWriter, ErrorKind, Input, Write};
 use std::process::ExitCode;
 use volume_image::{ImageFault, MemoryVolume};
 
 mod archives;
-mod image_files;
+mod images;
 
 use archives::{check_volume, get_file, list_files, put_file};
-use image_files::{Unwritten, name_beside, write_file};
+use images::{Image, make_image};
 
 /// Why the program ends before its work is done.
 #[derive(Drop)]
@@ -26,6 +27,7 @@ enum Ended {
     Words(clap::Error),
     NoText,
     Told,
+    Busy,
     Unwritten(Unwritten),
 }
 
@@ -44,14 +46,18 @@ impl From<AllocError> for Ended {
 /// Does what the words of the command line ask for: `pdp8 tape`, `pdp8 source`, `pdp8 run IMAGE`, `pdp8 create IMAGE BLOCKS`,
 /// `pdp8 list IMAGE`, `pdp8 get IMAGE NAME`, `pdp8 put IMAGE NAME` or `pdp8 check IMAGE`. The exit status is 0, 1 after a fault, whose line is on standard output, and 2 for words that are refused (this project's
 /// profile).
-pub fn program<R: Env + Files + Input + Print + Eprint + AllocGlobal>(rt: &R) -> ExitCode {
+pub fn program<R: Env + Files<File = File> + Input + Print + Eprint + AllocGlobal>(
+    rt: &R,
+) -> ExitCode {
     match asked(rt) {
         Ok(()) => ExitCode::SUCCESS,
         Err(ended) => told(rt, ended),
     }
 }
 
-fn asked<R: Env + Files + Input + Print + AllocGlobal>(rt: &R) -> Result<(), Ended> {
+fn asked<R: Env + Files<File = File> + Input + Print + Eprint + AllocGlobal>(
+    rt: &R,
+) -> Result<(), Ended> {
     match read_words(rt)? {
         Task::Tape => list_tape(rt),
         Task::Source => write_source(rt),
@@ -78,6 +84,10 @@ fn told<R: Print + Eprint + AllocGlobal>(rt: &R, ended: Ended) -> ExitCode {
         Ended::NoText => {
             let _ = rt.eprint("error: a word of the command line is not UTF-8 text\n");
             return ExitCode::from(2);
+        }
+        Ended::Busy => {
+            let _ = rt.eprint("error: another program works on the image\n");
+            put_program(&ProgramLine::HostBusy, &mut line)
         }
         Ended::Unwritten(held) => {
             let _ = rt.eprint(words_on(held));
@@ -154,7 +164,7 @@ fn write_source<R: Input + Print + AllocGlobal>(rt: &R) -> Result<(), Ended> {
 }
 
 /// Writes an empty volume to a file, in place of any file of that name.
-fn create_image<R: Files + Print + AllocGlobal>(
+fn create_image<R: Files<File = File> + Print + Eprint + AllocGlobal>(
     rt: &R,
     image: &str,
     blocks: usize,
@@ -163,8 +173,7 @@ fn create_image<R: Files + Print + AllocGlobal>(
         Ok(bytes) => bytes,
         Err(fault) => return Err(Ended::Line(ProgramLine::Image(fault))),
     };
-    let beside = name_beside(rt.alloc(), image)?;
-    write_image(rt, image, &beside, &bytes)?;
+    make_image(rt, image, &bytes)?;
     let mut line = Vec::new(rt.alloc());
     match put_program(&ProgramLine::Created(blocks), &mut line) {
         Ok(()) => print_line(rt, &line),
@@ -185,18 +194,21 @@ fn print_line<R: Print>(rt: &R, line: &[u8]) -> Result<(), Ended> {
     Ok(())
 }
 
-/// Runs the script on standard input over the volume of an image file, and writes the image back. The memory for that is taken before
-/// the script: the bytes that were read are written over.
-fn run_image<R: Files + Input + Print + AllocGlobal>(rt: &R, image: &str) -> Result<(), Ended> {
-    let mut bytes = read_image(rt, image)?;
-    let beside = name_beside(rt.alloc(), image)?;
+/// Runs the script on standard input over the volume of an image file, and writes the image back if it changed. The memory for that is
+/// taken before the script.
+fn run_image<R: Files<File = File> + Input + Print + Eprint + AllocGlobal>(
+    rt: &R,
+    name: &str,
+) -> Result<(), Ended> {
+    let mut image = Image::open(rt, name)?;
+    let mut bytes = image.copy(rt.alloc())?;
     let Ok(mut writer) = BufWriter::new(rt.alloc(), io::writer(rt)) else {
         return Err(Ended::Fault(SessionFault::Memory));
     };
     let mut session = mounted(rt, &bytes)?;
     let run = session.run_text(rt.alloc(), &mut rt.reader(), &mut writer);
     match session.into_store().put_bytes(&mut bytes) {
-        Ok(()) => write_image(rt, image, &beside, &bytes)?,
+        Ok(()) => image.save(rt, &bytes)?,
         Err(fault) => return Err(Ended::Line(ProgramLine::Image(fault))),
     }
     match run {
@@ -214,40 +226,5 @@ fn mounted<R: AllocGlobal>(rt: &R, bytes: &[u8]) -> Result<Session<MemoryVolume>
     match Session::mount(rt.alloc(), volume) {
         Ok(session) => Ok(session),
         Err((_, fault)) => Err(Ended::Line(ProgramLine::Directory(fault))),
-    }
-}
-
-/// The bytes of an image file.
-fn read_image<R: Files + AllocGlobal>(rt: &R, image: &str) -> Result<Vec<u8>, Ended> {
-    match read_file(rt, image) {
-        Ok(bytes) => {
-            if bytes.len() > MOST {
-                return Err(Ended::Line(ProgramLine::HostRead));
-            }
-            Ok(bytes)
-        }
-        Err(error) => Err(unread(&error)),
-    }
-}
-
-/// The bytes of a file, or one byte more than are read at most.
-fn read_file<R: Files + AllocGlobal>(rt: &R, name: &str) -> io::Result<Vec<u8>> {
-    let mut bytes = Vec::new(rt.alloc());
-    let file = fs::open(rt, name)?;
-    file.take(MOST as u64 + 1).read_to_end(&mut bytes)?;
-    Ok(bytes)
-}
-
-fn unread(error: &io::Error) -> Ended {
-    match error.kind() {
-        ErrorKind::OutOfMemory => Ended::Fault(SessionFault::Memory),
-        _ => Ended::Line(ProgramLine::HostRead),
-    }
-}
-
-fn write_image<R: Files>(rt: &R, image: &str, beside: &str, bytes: &[u8]) -> Result<(), Ended> {
-    match write_file(rt, image, beside, bytes) {
-        Ok(()) => Ok(()),
-        Err(held) => Err(Ended::Unwritten(held)),
     }
 }

@@ -20,6 +20,9 @@ pub enum ProgramLine {
     /// The image file could not be written.
     HostWrite,
 
+    /// Another program holds the image file.
+    HostBusy,
+
     /// The tape gives no cell a word, so it has no source.
     NoWord,
 
@@ -57,6 +60,7 @@ fn put_line(text: &mut TextLine, line: ProgramLine)
         }
         ProgramLine::HostRead => put(text, b"? HOST READ"),
         ProgramLine::HostWrite => put(text, b"? HOST WRITE"),
+        ProgramLine::HostBusy => put(text, b"? HOST BUSY"),
         ProgramLine::NoWord => put(text, b"? SOURCE 1 NO WORD"),
         ProgramLine::Image(fault) => put_image(text, fault),
         ProgramLine::Directory(fault) => put_directory(text, fault),

@@ -1,16 +1,17 @@
 //! Files in and out of the image file of a volume. Only `put` writes one, and only once the whole new image stands in memory.
 
-use super::{Ended, name_beside, print_line, read_image, write_image};
+use super::images::{Image, seen};
+use super::{Ended, print_line};
 use crate::ProgramLine;
 use archive8::{ArchiveFault, GetForm, PutForm, check, get, list, put};
 use script8::{Reply, Said, put_reply};
 use session8::read_all;
-use std::fs::Files;
+use std::fs::{File, Files};
 use std::io::Input;
 
 /// Lists the files of the volume in an image file.
 pub fn list_files<R: Files + Print + AllocGlobal>(rt: &R, image: &str) -> Result<(), Ended> {
-    let bytes = read_image(rt, image)?;
+    let bytes = seen(rt, image)?;
     match list(rt.alloc(), &bytes) {
         Ok(text) => print_line(rt, &text),
         Err(fault) => Err(ended(fault)),
@@ -24,7 +25,7 @@ pub fn get_file<R: Files + Print + AllocGlobal>(
     name: &str,
     form: GetForm,
 ) -> Result<(), Ended> {
-    let bytes = read_image(rt, image)?;
+    let bytes = seen(rt, image)?;
     match get(rt.alloc(), &bytes, name.as_bytes(), form) {
         Ok(given) => print_line(rt, &given),
         Err(fault) => Err(ended(fault)),
@@ -32,19 +33,18 @@ pub fn get_file<R: Files + Print + AllocGlobal>(
 }
 
 /// Makes the bytes on standard input a file on the volume in an image file, and writes the image back.
-pub fn put_file<R: Files + Input + Print + AllocGlobal>(
+pub fn put_file<R: Files<File = File> + Input + Print + Eprint + AllocGlobal>(
     rt: &R,
     image: &str,
     name: &str,
     form: PutForm,
 ) -> Result<(), Ended> {
-    let bytes = read_image(rt, image)?;
-    let beside = name_beside(rt.alloc(), image)?;
+    let mut held = Image::open(rt, image)?;
     let given = match read_all(rt.alloc(), &mut rt.reader()) {
         Ok(given) => given,
         Err(fault) => return Err(Ended::Fault(fault)),
     };
-    let new = match put(rt.alloc(), &bytes, name.as_bytes(), &given, form) {
+    let new = match put(rt.alloc(), held.bytes(), name.as_bytes(), &given, form) {
         Ok(new) => new,
         Err(fault) => return Err(ended(fault)),
     };
@@ -57,13 +57,13 @@ pub fn put_file<R: Files + Input + Print + AllocGlobal>(
         Ok(()) => {}
         Err(fault) => return Err(Ended::Fault(fault)),
     }
-    write_image(rt, image, &beside, &new.bytes)?;
+    held.save(rt, &new.bytes)?;
     print_line(rt, &line)
 }
 
 /// Tells of the volume in an image file.
 pub fn check_volume<R: Files + Print + AllocGlobal>(rt: &R, image: &str) -> Result<(), Ended> {
-    let bytes = read_image(rt, image)?;
+    let bytes = seen(rt, image)?;
     match check(rt.alloc(), &bytes) {
         Ok(text) => print_line(rt, &text),
         Err(fault) => Err(ended(fault)),

@@ -1,0 +1,54 @@
+//! What can be wrong with a file of the host.
+
+use std::alloc::AllocError;
+use std::io::{Error, ErrorKind};
+
+/// Why a file can't be held.
+#[derive(Clone, Copy)]
+pub enum HoldFault {
+    /// Another program holds it.
+    Busy,
+
+    /// Memory was wanted for its name or for what it holds.
+    Memory,
+
+    /// There is none of that name.
+    Absent,
+
+    /// It may not be written.
+    Unwritable,
+
+    /// It can't be read.
+    Unreadable,
+}
+
+impl From<AllocError> for HoldFault {
+    ghost use Rattle.std.specs.Prelude.{◌≡◌};
+    ghost use Rattle.host8.specs.declared.faults.HoldFault.TheVariants.{Memory};
+
+    ghost from_gives = { λ _ fault. fault ≡ Memory };
+
+    fn from(_error: AllocError) -> HoldFault {
+        HoldFault::Memory
+    }
+}
+
+/// What a failed call of the host comes to.
+pub(crate) fn fault_of(error: &Error) -> HoldFault {
+    match error.kind() {
+        ErrorKind::OutOfMemory => HoldFault::Memory,
+        ErrorKind::NotFound => HoldFault::Absent,
+        ErrorKind::PermissionDenied | ErrorKind::ReadOnlyFilesystem => HoldFault::Unwritable,
+        _ => HoldFault::Unreadable,
+    }
+}
+
+/// What a file holds that could not be written.
+#[derive(Clone, Copy)]
+pub enum Unwritten {
+    /// What it held before; a new file is not there.
+    AsItWas,
+
+    /// It may hold a part of what it was to hold.
+    InPart,
+}
