@@ -1,6 +1,7 @@
-ghost use Rattle.std.specs.Prelude.{◌≡◌, ℕ, ◌≤◌, List, OnOk, IfErr};
-ghost use Rattle.std.specs.Io.KnownBytes.{Appends};
+ghost use Rattle.std.specs.Prelude.{◌≡◌, ℕ, ◌≤◌, Err};
 ghost use Rattle.session8.specs.Reading.{Takes};
+ghost use Rattle.script8.specs.declared.faults.SessionFault.TheVariants as fault;
+ghost use Rattle.monitor8.specs.declared.sources.SourceFault.TheVariants.{Session};
 ghost use Rattle.monitor8.specs.Written.{WritesSource};
 
 use crate::listings::write_out;
@@ -29,7 +30,8 @@ pub fn source_text<R: Read, W: Write>(
     writer: &mut W,
 ) -> Result<(), SourceFault>
     ensures source { WritesSource (R.remaining reader.old) (R.remaining reader.new) (W.contents writer.old) (W.contents writer.new) result }
-    ensures taken { (count : ℕ) × Takes (R.remaining reader.old) (R.remaining reader.new) count × (count ≤ 16777217) }
+    ensures taken { (count : ℕ) × Takes (R.remaining reader.old) (R.remaining reader.new) count × (count ≤ 16777217)
+        × (count ≡ 16777217 → result ≡ Err (Session fault.Reader)) }
 {
     let frames = match read_all(alloc, reader) {
         Ok(frames) => frames,

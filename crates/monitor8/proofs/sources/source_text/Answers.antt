@@ -7,6 +7,7 @@ returns-in-Ok-write_out-clause-taken g c =
       length c.in-Ok.frames.items,
       record { bytes = c.in-Ok.frames.items; taken = c.in-Ok.ensures.read.taken; count_is = refl },
       omega (arith, within),
+      λ e. absurd (omega (arith, e, within)),
     )
 
 pub returns-clause-taken : goal.returns-clause-taken
@@ -15,4 +16,5 @@ returns-clause-taken g c =
       length c.in-Ok.frames.items,
       record { bytes = c.in-Ok.frames.items; taken = c.in-Ok.ensures.read.taken; count_is = refl },
       omega (arith, within),
+      λ e. absurd (omega (arith, e, within)),
     )
