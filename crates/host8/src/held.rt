@@ -6,7 +6,7 @@ use crate::looking::bytes_of;
 use crate::{HoldFault, Unwritten};
 use std::fs::{self, File, Files, Metadata, OpenOptions, TryLockError};
 use std::io::{self, ErrorKind, Seek, SeekFrom, Write};
-use std::os::unix::fs::{MetadataExt, chown};
+use std::os::unix::fs::{FileTypeExt, MetadataExt, chown};
 
 /// How often a file is locked anew whose name led elsewhere meanwhile, and how many names beside it are tried.
 const TRIES: u16 = 1000;
@@ -21,7 +21,7 @@ pub struct HeldFile {
 }
 
 /// Holds a file that is there, through links: `Busy` where another program holds it, `Absent` where there is none, and `Unwritable`
-/// where it may not be written.
+/// where it may not be written, or is a pipe.
 pub fn hold<R: Files<File = File> + AllocGlobal>(
     rt: &R,
     name: &str,
@@ -30,6 +30,9 @@ pub fn hold<R: Files<File = File> + AllocGlobal>(
         Ok(path) => String::from_str(rt.alloc(), path.as_str())?,
         Err(error) => return Err(fault_of(&error)),
     };
+    if is_pipe(rt, &path) {
+        return Err(HoldFault::Unwritable);
+    }
     let besides = Besides::new(rt.alloc(), &path)?;
     for _ in 0..TRIES {
         let file = match opened(rt, &path) {
@@ -47,6 +50,14 @@ pub fn hold<R: Files<File = File> + AllocGlobal>(
         }
     }
     Err(HoldFault::Busy)
+}
+
+/// Whether a name leads to a pipe, whose end is never seen by who may write it.
+fn is_pipe<R: Files<File = File>>(rt: &R, path: &str) -> bool {
+    match fs::metadata(rt, path) {
+        Ok(named) => named.file_type().is_fifo(),
+        Err(_) => false,
+    }
 }
 
 fn opened<R: Files<File = File>>(rt: &R, path: &str) -> io::Result<File> {
@@ -143,7 +154,7 @@ impl HeldFile {
         None
     }
 
-    /// Writes a new file beside this one whole, and gives it this one's name.
+    /// Writes a new file beside this one whole, and gives it this one's name, unless that leads to another file meanwhile.
     fn put_beside<R: Files<File = File>>(
         &mut self,
         rt: &R,
@@ -158,7 +169,8 @@ impl HeldFile {
         let mut own = file;
         let is_whole = taken_over(rt, &own, beside, old).is_ok()
             && locked(&own).is_ok()
-            && put_all(&mut own, bytes).is_ok();
+            && put_all(&mut own, bytes).is_ok()
+            && leads_to(rt, self.path.as_str(), &self.file);
         if is_whole {
             match fs::rename(rt, beside, self.path.as_str()) {
                 Ok(()) => {
