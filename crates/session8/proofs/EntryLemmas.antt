@@ -2,6 +2,7 @@
 use Rattle.std.proofs.Common.{ℕ, arith, IsErrOf, OnOk, true≢false, ◌≡◌, ◌≢◌, ◌+◌, refl, sym, ◌∙◌, ap, subst, true, false, List, [], ◌∷◌, ◌++◌, Result, Ok, Err}
 use Rattle.script8.specs.declared.entries.Entry.{Entry}
 use Rattle.script8.specs.declared.faults.SessionFault.TheVariants as fault
+use Rattle.session8.specs.Refusals.{MayLack}
 use Rattle.session8.specs.State.{State}
 use Rattle.session8.specs.System.{Answer, Step, Run}
 use Rattle.session8.specs.SessionSteps.{is_memory}
@@ -31,11 +32,11 @@ run_more (e ∷ front) [] old mid new entry answer run step other = absurd (true
 run_more (e ∷ front) (a ∷ answers) old mid new entry answer run step other = (run.0, run.1, run.2, run_more front answers run.0 mid new entry answer run.3 step other)
 
 -- a run that want of memory ends before an entry
-pub run_stopped : (front rest : List Entry) (answers : List Answer) (old mid : State) (entry : Entry) → Run old front answers false mid → Run old (front ++ entry ∷ rest) answers true mid
-run_stopped [] rest [] old mid entry run = (refl, run.1)
-run_stopped [] rest (a ∷ answers) old mid entry run = absurd run
-run_stopped (e ∷ front) rest [] old mid entry run = absurd (true≢false (sym run.0))
-run_stopped (e ∷ front) rest (a ∷ answers) old mid entry run = (run.0, run.1, run.2, run_stopped front rest answers run.0 mid entry run.3)
+pub run_stopped : (front rest : List Entry) (answers : List Answer) (old mid : State) (entry : Entry) → Run old front answers false mid → MayLack mid entry → Run old (front ++ entry ∷ rest) answers true mid
+run_stopped [] rest [] old mid entry run lack = (refl, subst (λ (s : State). MayLack s entry) run.1 lack, run.1)
+run_stopped [] rest (a ∷ answers) old mid entry run lack = absurd run
+run_stopped (e ∷ front) rest [] old mid entry run lack = absurd (true≢false (sym run.0))
+run_stopped (e ∷ front) rest (a ∷ answers) old mid entry run lack = (run.0, run.1, run.2, run_stopped front rest answers run.0 mid entry run.3 lack)
 
 pub memory_err : (a : Answer) → is_memory a ≡ true → IsErrOf a fault.Memory
 memory_err a is = subst (λ (x : Answer). IsErrOf x fault.Memory) (sym (memory_is a is)) refl

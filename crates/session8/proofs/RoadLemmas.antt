@@ -156,14 +156,14 @@ step_leaves e old new (Err why) step = record {
 
 pub file_kept : (old new : State) (name : ℕ) (entries : List Entry) (answers : List Answer) (stopped : Bool) → Run old entries answers stopped new → NoneTells (changes_file name) answers → get new.files name ≡ get old.files name
 file_kept old new name [] [] stopped run none = ap (λ (s : State). get s.files name) run.1
-file_kept old new name (e ∷ entries) [] stopped run none = ap (λ (s : State). get s.files name) run.1
+file_kept old new name (e ∷ entries) [] stopped run none = ap (λ (s : State). get s.files name) run.2
 file_kept old new name [] (answer ∷ answers) stopped run none = absurd run
 file_kept old new name (e ∷ entries) (answer ∷ answers) stopped run none =
     file_kept run.0 new name entries answers stopped run.3 none.1 ∙ (step_leaves e old run.0 answer run.1).files name none.0
 
 pub console_goes : (old new : State) (entries : List Entry) (answers : List Answer) (stopped : Bool) → Run old entries answers stopped new → NoneTells is_loaded answers → GoesOn old.console entries answers new.console
 console_goes old new [] [] stopped run none = ap (λ (s : State). s.console) run.1
-console_goes old new (e ∷ entries) [] stopped run none = ap (λ (s : State). s.console) run.1
+console_goes old new (e ∷ entries) [] stopped run none = ap (λ (s : State). s.console) run.2
 console_goes old new [] (answer ∷ answers) stopped run none = absurd run
 console_goes old new (e ∷ entries) (answer ∷ answers) stopped run none =
     (run.0.console, (step_leaves e old run.0 answer run.1).console none.0, console_goes run.0 new entries answers stopped run.3 none.1)

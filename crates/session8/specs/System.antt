@@ -40,9 +40,10 @@ Step old entry (Ok reply) new = Done old entry reply new
 Step old entry (Err Memory) new = MayLack old entry × (new ≡ old)
 Step old entry (Err why) new = May old entry why × (new ≡ after_refusal old entry)
 
--- The machine may give these answers to these entries, one step after another. Want of memory ends the run.
+-- The machine may give these answers to these entries, one step after another. Want of memory ends the run before an entry for which
+-- the machine may lack it.
 abbrev pub Run : State → List Entry → List Answer → Bool → State → Type 0
 Run old [] [] stopped new = (stopped ≡ false) × (new ≡ old)
-Run old (entry ∷ entries) [] stopped new = (stopped ≡ true) × (new ≡ old)
+Run old (entry ∷ entries) [] stopped new = (stopped ≡ true) × MayLack old entry × (new ≡ old)
 Run old (entry ∷ entries) (answer ∷ answers) stopped new = (mid : State) × Step old entry answer mid × (answer ≢ Err Memory) × Run mid entries answers stopped new
 Run old [] (answer ∷ answers) stopped new = ⊥

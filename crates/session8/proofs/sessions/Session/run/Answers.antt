@@ -1,10 +1,10 @@
 use Rattle.std.proofs.Common.{◌≡◌, ◌+◌, ◌++◌, ◌∷◌, [], ◌∙◌, sym, ap, subst, arith, take, drop, get_or, take-append-drop, List, true, add-one}
 use Rattle.std.proofs.Math.Seq.{take-suc, drop-cons}
 use Rattle.script8.specs.declared.entries.Entry.{Entry}
-use Rattle.script8.specs.declared.entries.Entry.TheVariants as kinds
+use Rattle.session8.specs.Refusals.{MayLack}
 use Rattle.session8.specs.Session.{state_of}
 use Rattle.session8.specs.State.{State}
-use Rattle.session8.specs.System.{Run, Step}
+use Rattle.session8.specs.System.{Answer, Run, Step}
 use Rattle.session8.proofs.QuietLemmas.{quiet_same, quiet_first, quiet_second, later_trans}
 use Rattle.session8.proofs.EntryLemmas.{run_more, run_stopped, memory_is, no_memory, not_first}
 use Rattle.session8.proofs.sessions.Session.run.Goals as goal
@@ -15,10 +15,13 @@ returns-then-is_memory-clause-run g c quiet =
     let before = quiet_same c.args.self.now _ _ quiet same in
     let count = c.loop-entry.entry-index in
     let entries = c.args.entries.now in
-    let parts : take count entries ++ get_or entries count kinds.Direct ∷ drop (count + 1) entries ≡ entries = ap (λ l. take count entries ++ l) (ap (λ n. get_or entries count kinds.Direct ∷ drop n entries) (add-one count) ∙ sym (drop-cons entries count kinds.Direct c.loop-entry-test.true)) ∙ take-append-drop count entries in
+    let parts : take count entries ++ get_or entries count c.entry-item.result ∷ drop (count + 1) entries ≡ entries = ap (λ l. take count entries ++ l) (ap (λ n. get_or entries count c.entry-item.result ∷ drop n entries) (add-one count) ∙ sym (drop-cons entries count c.entry-item.result c.loop-entry-test.true)) ∙ take-append-drop count entries in
+    let behind = quiet_second _ c.loop-entry.self _ quiet c.loop-entry.invariant.later c.step-answer.ensures.does.later (c.loop-entry.invariant.running before) in
+    let step = subst (λ (r : Answer). Step (state_of c.loop-entry.self) (get_or entries count c.entry-item.result) r (state_of c.step-answer.new.self)) (memory_is _ (sym c.if-is_memory.ensures)) (subst (λ (e : Entry). Step (state_of c.loop-entry.self) e c.step-answer.result (state_of c.step-answer.new.self)) c.entry-item.is (c.step-answer.ensures.does.step behind)) in
+    let lack : MayLack (state_of c.loop-entry.self) (get_or entries count c.entry-item.result) = step.0 in
     subst (λ (s : State). Run (state_of c.args.self.now) entries c.loop-entry.replies.items true s) (sym same.state)
     (subst (λ (l : List Entry). Run (state_of c.args.self.now) l c.loop-entry.replies.items true (state_of c.loop-entry.self)) parts
-    (run_stopped (take count entries) (drop (count + 1) entries) c.loop-entry.replies.items _ _ _ (c.loop-entry.invariant.told before)))
+    (run_stopped (take count entries) (drop (count + 1) entries) c.loop-entry.replies.items _ _ _ (c.loop-entry.invariant.told before) lack))
 
 pub loop-entry-preserved : goal.loop-entry-preserved
 loop-entry-preserved g c = record {
