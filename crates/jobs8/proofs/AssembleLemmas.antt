@@ -1,5 +1,5 @@
 -- Turns of a job that assembles.
-use Rattle.std.proofs.Common.{◌≡◌, ◌∙◌, inl, inr, ℕ, ◌+◌, ◌-◌, ◌<◌, ◌≤◌, true, false, true≢false, Option, Some, None, List, Ok, Err, refl, ap, sym, subst, arith}
+use Rattle.std.proofs.Common.{◌≡◌, ◌∙◌, inl, inr, ℕ, ◌+◌, ◌-◌, ◌<◌, ◌≤◌, Bool, true, false, true≢false, Option, Some, None, List, Ok, Err, refl, ap, sym, subst, arith}
 use Rattle.std.specs.FinMap.{get}
 use Rattle.volume_image.specs.Volume.{counted}
 use Rattle.os8_dir.specs.Entries.{contains, IsNamed}
@@ -46,6 +46,9 @@ StepsTo old core a left answer after new = (number : ℕ) (l : List (Option plai
 abbrev pub LeavesFor : Assembly → ℕ → Answer → Option Job → Type 0
 LeavesFor a left answer after = (number : ℕ) (l : List (Option plain.Job)) → plain.job_of number l ≡ Some (plain.assembling a.to (names_of a.holds) left) → LeavesJobs number answer l (plain.with_job number (plain_job after) l)
 
+no_squeeze : (a : Assembly) (clean : Bool) → work.Assembling a ≡ work.Squeezing clean → ⊥
+no_squeeze a clean is = cc
+
 -- ## A job ends, or goes on
 
 pub ended_by : ReleasedLaw → (old mid new : Mounted) (core : List ℕ) (a : Assembly) (left : ℕ) (answer : Answer) → KeepsHolds old mid → mid.tentative ≡ None → new ≡ record mid { holds = without_holds a.holds mid.holds } → IsEnough old a → 1 ≤ left
@@ -65,6 +68,7 @@ ended_by law old mid new core a left answer keeps none is enough some volume ste
   above = λ kind still. omega (arith, ap (λ (m : Mounted). above_of m.blocks) is, above kind (sym (ap (λ (m : Mounted). m.stopped) is) ∙ still));
   fewer = λ other. omega (arith, some);
   calls = calls;
+  squeezed = λ clean is. absurd (no_squeeze a clean is);
   room = room;
 }
 
@@ -91,6 +95,7 @@ on_by old new core a b left rest answer kind keeps none to holds fits some volum
   above = λ other. above;
   fewer = fewer;
   calls = calls;
+  squeezed = λ clean is. absurd (no_squeeze a clean is);
   room = room;
 }
 

@@ -1,5 +1,5 @@
 -- A turn of a job that loads among those of all jobs.
-use Rattle.std.proofs.Common.{◌≡◌, ◌∙◌, ℕ, ◌+◌, ◌≤◌, Option, Some, None, List, [], ◌∷◌, ap, sym, subst, arith}
+use Rattle.std.proofs.Common.{◌≡◌, ◌∙◌, ℕ, ◌+◌, ◌≤◌, Bool, Option, Some, None, List, [], ◌∷◌, ap, sym, subst, arith}
 use Rattle.std.specs.FinMap.{get}
 use Rattle.os8_dir.specs.Files.{files_of, above_of}
 use Rattle.os8_files.specs.Holds.{times}
@@ -51,5 +51,9 @@ loading_job law old new core core2 it left answer after none held t = record {
   above = λ kind still. omega (arith, ap (λ (m : Mounted). above_of m.blocks) t.kept.others);
   fewer = t.fewer;
   calls = (ap (λ (m : Mounted). m.blocks) t.kept.others, t.kept.reads);
+  squeezed = λ clean is. absurd (never clean is);
   room = of_each (WorkTellsRoom (plain.Loading it.hold) old) (λ why. tt) answer;
 }
+  where
+    never : (clean : Bool) → work.Loading it ≡ work.Squeezing clean → ⊥
+    never clean is = cc

@@ -11,7 +11,7 @@ use Rattle.os8_files.specs.declared.faults.FileFault.{FileFault}
 use Rattle.os8_files.specs.declared.faults.FileFault.TheVariants as file
 use Rattle.os8_files.specs.declared.tokens.Squeezed as tokens
 use Rattle.os8_files.specs.declared.tokens.Squeezed.TheVariants as token
-use Rattle.jobs8.specs.Calls.{IsQuiet, TurnsOver, LeavesJobs, WorkTellsRoom}
+use Rattle.jobs8.specs.Calls.{IsQuiet, TurnsOver, LeavesJobs, TellsSqueeze, WorkTellsRoom}
 use Rattle.jobs8.specs.Steps.{SqueezeTurns, TurnsJob, plain_after, names_in, left_of, is_assembled}
 use Rattle.jobs8.specs.Jobs as plain
 use Rattle.jobs8.specs.Jobs.{with_job, job_of, squeezing}
@@ -56,9 +56,9 @@ state_moved old new core jobs after name moved =
 turn_by : (old new : Mounted) (core : List ℕ) (clean : Bool) (left : ℕ) (call : Result tokens.Squeezed FileFault) (answer : Answer) (after : Option Job) → is_assembled answer ≡ false → KeepsHolds old new → Squeezes old call new → new.tentative ≡ None → (new.stopped ≡ false → above_of new.blocks ≤ above_of old.blocks)
     → ((number : ℕ) (jobs : List (Option plain.Job)) → job_of number jobs ≡ Some (squeezing clean left) → IsQuiet old new → SqueezingTurn (state_over old core jobs) number clean left answer (state_over new core (with_job number (plain_job after) jobs)))
     → ((number : ℕ) (jobs : List (Option plain.Job)) → job_of number jobs ≡ Some (squeezing clean left) → LeavesJobs number answer jobs (with_job number (plain_job after) jobs))
-    → TurnsOver old answer new → (new.stopped ≡ false → StandsIn new.blocks after) → FitsIn after → ((name : ℕ) → times name (names_in after) ≡ 0) → ((answer ≡ Err fault.Memory → ⊥) → left_of after < left)
+    → TurnsOver old answer new → (new.stopped ≡ false → StandsIn new.blocks after) → FitsIn after → ((name : ℕ) → times name (names_in after) ≡ 0) → ((answer ≡ Err fault.Memory → ⊥) → left_of after < left) → TellsSqueeze left old answer new
     → TurnsJob old core (the_job clean left) answer after new core
-turn_by old new core clean left call answer after other keeps squeezes none above step jobs volume stands fits names fewer = record {
+turn_by old new core clean left call answer after other keeps squeezes none above step jobs volume stands fits names fewer tells = record {
   step = λ number l there named quiet. subst (λ b. SqueezingTurn (state_over old core l) number clean left answer (state_over new core (plain_after b (with_job number (plain_job after) l)))) (sym other) (step number l there quiet);
   jobs = jobs;
   volume = volume;
@@ -72,6 +72,7 @@ turn_by old new core clean left call answer after other keeps squeezes none abov
   above = λ kind. above;
   fewer = fewer;
   calls = (call, squeezes);
+  squeezed = λ clean is. tells;
   room = of_each (WorkTellsRoom (plain.Squeezing clean) old) (λ why. tt) answer;
 }
 
@@ -98,7 +99,7 @@ moved_on old new core clean left name is keeps moved more =
     (λ number jobs there. tt)
     (quiet_moved old new name moved)
     (λ running. record { more = omega (arith, more); enough = λ it_is. omega (arith, moved.above, (is moved.ready.running).enough it_is) })
-    (omega (arith, more)) no_names (λ other. omega (arith, more))
+    (omega (arith, more)) no_names (λ other. omega (arith, more)) (more, name, moved)
   where
     quiet_moved : (old new : Mounted) (name : ℕ) → HasMoved old name new → TurnsOver old (Ok Working) new
     quiet_moved old new name moved = moved_over old new (Ok Working) (λ quiet. quiet) moved.ready.running
@@ -120,7 +121,7 @@ moved_last old new core clean left name is keeps moved one =
     (λ number jobs there. tt)
     (moved_over old new (Ok Squeezed) (λ quiet. quiet) moved.ready.running
     (ap (λ (m : Mounted). m.failed_reads) moved.others) (ap (λ (m : Mounted). m.failed_writes) moved.others) (ap (λ (m : Mounted). m.stopped) moved.others ∙ moved.ready.running))
-    (λ running. tt) tt no_names (λ other. omega (arith, one))
+    (λ running. tt) tt no_names (λ other. omega (arith, one)) (inl (one, name, moved))
   where
     -- a clean job has more turns than files have a free block below them
     never : clean ≡ true → ⊥
@@ -130,10 +131,10 @@ moved_last old new core clean left name is keeps moved one =
 same_by : (old new : Mounted) (core : List ℕ) (clean : Bool) (left : ℕ) (call : Result tokens.Squeezed FileFault) (answer : Answer) (after : Option Job) → is_assembled answer ≡ false → KeepsHolds old new → Squeezes old call new → old.tentative ≡ None → new ≡ old
     → ((number : ℕ) (jobs : List (Option plain.Job)) → job_of number jobs ≡ Some (squeezing clean left) → IsQuiet old new → SqueezingTurn (state_over old core jobs) number clean left answer (state_over new core (with_job number (plain_job after) jobs)))
     → ((number : ℕ) (jobs : List (Option plain.Job)) → job_of number jobs ≡ Some (squeezing clean left) → LeavesJobs number answer jobs (with_job number (plain_job after) jobs))
-    → TurnsOver old answer new → (new.stopped ≡ false → StandsIn new.blocks after) → FitsIn after → ((name : ℕ) → times name (names_in after) ≡ 0) → ((answer ≡ Err fault.Memory → ⊥) → left_of after < left)
+    → TurnsOver old answer new → (new.stopped ≡ false → StandsIn new.blocks after) → FitsIn after → ((name : ℕ) → times name (names_in after) ≡ 0) → ((answer ≡ Err fault.Memory → ⊥) → left_of after < left) → TellsSqueeze left old answer new
     → TurnsJob old core (the_job clean left) answer after new core
-same_by old new core clean left call answer after other keeps squeezes none is step jobs volume stands fits names fewer =
-    turn_by old new core clean left call answer after other keeps squeezes (ap (λ (m : Mounted). m.tentative) is ∙ none) (λ running. omega (arith, ap (λ (m : Mounted). above_of m.blocks) is)) step jobs volume stands fits names fewer
+same_by old new core clean left call answer after other keeps squeezes none is step jobs volume stands fits names fewer tells =
+    turn_by old new core clean left call answer after other keeps squeezes (ap (λ (m : Mounted). m.tentative) is ∙ none) (λ running. omega (arith, ap (λ (m : Mounted). above_of m.blocks) is)) step jobs volume stands fits names fewer tells
 
 -- What a turn of a job that squeezes comes to, by the answer of its one call.
 pub squeezed_turn : (old new : Mounted) (core : List ℕ) (clean : Bool) (left : ℕ) (call : Result tokens.Squeezed FileFault) (answer : Answer) (after : Option Job) → old.tentative ≡ None → 1 ≤ left → (old.stopped ≡ false → IsSqueezing old.blocks clean left)
@@ -155,24 +156,24 @@ squeezed_turn old new core clean left (Ok token.Nothing) answer after none some 
             ∙ ap (λ (m : Mounted). record (state_over old core jobs) { tight = nat_eq (above_of m.blocks) 0; jobs = with_job number None jobs }) (sym call.2);
       },
     ))
-    (λ number jobs there. tt) (quiet_over old new (Ok Squeezed) old.reads old.holds (λ quiet. quiet) call.0.running call.2) (λ running. tt) tt no_names (λ other. omega (arith, some)))
+    (λ number jobs there. tt) (quiet_over old new (Ok Squeezed) old.reads old.holds (λ quiet. quiet) call.0.running call.2) (λ running. tt) tt no_names (λ other. omega (arith, some)) (inr call))
 squeezed_turn old new core clean left (Err file.Memory) answer after none some is keeps survives call turns =
     told old new core (the_job clean left) (Err fault.Memory) answer (Some (the_job clean left)) after turns.0 turns.1
     (same_by old new core clean left (Err file.Memory) (Err fault.Memory) (Some (the_job clean left)) refl keeps call none call.2
     (λ number jobs there quiet. ap (λ (m : Mounted). state_over m core (with_job number (Some (squeezing clean left)) jobs)) call.2 ∙ ap (state_over old core) (same_put number (squeezing clean left) jobs there))
     (λ number jobs there. same_put number (squeezing clean left) jobs there)
     (quiet_over old new (Err fault.Memory) old.reads old.holds (λ quiet. quiet) call.0.running call.2)
-    (λ running. subst (λ (m : Mounted). IsSqueezing m.blocks clean left) (sym call.2) (is call.0.running)) some no_names (λ other. absurd (other refl)))
+    (λ running. subst (λ (m : Mounted). IsSqueezing m.blocks clean left) (sym call.2) (is call.0.running)) some no_names (λ other. absurd (other refl)) call)
 squeezed_turn old new core clean left (Err file.DirectoryFull) answer after none some is keeps survives call turns =
     told old new core (the_job clean left) (Err (fault.File file.DirectoryFull)) answer None after turns.0 turns.1
     (same_by old new core clean left (Err file.DirectoryFull) (Err (fault.File file.DirectoryFull)) None refl keeps call none call.7
     (λ number jobs there quiet. (some_above (above_of old.blocks) call.5, call.6.files, ap (λ (m : Mounted). state_over m core (with_job number None jobs)) call.7))
-    (λ number jobs there. refl) (quiet_over old new _ old.reads old.holds (λ quiet. quiet) call.0.running call.7) (λ running. tt) tt no_names (λ other. omega (arith, some)))
+    (λ number jobs there. refl) (quiet_over old new _ old.reads old.holds (λ quiet. quiet) call.0.running call.7) (λ running. tt) tt no_names (λ other. omega (arith, some)) call)
 squeezed_turn old new core clean left (Err file.Stopped) answer after none some is keeps survives call turns =
     told old new core (the_job clean left) (Err (fault.File file.Stopped)) answer None after turns.0 turns.1
     (same_by old new core clean left (Err file.Stopped) (Err (fault.File file.Stopped)) None refl keeps call none call.1
     (λ number jobs there quiet. absurd (true≢false (sym call.0 ∙ quiet.running)))
-    (λ number jobs there. refl) (stood_over old new old.holds call.0 call.1) (λ running. tt) tt no_names (λ other. omega (arith, some)))
+    (λ number jobs there. refl) (stood_over old new old.holds call.0 call.1) (λ running. tt) tt no_names (λ other. omega (arith, some)) call)
 squeezed_turn old new core clean left (Err file.Device) answer after none some is keeps survives call turns =
     told old new core (the_job clean left) (Err (fault.File file.Device)) answer None after turns.0 turns.1
     (elim call [
@@ -181,7 +182,7 @@ squeezed_turn old new core clean left (Err file.Device) answer after none some i
           (λ number jobs there quiet. absurd (more_reads missed.1 quiet.reads))
           (λ number jobs there. refl)
           (missed_over old new new.reads old.holds missed.0.running missed.1)
-          (λ running. tt) tt no_names (λ other. omega (arith, some))
+          (λ running. tt) tt no_names (λ other. omega (arith, some)) (inl missed)
       | inr failed ↦ turn_by old new core clean left (Err file.Device) (Err (fault.File file.Device)) None refl keeps (inr failed) (ap (λ (m : Mounted). m.tentative) failed.others ∙ none)
           (λ running. absurd (true≢false (sym (ap (λ (m : Mounted). m.stopped) failed.others) ∙ running)))
           (λ number jobs there quiet. absurd (more_writes failed quiet.writes))
@@ -193,7 +194,7 @@ squeezed_turn old new core clean left (Err file.Device) answer after none some i
             running = λ quiet. absurd (more_writes failed quiet.writes);
             files = λ more. (old.blocks, refl, survives more);
           })
-          (λ running. tt) tt no_names (λ other. omega (arith, some))
+          (λ running. tt) tt no_names (λ other. omega (arith, some)) (inr failed)
     ])
   where
     more_reads : HasMissed old new → new.failed_reads ≡ old.failed_reads → ⊥

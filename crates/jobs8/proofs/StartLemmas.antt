@@ -1,5 +1,5 @@
 -- What the table does for entries.
-use Rattle.std.proofs.Common.{◌≡◌, ◌∙◌, ℕ, ◌+◌, ◌<◌, ◌≤◌, suc, add-one, true, false, true≢false, Option, Some, None, List, [], ◌∷◌, length, slice_set, get_or, Ok, Err, refl, ap, sym, subst, arith, inl, inr}
+use Rattle.std.proofs.Common.{◌≡◌, ◌∙◌, ℕ, ◌+◌, ◌<◌, ◌≤◌, suc, add-one, Bool, true, false, true≢false, Option, Some, None, List, [], ◌∷◌, length, slice_set, get_or, Ok, Err, refl, ap, sym, subst, arith, inl, inr}
 use Rattle.std.specs.FinMap.{get}
 use Rattle.std.specs.List.{position}
 use Rattle.std.specs.Option.{is_none}
@@ -10,7 +10,7 @@ use Rattle.os8_files.specs.Service.{count_of}
 use Rattle.os8_files.specs.declared.faults.FileFault.{FileFault}
 use Rattle.os8_files.specs.declared.faults.FileFault.TheVariants as file
 use Rattle.jobs8.specs.Steps.{HasBegunLoading, BeginsLoading, TurnsJob, plain_after, jobs_after, left_of, HoldsAgain, HasBegunAssembly, BeginsAssembly, is_assembled}
-use Rattle.jobs8.specs.Calls.{StartsOver, StartsAssembling, StartsLoading, StartsSqueezing, TakesTurn, NumberTurnsOver, IfFile, NumberTellsRoom, CallsOf, LeavesJobs}
+use Rattle.jobs8.specs.Calls.{StartsOver, StartsAssembling, StartsLoading, StartsSqueezing, TakesTurn, NumberTurnsOver, IfFile, NumberTellsRoom, CallsOf, TellsSqueeze, LeavesJobs}
 use Rattle.jobs8.specs.Faults.{fault_of_file}
 use Rattle.jobs8.specs.Jobs as plain
 use Rattle.pal_blocks.specs.Blocks.{blocks_in}
@@ -23,6 +23,7 @@ use Rattle.jobs8.specs.State.{words_or}
 use Rattle.jobs8.specs.Turns.{Answer, JobTurn, WorkTurn}
 use Rattle.jobs8.specs.declared.loading.Loading.{Loading}
 use Rattle.jobs8.specs.declared.kinds.Job.{Job}
+use Rattle.jobs8.specs.declared.kinds.Work.{Work}
 use Rattle.jobs8.specs.declared.kinds.Work.TheVariants as work
 use Rattle.jobs8.specs.declared.faults.JobFault.{JobFault}
 use Rattle.jobs8.specs.declared.faults.JobFault.TheVariants as fault
@@ -32,6 +33,26 @@ use Rattle.jobs8.proofs.TableLemmas.{unchanged}
 use Rattle.jobs8.proofs.PlaceLemmas.{TakenLaw}
 
 -- ## Turns
+
+abbrev plain_left : Option plain.Job → ℕ
+plain_left None = 0
+plain_left (Some it) = it.left
+
+abbrev work_squeezes : plain.Work → Bool
+work_squeezes (plain.Assembling to from) = false
+work_squeezes (plain.Loading from) = false
+work_squeezes (plain.Squeezing clean) = true
+
+abbrev squeezes : Option plain.Job → Bool
+squeezes None = false
+squeezes (Some it) = work_squeezes it.work
+
+-- a job that squeezes without what it keeps is one that squeezes
+squeezing_is : (w : Work) (left more : ℕ) (clean : Bool) (old new : Mounted) (answer : Answer) → plain_job (Some (record { work = w; left = left })) ≡ Some (plain.squeezing clean more)
+    → ((kind : Bool) → w ≡ work.Squeezing kind → TellsSqueeze left old answer new) → TellsSqueeze more old answer new
+squeezing_is (work.Loading it) left more clean old new answer is tells = absurd (true≢false (sym (ap squeezes is)))
+squeezing_is (work.Assembling it) left more clean old new answer is tells = absurd (true≢false (sym (ap squeezes is)))
+squeezing_is (work.Squeezing kind) left more clean old new answer is tells = subst (λ n. TellsSqueeze n old answer new) (ap plain_left is) (tells kind refl)
 
 pub takes_turn : HeldLaw → (old new : Mounted) (core core2 : List ℕ) (jobs : List (Option Job)) (number place : ℕ) (it : Job) (answer : Answer) (after : Option Job) → IsSettled old jobs → number ≡ suc place → place < 8 → get_or jobs place None ≡ Some it
     → TurnsJob old core it answer after new core2 → TakesTurn old core jobs number answer new core2 (jobs_after (is_assembled answer) (slice_set jobs place after))
@@ -46,6 +67,7 @@ takes_turn law old new core core2 jobs number place it answer after settled next
   left = leaves answer (subst (λ l. LeavesJobs number answer (plain_jobs jobs) l) put (turns.jobs number (plain_jobs jobs) here));
   fewer = λ it not_memory there. omega (arith, turns_put jobs place after inside, turns.fewer not_memory, ap left_of is, turns_after (is_assembled answer) (slice_set jobs place after));
   calls = subst (λ o. CallsOf o old new) (sym (number_at_place jobs number place next ∙ is)) turns.calls;
+  squeezed = λ clean left there. squeezing_is it.work it.left left clean old new answer (sym here ∙ there) turns.squeezed;
   room = subst (λ o. IfFile (NumberTellsRoom o old) answer) (sym here) turns.room;
 }
   where
@@ -72,6 +94,7 @@ no_turn old core jobs number place settled next none = record {
   left = sym (number_put jobs number place None next ∙ ap plain_jobs (unchanged place jobs none));
   fewer = λ it other there. absurd (no_job it (sym here ∙ there));
   calls = subst (λ o. CallsOf o old old) (sym (number_at_place jobs number place next ∙ none)) refl;
+  squeezed = λ clean left there. absurd (no_job _ (sym here ∙ there));
   room = tt;
 }
   where

@@ -1,5 +1,5 @@
 -- What jobs do to a volume and to the table of jobs, whatever fails.
-use Rattle.std.specs.Prelude.{◌≡◌, ◌≤◌, ◌<◌, ◌⊎◌, ℕ, zero, suc, get_or, false, true, Option, Some, None, Result, Ok, Err, List}
+use Rattle.std.specs.Prelude.{◌≡◌, ◌≤◌, ◌<◌, ◌⊎◌, ℕ, zero, suc, get_or, Bool, false, true, Option, Some, None, Result, Ok, Err, List}
 use Rattle.os8_dir.specs.Files.{files_of}
 use Rattle.os8_files.specs.Calls.{Squeezes}
 use Rattle.os8_files.specs.Failed.{Survives}
@@ -10,11 +10,13 @@ use Rattle.pal_blocks.specs.Sources.{assembled_words}
 use Rattle.os8_files.specs.declared.faults.FileFault.{FileFault}
 use Rattle.os8_files.specs.declared.faults.FileFault.TheVariants as file
 use Rattle.os8_files.specs.declared.tokens.Squeezed as tokens
+use Rattle.os8_files.specs.declared.tokens.Squeezed.TheVariants as token
 use Rattle.jobs8.specs.declared.faults.JobFault.{JobFault}
 use Rattle.jobs8.specs.declared.faults.JobFault.TheVariants as fault
 use Rattle.jobs8.specs.declared.kinds.Job.{Job}
 use Rattle.jobs8.specs.declared.kinds.Work.{Work}
 use Rattle.jobs8.specs.declared.kinds.Work.TheVariants as work
+use Rattle.jobs8.specs.declared.turned.Turned.TheVariants.{Working, Squeezed}
 use Rattle.jobs8.specs.Jobs as plain
 use Rattle.jobs8.specs.Settled.{IsSettled, state_over, plain_jobs}
 use Rattle.jobs8.specs.Starts.{Begun, AssembleStarts, LoadStarts, SqueezeStarts}
@@ -94,6 +96,15 @@ WorkCalls (work.Assembling it) left old new = ReadsAtMost old new ⊎ ((left ≡
 WorkCalls (work.Loading it) left old new = ReadsAtMost old new
 WorkCalls (work.Squeezing clean) left old new = (call : Result tokens.Squeezed FileFault) × Squeezes old call new
 
+-- What the answer of a job that squeezes, with so many turns left, tells of its one call: Working, that a file was moved and a turn
+-- is left; Squeezed, that one was moved at the last turn, or that none was to be moved; and a refusal is that of the call.
+abbrev pub TellsSqueeze : ℕ → Mounted → Answer → Mounted → Type 0
+TellsSqueeze left old (Ok Working) new = (2 ≤ left) × (name : ℕ) × Squeezes old (Ok (token.Moved name)) new
+TellsSqueeze left old (Ok Squeezed) new = ((left ≡ 1) × (name : ℕ) × Squeezes old (Ok (token.Moved name)) new) ⊎ Squeezes old (Ok token.Nothing) new
+TellsSqueeze left old (Err (fault.File why)) new = Squeezes old (Err why) new
+TellsSqueeze left old (Err fault.Memory) new = Squeezes old (Err file.Memory) new
+TellsSqueeze left old answer new = ⊥
+
 -- an answer that is a fault of files has this
 abbrev pub IfFile : (FileFault → Type 0) → Answer → Type 0
 IfFile has (Ok turned) = Unit {0}
@@ -144,6 +155,7 @@ pub record TakesTurn (old : Mounted) (core : List ℕ) (jobs : List (Option Job)
   pub left : LeavesJobs number answer (plain_jobs jobs) (plain_jobs jobs')
   pub fewer : (it : plain.Job) → (answer ≡ Err fault.Memory → ⊥) → plain.job_of number (plain_jobs jobs) ≡ Some it → plain.turns_left (plain_jobs jobs') < plain.turns_left (plain_jobs jobs)
   pub calls : CallsOf (job_at number jobs) old new
+  pub squeezed : (clean : Bool) (left : ℕ) → plain.job_of number (plain_jobs jobs) ≡ Some (plain.squeezing clean left) → TellsSqueeze left old answer new
   pub room : IfFile (NumberTellsRoom (plain.job_of number (plain_jobs jobs)) old) answer
 
 -- What a start of a job leaves: no block is read or written. Where a write has failed before, that is the first refusal.

@@ -19,7 +19,7 @@ use Rattle.jobs8.specs.Settled.{LoadingFits, state_over, work_of, plain_job, Sta
 use Rattle.jobs8.specs.Sources.{names_of, AreFirst, AssemblyFits, AssemblyStands}
 use Rattle.jobs8.specs.State.{IsIn, words_in, AreIn, IsOneOut}
 use Rattle.jobs8.specs.Turns.{Answer, LoadingTurn, WorkTurn}
-use Rattle.jobs8.specs.Calls.{IsQuiet, TurnsOver, LeavesJobs, WorkCalls, IfFile, WorkTellsRoom}
+use Rattle.jobs8.specs.Calls.{IsQuiet, TurnsOver, LeavesJobs, WorkCalls, TellsSqueeze, IfFile, WorkTellsRoom}
 use Rattle.char_pack.specs.Packing.{frames}
 use Rattle.bin_tape.specs.Items.{Item}
 use Rattle.bin_tape.specs.Tape.{IsTape}
@@ -265,6 +265,7 @@ pub record TurnsJob (old : Mounted) (core : List ℕ) (job : Job) (answer : Answ
   pub above : is_assembled answer ≡ false → new.stopped ≡ false → above_of new.blocks ≤ above_of old.blocks
   pub fewer : (answer ≡ Err fault.Memory → ⊥) → left_of after < job.left
   pub calls : WorkCalls job.work job.left old new
+  pub squeezed : (clean : Bool) → job.work ≡ work.Squeezing clean → TellsSqueeze job.left old answer new
   pub room : IfFile (WorkTellsRoom (work_of job.work) old) answer
 
 -- What beginning a job that loads comes to.
