@@ -3,3 +3,4 @@ mod TapeLemmas
 mod GetLemmas
 mod CheckLemmas
 mod LawLemmas
+mod ExtentLemmas

@@ -1,12 +1,19 @@
--- What holds of a file that was put into an image and is got from the new one.
-use Rattle.std.specs.Prelude.{◌≡◌, ◌≢◌, ℕ, ◌-◌, ◌*◌, ◌<◌, nat_eq, if◌then◌else◌, Ok, List, [], ◌∷◌, ◌++◌, All, length, replicate}
+-- What holds of a file that was put into an image and is got from the new one, and of what a check tells.
+use Rattle.std.specs.Prelude.{◌≡◌, ◌≢◌, ℕ, zero, suc, ◌+◌, ◌-◌, ◌*◌, ◌<◌, ◌≤◌, ◌&&◌, nat_eq, nat_le, nat_lt, Bool, if◌then◌else◌, Ok, List, [], ◌∷◌, ◌++◌, All, codes, length, replicate}
 use Rattle.std.specs.Global.{Vec}
 use Rattle.char_pack.specs.Packing.{block_count, block_frames}
+use Rattle.volume_image.specs.Image.{IsImageOf}
 use Rattle.os8_dir.specs.Names.{parsed_name}
+use Rattle.os8_dir.specs.Entries.{Listed, end_of, size_of}
+use Rattle.os8_dir.specs.Reading.{directory_of}
+use Rattle.os8_dir.specs.declared.entries.DirEntry.{DirEntry}
+use Rattle.os8_dir.specs.declared.entries.DirEntry.TheVariants.{File, Empty}
+use Rattle.script8.specs.Shown.{shown}
 use Rattle.char_pack.specs.declared.forms.GetForm.TheVariants as get_as
 use Rattle.char_pack.specs.declared.forms.PutForm.{PutForm}
 use Rattle.char_pack.specs.declared.forms.PutForm.TheVariants as put_as
 use Rattle.archive8.specs.declared.putting.NewImage.{NewImage}
+use Rattle.archive8.specs.Checking.{Checks, blocks_line, extent_text, segment_lines}
 use Rattle.archive8.specs.Getting.{Gets}
 use Rattle.archive8.specs.Putting.{Puts}
 
@@ -34,3 +41,65 @@ abbrev pub OthersStay : Type 0
 OthersStay = (image name other bytes : List ℕ) (kind : PutForm) (new : NewImage) (before after : Vec ℕ) → parsed_name name ≢ parsed_name other
     → Puts image name kind bytes (Ok new) → Gets image other get_as.Frames (Ok before) → Gets new.bytes.items other get_as.Frames (Ok after)
     → after.items ≡ before.items
+
+-- ## Checks
+
+-- an extent: what its line begins with, its first block, and how many blocks it has
+pub record Extent : Type 0 where
+  pub label : List ℕ
+  pub place : ℕ
+  pub size : ℕ
+
+-- what an entry's line begins with
+abbrev pub entry_label : DirEntry → List ℕ
+entry_label (File name info size) = codes "FILE " ++ shown name ++ 32 ∷ []
+entry_label (Empty size) = codes "EMPTY "
+
+-- the extents of entries, the first of which begins at a block
+abbrev pub entry_extents : ℕ → List DirEntry → List Extent
+entry_extents place [] = []
+entry_extents place (entry ∷ entries) =
+    record { label = entry_label entry; place = place; size = size_of entry } ∷ entry_extents (place + size_of entry) entries
+
+-- the extent of blocks that the directory does not cover; of none there is none
+abbrev pub outside_extents : ℕ → ℕ → List Extent
+outside_extents place zero = []
+outside_extents place (suc more) = record { label = codes "OUTSIDE "; place = place; size = suc more } ∷ []
+
+-- the extents of a volume of so many blocks with this directory
+abbrev pub extents : ℕ → Listed → List Extent
+extents count d = outside_extents 7 (d.first - 7) ++ entry_extents d.first d.entries ++ outside_extents (end_of d) (count - end_of d)
+
+-- the lines of extents
+abbrev pub extent_lines : List Extent → List ℕ
+extent_lines [] = []
+extent_lines (e ∷ es) = e.label ++ extent_text e.place e.size ++ extent_lines es
+
+-- extents follow one another from a block to an end, and each has a block
+abbrev pub FollowOneAnother : ℕ → ℕ → List Extent → Type 0
+FollowOneAnother from end [] = from ≡ end
+FollowOneAnother from end (e ∷ es) = (e.place ≡ from) × (0 < e.size) × FollowOneAnother (from + e.size) end es
+
+-- an extent has a block
+abbrev pub has_block : Extent → ℕ → Bool
+has_block e block = nat_le e.place block && nat_lt block (e.place + e.size)
+
+-- how many extents have a block
+abbrev pub count_having : ℕ → List Extent → ℕ
+count_having block [] = 0
+count_having block (e ∷ es) = if has_block e block then suc (count_having block es) else count_having block es
+
+-- behind the lines of the blocks and the segments a text tells extents that follow one another from block 7 to the image's end:
+-- each block from 7 on is in just one
+pub record TellsEachBlock (image text : List ℕ) : Type 0 where
+  pub blocks : List (List ℕ)
+  pub is_image : IsImageOf image blocks
+  pub directory : Listed
+  pub read : directory_of blocks ≡ Ok directory
+  pub lines : text ≡ blocks_line (length blocks) ++ segment_lines 6 blocks 1 ++ extent_lines (extents (length blocks) directory)
+  pub follow : FollowOneAnother 7 (length blocks) (extents (length blocks) directory)
+  pub once : (block : ℕ) → 7 ≤ block → block < length blocks → count_having block (extents (length blocks) directory) ≡ 1
+
+-- a check tells each block from 7 on just once
+abbrev pub ChecksTellEachBlock : Type 0
+ChecksTellEachBlock = (image : List ℕ) (text : Vec ℕ) → Checks image (Ok text) → TellsEachBlock image text.items

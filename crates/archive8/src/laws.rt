@@ -1,7 +1,8 @@
-//! What holds of a file that was put into an image and is got from the new one.
-ghost use Rattle.archive8.specs.Laws.{FramesComeBack, OthersStay, TextComesBack};
+//! What holds of a file that was put into an image and is got from the new one, and of what a check tells.
+ghost use Rattle.archive8.specs.Laws.{ChecksTellEachBlock, FramesComeBack, OthersStay, TextComesBack};
 
 use char_pack::laws::{packed_bytes, stored_text};
+use os8_dir::laws::sound_directory;
 use volume_image::image_round_trip;
 
 /// A law: what was put is got again: the bytes with zeros behind them to the end of their last block, and a text without its
@@ -14,4 +15,12 @@ pub fn put_is_got()
     image_round_trip();
     packed_bytes();
     stored_text();
+}
+
+/// A law: the extents of files, of empties and of what the directory does not cover, that a check tells, follow one another from
+/// block 7 to the image's end: each block from 7 on is in just one.
+pub fn each_block_is_told()
+    ensures { ChecksTellEachBlock }
+{
+    sound_directory();
 }
