@@ -1,5 +1,5 @@
 -- What was put is got again.
-use Rattle.std.proofs.Common.{◌≡◌, ◌≢◌, ◌∙◌, ℕ, Bool, true, false, cond, nat_eq, Some, Ok, List, [], ◌∷◌, ◌++◌, refl, sym, ap, eqb, arith, inl, inr}
+use Rattle.std.proofs.Common.{◌≡◌, ◌≢◌, ◌∙◌, ℕ, Bool, true, false, cond, nat_eq, Some, Result, Ok, Err, is_ok, List, [], ◌∷◌, ◌++◌, refl, sym, ap, eqb, arith, inl, inr}
 use Rattle.std.specs.FinMap.{get, insert, get-insert}
 use Rattle.std.specs.Ordering.{nat_cmp, eq_by_cmp}
 use Rattle.std.proofs.lemmas.Cmp.{nat_cmp_total}
@@ -8,14 +8,19 @@ use Rattle.std.proofs.lemmas.Bool.Decides.{nat_tests, eqb_tells}
 use Rattle.volume_image.specs.Image.{IsImageOf, WrittenIsReadBack}
 use Rattle.char_pack.specs.Texts.{host_text, line_ends}
 use Rattle.os8_dir.specs.Names.{parsed_name}
+use Rattle.os8_dir.specs.Entries.{Listed}
+use Rattle.os8_dir.specs.Reading.{directory_of}
 use Rattle.os8_dir.specs.Files.{Held, Files, files_of}
-use Rattle.os8_files.specs.Puts.{plain_file}
+use Rattle.os8_dir.specs.declared.faults.DirFault.{DirFault}
+use Rattle.os8_files.specs.Failed.{extent_or}
+use Rattle.os8_files.specs.Puts.{blocks_filled, plain_file}
 use Rattle.archive8.specs.declared.putting.NewImage.{NewImage}
 use Rattle.archive8.specs.Getting.{IsFile, line_feeds}
+use Rattle.archive8.specs.Opening.{IsOpened}
 use Rattle.archive8.specs.Putting.{HasPutInto}
 use Rattle.archive8.specs.Laws.{without_returns}
 
-some_eq : {X : Type 0} (x y : X) → Some x ≡ Some y → x ≡ y
+pub some_eq : {X : Type 0} (x y : X) → Some x ≡ Some y → x ≡ y
 some_eq x y same = cc
 
 -- an image is that of one list of blocks
@@ -53,20 +58,40 @@ put_found law image name words found new put file =
     (sym file.there ∙ ap (λ (n : ℕ). get (files_of file.blocks) n) number ∙ ap (λ (blocks : List (List ℕ)). get (files_of blocks) new.name) same ∙ there) in
     ap (λ (h : Held). h.1) both
 
--- another file has the words that it had
-pub other_found : WrittenIsReadBack → (image name other words was found : List ℕ) (new : NewImage) → parsed_name name ≢ parsed_name other
-    → HasPutInto image name words new → IsFile image other was → IsFile new.bytes.items other found → found ≡ was
-other_found law image name other words was found new differ put before file =
-    let same : file.blocks ≡ put.after.blocks = one_volume law new.bytes.items put.after.blocks file.blocks put.is_image file.opened.is_image in
-    let old : before.blocks ≡ put.before.blocks = one_volume law image put.before.blocks before.blocks put.mounted.opened.is_image before.opened.is_image in
-    let number : file.number ≡ before.number = some_eq file.number before.number (sym file.named ∙ before.named) in
-    let apart : new.name ≢ before.number = λ one. differ (put.named ∙ ap Some one ∙ sym before.named) in
-    let kept : get (files_of put.after.blocks) before.number ≡ get (files_of put.before.blocks) before.number =
-    ap (λ (m : Files). get m before.number) put.put.files ∙ get-there (files_of put.before.blocks) new.name (plain_file put.before words) before.number apart in
-    let both : (file.info, found) ≡ (before.info, was) = some_eq (file.info, found) (before.info, was)
-    (sym file.there ∙ ap (λ (n : ℕ). get (files_of file.blocks) n) number ∙ ap (λ (blocks : List (List ℕ)). get (files_of blocks) before.number) same ∙ kept
-    ∙ ap (λ (blocks : List (List ℕ)). get (files_of blocks) before.number) (sym old) ∙ before.there) in
-    ap (λ (h : Held). h.1) both
+-- the map of files keeps another name's file
+kept : (image name other words was : List ℕ) (new : NewImage) → parsed_name name ≢ parsed_name other → (put : HasPutInto image name words new)
+    → (before : IsFile image other was) → get (files_of put.after.blocks) before.number ≡ get (files_of put.before.blocks) before.number
+kept image name other words was new differ put before =
+    ap (λ (m : Files). get m before.number) put.put.files ∙ get-there (files_of put.before.blocks) new.name (plain_file put.before words) before.number apart
+  where
+    apart : new.name ≢ before.number
+    apart one = differ (put.named ∙ ap Some one ∙ sym before.named)
+
+-- a volume in whose directory a file is found is sound
+sound_volume : (name : ℕ) (read : Result Listed DirFault) (extent : ℕ × ℕ) → extent_or name read ≡ Some extent → is_ok read ≡ true
+sound_volume name (Ok d) extent found = refl
+sound_volume name (Err fault) extent found = cc
+
+new_image : (image name words : List ℕ) (new : NewImage) → (put : HasPutInto image name words new) → IsOpened new.bytes.items put.after.blocks
+new_image image name words new put = record {
+  is_image = put.is_image;
+  sound = sound_volume new.name (directory_of put.after.blocks) (put.put.place, blocks_filled words) put.put.extent;
+}
+
+-- another file of an image is there in the new one, with the words that it had
+pub other_stays : WrittenIsReadBack → (image name other words was : List ℕ) (new : NewImage) → parsed_name name ≢ parsed_name other
+    → HasPutInto image name words new → IsFile image other was → IsFile new.bytes.items other was
+other_stays law image name other words was new differ put before = record {
+  blocks = put.after.blocks;
+  opened = new_image image name words new put;
+  number = before.number;
+  named = before.named;
+  info = before.info;
+  there = kept image name other words was new differ put before ∙ ap (λ (blocks : List (List ℕ)). get (files_of blocks) before.number) (sym old) ∙ before.there;
+}
+  where
+    old : before.blocks ≡ put.before.blocks
+    old = one_volume law image put.before.blocks before.blocks put.mounted.opened.is_image before.opened.is_image
 
 -- ## Texts
 

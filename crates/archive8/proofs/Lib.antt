@@ -3,4 +3,5 @@ mod TapeLemmas
 mod GetLemmas
 mod CheckLemmas
 mod LawLemmas
+mod AgainLemmas
 mod ExtentLemmas

@@ -1,5 +1,5 @@
 -- What holds of a file that was put into an image and is got from the new one, and of what a check tells.
-use Rattle.std.specs.Prelude.{◌≡◌, ◌≢◌, ℕ, zero, suc, ◌+◌, ◌-◌, ◌*◌, ◌<◌, ◌≤◌, ◌&&◌, nat_eq, nat_le, nat_lt, Bool, if◌then◌else◌, Ok, List, [], ◌∷◌, ◌++◌, All, codes, length, replicate}
+use Rattle.std.specs.Prelude.{◌≡◌, ◌≢◌, ℕ, zero, suc, ◌+◌, ◌-◌, ◌*◌, ◌<◌, ◌≤◌, ◌&&◌, nat_eq, nat_le, nat_lt, Bool, if◌then◌else◌, Result, Ok, MatchResult, List, [], ◌∷◌, ◌++◌, All, codes, length, replicate}
 use Rattle.std.specs.Global.{Vec}
 use Rattle.char_pack.specs.Packing.{block_count, block_frames}
 use Rattle.volume_image.specs.Image.{IsImageOf}
@@ -9,9 +9,13 @@ use Rattle.os8_dir.specs.Reading.{directory_of}
 use Rattle.os8_dir.specs.declared.entries.DirEntry.{DirEntry}
 use Rattle.os8_dir.specs.declared.entries.DirEntry.TheVariants.{File, Empty}
 use Rattle.script8.specs.Shown.{shown}
+use Rattle.script8.specs.declared.faults.SessionFault.TheVariants.{Memory}
+use Rattle.char_pack.specs.declared.forms.GetForm.{GetForm}
 use Rattle.char_pack.specs.declared.forms.GetForm.TheVariants as get_as
 use Rattle.char_pack.specs.declared.forms.PutForm.{PutForm}
 use Rattle.char_pack.specs.declared.forms.PutForm.TheVariants as put_as
+use Rattle.archive8.specs.declared.faults.ArchiveFault.{ArchiveFault}
+use Rattle.archive8.specs.declared.faults.ArchiveFault.TheVariants.{Refused}
 use Rattle.archive8.specs.declared.putting.NewImage.{NewImage}
 use Rattle.archive8.specs.Checking.{Checks, blocks_line, extent_text, segment_lines}
 use Rattle.archive8.specs.Getting.{Gets}
@@ -36,11 +40,12 @@ abbrev pub TextComesBack : Type 0
 TextComesBack = (image name bytes : List ℕ) (new : NewImage) (given : Vec ℕ)
     → Puts image name put_as.Text bytes (Ok new) → Gets new.bytes.items name get_as.Text (Ok given) → given.items ≡ without_returns bytes
 
--- another file has the same words as before
+-- another file that could be got is got in the same form with the same bytes, or memory is wanted
 abbrev pub OthersStay : Type 0
-OthersStay = (image name other bytes : List ℕ) (kind : PutForm) (new : NewImage) (before after : Vec ℕ) → parsed_name name ≢ parsed_name other
-    → Puts image name kind bytes (Ok new) → Gets image other get_as.Frames (Ok before) → Gets new.bytes.items other get_as.Frames (Ok after)
-    → after.items ≡ before.items
+OthersStay = (image name other bytes : List ℕ) (kind : PutForm) (form : GetForm) (new : NewImage) (before : Vec ℕ)
+    (answer : Result (Vec ℕ) ArchiveFault) → parsed_name name ≢ parsed_name other → Puts image name kind bytes (Ok new)
+    → Gets image other form (Ok before) → Gets new.bytes.items other form answer
+    → MatchResult answer (λ after. after.items ≡ before.items) (λ fault. fault ≡ Refused Memory)
 
 -- ## Checks
 
