@@ -44,9 +44,17 @@ abbrev pub within : ℕ → ℕ → Option ℕ → Option ℕ
 within least most None = None
 within least most (Some n) = if nat_le least n && nat_le n most then Some n else None
 
--- a number of steps: 1 to 1,000,000
+-- the most steps of an entry
+abbrev pub step_limit : ℕ
+step_limit = 1000000
+
+-- a number of steps
 abbrev pub steps_of : List ℕ → Option ℕ
-steps_of word = within 1 1000000 (number_of word)
+steps_of word = within 1 step_limit (number_of word)
+
+-- an entry that makes steps may be asked for so many
+abbrev pub are_steps : ℕ → Bool
+are_steps n = nat_le 1 n && nat_le n step_limit
 
 -- the number that octal digits go on to
 abbrev pub octal_from : ℕ → List ℕ → Option ℕ

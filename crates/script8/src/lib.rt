@@ -30,5 +30,6 @@ pub use file_lengths::FileLengths;
 pub use items::{Item, Next, lines_left, next_item, one_line_wanted};
 pub use lines::Line;
 pub use names::Names;
+pub use operands::are_steps;
 pub use parsing::parse_line;
 pub use replies::{Reply, Report, Said, Why};

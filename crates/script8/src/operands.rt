@@ -1,6 +1,6 @@
 //! The operands of entries: numbers, cells, words, characters and names.
 ghost use Rattle.std.specs.Prelude.{◌≡◌, ◌≢◌, ◌≤◌, ◌<◌, ◌⊎◌, IfSome, [], Err, length};
-ghost use Rattle.script8.specs.Lines.{name_bytes, number_of, digits_from, within as within_of, steps_of, cell_of, character_of, setting_of, octal_of, octal_from};
+ghost use Rattle.script8.specs.Lines.{name_bytes, number_of, digits_from, within as within_of, steps_of, are_steps, cell_of, character_of, setting_of, octal_of, octal_from};
 ghost use Rattle.script8.specs.Steps.{octal_limit};
 ghost use Rattle.script8.specs.declared.faults.SessionFault.TheVariants.{Memory};
 
@@ -32,11 +32,21 @@ pub(crate) fn character(digits: &[u8]) -> Option<u8>
     Some(number as u8)
 }
 
+/// The most steps of an entry.
+const MOST_STEPS: u32 = 1_000_000;
+
 /// A number of steps, 1 to 1,000,000.
 pub(crate) fn steps(digits: &[u8]) -> Option<u32>
     ensures { result ≡ steps_of digits.now }
 {
-    within(number(digits), 1, 1_000_000)
+    within(number(digits), 1, MOST_STEPS)
+}
+
+/// Whether an entry that makes steps may be asked for so many: 1 to 1,000,000.
+pub fn are_steps(number: u32) -> bool
+    ensures { result ≡ are_steps number }
+{
+    1 <= number && number <= MOST_STEPS
 }
 
 /// A decimal number of 1 to 7 digits.
