@@ -29,10 +29,10 @@ use Rattle.script8.specs.declared.replies.Reply.{Reply}
 use Rattle.script8.specs.declared.replies.Reply.TheVariants.{Line}
 use Rattle.script8.specs.declared.replies.Said.TheVariants.{Stored, Deleted}
 use Rattle.session8.specs.Console.{is_console, IsBreakTooMany}
-use Rattle.session8.specs.ConsoleSteps.{ConsoleDoes, TakesMemory}
+use Rattle.session8.specs.ConsoleSteps.{ConsoleDoes, TakesMemory, is_counted}
 use Rattle.session8.specs.Failing.{StepsStopped}
 use Rattle.session8.specs.Files.{text_blocks}
-use Rattle.session8.specs.Refusals.{MayLack}
+use Rattle.session8.specs.Refusals.{May, MayLack, after_refusal}
 use Rattle.session8.specs.Session.{Seen, state_of}
 use Rattle.session8.specs.SessionSteps.{Does}
 use Rattle.session8.specs.State.{Console, State}
@@ -226,57 +226,92 @@ store_done s v js bytes name text words blocks is alike told storable words_are 
 )
 
 -- what the console shows is a step
-console_done : (e : Entry) (s : Seen) (reply : Reply) (console : Console) → is_console e ≡ true → ConsoleDoes e s.console (Ok reply) console → Done (state_of s) e reply (state_of (record s { console = console }))
-console_done (entry.Store name text) s reply console is has = absurd (true≢false (sym is))
-console_done (entry.Delete name) s reply console is has = absurd (true≢false (sym is))
-console_done entry.Direct s reply console is has = absurd (true≢false (sym is))
-console_done (entry.Assemble to from) s reply console is has = absurd (true≢false (sym is))
-console_done (entry.Load name) s reply console is has = absurd (true≢false (sym is))
-console_done entry.Squeeze s reply console is has = absurd (true≢false (sym is))
-console_done (entry.Turn number) s reply console is has = absurd (true≢false (sym is))
-console_done (entry.Start cell) s reply console is has = (has, refl)
-console_done (entry.Step n) s reply console is has = (has, refl)
-console_done (entry.Go n) s reply console is has = (has, refl)
-console_done (entry.Run cell n) s reply console is has = (has, refl)
-console_done (entry.Key character) s reply console is has = (has, refl)
-console_done entry.Done s reply console is has = (has, refl)
-console_done (entry.Switches word) s reply console is has = (has, refl)
-console_done (entry.Examine cell) s reply console is has = (has, refl)
-console_done (entry.Deposit cell word) s reply console is has = (has, refl)
-console_done (entry.Break cell is_on) s reply console is has = (has, refl)
-console_done entry.Registers s reply console is has = (has, refl)
-console_done entry.Printed s reply console is has = (has, refl)
+console_done : (e : Entry) (s : Seen) (reply : Reply) (console : Console) → is_console e ≡ true → is_counted e ≡ true → ConsoleDoes e s.console (Ok reply) console → Done (state_of s) e reply (state_of (record s { console = console }))
+console_done (entry.Store name text) s reply console is counted has = absurd (true≢false (sym is))
+console_done (entry.Delete name) s reply console is counted has = absurd (true≢false (sym is))
+console_done entry.Direct s reply console is counted has = absurd (true≢false (sym is))
+console_done (entry.Assemble to from) s reply console is counted has = absurd (true≢false (sym is))
+console_done (entry.Load name) s reply console is counted has = absurd (true≢false (sym is))
+console_done entry.Squeeze s reply console is counted has = absurd (true≢false (sym is))
+console_done (entry.Turn number) s reply console is counted has = absurd (true≢false (sym is))
+console_done (entry.Start cell) s reply console is counted has = (has, refl)
+console_done (entry.Step n) s reply console is counted has = (counted, has, refl)
+console_done (entry.Go n) s reply console is counted has = (counted, has, refl)
+console_done (entry.Run cell n) s reply console is counted has = (counted, has, refl)
+console_done (entry.Key character) s reply console is counted has = (has, refl)
+console_done entry.Done s reply console is counted has = (has, refl)
+console_done (entry.Switches word) s reply console is counted has = (has, refl)
+console_done (entry.Examine cell) s reply console is counted has = (has, refl)
+console_done (entry.Deposit cell word) s reply console is counted has = (has, refl)
+console_done (entry.Break cell is_on) s reply console is counted has = (has, refl)
+console_done entry.Registers s reply console is counted has = (has, refl)
+console_done entry.Printed s reply console is counted has = (has, refl)
 
-pub console_shown : (e : Entry) (s : Seen) (reply : Reply) (console : Console) → is_console e ≡ true → ConsoleDoes e s.console (Ok reply) console → Does e s (Ok reply) (record s { console = console })
-console_shown e s reply console is has = shown e s _ reply is refl (console_done e s reply console is has)
+pub console_shown : (e : Entry) (s : Seen) (reply : Reply) (console : Console) → is_console e ≡ true → is_counted e ≡ true → ConsoleDoes e s.console (Ok reply) console → Does e s (Ok reply) (record s { console = console })
+console_shown e s reply console is counted has = shown e s _ reply is refl (console_done e s reply console is counted has)
 
 -- an entry of the console for which memory was lacking
-long_lacks : (e : Entry) (s : State) → TakesMemory e → MayLack s e
-long_lacks (entry.Step n) s long = tt
-long_lacks (entry.Go n) s long = tt
-long_lacks (entry.Run cell n) s long = tt
-long_lacks entry.Registers s long = tt
-long_lacks entry.Printed s long = tt
-long_lacks (entry.Store name text) s long = absurd long
-long_lacks (entry.Delete name) s long = absurd long
-long_lacks entry.Direct s long = absurd long
-long_lacks (entry.Assemble to from) s long = absurd long
-long_lacks (entry.Load name) s long = absurd long
-long_lacks entry.Squeeze s long = absurd long
-long_lacks (entry.Turn number) s long = absurd long
-long_lacks (entry.Start cell) s long = absurd long
-long_lacks (entry.Key character) s long = absurd long
-long_lacks entry.Done s long = absurd long
-long_lacks (entry.Switches word) s long = absurd long
-long_lacks (entry.Examine cell) s long = absurd long
-long_lacks (entry.Deposit cell word) s long = absurd long
-long_lacks (entry.Break cell is_on) s long = absurd long
+long_lacks : (e : Entry) (s : State) → is_counted e ≡ true → TakesMemory e → MayLack s e
+long_lacks (entry.Step n) s counted long = counted
+long_lacks (entry.Go n) s counted long = counted
+long_lacks (entry.Run cell n) s counted long = counted
+long_lacks entry.Registers s counted long = tt
+long_lacks entry.Printed s counted long = tt
+long_lacks (entry.Store name text) s counted long = absurd long
+long_lacks (entry.Delete name) s counted long = absurd long
+long_lacks entry.Direct s counted long = absurd long
+long_lacks (entry.Assemble to from) s counted long = absurd long
+long_lacks (entry.Load name) s counted long = absurd long
+long_lacks entry.Squeeze s counted long = absurd long
+long_lacks (entry.Turn number) s counted long = absurd long
+long_lacks (entry.Start cell) s counted long = absurd long
+long_lacks (entry.Key character) s counted long = absurd long
+long_lacks entry.Done s counted long = absurd long
+long_lacks (entry.Switches word) s counted long = absurd long
+long_lacks (entry.Examine cell) s counted long = absurd long
+long_lacks (entry.Deposit cell word) s counted long = absurd long
+long_lacks (entry.Break cell is_on) s counted long = absurd long
 
-pub console_undone : (e : Entry) (s : Seen) (console : Console) → is_console e ≡ true → TakesMemory e → console ≡ s.console → Does e s (Err fault.Memory) (record s { console = console })
-console_undone e s console at long is = undone e s _ (λ halted. subst (λ b. StepsStopped b (state_of s) e (Err fault.Memory) (state_of (record s { console = console }))) (sym at) (long_lacks e (state_of s) long, same)) (long_lacks e (state_of s) long) (steady_same _ _ refl) same
+pub console_undone : (e : Entry) (s : Seen) (console : Console) → is_console e ≡ true → is_counted e ≡ true → TakesMemory e → console ≡ s.console → Does e s (Err fault.Memory) (record s { console = console })
+console_undone e s console at counted long is = undone e s _ (λ halted. subst (λ b. StepsStopped b (state_of s) e (Err fault.Memory) (state_of (record s { console = console }))) (sym at) (long_lacks e (state_of s) counted long, same)) (long_lacks e (state_of s) counted long) (steady_same _ _ refl) same
   where
     same : state_of (record s { console = console }) ≡ state_of s
     same = ap (λ (c : Console). record (state_of s) { console = c }) is
+
+-- fewer or more steps than an entry may make are refused
+uncounted : (e : Entry) (s : State) → is_counted e ≡ false → May s e fault.BadLine × (s ≡ after_refusal s e)
+uncounted (entry.Store name text) s is = absurd (true≢false is)
+uncounted (entry.Delete name) s is = absurd (true≢false is)
+uncounted entry.Direct s is = absurd (true≢false is)
+uncounted (entry.Assemble to from) s is = absurd (true≢false is)
+uncounted (entry.Load name) s is = absurd (true≢false is)
+uncounted entry.Squeeze s is = absurd (true≢false is)
+uncounted (entry.Turn number) s is = absurd (true≢false is)
+uncounted (entry.Start cell) s is = absurd (true≢false is)
+uncounted (entry.Step n) s is = (is, refl)
+uncounted (entry.Go n) s is = (is, refl)
+uncounted (entry.Run cell n) s is = (is, refl)
+uncounted (entry.Key character) s is = absurd (true≢false is)
+uncounted entry.Done s is = absurd (true≢false is)
+uncounted (entry.Switches word) s is = absurd (true≢false is)
+uncounted (entry.Examine cell) s is = absurd (true≢false is)
+uncounted (entry.Deposit cell word) s is = absurd (true≢false is)
+uncounted (entry.Break cell is_on) s is = absurd (true≢false is)
+uncounted entry.Registers s is = absurd (true≢false is)
+uncounted entry.Printed s is = absurd (true≢false is)
+
+pub console_uncounted : (e : Entry) (s : Seen) → is_console e ≡ true → is_counted e ≡ false → Does e s (Err fault.BadLine) s
+console_uncounted e s at is = record {
+  step = λ quiet. uncounted e (state_of s) is;
+  later = record { reads = omega arith; writes = omega arith };
+  files = λ running more. absurd (omega (arith, more));
+  running = λ quiet. quiet.running;
+  memory = λ is. cc;
+  reply = tt;
+  tells = λ running. record { running = running; reads = refl; writes = refl };
+  stopped = λ halted. subst (λ b. StepsStopped b (state_of s) e (Err fault.BadLine) (state_of s)) (sym at) (uncounted e (state_of s) is);
+  done = tt;
+}
 
 -- a break too many is refused
 pub console_full : (e : Entry) (s : Seen) (console : Console) → IsBreakTooMany s.console e → console ≡ s.console → Does e s (Err fault.TooManyBreaks) (record s { console = console })

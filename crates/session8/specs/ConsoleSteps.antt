@@ -1,12 +1,20 @@
 -- What an entry of the console comes to, for private clauses.
-use Rattle.std.specs.Prelude.{◌≡◌, Result, Ok, Err}
+use Rattle.std.specs.Prelude.{◌≡◌, Bool, true, Result, Ok, Err}
 use Rattle.debug8.specs.declared.faults.DebugFault.{DebugFault}
 use Rattle.debug8.specs.declared.faults.DebugFault.TheVariants.{TooManyBreaks, Memory}
+use Rattle.script8.specs.Lines.{are_steps}
 use Rattle.script8.specs.declared.entries.Entry.{Entry}
 use Rattle.script8.specs.declared.replies.Reply.{Reply}
 use Rattle.session8.specs.State.{Console}
 use Rattle.session8.specs.Console.{Shows, IsBreakTooMany}
 use Rattle.script8.specs.declared.entries.Entry.TheVariants as entry
+
+-- STEP, GO and RUN ask for as many steps as an entry may
+abbrev pub is_counted : Entry → Bool
+is_counted (entry.Step n) = are_steps n
+is_counted (entry.Go n) = are_steps n
+is_counted (entry.Run cell n) = are_steps n
+is_counted entry = true
 
 -- an entry of the console that takes memory: steps may print characters, and reports are texts
 abbrev pub TakesMemory : Entry → Type 0

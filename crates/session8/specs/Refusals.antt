@@ -10,6 +10,7 @@ use Rattle.jobs8.specs.Starts.{AssembleStarts, LoadStarts}
 use Rattle.jobs8.specs.Turns.{Turns}
 use Rattle.jobs8.specs.declared.faults.JobFault.{JobFault}
 use Rattle.jobs8.specs.declared.faults.JobFault.TheVariants.{Memory}
+use Rattle.script8.specs.Lines.{are_steps}
 use Rattle.script8.specs.declared.entries.Entry.{Entry}
 use Rattle.script8.specs.declared.entries.Entry.TheVariants as entry
 use Rattle.script8.specs.declared.faults.SessionFault.{SessionFault}
@@ -41,6 +42,9 @@ May old (entry.Load name) (File file.BadName) = parsed_name name ≡ None
 May old (entry.Load name) why = (n : ℕ) × (parsed_name name ≡ Some n) × ((fault : JobFault) × (why ≡ fault_of_job fault) × LoadStarts (job_state old) n (Err fault) (job_state old))
 May old entry.Squeeze TooManyJobs = least_free old.jobs ≡ None
 May old (entry.Turn number) why = (fault : JobFault) × (why ≡ fault_of_job fault) × ((after : jobs.State) × Turns (job_state old) number (Err fault) after)
+May old (entry.Step n) BadLine = are_steps n ≡ false
+May old (entry.Go n) BadLine = are_steps n ≡ false
+May old (entry.Run cell n) BadLine = are_steps n ≡ false
 May old (entry.Break cell is_on) TooManyBreaks = IsBreakTooMany old.console (entry.Break cell is_on)
 May old entry why = ⊥
 
@@ -51,8 +55,8 @@ after_refusal old entry = old
 
 -- The machine may lack memory for an entry: for a text that can be stored under a name that is one and that no job holds, the list
 -- of the files, a job that assembles or loads where there is a number for it, and the file to be loaded is there, the turn of a job
--- that is there, the characters that steps may print, and reports. A bad name takes none to tell, and neither does a file to be
--- deleted that is not there, or held.
+-- that is there, the characters that steps of a number within the limits may print, and reports. A bad name takes none to tell, and
+-- neither does a file to be deleted that is not there, or held.
 abbrev pub MayLack : State → Entry → Type 0
 MayLack old (entry.Store name text) = (n : ℕ) × (parsed_name name ≡ Some n) × (is_storable text ≡ true) × IsUnheld (job_state old) n
 MayLack old (entry.Delete name) = (n : ℕ) × (parsed_name name ≡ Some n) × IsThere (job_state old) n × IsUnheld (job_state old) n
@@ -62,9 +66,9 @@ MayLack old (entry.Load name) = (n : ℕ) × (parsed_name name ≡ Some n) × Lo
 MayLack old entry.Squeeze = ⊥
 MayLack old (entry.Turn number) = (job : Job) × (job_of number old.jobs ≡ Some job)
 MayLack old (entry.Start cell) = ⊥
-MayLack old (entry.Step n) = Unit {0}
-MayLack old (entry.Go n) = Unit {0}
-MayLack old (entry.Run cell n) = Unit {0}
+MayLack old (entry.Step n) = are_steps n ≡ true
+MayLack old (entry.Go n) = are_steps n ≡ true
+MayLack old (entry.Run cell n) = are_steps n ≡ true
 MayLack old (entry.Key character) = ⊥
 MayLack old entry.Done = ⊥
 MayLack old (entry.Switches word) = ⊥

@@ -5,6 +5,7 @@ use Rattle.os8_files.specs.Service.{lengths_of, used_of}
 use Rattle.jobs8.specs.Starts.{AssembleStarts, LoadStarts, SqueezeStarts}
 use Rattle.jobs8.specs.Turns.{Turns}
 use Rattle.jobs8.specs.declared.turned.Turned.{Turned}
+use Rattle.script8.specs.Lines.{are_steps}
 use Rattle.script8.specs.declared.entries.Entry.{Entry}
 use Rattle.script8.specs.declared.entries.Entry.TheVariants as entry
 use Rattle.script8.specs.declared.faults.SessionFault.{SessionFault}
@@ -32,6 +33,9 @@ Done old (entry.Assemble to from) (Line (Job number)) new = Named to from (λ ta
 Done old (entry.Load name) (Line (Job number)) new = (n : ℕ) × (parsed_name name ≡ Some n) × Works (λ before after. LoadStarts before n (Ok number) after) old new
 Done old entry.Squeeze (Line (Job number)) new = Works (λ before after. SqueezeStarts before (Ok number) after) old new
 Done old (entry.Turn number) (Line said) new = (turned : Turned) × (said ≡ said_of number turned) × Works (λ before after. Turns before number (Ok turned) after) old new
+Done old (entry.Step n) reply new = (are_steps n ≡ true) × Shows old.console (entry.Step n) reply new.console × (new ≡ record old { console = new.console })
+Done old (entry.Go n) reply new = (are_steps n ≡ true) × Shows old.console (entry.Go n) reply new.console × (new ≡ record old { console = new.console })
+Done old (entry.Run cell n) reply new = (are_steps n ≡ true) × Shows old.console (entry.Run cell n) reply new.console × (new ≡ record old { console = new.console })
 Done old entry reply new = Shows old.console entry reply new.console × (new ≡ record old { console = new.console })
 
 -- From old, the machine may answer the entry so, and go on to new.

@@ -4,6 +4,7 @@ ghost use Rattle.os8_dir.specs.declared.faults.DirFault.TheVariants.{Device};
 ghost use Rattle.jobs8.specs.Jobs.{no_jobs};
 ghost use Rattle.jobs8.specs.Calls.{Outlives};
 ghost use Rattle.session8.specs.Console.{is_console};
+ghost use Rattle.session8.specs.ConsoleSteps.{is_counted};
 ghost use Rattle.session8.specs.Failing.{StepsStopped};
 ghost use Rattle.session8.specs.System.{Step, Run};
 ghost use Rattle.session8.specs.SessionSteps.{is_memory, Leaves, Does};
@@ -21,7 +22,7 @@ use debug8::DebugFault;
 use jobs8::Jobs;
 use os8_dir::DirFault;
 use os8_files::FileService;
-use script8::{Entry, Reply, SessionFault};
+use script8::{Entry, Reply, SessionFault, are_steps};
 use std::alloc::Global;
 use std::marker::Model;
 use volume_image::BlockStore;
@@ -108,7 +109,8 @@ impl<S: BlockStore> Session<S> {
 
     /// Does an entry: one step of the system machine, where no block call fails. After `Memory` all is as before; `Reader` and
     /// `Writer` are never answered. `Device` is answered just where a block call failed in this entry; after a failed write an entry
-    /// of files or jobs is `Stopped`, but for a bad form, name or text and a turn of no job, and one of the console goes on.
+    /// of files or jobs is `Stopped`, but for a bad form, name or text and a turn of no job, and one of the console goes on. No
+    /// steps, and more than 1,000,000, are a `BadLine`.
     pub fn enter(&mut self, alloc: Global, entry: Entry) -> Result<Reply, SessionFault>
         ensures step { IsQuiet self.old self.new → Step (state_of self.old) entry result (state_of self.new) }
         ensures later { IsLater self.old self.new }
@@ -191,6 +193,9 @@ impl<S: BlockStore> Session<S> {
         ensures leaves { Leaves entry.now self.old self.new }
         ensures room { EntryTellsRoom entry.now self.old result }
     {
+        if !is_counted(entry) {
+            return Err(SessionFault::BadLine);
+        }
         match self.console.enter(alloc, entry) {
             Ok(reply) => Ok(reply),
             Err(DebugFault::TooManyBreaks) => Err(SessionFault::TooManyBreaks),
@@ -207,6 +212,33 @@ fn parts(alloc: Global) -> Result<(Vec<u8>, Console), DebugFault>
     let line = Vec::with_capacity(alloc, LINE)?;
     let console = Console::new(alloc)?;
     Ok((line, console))
+}
+
+/// Whether an entry that makes steps asks for as many as it may.
+fn is_counted(entry: &Entry) -> bool
+    ensures { result ≡ is_counted entry.now }
+{
+    match entry {
+        Entry::Step(steps) => are_steps(*steps),
+        Entry::Go(steps) => are_steps(*steps),
+        Entry::Run { steps, .. } => are_steps(*steps),
+        Entry::Store { .. }
+        | Entry::Delete { .. }
+        | Entry::Direct
+        | Entry::Assemble { .. }
+        | Entry::Load { .. }
+        | Entry::Squeeze
+        | Entry::Turn(_)
+        | Entry::Start(_)
+        | Entry::Key(_)
+        | Entry::Done
+        | Entry::Switches(_)
+        | Entry::Examine(_)
+        | Entry::Deposit { .. }
+        | Entry::Break { .. }
+        | Entry::Registers
+        | Entry::Printed => true,
+    }
 }
 
 /// Whether an answer is want of memory.
