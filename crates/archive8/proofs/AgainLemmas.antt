@@ -82,7 +82,7 @@ tape_is_sound longer none file tape fault is has =
 -- ## Files
 
 -- an image has one file of a name
-one_file : WrittenIsReadBack → (image name words found : List ℕ) → IsFile image name words → IsFile image name found → found ≡ words
+pub one_file : WrittenIsReadBack → (image name words found : List ℕ) → IsFile image name words → IsFile image name found → found ≡ words
 one_file law image name words found a b = ap (λ (h : Held). h.1) (some_eq (b.info, found) (a.info, words) (sym b.there ∙ same ∙ a.there))
   where
     number : b.number ≡ a.number

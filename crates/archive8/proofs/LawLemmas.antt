@@ -1,12 +1,10 @@
 -- What was put is got again.
-use Rattle.std.proofs.Common.{◌≡◌, ◌≢◌, ◌∙◌, ℕ, Bool, true, false, cond, nat_eq, Some, Result, Ok, Err, is_ok, List, [], ◌∷◌, ◌++◌, refl, sym, ap, eqb, arith, inl, inr}
+use Rattle.std.proofs.Common.{◌≡◌, ◌≢◌, ◌∙◌, ℕ, true, cond, Some, Result, Ok, Err, is_ok, List, refl, sym, ap, eqb, arith, inl, inr}
 use Rattle.std.specs.FinMap.{get, insert, get-insert}
 use Rattle.std.specs.Ordering.{nat_cmp, eq_by_cmp}
 use Rattle.std.proofs.lemmas.Cmp.{nat_cmp_total}
-use Rattle.std.proofs.lemmas.Bool.{eqb-true}
 use Rattle.std.proofs.lemmas.Bool.Decides.{nat_tests, eqb_tells}
 use Rattle.volume_image.specs.Image.{IsImageOf, WrittenIsReadBack}
-use Rattle.char_pack.specs.Texts.{host_text, line_ends}
 use Rattle.os8_dir.specs.Names.{parsed_name}
 use Rattle.os8_dir.specs.Entries.{Listed}
 use Rattle.os8_dir.specs.Reading.{directory_of}
@@ -15,10 +13,9 @@ use Rattle.os8_dir.specs.declared.faults.DirFault.{DirFault}
 use Rattle.os8_files.specs.Failed.{extent_or}
 use Rattle.os8_files.specs.Puts.{blocks_filled, plain_file}
 use Rattle.archive8.specs.declared.putting.NewImage.{NewImage}
-use Rattle.archive8.specs.Getting.{IsFile, line_feeds}
+use Rattle.archive8.specs.Getting.{IsFile}
 use Rattle.archive8.specs.Opening.{IsOpened}
 use Rattle.archive8.specs.Putting.{HasPutInto}
-use Rattle.archive8.specs.Laws.{without_returns}
 
 pub some_eq : {X : Type 0} (x y : X) → Some x ≡ Some y → x ≡ y
 some_eq x y same = cc
@@ -47,17 +44,6 @@ get-there m name h q other = elim (eqb_tells name q) [
   | inr p ↦ get-with m name h q ∙ ap (λ b. cond b (Some h) (get m q)) p.0
 ]
 
--- the file that was put has the words
-pub put_found : WrittenIsReadBack → (image name words found : List ℕ) (new : NewImage) → HasPutInto image name words new → IsFile new.bytes.items name found → found ≡ words
-put_found law image name words found new put file =
-    let same : file.blocks ≡ put.after.blocks = one_volume law new.bytes.items put.after.blocks file.blocks put.is_image file.opened.is_image in
-    let number : file.number ≡ new.name = some_eq file.number new.name (sym file.named ∙ put.named) in
-    let there : get (files_of put.after.blocks) new.name ≡ Some (plain_file put.before words) =
-    ap (λ (m : Files). get m new.name) put.put.files ∙ get-here (files_of put.before.blocks) new.name (plain_file put.before words) in
-    let both : (file.info, found) ≡ plain_file put.before words = some_eq (file.info, found) (plain_file put.before words)
-    (sym file.there ∙ ap (λ (n : ℕ). get (files_of file.blocks) n) number ∙ ap (λ (blocks : List (List ℕ)). get (files_of blocks) new.name) same ∙ there) in
-    ap (λ (h : Held). h.1) both
-
 -- the map of files keeps another name's file
 kept : (image name other words was : List ℕ) (new : NewImage) → parsed_name name ≢ parsed_name other → (put : HasPutInto image name words new)
     → (before : IsFile image other was) → get (files_of put.after.blocks) before.number ≡ get (files_of put.before.blocks) before.number
@@ -78,6 +64,17 @@ new_image image name words new put = record {
   sound = sound_volume new.name (directory_of put.after.blocks) (put.put.place, blocks_filled words) put.put.extent;
 }
 
+-- the file that was put is there with its words
+pub put_file : (image name words : List ℕ) (new : NewImage) → (put : HasPutInto image name words new) → IsFile new.bytes.items name words
+put_file image name words new put = record {
+  blocks = put.after.blocks;
+  opened = new_image image name words new put;
+  number = new.name;
+  named = put.named;
+  info = (plain_file put.before words).0;
+  there = ap (λ (m : Files). get m new.name) put.put.files ∙ get-here (files_of put.before.blocks) new.name (plain_file put.before words);
+}
+
 -- another file of an image is there in the new one, with the words that it had
 pub other_stays : WrittenIsReadBack → (image name other words was : List ℕ) (new : NewImage) → parsed_name name ≢ parsed_name other
     → HasPutInto image name words new → IsFile image other was → IsFile new.bytes.items other was
@@ -92,15 +89,3 @@ other_stays law image name other words was new differ put before = record {
   where
     old : before.blocks ≡ put.before.blocks
     old = one_volume law image put.before.blocks before.blocks put.mounted.opened.is_image before.opened.is_image
-
--- ## Texts
-
-pub line_feeds-host : (host : List ℕ) → line_feeds (host_text host) ≡ without_returns host
-line_feeds-host [] = refl
-line_feeds-host (byte ∷ host) = go (nat_eq byte 13) refl (nat_eq byte 10) refl (line_feeds-host host)
-  where
-    go : (cr : Bool) → nat_eq byte 13 ≡ cr → (lf : Bool) → nat_eq byte 10 ≡ lf → line_feeds (host_text host) ≡ without_returns host
-        → line_feeds (line_ends byte ++ host_text host) ≡ without_returns (byte ∷ host)
-    go true is lf also later = rw is later
-    go false is true also later = rw (is, also) (ap (λ l. 10 ∷ l) later ∙ ap (λ b. b ∷ without_returns host) (sym (eqb-true byte 10 also)))
-    go false is false also later = rw (is, also) (rw is (ap (λ l. byte ∷ l) later))

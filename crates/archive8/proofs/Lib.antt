@@ -5,3 +5,7 @@ mod CheckLemmas
 mod LawLemmas
 mod AgainLemmas
 mod ExtentLemmas
+mod HostTextLemmas
+mod SegmentLemmas
+mod ComeBackLemmas
+mod PlaceLemmas

@@ -1,11 +1,13 @@
 -- What holds of a file that was put into an image and is got from the new one, and of what a check tells.
-use Rattle.std.specs.Prelude.{◌≡◌, ◌≢◌, ℕ, zero, suc, ◌+◌, ◌-◌, ◌*◌, ◌<◌, ◌≤◌, ◌&&◌, nat_eq, nat_le, nat_lt, Bool, if◌then◌else◌, Result, Ok, MatchResult, List, [], ◌∷◌, ◌++◌, All, codes, length, replicate}
+use Rattle.std.specs.Prelude.{◌≡◌, ◌≢◌, ℕ, zero, suc, ◌+◌, ◌-◌, ◌*◌, ◌<◌, ◌≤◌, ◌&&◌, not, nat_eq, nat_le, nat_lt, Bool, true, false, if◌then◌else◌, Result, Ok, MatchResult, List, [], ◌∷◌, ◌++◌, All, codes, length, replicate}
 use Rattle.std.specs.Global.{Vec}
 use Rattle.char_pack.specs.Packing.{block_count, block_frames}
+use Rattle.char_pack.specs.Texts.{is_storable}
 use Rattle.volume_image.specs.Image.{IsImageOf}
 use Rattle.os8_dir.specs.Names.{parsed_name}
-use Rattle.os8_dir.specs.Entries.{Listed, end_of, size_of}
-use Rattle.os8_dir.specs.Reading.{directory_of}
+use Rattle.os8_dir.specs.Entries.{Listed, AreDistinct, end_of, size_of}
+use Rattle.os8_dir.specs.Reading.{◌>>=◌, block, word, head_of, with_segment, directory_of}
+use Rattle.os8_dir.specs.declared.faults.DirFault.{DirFault}
 use Rattle.os8_dir.specs.declared.entries.DirEntry.{DirEntry}
 use Rattle.os8_dir.specs.declared.entries.DirEntry.TheVariants.{File, Empty}
 use Rattle.script8.specs.Shown.{shown}
@@ -17,37 +19,73 @@ use Rattle.char_pack.specs.declared.forms.PutForm.TheVariants as put_as
 use Rattle.archive8.specs.declared.faults.ArchiveFault.{ArchiveFault}
 use Rattle.archive8.specs.declared.faults.ArchiveFault.TheVariants.{Refused}
 use Rattle.archive8.specs.declared.putting.NewImage.{NewImage}
-use Rattle.archive8.specs.Checking.{Checks, blocks_line, extent_text, segment_lines}
-use Rattle.archive8.specs.Getting.{Gets}
+use Rattle.archive8.specs.Checking.{Checks, blocks_line, extent_text, segment_line, segment_lines}
+use Rattle.archive8.specs.Getting.{Gets, IsFile, IsTapeOf, line_feeds}
+use Rattle.archive8.specs.HostTexts.{is_unbroken, lines_text, text_words}
 use Rattle.archive8.specs.Putting.{Puts}
-
--- a text without its CRs
-abbrev pub without_returns : List ℕ → List ℕ
-without_returns [] = []
-without_returns (byte ∷ bytes) = if nat_eq byte 13 then without_returns bytes else byte ∷ without_returns bytes
 
 -- bytes, and zeros behind them to the end of their last block
 abbrev pub filled_up : List ℕ → List ℕ
 filled_up bytes = bytes ++ replicate (block_frames * block_count (length bytes) - length bytes) 0
 
+-- these bytes are given, or memory is wanted
+abbrev pub GivesOrLacks : List ℕ → Result (Vec ℕ) ArchiveFault → Type 0
+GivesOrLacks bytes answer = MatchResult answer (λ given. given.items ≡ bytes) (λ fault. fault ≡ Refused Memory)
+
 -- bytes come back, with zeros behind them
 abbrev pub FramesComeBack : Type 0
-FramesComeBack = (image name bytes : List ℕ) (new : NewImage) (given : Vec ℕ) → All (λ byte. byte < 256) bytes
-    → Puts image name put_as.Frames bytes (Ok new) → Gets new.bytes.items name get_as.Frames (Ok given) → given.items ≡ filled_up bytes
+FramesComeBack = (image name bytes : List ℕ) (new : NewImage) (answer : Result (Vec ℕ) ArchiveFault) → All (λ byte. byte < 256) bytes
+    → Puts image name put_as.Frames bytes (Ok new) → Gets new.bytes.items name get_as.Frames answer → GivesOrLacks (filled_up bytes) answer
 
--- a text comes back without its CRs
+-- the tape that bytes begin with comes back: all of them, where they end with its trailer
+abbrev pub TapeComesBack : Type 0
+TapeComesBack = (image name bytes tape : List ℕ) (new : NewImage) (answer : Result (Vec ℕ) ArchiveFault) → All (λ byte. byte < 256) bytes
+    → IsTapeOf bytes tape → Puts image name put_as.Frames bytes (Ok new) → Gets new.bytes.items name get_as.Tape answer → GivesOrLacks tape answer
+
+-- a CR stands in a text
+abbrev pub has_return : List ℕ → Bool
+has_return [] = false
+has_return (byte ∷ others) = if nat_eq byte 13 then true else has_return others
+
+-- a text comes back with each of its line ends, LF or CR LF, as LF; so one without CR comes back as it is
+pub record LinesComeBack : Type 0 where
+  pub ends : (image name bytes : List ℕ) (new : NewImage) (answer : Result (Vec ℕ) ArchiveFault) → Puts image name put_as.Text bytes (Ok new)
+      → Gets new.bytes.items name get_as.Text answer → GivesOrLacks (line_feeds bytes) answer
+  pub plain : (image name bytes : List ℕ) (new : NewImage) (answer : Result (Vec ℕ) ArchiveFault) → has_return bytes ≡ false
+      → Puts image name put_as.Text bytes (Ok new) → Gets new.bytes.items name get_as.Text answer → GivesOrLacks bytes answer
+
+-- no LF stands in a line, and no CR at its end
+abbrev pub is_line : List ℕ → Bool
+is_line [] = true
+is_line (byte ∷ []) = not (nat_eq byte 10) && not (nat_eq byte 13)
+is_line (byte ∷ next ∷ others) = not (nat_eq byte 10) && is_line (next ∷ others)
+
+abbrev pub AreLines : List (List ℕ) → Type 0
+AreLines [] = Unit {0}
+AreLines (line ∷ lines) = (is_line line ≡ true) × AreLines lines
+
+-- each line of a text ends with CR LF, before which no other CR stands
+pub record HasLineEnds (chars : List ℕ) : Type 0 where
+  pub lines : List (List ℕ)
+  pub last : List ℕ
+  pub chars_are : chars ≡ lines_text (13 ∷ 10 ∷ []) lines last
+  pub are_lines : AreLines lines
+  pub unbroken : is_unbroken last ≡ true
+
+-- a text of a file with such line ends, that is got as a text and put as one again, has its words again, and so its frames
 abbrev pub TextComesBack : Type 0
-TextComesBack = (image name bytes : List ℕ) (new : NewImage) (given : Vec ℕ)
-    → Puts image name put_as.Text bytes (Ok new) → Gets new.bytes.items name get_as.Text (Ok given) → given.items ≡ without_returns bytes
+TextComesBack = (image name other again chars : List ℕ) (given : Vec ℕ) (new : NewImage) → is_storable chars ≡ true → HasLineEnds chars
+    → IsFile image name (text_words chars) → Gets image name get_as.Text (Ok given) → Puts other again put_as.Text given.items (Ok new)
+    → IsFile new.bytes.items again (text_words chars)
 
 -- another file that could be got is got in the same form with the same bytes, or memory is wanted
 abbrev pub OthersStay : Type 0
 OthersStay = (image name other bytes : List ℕ) (kind : PutForm) (form : GetForm) (new : NewImage) (before : Vec ℕ)
     (answer : Result (Vec ℕ) ArchiveFault) → parsed_name name ≢ parsed_name other → Puts image name kind bytes (Ok new)
     → Gets image other form (Ok before) → Gets new.bytes.items other form answer
-    → MatchResult answer (λ after. after.items ≡ before.items) (λ fault. fault ≡ Refused Memory)
+    → GivesOrLacks before.items answer
 
--- ## Checks
+-- ## The extents that a check tells
 
 -- an extent: what its line begins with, its first block, and how many blocks it has
 pub record Extent : Type 0 where
@@ -108,3 +146,39 @@ pub record TellsEachBlock (image text : List ℕ) : Type 0 where
 -- a check tells each block from 7 on just once
 abbrev pub ChecksTellEachBlock : Type 0
 ChecksTellEachBlock = (image : List ℕ) (text : Vec ℕ) → Checks image (Ok text) → TellsEachBlock image text.items
+
+-- ## The segments that a check tells
+
+-- Segments follow one another from a link on: each stands in the block that the link before it names, one of 1 to 6, and the last has
+-- the link 0 (OS/8 Software Support Manual).
+abbrev pub AreLinked : List (List ℕ) → ℕ → List ℕ → Type 0
+AreLinked blocks link [] = link ≡ 0
+AreLinked blocks link (number ∷ numbers) = (number ≡ link) × (0 < number) × (number < 7) × AreLinked blocks (word (block blocks number) 2) numbers
+
+-- what a directory is read as with the segments in these blocks behind one another
+abbrev pub read_on : List (List ℕ) → Listed → List ℕ → Result Listed DirFault
+read_on blocks d [] = Ok d
+read_on blocks d (number ∷ numbers) = with_segment (length blocks) d number (block blocks number) >>= (λ more. read_on blocks more numbers)
+
+-- the lines of segments in these blocks
+abbrev pub lines_of_segments : List (List ℕ) → List ℕ → List ℕ
+lines_of_segments blocks [] = []
+lines_of_segments blocks (number ∷ numbers) = segment_line number (word (block blocks number) 0) ++ lines_of_segments blocks numbers
+
+-- behind the line of the blocks a text tells the segments of which the directory was read, each once, in the order of their links
+pub record TellsEachSegment (image text : List ℕ) : Type 0 where
+  pub blocks : List (List ℕ)
+  pub is_image : IsImageOf image blocks
+  pub directory : Listed
+  pub read : directory_of blocks ≡ Ok directory
+  pub numbers : List ℕ
+  pub linked : AreLinked blocks 1 numbers
+  pub distinct : AreDistinct numbers
+  pub head : Listed
+  pub begun : head_of (length blocks) (block blocks 1) ≡ Ok head
+  pub read_of : read_on blocks head numbers ≡ Ok directory
+  pub lines : text ≡ blocks_line (length blocks) ++ lines_of_segments blocks numbers ++ extent_lines (extents (length blocks) directory)
+
+-- a check tells each segment that was read, and no other
+abbrev pub ChecksTellEachSegment : Type 0
+ChecksTellEachSegment = (image : List ℕ) (text : Vec ℕ) → Checks image (Ok text) → TellsEachSegment image text.items

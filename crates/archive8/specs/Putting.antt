@@ -3,7 +3,7 @@ use Rattle.std.specs.Prelude.{◌≡◌, ℕ, ◌<◌, true, false, None, Some, 
 use Rattle.std.specs.FinMap.{insert}
 use Rattle.volume_image.specs.Image.{IsImageOf}
 use Rattle.char_pack.specs.Packing.{packed_blocks}
-use Rattle.char_pack.specs.Texts.{stored, is_storable}
+use Rattle.char_pack.specs.Texts.{is_storable}
 use Rattle.os8_dir.specs.Names.{parsed_name}
 use Rattle.os8_dir.specs.Files.{files_of}
 use Rattle.os8_files.specs.Mounted.{Mounted}
@@ -18,6 +18,7 @@ use Rattle.char_pack.specs.declared.forms.PutForm.{PutForm}
 use Rattle.char_pack.specs.declared.forms.PutForm.TheVariants.{Frames, Text}
 use Rattle.archive8.specs.declared.putting.NewImage.{NewImage}
 use Rattle.archive8.specs.Opening.{IsOpened, IsUnopened}
+use Rattle.archive8.specs.HostTexts.{file_text, text_words}
 
 -- an image that is mounted: no file is held
 pub record IsMounted (image : List ℕ) (m : Mounted) : Type 0 where
@@ -28,7 +29,7 @@ pub record IsMounted (image : List ℕ) (m : Mounted) : Type 0 where
 -- the words of bytes in a file: the fewest blocks, with zeros behind the last byte
 abbrev pub put_words : PutForm → List ℕ → List ℕ
 put_words Frames bytes = packed_blocks bytes
-put_words Text bytes = stored bytes
+put_words Text bytes = text_words (file_text bytes)
 
 -- the bytes are those of a file: a text that can be stored, or any bytes, at least one
 abbrev pub IsFit : PutForm → List ℕ → Type 0

@@ -10,6 +10,7 @@ use Rattle.bin_tape.specs.Reading.{HasRead, IsGoing}
 use Rattle.bin_tape.specs.declared.faults.TapeFault.{TapeFault}
 use Rattle.volume_image.specs.Image.{IsImageOf}
 use Rattle.char_pack.specs.Packing.{frames}
+use Rattle.char_pack.specs.Texts.{is_storable}
 use Rattle.os8_dir.specs.Files.{Held, files_of}
 use Rattle.os8_files.specs.Mounted.{Mounted}
 use Rattle.os8_files.specs.Service.{blocks_in}
@@ -24,6 +25,8 @@ use Rattle.os8_files.specs.Puts.{HasPut, blocks_filled}
 use Rattle.char_pack.specs.declared.forms.PutForm.{PutForm}
 use Rattle.archive8.specs.declared.putting.NewImage.{NewImage}
 use Rattle.archive8.specs.Getting.{IsGiven}
+use Rattle.archive8.specs.HostTexts.{IsPlaceBehind}
+use Rattle.archive8.specs.declared.places.TextPlace.{TextPlace}
 use Rattle.archive8.specs.Putting.{put_words, IsFit, IsUnfit, IsFull}
 
 -- a file of so many whole blocks is there
@@ -98,3 +101,10 @@ PutsWords m name words (Ok new) = (new.name ≡ name) × (new.blocks ≡ blocks_
 PutsWords m name words (Err (File (file.NoRoom largest))) = IsFull m name words (File (file.NoRoom largest))
 PutsWords m name words (Err (File file.DirectoryFull)) = IsFull m name words (File file.DirectoryFull)
 PutsWords m name words (Err fault) = fault ≡ Memory
+
+-- all bytes of a text before the rest may stand, and the rest has this place
+pub record IsSoFar (bytes rest : List ℕ) (at : TextPlace) : Type 0 where
+  pub before : List ℕ
+  pub bytes_are : bytes ≡ before ++ rest
+  pub storable : is_storable before ≡ true
+  pub place : IsPlaceBehind before at

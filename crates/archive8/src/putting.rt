@@ -6,8 +6,9 @@ ghost use Rattle.archive8.specs.Steps.{AreBlocks, MakesWords, PutsWords};
 ghost use Rattle.char_pack.specs.declared.forms.PutForm.TheVariants as form;
 
 use crate::opening::mounted;
+use crate::texts::text_frames;
 use crate::{ArchiveFault, PutForm};
-use char_pack::{TextFault, pack_blocks, store};
+use char_pack::{PackFault, is_storable, pack_blocks};
 use os8_dir::Name;
 use os8_files::{FileFault, FileService};
 use script8::SessionFault;
@@ -52,11 +53,7 @@ fn words_of(alloc: Global, bytes: &[u8], form: PutForm) -> Result<Vec<Word>, Ses
 {
     match form {
         PutForm::Frames => packed(alloc, bytes),
-        PutForm::Text => match store(alloc, bytes) {
-            Ok(words) => Ok(words),
-            Err(TextFault::BadText) => Err(SessionFault::BadText),
-            Err(TextFault::Memory) => Err(SessionFault::Memory),
-        },
+        PutForm::Text => stored(alloc, bytes),
     }
 }
 
@@ -69,7 +66,21 @@ fn packed(alloc: Global, frames: &[u8]) -> Result<Vec<Word>, SessionFault>
     }
     match pack_blocks(alloc, frames) {
         Ok(words) => Ok(words),
-        Err(_) => Err(SessionFault::Memory),
+        Err(PackFault::Memory) => Err(SessionFault::Memory),
+    }
+}
+
+/// The words of a text in a file.
+fn stored(alloc: Global, text: &[u8]) -> Result<Vec<Word>, SessionFault>
+    ensures { MakesWords form.Text text.now result }
+{
+    if !is_storable(text) {
+        return Err(SessionFault::BadText);
+    }
+    let frames = text_frames(alloc, text)?;
+    match pack_blocks(alloc, &frames) {
+        Ok(words) => Ok(words),
+        Err(PackFault::Memory) => Err(SessionFault::Memory),
     }
 }
 

@@ -2,7 +2,7 @@
 use Rattle.std.proofs.Common.{◌≡◌, ◌≢◌, ℕ, ◌+◌, ◌-◌, ◌*◌, ◌%◌, ◌<◌, List, [], ◌∷◌, ◌++◌, length, map, replicate, true, false, not, nat_lt, nat_eq, if◌then◌else◌, refl, ap, sym, ◌∙◌, arith}
 use Rattle.std.proofs.lemmas.List.{append_assoc, length-append, length-map}
 use Rattle.std.proofs.lemmas.Bool.{and_parts, ltb-true, eqb-false, not-true, ne_eqb, eq-eqb}
-use Rattle.char_pack.specs.Packing.{block_frames, block_count}
+use Rattle.char_pack.specs.Packing.{block_frames, block_count, packed_blocks}
 use Rattle.char_pack.specs.Texts.{characters, is_ended, text, line_ends, host_text, may_stand, is_storable, text_frames, stored}
 use Rattle.char_pack.proofs.PackLemmas.{Bytes, is_block_packing}
 
@@ -60,15 +60,19 @@ Bytes-marked (c ∷ chars) others stand fit = ((let small : c < 128 = stand.0 in
 pub Bytes-text_frames : (chars : List ℕ) → Stands chars → Bytes (text_frames chars)
 Bytes-text_frames chars stand = Bytes-marked chars ((128 + 26) ∷ []) stand (omega arith, tt)
 
-pub text-stored : (host : List ℕ) → is_storable host ≡ true → text (stored host) ≡ host_text host
-text-stored host storable =
-    let chars = host_text host in
-    let stand = Stands-host_text host (Stands-from host storable) in
+text-packed : (chars : List ℕ) → Stands chars → text (packed_blocks (text_frames chars)) ≡ chars
+text-packed chars stand =
     let bytes = text_frames chars in
     let zeros = replicate (block_frames * block_count (length bytes) - length bytes) 0 in
     ap characters ((is_block_packing bytes (Bytes-text_frames chars stand)).reads_back
     ∙ append_assoc (map (λ character. 128 + character) chars) ((128 + 26) ∷ []) zeros)
     ∙ characters-stored chars zeros stand
+
+pub text-stored : (host : List ℕ) → is_storable host ≡ true → text (stored host) ≡ host_text host
+text-stored host storable = text-packed (host_text host) (Stands-host_text host (Stands-from host storable))
+
+pub text-chars : (chars : List ℕ) → is_storable chars ≡ true → text (packed_blocks (text_frames chars)) ≡ chars
+text-chars chars storable = text-packed chars (Stands-from chars storable)
 
 pub characters-append : (frames others : List ℕ)
     → characters (frames ++ others) ≡ characters frames ++ (if is_ended frames then [] else characters others)

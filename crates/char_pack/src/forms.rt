@@ -17,6 +17,6 @@ pub enum PutForm {
     /// Its frames.
     Frames,
 
-    /// Its text, as `STORE` keeps one.
+    /// Its text, with each line ended by CR LF.
     Text,
 }

@@ -2,7 +2,7 @@
 
 ghost use Rattle.std.specs.Prelude.{◌≡◌, ◌%◌, ◌<◌, ℕ, List, [], ◌++◌, All, length, true, if◌then◌else◌};
 ghost use Rattle.char_pack.specs.Packing.{frames, packed, IsPacking, packed_blocks, IsBlockPacking};
-ghost use Rattle.char_pack.specs.Texts.{characters, is_ended, text, host_text, is_storable, stored};
+ghost use Rattle.char_pack.specs.Texts.{characters, is_ended, text, host_text, is_storable, stored, text_frames};
 
 /// Packed bytes read back, and no shorter even list of words has them.
 pub fn packed_bytes()
@@ -28,7 +28,9 @@ pub fn joined_text()
         → is_ended (frames ++ others) ≡ (if is_ended frames then true else is_ended others) }
 {}
 
-/// A host text that was stored reads back as that text, with CR dropped and LF as CR LF.
+/// Characters whose frames were packed read back. So a host text that was stored reads back as that text, with CR dropped and LF
+/// as CR LF.
 pub fn stored_text()
-    ensures { (host : List ℕ) → is_storable host ≡ true → text (stored host) ≡ host_text host }
+    ensures host { (host : List ℕ) → is_storable host ≡ true → text (stored host) ≡ host_text host }
+    ensures characters { (chars : List ℕ) → is_storable chars ≡ true → text (packed_blocks (text_frames chars)) ≡ chars }
 {}

@@ -1,20 +1,41 @@
-use Rattle.std.proofs.Common.{◌∙◌, ap}
-use Rattle.char_pack.specs.Packing.{frames}
-use Rattle.char_pack.specs.Texts.{text}
-use Rattle.archive8.specs.Getting.{line_feeds}
-use Rattle.archive8.proofs.LawLemmas.{line_feeds-host, other_stays, put_found}
+use Rattle.std.proofs.Common.{◌∙◌, ◌-◌, ◌*◌, List, ℕ, subst, sym, length}
+use Rattle.char_pack.specs.Packing.{packed_blocks, block_count, block_frames}
+use Rattle.char_pack.specs.declared.forms.GetForm.TheVariants.{Frames, Text, Tape}
+use Rattle.archive8.specs.Getting.{IsTapeOf}
+use Rattle.archive8.specs.HostTexts.{file_text, text_words}
+use Rattle.archive8.specs.Laws.{filled_up}
+use Rattle.archive8.proofs.LawLemmas.{other_stays, put_file}
 use Rattle.archive8.proofs.AgainLemmas.{got_again}
+use Rattle.archive8.proofs.ComeBackLemmas.{tape-zeros, lines-back, words-back}
+use Rattle.archive8.proofs.HostTextLemmas.{feeds-none}
 use Rattle.archive8.proofs.laws.put_is_got.Goals as goal
 
 pub returns : goal.returns
 returns c =
     let law = c.image_round_trip.ensures.written_is_read_back in
+    let longer = c.longer_tape.ensures in
+    let none = c.no_fault.ensures in
+    let read = c.stored_text.ensures.characters in
     record {
-      frames = λ image name bytes new given small puts gets.
-          gets.2 ∙ ap frames (put_found law image name _ gets.0 new puts.1 gets.1) ∙ (c.packed_bytes.ensures.blocks bytes small).reads_back;
-      text = λ image name bytes new given puts gets.
-          gets.2 ∙ ap (λ words. line_feeds (text words)) (put_found law image name _ gets.0 new puts.1 gets.1) ∙ ap line_feeds (c.stored_text.ensures bytes puts.0) ∙ line_feeds-host bytes;
+      frames = λ image name bytes new answer small puts gets.
+          got_again law longer none new.bytes.items name (packed_blocks bytes) (filled_up bytes) Frames answer
+          (put_file image name (packed_blocks bytes) new puts.1) (sym (c.packed_bytes.ensures.blocks bytes small).reads_back) gets;
+      tape = λ image name bytes tape new answer small is puts gets.
+          got_again law longer none new.bytes.items name (packed_blocks bytes) tape Tape answer
+          (put_file image name (packed_blocks bytes) new puts.1)
+          (subst (λ (l : List ℕ). IsTapeOf l tape) (sym (c.packed_bytes.ensures.blocks bytes small).reads_back)
+          (tape-zeros bytes tape (block_frames * block_count (length bytes) - length bytes) is)) gets;
+      lines = record {
+        ends = λ image name bytes new answer puts gets.
+            got_again law longer none new.bytes.items name (text_words (file_text bytes)) _ Text answer
+            (put_file image name (text_words (file_text bytes)) new puts.1) (sym (lines-back read bytes puts.0)) gets;
+        plain = λ image name bytes new answer plain puts gets.
+            got_again law longer none new.bytes.items name (text_words (file_text bytes)) bytes Text answer
+            (put_file image name (text_words (file_text bytes)) new puts.1) (sym (lines-back read bytes puts.0 ∙ feeds-none bytes plain)) gets;
+      };
+      text = λ image name other again chars given new storable ends file gets puts.
+          words-back read law image name again chars given other new storable ends file gets puts.1;
       others = λ image name other bytes kind form new before answer differ puts gets_before gets_after.
-          got_again law c.longer_tape.ensures c.no_fault.ensures new.bytes.items other gets_before.0 before.items form answer
+          got_again law longer none new.bytes.items other gets_before.0 before.items form answer
           (other_stays law image name other _ gets_before.0 new differ puts.1 gets_before.1) gets_before.2 gets_after;
     }
