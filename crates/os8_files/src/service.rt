@@ -113,6 +113,14 @@ impl<S: BlockStore> FileService<S> {
         store
     }
 
+    /// The store as it stands, to be looked at.
+    pub fn store(&self) -> &S
+        ensures blocks { S.contents result.now ≡ self.now.blocks }
+        ensures counts { (S.reads result.now ≡ self.now.reads) × (S.writes result.now ≡ self.now.writes) × (S.failed_reads result.now ≡ self.now.failed_reads) × (S.failed_writes result.now ≡ self.now.failed_writes) }
+    {
+        &self.store
+    }
+
     /// The length in blocks of the file of a name; nothing where there is none. Where a write has failed it is that of the
     /// directory that was held then.
     pub fn lookup(&self, name: &Name) -> Option<usize>

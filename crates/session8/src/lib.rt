@@ -7,6 +7,8 @@ pub mod laws;
 mod pending;
 mod readings;
 mod sessions;
+mod watchers;
 
 pub use readings::{MOST, read_all};
 pub use sessions::{Ran, Session};
+pub use watchers::Watcher;

@@ -17,6 +17,7 @@ use super::{Session, is_memory};
 use crate::endings::Ending;
 use crate::pending::{Begun, Pending};
 use crate::readings::{MOST, PIECE, ends, zero_bytes};
+use crate::watchers::{Unwatched, Watcher};
 use script8::{Entry, Item, Next, Reply, Said, SessionFault, next_item, put_reply};
 use std::alloc::Global;
 use std::io::{Read, Write};
@@ -44,16 +45,37 @@ impl<S: BlockStore> Session<S> {
             × (count ≡ 16777217 → (result ≡ Err fault.Reader) ⊎ (result ≡ Err fault.Writer)) }
         ensures kind { IfErr result (λ e. (e ≡ fault.Reader) ⊎ (e ≡ fault.Memory) ⊎ (e ≡ fault.Writer)) }
     {
-        let run = self.run_read(alloc, reader, writer);
-        self.end_run(run, writer)
+        self.run_watched(alloc, reader, writer, &mut Unwatched)
     }
 
-    /// Reads the script of a reader, and runs it as it comes.
-    fn run_read<R: Read, W: Write>(
+    /// The same, where a watcher is told of each item before it is done, and of each answer with the store behind it, before the
+    /// answer's lines are written. Where the watcher ends the run, the answer is `Writer`, as where the writer fails at these lines.
+    pub fn run_watched<R: Read, W: Write, K: Watcher<S>>(
         &mut self,
         alloc: Global,
         reader: &mut R,
         writer: &mut W,
+        watcher: &mut K,
+    ) -> Result<(), SessionFault>
+        ensures told { IsQuiet self.old self.new → RunsText 16777216 (state_of self.old) (state_of self.new)
+            (R.remaining reader.old) (R.remaining reader.new) (W.contents writer.old) (W.contents writer.new) result }
+        ensures later { IsLater self.old self.new }
+        ensures running { IsQuiet self.old self.new → self.new.volume.stopped ≡ false }
+        ensures taken { (count : ℕ) × Takes (R.remaining reader.old) (R.remaining reader.new) count × (count ≤ 16777217)
+            × (count ≡ 16777217 → (result ≡ Err fault.Reader) ⊎ (result ≡ Err fault.Writer)) }
+        ensures kind { IfErr result (λ e. (e ≡ fault.Reader) ⊎ (e ≡ fault.Memory) ⊎ (e ≡ fault.Writer)) }
+    {
+        let run = self.run_read(alloc, reader, writer, watcher);
+        self.end_run(run, writer, watcher)
+    }
+
+    /// Reads the script of a reader, and runs it as it comes.
+    fn run_read<R: Read, W: Write, K: Watcher<S>>(
+        &mut self,
+        alloc: Global,
+        reader: &mut R,
+        writer: &mut W,
+        watcher: &mut K,
     ) -> Result<(), Ending>
         ensures told { IsQuiet self.old self.new → RunsRead 16777216 (state_of self.old) (state_of self.new)
             (R.remaining reader.old) (R.remaining reader.new) (W.contents writer.old) (W.contents writer.new) result }
@@ -69,13 +91,13 @@ impl<S: BlockStore> Session<S> {
         for _ in 0..u64::MAX {
             if pending.count == MOST {
                 if ends(reader) {
-                    return self.run_end(alloc, &pending.bytes, writer);
+                    return self.run_end(alloc, &pending.bytes, writer, watcher);
                 }
                 return Err(Ending::Reader);
             }
             match pending.read(reader, &mut piece) {
-                Ok(true) => return self.run_end(alloc, &pending.bytes, writer),
-                Ok(false) => self.run_given(alloc, &mut pending, writer)?,
+                Ok(true) => return self.run_end(alloc, &pending.bytes, writer, watcher),
+                Ok(false) => self.run_given(alloc, &mut pending, writer, watcher)?,
                 Err(SessionFault::Reader) => return Err(Ending::Reader),
                 Err(_) => return Err(Ending::Memory),
             }
@@ -84,11 +106,12 @@ impl<S: BlockStore> Session<S> {
     }
 
     /// Runs the whole items of what a reader gave and may go on from, and hands their lines on.
-    fn run_given<W: Write>(
+    fn run_given<W: Write, K: Watcher<S>>(
         &mut self,
         alloc: Global,
         pending: &mut Pending,
         writer: &mut W,
+        watcher: &mut K,
     ) -> Result<(), Ending>
         requires { Waits pending.old.bytes.items pending.old.lines }
         ensures told { IsQuiet self.old self.new → RunsGiven pending.old.bytes.items pending.new.bytes.items
@@ -101,34 +124,36 @@ impl<S: BlockStore> Session<S> {
         if pending.lines > 0 {
             return Ok(());
         }
-        let (bytes, lines) = self.run_items(alloc, &pending.bytes, false, writer)?;
+        let (bytes, lines) = self.run_items(alloc, &pending.bytes, false, writer, watcher)?;
         pending.done(bytes, lines);
         flush(writer)
     }
 
     /// Runs a text that is the end of a script.
-    fn run_end<W: Write>(
+    fn run_end<W: Write, K: Watcher<S>>(
         &mut self,
         alloc: Global,
         text: &[u8],
         writer: &mut W,
+        watcher: &mut K,
     ) -> Result<(), Ending>
         ensures told { IsQuiet self.old self.new → RunsItems (script_of text.now) (state_of self.old) (state_of self.new) (W.contents writer.old) (W.contents writer.new) result }
         ensures later { IsLater self.old self.new }
         ensures running { IsQuiet self.old self.new → self.new.volume.stopped ≡ false }
     {
-        let _rest = self.run_items(alloc, text, true, writer)?;
+        let _rest = self.run_items(alloc, text, true, writer, watcher)?;
         Ok(())
     }
 
     /// Runs the items of a text that is the end of a script, or goes on; and answers how many bytes they have, and how many lines
     /// are wanted behind them.
-    fn run_items<W: Write>(
+    fn run_items<W: Write, K: Watcher<S>>(
         &mut self,
         alloc: Global,
         text: &[u8],
         is_end: bool,
         writer: &mut W,
+        watcher: &mut K,
     ) -> Result<(usize, u32), Ending>
         ensures told { IsQuiet self.old self.new → RunsFront text.now is_end (state_of self.old) (state_of self.new) (W.contents writer.old) (W.contents writer.new) result }
         ensures rest { IfOk result (λ done. (done.0 ≤ length text.now) × IsOut (drop done.0 text.now) is_end done.1) }
@@ -138,7 +163,7 @@ impl<S: BlockStore> Session<S> {
         let mut done = 0;
         loop {
             let (_, rest) = text.split_at(done);
-            match self.run_next(alloc, rest, is_end, writer)? {
+            match self.run_next(alloc, rest, is_end, writer, watcher)? {
                 Begun::Waiting(lines) => return Ok((done, lines)),
                 Begun::Ran(bytes) => done += bytes,
             }
@@ -146,12 +171,13 @@ impl<S: BlockStore> Session<S> {
     }
 
     /// Runs what a text begins with, and answers how many bytes that has, or how many lines are wanted.
-    fn run_next<W: Write>(
+    fn run_next<W: Write, K: Watcher<S>>(
         &mut self,
         alloc: Global,
         text: &[u8],
         is_end: bool,
         writer: &mut W,
+        watcher: &mut K,
     ) -> Result<Begun, Ending>
         ensures told { IsQuiet self.old self.new → RunsNext text.now is_end (state_of self.old) (state_of self.new) (W.contents writer.old) (W.contents writer.new) result }
         ensures begun { IfOk result (IsBegun text.now is_end) }
@@ -162,7 +188,9 @@ impl<S: BlockStore> Session<S> {
             Ok(Next::End(lines)) => Ok(Begun::Waiting(lines)),
             Ok(Next::Blank(bytes)) => Ok(Begun::Ran(bytes)),
             Ok(Next::Item { item, bytes }) => {
-                self.run_item(alloc, &item, writer)?;
+                let (lines, _) = text.split_at(bytes);
+                watcher.begins(lines);
+                self.run_item(alloc, &item, writer, watcher)?;
                 Ok(Begun::Ran(bytes))
             }
             Err(_) => Err(Ending::Memory),
@@ -170,29 +198,31 @@ impl<S: BlockStore> Session<S> {
     }
 
     /// Runs an item.
-    fn run_item<W: Write>(
+    fn run_item<W: Write, K: Watcher<S>>(
         &mut self,
         alloc: Global,
         item: &Item,
         writer: &mut W,
+        watcher: &mut K,
     ) -> Result<(), Ending>
         ensures told { IsQuiet self.old self.new → RunsItems (item.now ∷ []) (state_of self.old) (state_of self.new) (W.contents writer.old) (W.contents writer.new) result }
         ensures later { IsLater self.old self.new }
         ensures running { IsQuiet self.old self.new → self.new.volume.stopped ≡ false }
     {
         match item {
-            Item::Do(entry) => self.run_entry(alloc, entry, writer),
-            Item::Finish => self.run_finish(alloc, writer),
-            Item::Refused(why) => self.refuse(*why, writer),
+            Item::Do(entry) => self.run_entry(alloc, entry, writer, watcher),
+            Item::Finish => self.run_finish(alloc, writer, watcher),
+            Item::Refused(why) => self.refuse(*why, writer, watcher),
         }
     }
 
     /// Does an entry, and writes the lines of its answer.
-    fn run_entry<W: Write>(
+    fn run_entry<W: Write, K: Watcher<S>>(
         &mut self,
         alloc: Global,
         entry: &Entry,
         writer: &mut W,
+        watcher: &mut K,
     ) -> Result<(), Ending>
         ensures told { IsQuiet self.old self.new → RunsItems (Do entry.now ∷ []) (state_of self.old) (state_of self.new) (W.contents writer.old) (W.contents writer.new) result }
         ensures later { IsLater self.old self.new }
@@ -202,27 +232,33 @@ impl<S: BlockStore> Session<S> {
         if is_memory(&answer) {
             return Err(Ending::Memory);
         }
-        self.tell(Some(entry), &answer, writer)
+        self.tell(Some(entry), &answer, writer, watcher)
     }
 
     /// Lets the lowest job take turns until no job is left, and writes the lines of their ends.
-    fn run_finish<W: Write>(&mut self, alloc: Global, writer: &mut W) -> Result<(), Ending>
+    fn run_finish<W: Write, K: Watcher<S>>(
+        &mut self,
+        alloc: Global,
+        writer: &mut W,
+        watcher: &mut K,
+    ) -> Result<(), Ending>
         ensures told { IsQuiet self.old self.new → RunsItems (Finish ∷ []) (state_of self.old) (state_of self.new) (W.contents writer.old) (W.contents writer.new) result }
         ensures later { IsLater self.old self.new }
         ensures running { IsQuiet self.old self.new → self.new.volume.stopped ≡ false }
     {
         while let Some(number) = self.jobs.lowest() {
-            self.run_turn(alloc, number, writer)?;
+            self.run_turn(alloc, number, writer, watcher)?;
         }
-        self.tell(None, &Ok(Reply::Line(Said::Finished)), writer)
+        self.tell(None, &Ok(Reply::Line(Said::Finished)), writer, watcher)
     }
 
     /// Lets the lowest job take a turn, and writes the line of its end.
-    fn run_turn<W: Write>(
+    fn run_turn<W: Write, K: Watcher<S>>(
         &mut self,
         alloc: Global,
         number: u32,
         writer: &mut W,
+        watcher: &mut K,
     ) -> Result<(), Ending>
         requires { lowest_job self.old.jobs ≡ Some number }
         ensures told { IsQuiet self.old self.new → RunsTurn number (state_of self.old) (state_of self.new) (W.contents writer.old) (W.contents writer.new) result }
@@ -237,37 +273,47 @@ impl<S: BlockStore> Session<S> {
         if let Ok(Reply::Line(Said::Working(_))) = answer {
             return Ok(());
         }
-        self.tell(Some(&Entry::Turn(number)), &answer, writer)
+        self.tell(Some(&Entry::Turn(number)), &answer, writer, watcher)
     }
 
-    /// Writes the lines of an answer. `Memory` comes only where they are several, and then nothing is written.
-    fn tell<W: Write>(
+    /// Tells the watcher of an answer, and writes its lines. `Memory` comes only where they are several, and then nothing is written.
+    fn tell<W: Write, K: Watcher<S>>(
         &mut self,
         entry: Option<&Entry>,
         answer: &Result<Reply, SessionFault>,
         writer: &mut W,
+        watcher: &mut K,
     ) -> Result<(), Ending>
         ensures ok { OnOk result (Appends (W.contents writer.old) (W.contents writer.new) (answer_lines (lent entry.entry) answer.now)) }
         ensures err { IfErr result (λ e. (e ≡ ending.Writer) ⊎ ((e ≡ ending.Memory) × Appends (W.contents writer.old) (W.contents writer.new) [] × (IsShort answer.now → ⊥))) }
         ensures same { self.new ≡ self.old }
     {
+        if !watcher.goes_on(self.files.store(), answer) {
+            return Err(Ending::Writer);
+        }
         write_lines(&mut self.line, entry, answer, writer)
     }
 
     /// Writes the line of a fault that belongs to no entry.
-    fn refuse<W: Write>(&mut self, why: SessionFault, writer: &mut W) -> Result<(), Ending>
+    fn refuse<W: Write, K: Watcher<S>>(
+        &mut self,
+        why: SessionFault,
+        writer: &mut W,
+        watcher: &mut K,
+    ) -> Result<(), Ending>
         ensures ok { OnOk result (Appends (W.contents writer.old) (W.contents writer.new) (fault_line why)) }
         ensures same { self.new ≡ self.old }
         ensures kind { IfErr result (λ e. e ≡ ending.Writer) }
     {
-        self.tell(None, &Err(why), writer)
+        self.tell(None, &Err(why), writer, watcher)
     }
 
     /// Ends a run: the line of want of memory or of the reader is the last.
-    fn end_run<W: Write>(
+    fn end_run<W: Write, K: Watcher<S>>(
         &mut self,
         run: Result<(), Ending>,
         writer: &mut W,
+        watcher: &mut K,
     ) -> Result<(), SessionFault>
         ensures ended { IsEnded run (W.contents writer.old) (W.contents writer.new) result }
         ensures same { self.new ≡ self.old }
@@ -279,14 +325,19 @@ impl<S: BlockStore> Session<S> {
             };
         };
         let why = ending.fault();
-        match self.end_with(ending, writer) {
+        match self.end_with(ending, writer, watcher) {
             Ok(()) => Err(why),
             Err(ending) => Err(ending.fault()),
         }
     }
 
     /// Writes the last line, that of a fault, but for the writer's.
-    fn end_with<W: Write>(&mut self, why: Ending, writer: &mut W) -> Result<(), Ending>
+    fn end_with<W: Write, K: Watcher<S>>(
+        &mut self,
+        why: Ending,
+        writer: &mut W,
+        watcher: &mut K,
+    ) -> Result<(), Ending>
         ensures ok { OnOk result ((why ≢ ending.Writer) × Appends (W.contents writer.old) (W.contents writer.new) (fault_line (fault_of why))) }
         ensures err { IfErr result (λ e. e ≡ ending.Writer) }
         ensures same { self.new ≡ self.old }
@@ -294,7 +345,7 @@ impl<S: BlockStore> Session<S> {
         match why {
             Ending::Writer => Err(Ending::Writer),
             _ => {
-                self.refuse(why.fault(), writer)?;
+                self.refuse(why.fault(), writer, watcher)?;
                 flush(writer)
             }
         }

@@ -2,7 +2,7 @@ use Rattle.std.proofs.Common.{subst, sym}
 use Rattle.session8.specs.Session.{Seen, IsQuiet, state_of}
 use Rattle.session8.specs.Script.{RunsText}
 use Rattle.session8.proofs.TextLemmas.{text_ended}
-use Rattle.session8.proofs.sessions.Session.run_text.Goals as goal
+use Rattle.session8.proofs.sessions.Session.run_watched.Goals as goal
 
 pub returns-clause-told : goal.returns-clause-told
 returns-clause-told g c quiet =
