@@ -12,6 +12,9 @@ use Rattle.clap.proofs.OnLiterals.{clap_on_literals}
 use Rattle.clap.proofs.ValueTestLemmas.{Accepts-accepts}
 use Rattle.clap.specs.Words.{IsUnsignedIn, Row, Text, first_of, one_of}
 use Rattle.clap.specs.declared.builder.value_parser.ValueParser.TheVariants.{Unsigned}
+use Rattle.command8.specs.declared.kinds.RunForm.{RunForm}
+use Rattle.command8.specs.declared.kinds.Saving.{Saving}
+use Rattle.command8.specs.declared.kinds.Saving.TheVariants.{AtEnd, Never, Always}
 use Rattle.command8.specs.declared.kinds.Task.{Task}
 use Rattle.char_pack.specs.declared.forms.GetForm.{GetForm}
 use Rattle.char_pack.specs.declared.forms.GetForm.TheVariants as get_as
@@ -19,9 +22,10 @@ use Rattle.char_pack.specs.declared.forms.PutForm.{PutForm}
 use Rattle.char_pack.specs.declared.forms.PutForm.TheVariants as put_as
 use Rattle.command8.specs.declared.kinds.Task.TheVariants.{Tape, Source, Run, Create, Get, Put, Check}
 use Rattle.command8.specs.declared.kinds.Task.TheVariants as task
-use Rattle.command8.specs.Tasks.{Asks, AsksFor, IsCheckOf, IsCreateOf, IsGetOf, IsListOf, IsPlain, IsPutOf, IsRunOf, IsSource, IsTakenAs, IsTape, create_app, get_app, get_form, number_of, pdp8, put_app, put_form, source_app, tape_app}
+use Rattle.command8.specs.Tasks.{Asks, AsksFor, IsCheckOf, IsCreateOf, IsGetOf, IsListOf, IsPlain, IsPutOf, IsRunOf, IsSource, IsTakenAs, IsTape, create_app, get_app, get_form, is_set, number_of, pdp8, put_app, put_form, run_app, saving_of, source_app, tape_app}
 use Rattle.command8.proofs.EnterLemmas.{Finds, asks_no_more, enter_met, enter_takes}
 use Rattle.command8.proofs.LeafLemmas.{below}
+use Rattle.command8.proofs.NumberLemmas.{none_some}
 use Rattle.command8.proofs.TaskLemmas.{image_shape, is_plain}
 use Rattle.command8.proofs.WalkLemmas.{some_eq}
 
@@ -72,7 +76,7 @@ word_read check = refl
 abbrev of : Task → Kind
 of Tape = tape
 of Source = source
-of (Run image) = run
+of (Run image form) = run
 of (Create image blocks) = create
 of (task.List image) = list
 of (Get image file form) = get
@@ -82,7 +86,7 @@ of (Check image) = check
 asked_word : (name : Text) (rows : List Row) (task : Task) → AsksFor name rows task → name ≡ word (of task)
 asked_word name rows Tape asks = asks
 asked_word name rows Source asks = asks
-asked_word name rows (Run image) asks = asks.0
+asked_word name rows (Run image form) asks = asks.0
 asked_word name rows (Create image blocks) asks = asks.0
 asked_word name rows (task.List image) asks = asks.0
 asked_word name rows (Get image file form) asks = asks.0
@@ -93,7 +97,7 @@ asked_word name rows (Check image) asks = asks.0
 data Seen : Kind → Task → Type 0 where
   a_tape : Seen tape Tape
   a_source : Seen source Source
-  a_run : (image : _) → Seen run (Run image)
+  a_run : (image : _) (form : RunForm) → Seen run (Run image form)
   a_create : (image : _) (blocks : ℕ) → Seen create (Create image blocks)
   a_list : (image : _) → Seen list (task.List image)
   a_get : (image : _) (file : _) (form : GetForm) → Seen get (Get image file form)
@@ -103,7 +107,7 @@ data Seen : Kind → Task → Type 0 where
 seen : (task : Task) → Seen (of task) task
 seen Tape = a_tape
 seen Source = a_source
-seen (Run image) = a_run image
+seen (Run image form) = a_run image form
 seen (Create image blocks) = a_create image blocks
 seen (task.List image) = a_list image
 seen (Get image file form) = a_get image file form
@@ -140,7 +144,7 @@ finds_tape = record { found = refl; name = refl; no_help = refl }
 finds_source : Finds (built pdp8) (word source) (below source_app.top)
 finds_source = record { found = refl; name = refl; no_help = refl }
 
-finds_run : Finds (built pdp8) (word run) (image_shape (word run))
+finds_run : Finds (built pdp8) (word run) (below run_app.top)
 finds_run = record { found = refl; name = refl; no_help = refl }
 
 finds_create : Finds (built pdp8) (word create) (below create_app.top)
@@ -200,12 +204,6 @@ image_entered kind P finds name image plain asked =
     entered_as kind _ P finds name (image ∷ []) (image_passes (word kind) image (no_hyphen image plain) (no_dashes image plain))
     (λ task is asks. asked (rows_after (image_shape (word kind)).rules [] (image ∷ [])) task is asks (image_given (word kind) image (no_hyphen image plain) (no_dashes image plain)))
 
-pub plain_run : (name image : Text) → IsPlain image → IsTakenAs (name ∷ codes "run" ∷ image ∷ []) (IsRunOf image)
-plain_run name image plain = image_entered run (IsRunOf image) finds_run name image plain asked
-  where
-    asked : (rows : List Row) (task : Task) → Seen run task → AsksFor (word run) rows task → first_of (codes "IMAGE") rows ≡ Some image → IsRunOf image task
-    asked rows task (a_run own) asks is = some_eq own.bytes.items image (sym asks.1 ∙ is)
-
 pub plain_list : (name image : Text) → IsPlain image → IsTakenAs (name ∷ codes "list" ∷ image ∷ []) (IsListOf image)
 plain_list name image plain = image_entered list (IsListOf image) finds_list name image plain asked
   where
@@ -217,6 +215,91 @@ plain_check name image plain = image_entered check (IsCheckOf image) finds_check
   where
     asked : (rows : List Row) (task : Task) → Seen check task → AsksFor (word check) rows task → first_of (codes "IMAGE") rows ≡ Some image → IsCheckOf image task
     asked rows task (a_check own) asks is = some_eq own.bytes.items image (sym asks.1 ∙ is)
+
+-- ## A run
+
+-- the image, when it is written, and whether refusals are faults
+abbrev with_run : List Row → Option Text × Option Saving × Bool
+with_run rows = (first_of (codes "IMAGE") rows, saving_of (is_set (codes "look") rows) (is_set (codes "keep") rows), is_set (codes "strict") rows)
+
+run_asked : (image : Text) (saving : Saving) (is_strict : Bool) (rows : List Row) (task : Task) → Seen run task → AsksFor (word run) rows task
+    → with_run rows ≡ (Some image, Some saving, is_strict) → IsRunOf image saving is_strict task
+run_asked image saving is_strict rows task (a_run own form) asks is = (
+  some_eq own.bytes.items image (sym asks.1 ∙ ap (λ p. p.0) is),
+  some_eq form.saving saving (sym asks.2.0 ∙ ap (λ p. p.1) is),
+  asks.2.1 ∙ ap (λ p. p.2) is,
+)
+
+-- options that are taken behind the image, and come to this
+pub record Runs (options : List Text) (saving : Option Saving) (is_strict : Bool) : Type 0 where
+  pub passes : (image : Text) → strip_byte 45 image ≡ None → bytes_eq image (45 ∷ 45 ∷ []) ≡ false
+      → level_passes (below run_app.top) [] nothing_held (image ∷ options) false ≡ true
+  pub given : (image : Text) → strip_byte 45 image ≡ None → bytes_eq image (45 ∷ 45 ∷ []) ≡ false
+      → with_run (rows_after (below run_app.top).rules [] (image ∷ options)) ≡ (Some image, saving, is_strict)
+
+run_entered : (options : List Text) (saving : Saving) (is_strict : Bool) → Runs options (Some saving) is_strict → (name image : Text) → IsPlain image
+    → IsTakenAs (name ∷ codes "run" ∷ image ∷ options) (IsRunOf image saving is_strict)
+run_entered options saving is_strict runs name image plain =
+    entered_as run _ (IsRunOf image saving is_strict) finds_run name (image ∷ options) (runs.passes image (no_hyphen image plain) (no_dashes image plain))
+    (λ task is asks. run_asked image saving is_strict (rows_after (below run_app.top).rules [] (image ∷ options)) task is asks
+    (runs.given image (no_hyphen image plain) (no_dashes image plain)))
+
+runs_plain : Runs [] (Some AtEnd) false
+unfolding clap_on_literals
+runs_plain = record {
+  passes = λ image plain dashes. simp (dashes, plain);
+  given = λ image plain dashes. simp (dashes, plain);
+}
+
+runs_look : Runs (codes "--look" ∷ []) (Some Never) false
+unfolding clap_on_literals
+runs_look = record {
+  passes = λ image plain dashes. simp (dashes, plain);
+  given = λ image plain dashes. simp (dashes, plain);
+}
+
+runs_keep : Runs (codes "--keep" ∷ []) (Some Always) false
+unfolding clap_on_literals
+runs_keep = record {
+  passes = λ image plain dashes. simp (dashes, plain);
+  given = λ image plain dashes. simp (dashes, plain);
+}
+
+runs_strict : Runs (codes "--strict" ∷ []) (Some AtEnd) true
+unfolding clap_on_literals
+runs_strict = record {
+  passes = λ image plain dashes. simp (dashes, plain);
+  given = λ image plain dashes. simp (dashes, plain);
+}
+
+runs_both : Runs (codes "--look" ∷ codes "--keep" ∷ []) None false
+unfolding clap_on_literals
+runs_both = record {
+  passes = λ image plain dashes. rw (dashes, plain, plain) refl;
+  given = λ image plain dashes. rw (dashes, plain, plain) refl;
+}
+
+pub plain_run : (name image : Text) → IsPlain image → IsTakenAs (name ∷ codes "run" ∷ image ∷ []) (IsRunOf image AtEnd false)
+plain_run = run_entered [] AtEnd false runs_plain
+
+pub plain_run_look : (name image : Text) → IsPlain image → IsTakenAs (name ∷ codes "run" ∷ image ∷ codes "--look" ∷ []) (IsRunOf image Never false)
+plain_run_look = run_entered (codes "--look" ∷ []) Never false runs_look
+
+pub plain_run_keep : (name image : Text) → IsPlain image → IsTakenAs (name ∷ codes "run" ∷ image ∷ codes "--keep" ∷ []) (IsRunOf image Always false)
+plain_run_keep = run_entered (codes "--keep" ∷ []) Always false runs_keep
+
+pub plain_run_strict : (name image : Text) → IsPlain image → IsTakenAs (name ∷ codes "run" ∷ image ∷ codes "--strict" ∷ []) (IsRunOf image AtEnd true)
+plain_run_strict = run_entered (codes "--strict" ∷ []) AtEnd true runs_strict
+
+-- it is never written at two times, so no task is asked for
+pub plain_run_both : (name image : Text) → IsPlain image → IsTakenAs (name ∷ codes "run" ∷ image ∷ codes "--look" ∷ codes "--keep" ∷ []) (λ task. ⊥)
+plain_run_both name image plain =
+    entered_as run _ (λ task. ⊥) finds_run name (image ∷ codes "--look" ∷ codes "--keep" ∷ []) (runs_both.passes image (no_hyphen image plain) (no_dashes image plain))
+    (λ task is asks. never (rows_after (below run_app.top).rules [] (image ∷ codes "--look" ∷ codes "--keep" ∷ [])) task is asks
+    (runs_both.given image (no_hyphen image plain) (no_dashes image plain)))
+  where
+    never : (rows : List Row) (task : Task) → Seen run task → AsksFor (word run) rows task → with_run rows ≡ (Some image, None, false) → ⊥
+    never rows task (a_run own form) asks is = none_some form.saving (sym (ap (λ p. p.1) is) ∙ asks.2.0)
 
 -- ## An image and a number of blocks
 

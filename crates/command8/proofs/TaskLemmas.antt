@@ -1,10 +1,10 @@
 -- Words in which clap finds no fault name a subcommand with the values that it needs.
-use Rattle.std.proofs.Common.{◌≡◌, ◌≢◌, Err, ◌∙◌, ◌||◌, ◌⊎◌, Bool, cond, codes, true, false, refl, sym, ap, subst, inl, inr, true≢false, List, [], ◌∷◌, Option, Some, None, is_some}
+use Rattle.std.proofs.Common.{◌≡◌, ◌≢◌, Result, Ok, Err, IfOk, IfErr, ◌∙◌, ◌||◌, ◌⊎◌, Bool, cond, codes, true, false, refl, sym, ap, subst, inl, inr, true≢false, List, [], ◌∷◌, Option, Some, None, is_some}
 use Rattle.std.specs.Prelude.{⊤, find, option_map}
 use Rattle.std.specs.Option.{option_map_or}
 use Rattle.std.specs.Str.{bytes_eq}
 use Rattle.std.proofs.lemmas.Slice.Eq.{bytes_eq-Decides}
-use Rattle.clap.specs.Walk.{Text, answers_to, nothing_held, rows_after, walk}
+use Rattle.clap.specs.Walk.{Row, Text, answers_to, nothing_held, rows_after, walk}
 use Rattle.clap.specs.Simple.{App, Shape, argument_words, built, entered, label_of, names_of, new_app, rows_at, subcommand_of, with_rule}
 use Rattle.clap.specs.Kinds.{HasKind, IsAmong}
 use Rattle.clap.specs.Faults.{entered_fault, fault_of, level_fault}
@@ -15,10 +15,11 @@ use Rattle.clap.specs.declared.parser.matches.ArgMatches.{ArgMatches}
 use Rattle.clap.specs.declared.error.Error.{Error}
 use Rattle.clap.specs.declared.error.kind.ErrorKind.TheVariants.{OutOfMemory}
 use Rattle.command8.specs.CommandSteps.{IsCommand}
+use Rattle.command8.specs.declared.kinds.Task.{Task}
 use Rattle.command8.specs.declared.kinds.TaskFault.{TaskFault}
-use Rattle.command8.specs.declared.kinds.TaskFault.TheVariants.{Words, Memory}
-use Rattle.command8.specs.Tasks.{Answers, create_app, get_app, image_rule, pdp8, put_app, source_app, tape_app}
-use Rattle.command8.specs.TaskSteps.{HasMet, IsFaultOf, IsWhole}
+use Rattle.command8.specs.declared.kinds.TaskFault.TheVariants.{Words, Memory, LookAndKeep}
+use Rattle.command8.specs.Tasks.{Answers, Asks, HasFitBlocks, create_app, get_app, image_rule, pdp8, put_app, run_app, source_app, tape_app}
+use Rattle.command8.specs.TaskSteps.{HasMet, IsFaultOf, IsRefused, IsWhole}
 use Rattle.command8.proofs.LeafLemmas.{Faultless, IsLeaf, below, has_blocks, has_image, has_name}
 use Rattle.command8.proofs.WalkLemmas.{IsNoHelp, level_stops}
 
@@ -30,6 +31,24 @@ image_shape name = below (with_rule (new_app name) image_rule).top
 
 image_leaf : (name : Text) → IsLeaf (image_shape name)
 image_leaf name = record { parts = (inl (record { placed = refl; set = refl; bare = refl; own = refl }), (inr (inr refl), tt)); negates = refl }
+
+run_leaf : IsLeaf (below run_app.top)
+run_leaf = record {
+  parts = (
+    inl (record { placed = refl; set = refl; bare = refl; own = refl }),
+    (
+      inr (inl (record { bare = refl; set = refl; own = refl; no_letter = λ x. refl })),
+      (
+        inr (inl (record { bare = refl; set = refl; own = refl; no_letter = λ x. refl })),
+        (
+          inr (inl (record { bare = refl; set = refl; own = refl; no_letter = λ x. refl })),
+          (inr (inr refl), tt),
+        ),
+      ),
+    ),
+  );
+  negates = refl;
+}
 
 create_leaf : IsLeaf (below create_app.top)
 create_leaf = record {
@@ -80,8 +99,8 @@ tape_whole words none = inl refl
 source_whole : Whole (below source_app.top)
 source_whole words none = inr (inl refl)
 
-run_whole : Whole (image_shape (codes "run"))
-run_whole words none = inr (inr (inl (refl, has_image _ (image_leaf (codes "run")) refl words none)))
+run_whole : Whole (below run_app.top)
+run_whole words none = inr (inr (inl (refl, has_image _ run_leaf refl words none)))
 
 create_whole : Whole (below create_app.top)
 create_whole words none =
@@ -177,17 +196,41 @@ met_rows app words matches same has = (has (ap is_simple same ∙ is_plain)).1 �
 memory_fault : (error : Error) (fault : TaskFault) → IsFaultOf error fault → kind_of error ≡ OutOfMemory → fault ≡ Memory
 memory_fault error (Words same) is memory = absurd (is.1 memory)
 memory_fault error Memory is memory = refl
+memory_fault error LookAndKeep is memory = absurd is
+
+-- words with no fault that ask for no task
+refused_answer : (words : List Text) (fault : TaskFault) → fault_of pdp8 words ≡ [] → IsRefused (subcommand_of pdp8 words) fault → Answers words (Err fault)
+refused_answer words (Words error) none is = absurd is
+refused_answer words Memory none is = tt
+refused_answer words LookAndKeep none is = (none, is)
+
+refused_kind : (met : Option (Text × List Row)) (fault : TaskFault) → IsRefused met fault → (fault ≡ Memory) ⊎ (fault ≡ LookAndKeep)
+refused_kind met (Words error) is = absurd is
+refused_kind met Memory is = inl refl
+refused_kind met LookAndKeep is = inr refl
+
+-- what is asked for is answered, or why it is refused
+pub asked_answer : (words : List Text) (asked : Result Task TaskFault) → fault_of pdp8 words ≡ [] → IfOk asked (Asks (subcommand_of pdp8 words))
+    → IfOk asked HasFitBlocks → IfErr asked (IsRefused (subcommand_of pdp8 words)) → Answers words asked
+asked_answer words (Ok task) none asks fit refused = (none, asks, fit)
+asked_answer words (Err fault) none asks fit refused = refused_answer words fault none refused
+
+pub asked_kind : (met : Option (Text × List Row)) (asked : Result Task TaskFault) → IfErr asked (IsRefused met)
+    → IfErr asked (λ fault. (fault ≡ Memory) ⊎ (fault ≡ LookAndKeep))
+asked_kind met (Ok task) refused = tt
+asked_kind met (Err fault) refused = refused_kind met fault refused
 
 -- an error at words that the command takes is want of memory
 pub taken_fault : (app : App) (words : List Text) (error : Error) (fault : TaskFault) → app ≡ pdp8
-    → (takes app words ≡ true → kind_of error ≡ OutOfMemory) → IsFaultOf error fault → takes pdp8 words ≡ true → fault ≡ Memory
+    → (takes app words ≡ true → kind_of error ≡ OutOfMemory) → IsFaultOf error fault → takes pdp8 words ≡ true → (fault ≡ Memory) ⊎ (fault ≡ LookAndKeep)
 taken_fault app words error fault same passes is takes_them =
-    memory_fault error fault is (passes (ap (λ (a : App). takes a words) same ∙ takes_them))
+    inl (memory_fault error fault is (passes (ap (λ (a : App). takes a words) same ∙ takes_them)))
 
 -- an error is of a kind that the words meet, or want of memory
 pub fault_answer : (app : App) (words : List Text) (error : Error) (fault : TaskFault) → app ≡ pdp8
     → (is_simple_and_free app ≡ true → HasKind (fault_of app words) error) → IsFaultOf error fault → Answers words (Err fault)
 fault_answer app words error Memory same kinds is = tt
+fault_answer app words error LookAndKeep same kinds is = absurd is
 fault_answer app words error (Words other) same kinds is =
     met (subst (λ (a : App). HasKind (fault_of a words) error) same (kinds (ap is_simple_and_free same ∙ is_free)))
   where

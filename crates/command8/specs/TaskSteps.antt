@@ -1,10 +1,11 @@
 -- What the parts of `task` come to, for private clauses.
-use Rattle.std.specs.Prelude.{◌≡◌, ◌≢◌, ◌⊎◌, true, codes, is_some, List, Option, None, Some}
+use Rattle.std.specs.Prelude.{◌≡◌, ◌≢◌, ⊤, ◌⊎◌, true, codes, is_some, List, Option, None, Some}
 use Rattle.clap.specs.Words.{Row, Text, first_of, kind_of, one_of, IsUnsignedIn}
 use Rattle.clap.specs.declared.error.Error.{Error}
 use Rattle.clap.specs.declared.error.kind.ErrorKind.TheVariants.{OutOfMemory}
 use Rattle.command8.specs.declared.kinds.TaskFault.{TaskFault}
-use Rattle.command8.specs.declared.kinds.TaskFault.TheVariants.{Words, Memory}
+use Rattle.command8.specs.declared.kinds.TaskFault.TheVariants.{Words, Memory, LookAndKeep}
+use Rattle.command8.specs.Tasks.{AsksBoth}
 
 -- ## What it asks for
 
@@ -12,6 +13,13 @@ use Rattle.command8.specs.declared.kinds.TaskFault.TheVariants.{Words, Memory}
 abbrev pub IsFaultOf : Error → TaskFault → Type 0
 IsFaultOf error (Words same) = (same ≡ error) × (kind_of error ≢ OutOfMemory)
 IsFaultOf error Memory = kind_of error ≡ OutOfMemory
+IsFaultOf error LookAndKeep = ⊥
+
+-- what was found asks for no task
+abbrev pub IsRefused : Option (Text × List Row) → TaskFault → Type 0
+IsRefused met (Words error) = ⊥
+IsRefused met Memory = ⊤
+IsRefused met LookAndKeep = AsksBoth met
 
 -- ## What a subcommand has found by then
 

@@ -12,11 +12,14 @@ use Rattle.char_pack.specs.declared.forms.GetForm.{GetForm}
 use Rattle.char_pack.specs.declared.forms.GetForm.TheVariants as get_as
 use Rattle.char_pack.specs.declared.forms.PutForm.{PutForm}
 use Rattle.char_pack.specs.declared.forms.PutForm.TheVariants as put_as
+use Rattle.command8.specs.declared.kinds.RunForm.{RunForm}
+use Rattle.command8.specs.declared.kinds.Saving.{Saving}
+use Rattle.command8.specs.declared.kinds.Saving.TheVariants.{AtEnd, Never, Always}
 use Rattle.command8.specs.declared.kinds.Task.{Task}
 use Rattle.command8.specs.declared.kinds.Task.TheVariants.{Tape, Source, Run, Create, Get, Put, Check}
 use Rattle.command8.specs.declared.kinds.Task.TheVariants as task
 use Rattle.command8.specs.declared.kinds.TaskFault.{TaskFault}
-use Rattle.command8.specs.declared.kinds.TaskFault.TheVariants.{Words, Memory}
+use Rattle.command8.specs.declared.kinds.TaskFault.TheVariants.{Words, Memory, LookAndKeep}
 
 -- ## The command
 
@@ -39,14 +42,28 @@ text_rule = record (new_rule (codes "text")) { long = Some (codes "text"); actio
 abbrev pub tape_rule : Rule
 tape_rule = record (new_rule (codes "tape")) { long = Some (codes "tape"); action = Some SetTrue }
 
+-- the options `--look`, `--keep` and `--strict`
+abbrev pub look_rule : Rule
+look_rule = record (new_rule (codes "look")) { long = Some (codes "look"); action = Some SetTrue }
+
+abbrev pub keep_rule : Rule
+keep_rule = record (new_rule (codes "keep")) { long = Some (codes "keep"); action = Some SetTrue }
+
+abbrev pub strict_rule : Rule
+strict_rule = record (new_rule (codes "strict")) { long = Some (codes "strict"); action = Some SetTrue }
+
 abbrev pub tape_app : App
 tape_app = new_app (codes "tape")
 
 abbrev pub source_app : App
 source_app = new_app (codes "source")
 
+-- `run` without its options
+abbrev pub plain_run_app : App
+plain_run_app = with_rule (new_app (codes "run")) image_rule
+
 abbrev pub run_app : App
-run_app = with_rule (new_app (codes "run")) image_rule
+run_app = with_rule (with_rule (with_rule plain_run_app look_rule) keep_rule) strict_rule
 
 abbrev pub create_app : App
 create_app = with_rule (with_rule (new_app (codes "create")) image_rule) blocks_rule
@@ -107,11 +124,24 @@ get_form values = if is_set (codes "tape") values then get_as.Tape else if is_se
 abbrev pub put_form : List Row → PutForm
 put_form values = if is_set (codes "text") values then put_as.Text else put_as.Frames
 
+-- when a run writes the image, by whether it is to look and whether it is to keep: it can't be both
+abbrev pub saving_of : Bool → Bool → Option Saving
+saving_of true true = None
+saving_of true false = Some Never
+saving_of false true = Some Always
+saving_of false false = Some AtEnd
+
+-- a script is run so
+abbrev pub IsRunForm : List Row → RunForm → Type 0
+IsRunForm values form = (saving_of (is_set (codes "look") values) (is_set (codes "keep") values) ≡ Some form.saving)
+    × (form.is_strict ≡ is_set (codes "strict") values)
+
 -- the subcommand of this name, with the values that were found for it, asks for the task
 abbrev pub AsksFor : Text → List Row → Task → Type 0
 AsksFor name values Tape = name ≡ codes "tape"
 AsksFor name values Source = name ≡ codes "source"
-AsksFor name values (Run image) = (name ≡ codes "run") × (first_of (codes "IMAGE") values ≡ Some image.bytes.items)
+AsksFor name values (Run image form) = (name ≡ codes "run") × (first_of (codes "IMAGE") values ≡ Some image.bytes.items)
+    × IsRunForm values form
 AsksFor name values (Create image blocks) = (name ≡ codes "create")
     × (first_of (codes "IMAGE") values ≡ Some image.bytes.items)
     × ((text : Text) × (one_of (codes "BLOCKS") values ≡ Some text) × (blocks ≡ number_of text))
@@ -126,11 +156,16 @@ abbrev pub Asks : Option (Text × List Row) → Task → Type 0
 Asks None task = ⊥
 Asks (Some met) task = AsksFor met.0 met.1 task
 
+-- a run is asked for that is both to look and to keep
+abbrev pub AsksBoth : Option (Text × List Row) → Type 0
+AsksBoth None = ⊥
+AsksBoth (Some met) = (met.0 ≡ codes "run") × (is_set (codes "look") met.1 ≡ true) × (is_set (codes "keep") met.1 ≡ true)
+
 -- a new volume has 8 to 4095 blocks
 abbrev pub HasFitBlocks : Task → Type 0
 HasFitBlocks Tape = ⊤
 HasFitBlocks Source = ⊤
-HasFitBlocks (Run image) = ⊤
+HasFitBlocks (Run image form) = ⊤
 HasFitBlocks (Create image blocks) = (8 ≤ blocks) × (blocks ≤ 4095)
 HasFitBlocks (task.List image) = ⊤
 HasFitBlocks (Get image file form) = ⊤
@@ -138,11 +173,13 @@ HasFitBlocks (Put image file form) = ⊤
 HasFitBlocks (Check image) = ⊤
 
 -- The command line with these words, the program's own name first, is answered so: a task where `clap` finds no fault
--- in the words and they ask for it, an error of `clap` of a kind that the words meet, or want of memory.
+-- in the words and they ask for it, an error of `clap` of a kind that the words meet, a refusal of a run that is both to look and
+-- to keep, or want of memory.
 abbrev pub Answers : List Text → Result Task TaskFault → Type 0
 Answers words (Ok task) = (fault_of pdp8 words ≡ []) × Asks (subcommand_of pdp8 words) task × HasFitBlocks task
 Answers words (Err (Words error)) = IsAmong (kind_of error) (fault_of pdp8 words) × (kind_of error ≢ OutOfMemory)
 Answers words (Err Memory) = ⊤
+Answers words (Err LookAndKeep) = (fault_of pdp8 words ≡ []) × AsksBoth (subcommand_of pdp8 words)
 
 -- ## Plain command lines
 
@@ -159,9 +196,9 @@ abbrev pub IsSource : Task → Type 0
 IsSource Source = ⊤
 IsSource task = ⊥
 
-abbrev pub IsRunOf : Text → Task → Type 0
-IsRunOf name (Run image) = image.bytes.items ≡ name
-IsRunOf name task = ⊥
+abbrev pub IsRunOf : Text → Saving → Bool → Task → Type 0
+IsRunOf name saving is_strict (Run image form) = (image.bytes.items ≡ name) × (form.saving ≡ saving) × (form.is_strict ≡ is_strict)
+IsRunOf name saving is_strict task = ⊥
 
 abbrev pub IsCreateOf : Text → ℕ → Task → Type 0
 IsCreateOf name count (Create image blocks) = (image.bytes.items ≡ name) × (blocks ≡ count)

@@ -24,7 +24,7 @@ pub fn get<'a>(alloc: Global) -> Draft<'a>
         alloc,
         "get",
         "Write a file of a volume to standard output",
-        "Writes the file NAME of the OS/8 volume in the file IMAGE to standard output: its frames, three{n}for each two words. After a fault only its line is written. The image is not written.",
+        "Writes the file NAME of the OS/8 volume in the file IMAGE to standard output: its frames, three{n}for each two words. The line of a fault goes to standard error. The image is not written.",
     );
     let with_text = with_option(
         alloc,

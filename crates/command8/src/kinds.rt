@@ -5,6 +5,28 @@ use char_pack::{GetForm, PutForm};
 use std::alloc::AllocError;
 use thiserror::Error;
 
+/// When a run of a script writes the image, if the script changed it.
+#[derive(Clone, Copy, PartialEq, Eq, Debug)]
+pub enum Saving {
+    /// At its end.
+    AtEnd,
+
+    /// Never.
+    Never,
+
+    /// After each entry, before its reply.
+    Always,
+}
+
+/// How a script is run.
+#[derive(Clone, Copy, PartialEq, Eq, Debug)]
+pub struct RunForm {
+    pub saving: Saving,
+
+    /// Whether a refused reply is a fault of the run.
+    pub is_strict: bool,
+}
+
 /// What a command line asks of the program.
 #[derive(PartialEq, Eq, Debug, Drop)]
 pub enum Task {
@@ -15,7 +37,7 @@ pub enum Task {
     Source,
 
     /// Run the script on standard input, on the volume in the file of this name.
-    Run(String),
+    Run(String, RunForm),
 
     /// Write an empty volume of so many blocks, 8 to 4095, to the file of this name.
     Create(String, usize),
@@ -43,6 +65,10 @@ pub enum TaskFault {
     /// 2: memory ran out.
     #[error("out of memory")]
     Memory,
+
+    /// 3: a run is both to look and to keep.
+    #[error("the argument '--look' cannot be used with '--keep'")]
+    LookAndKeep,
 }
 
 impl From<AllocError> for TaskFault {

@@ -4,7 +4,9 @@
 mod file_commands;
 mod kinds;
 mod parts;
+mod runs;
 mod tasks;
 
-pub use kinds::{Task, TaskFault};
+pub use kinds::{RunForm, Saving, Task, TaskFault};
+pub use runs::SCRIPT_LINES;
 pub use tasks::{plain_words, task};

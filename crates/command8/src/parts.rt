@@ -1,11 +1,12 @@
 //! What subcommands are made of: their texts and their arguments. What `clap` makes of each part is computed here, once. A command that
 //! memory was not granted for is passed on as it is, so that no function holds one command while it waits for another.
-ghost use Rattle.std.specs.Prelude.{IfOk};
-ghost use Rattle.clap.specs.Words.{App, new_app, with_rule, with_subcommand};
+ghost use Rattle.std.specs.Prelude.{◌≡◌, IfOk};
+ghost use Rattle.clap.specs.Words.{App, found_of, new_app, rows_of, with_rule, with_subcommand};
 ghost use Rattle.command8.specs.CommandSteps.{IsArgument, IsCommand, option_rule, required_rule};
 ghost use Rattle.command8.specs.Tasks.{blocks_rule, image_rule, name_rule};
+ghost use Rattle.command8.specs.Tasks as spec;
 
-use clap::{Arg, ArgAction, Command};
+use clap::{Arg, ArgAction, ArgMatches, Command};
 use std::alloc::{AllocError, Global};
 
 /// A command, or want of the memory for it.
@@ -116,4 +117,14 @@ pub fn with_lines<'a>(command: Command<'a>, lines: &'a str) -> Command<'a>
     ensures { (app : App) → IsCommand command.entry app → IsCommand result app }
 {
     command.after_long_help(lines)
+}
+
+/// Whether an option without a value was given.
+pub fn is_set(found: &ArgMatches<'_>, id: &str) -> bool
+    ensures { result ≡ spec.is_set id.now (rows_of (found_of found.now)) }
+{
+    match found.get_str(id) {
+        Some(text) => text == "true",
+        None => false,
+    }
 }

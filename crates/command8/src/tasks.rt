@@ -1,44 +1,54 @@
-ghost use Rattle.std.specs.Prelude.{◌≡◌, ◌≤◌, [], ◌∷◌, ℕ, List, false, true, codes, IfErr, IfOk, Some, map};
+ghost use Rattle.std.specs.Prelude.{◌≡◌, ◌≤◌, ◌⊎◌, [], ◌∷◌, ℕ, List, false, true, codes, IfErr, IfOk, Some, map};
 ghost use Rattle.clap.specs.Words.{first_of, found_of, one_of, rows_of, subcommand_rows_of, takes, IsUnsignedIn};
-ghost use Rattle.command8.specs.declared.kinds.TaskFault.TheVariants.{Memory};
+ghost use Rattle.command8.specs.declared.kinds.TaskFault.TheVariants.{Memory, LookAndKeep};
+ghost use Rattle.command8.specs.declared.kinds.Saving.TheVariants.{AtEnd, Never, Always};
 ghost use Rattle.char_pack.specs.declared.forms.GetForm.TheVariants as get_as;
 ghost use Rattle.char_pack.specs.declared.forms.PutForm.TheVariants as put_as;
 ghost use Rattle.command8.specs.Tasks.{IsCheckOf, IsCreateOf, IsGetOf, IsListOf, IsPlain, IsPutOf, IsRunOf, IsSource, IsTakenAs, IsTape};
 ghost use Rattle.command8.specs.Tasks.{Answers, Asks, AsksFor, HasFitBlocks};
-ghost use Rattle.command8.specs.TaskSteps.{HasBlocks, HasFiles, HasImage, HasMet, HasName, IsFaultOf, IsWhole};
+ghost use Rattle.command8.specs.TaskSteps.{HasBlocks, HasFiles, HasImage, HasMet, HasName, IsFaultOf, IsRefused, IsWhole};
 ghost use Rattle.command8.specs.CommandSteps.{IsCommand};
-ghost use Rattle.command8.specs.Tasks.{bare_app, create_app, files_app, number_of, pdp8, run_app, source_app, tape_app, tapes_app, volumes_app};
+ghost use Rattle.command8.specs.Tasks.{bare_app, create_app, files_app, number_of, pdp8, source_app, tape_app, tapes_app, volumes_app};
 ghost use Rattle.command8.specs.Tasks as spec;
 
 use crate::file_commands::{check, get, list, put};
-use crate::parts::{Draft, image_leaf, leaf, with_blocks, with_image, with_leaf, with_lines};
+use crate::parts::{Draft, image_leaf, is_set, leaf, with_blocks, with_leaf};
+use crate::runs::{run, run_asked};
 use crate::{Task, TaskFault};
 use char_pack::{GetForm, PutForm};
 use clap::error::ErrorKind;
 use clap::{ArgMatches, Command};
 use std::alloc::{AllocError, Global};
 
-/// What the words of a command line ask for, the program's own name first: `tape`, `source`, `run IMAGE`,
-/// `create IMAGE BLOCKS` with 8 to 4095 blocks of 512 bytes, `list IMAGE`, `get IMAGE NAME` with `--text` or `--tape`, which goes
-/// before it, `put IMAGE NAME` with `--text`, or `check IMAGE` (this project's profile). A request for help or the version comes
-/// back as an error of `clap`, as it gives it.
+/// What the words of a command line ask for, the program's own name first: `tape`, `source`, `run IMAGE` with `--strict` and with
+/// `--look` or `--keep`, which together are `LookAndKeep`, `create IMAGE BLOCKS` with 8 to 4095 blocks of 512 bytes, `list IMAGE`,
+/// `get IMAGE NAME` with `--text` or `--tape`, which goes before it, `put IMAGE NAME` with `--text`, or `check IMAGE` (this project's
+/// profile). A request for help or the version comes back as an error of `clap`, as it gives it.
 pub fn task(alloc: Global, words: &[&str]) -> Result<Task, TaskFault>
     ensures answer { Answers (map (λ word. word.now) words.now) result }
-    ensures taken { takes pdp8 (map (λ word. word.now) words.now) ≡ true → IfErr result (λ fault. fault ≡ Memory) }
+    ensures taken { takes pdp8 (map (λ word. word.now) words.now) ≡ true → IfErr result (λ fault. (fault ≡ Memory) ⊎ (fault ≡ LookAndKeep)) }
 {
     let command = command_line(alloc)?;
     match command.try_get_matches_from(words) {
-        Ok(matches) => Ok(asked(alloc, &matches)?),
+        Ok(matches) => asked(alloc, &matches),
         Err(error) => Err(fault_of(error)),
     }
 }
 
-/// A law: plain command lines are taken, and ask for what they say (this project's profile). A word that names a file
-/// or gives a number is plain where it begins with no hyphen.
+/// A law: plain command lines are taken, and ask for what they say; a run that is both to look and to keep asks for no task (this
+/// project's profile). A word that names a file or gives a number is plain where it begins with no hyphen.
 pub fn plain_words()
     ensures tape { (name : List ℕ) → IsTakenAs (name ∷ codes "tape" ∷ []) IsTape }
     ensures source { (name : List ℕ) → IsTakenAs (name ∷ codes "source" ∷ []) IsSource }
-    ensures run { (name image : List ℕ) → IsPlain image → IsTakenAs (name ∷ codes "run" ∷ image ∷ []) (IsRunOf image) }
+    ensures run { (name image : List ℕ) → IsPlain image → IsTakenAs (name ∷ codes "run" ∷ image ∷ []) (IsRunOf image AtEnd false) }
+    ensures run_look { (name image : List ℕ) → IsPlain image
+        → IsTakenAs (name ∷ codes "run" ∷ image ∷ codes "--look" ∷ []) (IsRunOf image Never false) }
+    ensures run_keep { (name image : List ℕ) → IsPlain image
+        → IsTakenAs (name ∷ codes "run" ∷ image ∷ codes "--keep" ∷ []) (IsRunOf image Always false) }
+    ensures run_strict { (name image : List ℕ) → IsPlain image
+        → IsTakenAs (name ∷ codes "run" ∷ image ∷ codes "--strict" ∷ []) (IsRunOf image AtEnd true) }
+    ensures run_both { (name image : List ℕ) → IsPlain image
+        → IsTakenAs (name ∷ codes "run" ∷ image ∷ codes "--look" ∷ codes "--keep" ∷ []) (λ task. ⊥) }
     ensures create { (name image blocks : List ℕ) → IsPlain image → IsPlain blocks → IsUnsignedIn 8 4095 blocks
         → IsTakenAs (name ∷ codes "create" ∷ image ∷ blocks ∷ []) (IsCreateOf image (number_of blocks)) }
     ensures list { (name image : List ℕ) → IsPlain image → IsTakenAs (name ∷ codes "list" ∷ image ∷ []) (IsListOf image) }
@@ -119,44 +129,8 @@ fn source<'a>(alloc: Global) -> Command<'a>
         alloc,
         "source",
         "Write the PAL III source of a BIN paper tape",
-        "Reads a BIN paper tape from standard input, and prints a PAL III source that assembles to the words{n}that it loads, one line a word, with the cell and the word in octal behind it.",
+        "Reads a BIN paper tape from standard input, and prints a PAL III source that assembles to the words{n}that it loads, one line a word, with the cell and the word in octal behind it. The line{n}of a fault goes to standard error.",
     )
-}
-
-/// The forms of a script's lines, as the long help shows them.
-const SCRIPT_LINES: &str = "\
-Lines of a script:
-  STORE NAME N           stores the N lines behind it as a text file
-  DELETE NAME            takes a file out
-  DIRECT                 shows the files and the free blocks
-  ASSEMBLE NAME<NAME,..  begins a job that assembles 1 to 8 sources to a tape
-  LOAD NAME              begins a job that loads a tape into core
-  SQUEEZE                begins a job that moves the files together
-  TURN J                 gives job J a turn
-  FINISH                 gives the jobs turns until none is left
-  START FAAAA            starts the processor at a cell, field and address in octal
-  STEP N                 makes N steps, 1 to 1000000
-  GO N                   makes N steps, as far as a break
-  RUN FAAAA N            is START and GO, with a printer that is always quick
-  KEY KKK                strikes the key of a character
-  DONE                   ends the character that is being printed
-  SWITCHES WWWW          sets the switches
-  EXAMINE FAAAA          shows the word of a cell
-  DEPOSIT FAAAA WWWW     gives a cell a word
-  REGISTERS              shows the registers
-  BREAK FAAAA ON|OFF     sets a break at a cell, or takes it away
-  PRINTED                shows the characters that were printed";
-
-fn run<'a>(alloc: Global) -> Draft<'a>
-    ensures { IfOk result (λ command. IsCommand command run_app) }
-{
-    let bare = leaf(
-        alloc,
-        "run",
-        "Run a script on a volume",
-        "Runs the script of standard input on the OS/8 volume in the file IMAGE, prints the replies, and{n}writes the image back to the file. Each line gets its reply as it comes.",
-    );
-    with_image(alloc, with_lines(bare, SCRIPT_LINES))
 }
 
 fn create<'a>(alloc: Global) -> Draft<'a>
@@ -185,9 +159,10 @@ fn fault_of(error: clap::Error) -> TaskFault
 }
 
 /// The task that the subcommand asks for.
-fn asked(alloc: Global, matches: &ArgMatches<'_>) -> Result<Task, AllocError>
+fn asked(alloc: Global, matches: &ArgMatches<'_>) -> Result<Task, TaskFault>
     requires { HasMet (subcommand_rows_of matches.now) }
     ensures task { IfOk result (λ task. Asks (subcommand_rows_of matches.now) task) }
+    ensures refused { IfErr result (IsRefused (subcommand_rows_of matches.now)) }
     ensures fit { IfOk result HasFitBlocks }
 {
     match matches.subcommand() {
@@ -197,9 +172,10 @@ fn asked(alloc: Global, matches: &ArgMatches<'_>) -> Result<Task, AllocError>
 }
 
 /// The task that the subcommand of a name asks for, with what was found for it.
-fn asked_of(alloc: Global, name: &str, found: &ArgMatches<'_>) -> Result<Task, AllocError>
+fn asked_of(alloc: Global, name: &str, found: &ArgMatches<'_>) -> Result<Task, TaskFault>
     requires { IsWhole name.now (rows_of (found_of found.now)) }
     ensures task { IfOk result (λ task. AsksFor name.now (rows_of (found_of found.now)) task) }
+    ensures refused { IfErr result (IsRefused (Some (name.now, rows_of (found_of found.now)))) }
     ensures fit { IfOk result HasFitBlocks }
 {
     if name == "tape" {
@@ -210,13 +186,13 @@ fn asked_of(alloc: Global, name: &str, found: &ArgMatches<'_>) -> Result<Task, A
     }
     let image = image_of(alloc, found)?;
     if name == "run" {
-        return Ok(Task::Run(image));
+        return run_asked(found, image);
     }
     if name == "create" {
         let blocks = blocks_of(found);
         return Ok(Task::Create(image, blocks));
     }
-    files_asked(alloc, name, found, image)
+    Ok(files_asked(alloc, name, found, image)?)
 }
 
 /// The task that the subcommand of a name asks for on the files of a volume.
@@ -287,16 +263,6 @@ fn put_form(found: &ArgMatches<'_>) -> PutForm
         return PutForm::Text;
     }
     PutForm::Frames
-}
-
-/// Whether an option without a value was given.
-fn is_set(found: &ArgMatches<'_>, id: &str) -> bool
-    ensures { result ≡ spec.is_set id.now (rows_of (found_of found.now)) }
-{
-    match found.get_str(id) {
-        Some(text) => text == "true",
-        None => false,
-    }
 }
 
 /// The number of blocks.

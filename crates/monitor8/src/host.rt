@@ -3,21 +3,24 @@
 
 use crate::{ProgramLine, SourceFault, Task, TaskFault, put_program, source_text, tape_text, task};
 use host8::Unwritten;
-use os8_dir::DirFault;
 use script8::{SessionFault, put_reply};
-use session8::Session;
+use session8::read_all;
 use std::alloc::{AllocError, Global};
 use std::env::{self, Env};
 use std::fs::{File, Files};
-use std::io::{self, BufWriter, ErrorKind, Input, Write};
+use std::io::{self, ErrorKind, Input, IsTerminal, Write};
 use std::process::ExitCode;
 use volume_image::{ImageFault, MemoryVolume};
 
 mod archives;
+mod hints;
 mod images;
+mod runs;
 
 use archives::{check_volume, get_file, list_files, put_file};
-use images::{Image, make_image};
+use hints::is_rim;
+use images::make_image;
+use runs::run_image;
 
 /// Why the program ends before its work is done.
 #[derive(Drop)]
@@ -26,6 +29,7 @@ enum Ended {
     Fault(SessionFault),
     Words(clap::Error),
     NoText,
+    LookAndKeep,
     Told,
     Busy,
     Unwritten(Unwritten),
@@ -44,24 +48,50 @@ impl From<AllocError> for Ended {
 }
 
 /// Does what the words of the command line ask for: `pdp8 tape`, `pdp8 source`, `pdp8 run IMAGE`, `pdp8 create IMAGE BLOCKS`,
-/// `pdp8 list IMAGE`, `pdp8 get IMAGE NAME`, `pdp8 put IMAGE NAME` or `pdp8 check IMAGE`. The exit status is 0, 1 after a fault, whose line is on standard output, and 2 for words that are refused (this project's
-/// profile).
+/// `pdp8 list IMAGE`, `pdp8 get IMAGE NAME`, `pdp8 put IMAGE NAME` or `pdp8 check IMAGE`. The exit status is 0, 1 after a fault, and 2
+/// for words that are refused. The line of a fault is on standard output, and for `source` and `get`, whose standard output is data, on
+/// standard error (this project's profile).
 pub fn program<R: Env + Files<File = File> + Input + Print + Eprint + AllocGlobal>(
     rt: &R,
-) -> ExitCode {
-    match asked(rt) {
+) -> ExitCode
+where
+    R::Reader: IsTerminal,
+{
+    let task = match read_words(rt) {
+        Ok(task) => task,
+        Err(ended) => return told(rt, ended, false),
+    };
+    let is_data = gives_data(&task);
+    match done(rt, task) {
         Ok(()) => ExitCode::SUCCESS,
-        Err(ended) => told(rt, ended),
+        Err(ended) => told(rt, ended, is_data),
     }
 }
 
-fn asked<R: Env + Files<File = File> + Input + Print + Eprint + AllocGlobal>(
+/// Whether what a task puts on standard output is data, so that no fault is told there.
+fn gives_data(task: &Task) -> bool {
+    match task {
+        Task::Source | Task::Get(..) => true,
+        Task::Tape
+        | Task::Run(..)
+        | Task::Create(..)
+        | Task::List(_)
+        | Task::Put(..)
+        | Task::Check(_) => false,
+    }
+}
+
+fn done<R: Files<File = File> + Input + Print + Eprint + AllocGlobal>(
     rt: &R,
-) -> Result<(), Ended> {
-    match read_words(rt)? {
+    task: Task,
+) -> Result<(), Ended>
+where
+    R::Reader: IsTerminal,
+{
+    match task {
         Task::Tape => list_tape(rt),
         Task::Source => write_source(rt),
-        Task::Run(image) => run_image(rt, &image),
+        Task::Run(image, form) => run_image(rt, &image, form),
         Task::Create(image, blocks) => create_image(rt, &image, blocks),
         Task::List(image) => list_files(rt, &image),
         Task::Get(image, name, form) => get_file(rt, &image, &name, form),
@@ -70,8 +100,8 @@ fn asked<R: Env + Files<File = File> + Input + Print + Eprint + AllocGlobal>(
     }
 }
 
-/// The status for an end before the work is done, of which a line is printed.
-fn told<R: Print + Eprint + AllocGlobal>(rt: &R, ended: Ended) -> ExitCode {
+/// The status for an end before the work is done, of which a line is printed: on standard error where standard output is for data.
+fn told<R: Print + Eprint + AllocGlobal>(rt: &R, ended: Ended, is_data: bool) -> ExitCode {
     let mut line = Vec::new(rt.alloc());
     let put = match ended {
         Ended::Line(text) => put_program(&text, &mut line),
@@ -85,6 +115,10 @@ fn told<R: Print + Eprint + AllocGlobal>(rt: &R, ended: Ended) -> ExitCode {
             let _ = rt.eprint("error: a word of the command line is not UTF-8 text\n");
             return ExitCode::from(2);
         }
+        Ended::LookAndKeep => {
+            let _ = rt.eprint(LOOK_AND_KEEP);
+            return ExitCode::from(2);
+        }
         Ended::Busy => {
             let _ = rt.eprint("error: another program works on the image\n");
             put_program(&ProgramLine::HostBusy, &mut line)
@@ -94,14 +128,35 @@ fn told<R: Print + Eprint + AllocGlobal>(rt: &R, ended: Ended) -> ExitCode {
             put_program(&ProgramLine::HostWrite, &mut line)
         }
     };
-    let mut writer = io::writer(rt);
-    let _ = match put {
-        Ok(()) => writer.write_all(&line),
-        Err(_) => writer.write_all(b"? 10 MEMORY\n"),
+    let text = match put {
+        Ok(()) => line.as_slice(),
+        Err(_) => b"? 10 MEMORY\n",
     };
-    let _ = writer.flush();
+    write_line(rt, text, is_data);
     ExitCode::FAILURE
 }
+
+/// Writes a line of characters to standard output, or to standard error.
+fn write_line<R: Print + Eprint>(rt: &R, line: &[u8], is_error: bool) {
+    if is_error {
+        if let Ok(text) = str::from_utf8(line) {
+            let _ = rt.eprint(text);
+        }
+        return;
+    }
+    let mut writer = io::writer(rt);
+    let _ = writer.write_all(line);
+    let _ = writer.flush();
+}
+
+/// What is said of a run that is both to look and to keep, as `clap` says it of its conflicts.
+const LOOK_AND_KEEP: &str = "\
+error: the argument '--look' cannot be used with '--keep'
+
+Usage: pdp8 run [OPTIONS] <IMAGE>
+
+For more information, try '--help'.
+";
 
 /// What is said on standard error of a file that could not be written.
 fn words_on(held: Unwritten) -> &'static str {
@@ -123,6 +178,7 @@ fn read_words<R: Env + AllocGlobal>(rt: &R) -> Result<Task, Ended> {
         Ok(task) => Ok(task),
         Err(TaskFault::Words(error)) => Err(Ended::Words(error)),
         Err(TaskFault::Memory) => Err(Ended::Fault(SessionFault::Memory)),
+        Err(TaskFault::LookAndKeep) => Err(Ended::LookAndKeep),
     }
 }
 
@@ -147,10 +203,28 @@ fn no_words(error: &io::Error) -> Ended {
 }
 
 /// Lists the tape on standard input.
-fn list_tape<R: Input + Print + AllocGlobal>(rt: &R) -> Result<(), Ended> {
-    match tape_text(rt.alloc(), &mut rt.reader(), &mut io::writer(rt)) {
+fn list_tape<R: Input + Print + Eprint + AllocGlobal>(rt: &R) -> Result<(), Ended> {
+    let frames = match read_all(rt.alloc(), &mut rt.reader()) {
+        Ok(frames) => frames,
+        Err(fault) => return Err(Ended::Fault(fault)),
+    };
+    match tape_text(rt.alloc(), &mut frames.as_slice(), &mut io::writer(rt)) {
         Ok(()) => Ok(()),
-        Err(fault) => Err(Ended::Fault(fault)),
+        Err(fault) => {
+            if is_tape_fault(&fault) && is_rim(&frames) {
+                let _ = rt.eprint(
+                    "note: the frames are a RIM tape: addresses and words in turn, and no check sum; a BIN tape is wanted\n",
+                );
+            }
+            Err(Ended::Fault(fault))
+        }
+    }
+}
+
+fn is_tape_fault(fault: &SessionFault) -> bool {
+    match fault {
+        SessionFault::Tape(_) => true,
+        _ => false,
     }
 }
 
@@ -192,39 +266,4 @@ fn print_line<R: Print>(rt: &R, line: &[u8]) -> Result<(), Ended> {
         return Err(Ended::Fault(SessionFault::Writer));
     }
     Ok(())
-}
-
-/// Runs the script on standard input over the volume of an image file, and writes the image back if it changed. The memory for that is
-/// taken before the script.
-fn run_image<R: Files<File = File> + Input + Print + Eprint + AllocGlobal>(
-    rt: &R,
-    name: &str,
-) -> Result<(), Ended> {
-    let mut image = Image::open(rt, name)?;
-    let mut bytes = image.copy(rt.alloc())?;
-    let Ok(mut writer) = BufWriter::new(rt.alloc(), io::writer(rt)) else {
-        return Err(Ended::Fault(SessionFault::Memory));
-    };
-    let mut session = mounted(rt, &bytes)?;
-    let run = session.run_text(rt.alloc(), &mut rt.reader(), &mut writer);
-    match session.into_store().put_bytes(&mut bytes) {
-        Ok(()) => image.save(rt, &bytes)?,
-        Err(fault) => return Err(Ended::Line(ProgramLine::Image(fault))),
-    }
-    match run {
-        Ok(()) => Ok(()),
-        Err(_) => Err(Ended::Told),
-    }
-}
-
-/// A session over the volume of an image.
-fn mounted<R: AllocGlobal>(rt: &R, bytes: &[u8]) -> Result<Session<MemoryVolume>, Ended> {
-    let volume = match MemoryVolume::from_bytes(rt.alloc(), bytes) {
-        Ok(volume) => volume,
-        Err(fault) => return Err(Ended::Line(ProgramLine::Image(fault))),
-    };
-    match Session::mount(rt.alloc(), volume) {
-        Ok(session) => Ok(session),
-        Err((_, fault)) => Err(Ended::Line(ProgramLine::Directory(fault))),
-    }
 }

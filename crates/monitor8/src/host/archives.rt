@@ -1,5 +1,6 @@
 //! Files in and out of the image file of a volume. Only `put` writes one, and only once the whole new image stands in memory.
 
+use super::hints::refused_image;
 use super::images::{Image, seen};
 use super::{Ended, print_line};
 use crate::ProgramLine;
@@ -10,16 +11,19 @@ use std::fs::{File, Files};
 use std::io::Input;
 
 /// Lists the files of the volume in an image file.
-pub fn list_files<R: Files + Print + AllocGlobal>(rt: &R, image: &str) -> Result<(), Ended> {
+pub fn list_files<R: Files + Print + Eprint + AllocGlobal>(
+    rt: &R,
+    image: &str,
+) -> Result<(), Ended> {
     let bytes = seen(rt, image)?;
     match list(rt.alloc(), &bytes) {
         Ok(text) => print_line(rt, &text),
-        Err(fault) => Err(ended(fault)),
+        Err(fault) => Err(ended(rt, bytes.len(), fault)),
     }
 }
 
 /// Writes what a file has on the volume in an image file.
-pub fn get_file<R: Files + Print + AllocGlobal>(
+pub fn get_file<R: Files + Print + Eprint + AllocGlobal>(
     rt: &R,
     image: &str,
     name: &str,
@@ -28,7 +32,7 @@ pub fn get_file<R: Files + Print + AllocGlobal>(
     let bytes = seen(rt, image)?;
     match get(rt.alloc(), &bytes, name.as_bytes(), form) {
         Ok(given) => print_line(rt, &given),
-        Err(fault) => Err(ended(fault)),
+        Err(fault) => Err(ended(rt, bytes.len(), fault)),
     }
 }
 
@@ -46,34 +50,39 @@ pub fn put_file<R: Files<File = File> + Input + Print + Eprint + AllocGlobal>(
     };
     let new = match put(rt.alloc(), held.bytes(), name.as_bytes(), &given, form) {
         Ok(new) => new,
-        Err(fault) => return Err(ended(fault)),
+        Err(fault) => return Err(ended(rt, held.bytes().len(), fault)),
     };
     let stored = Reply::Line(Said::Stored {
         name: new.name,
         blocks: new.blocks,
     });
+    let mut bytes = new.bytes;
     let mut line = Vec::new(rt.alloc());
     match put_reply(None, &Ok(stored), &mut line) {
         Ok(()) => {}
         Err(fault) => return Err(Ended::Fault(fault)),
     }
-    held.save(rt, &new.bytes)?;
+    held.save(rt, &mut bytes)?;
     print_line(rt, &line)
 }
 
 /// Tells of the volume in an image file.
-pub fn check_volume<R: Files + Print + AllocGlobal>(rt: &R, image: &str) -> Result<(), Ended> {
+pub fn check_volume<R: Files + Print + Eprint + AllocGlobal>(
+    rt: &R,
+    image: &str,
+) -> Result<(), Ended> {
     let bytes = seen(rt, image)?;
     match check(rt.alloc(), &bytes) {
         Ok(text) => print_line(rt, &text),
-        Err(fault) => Err(ended(fault)),
+        Err(fault) => Err(ended(rt, bytes.len(), fault)),
     }
 }
 
-fn ended(fault: ArchiveFault) -> Ended {
+/// How a command ends that was refused an image of so many bytes, or a file of it.
+fn ended<R: Eprint>(rt: &R, size: usize, fault: ArchiveFault) -> Ended {
     match fault {
-        ArchiveFault::Image(fault) => Ended::Line(ProgramLine::Image(fault)),
-        ArchiveFault::Directory(fault) => Ended::Line(ProgramLine::Directory(fault)),
+        ArchiveFault::Image(fault) => refused_image(rt, size, ProgramLine::Image(fault)),
+        ArchiveFault::Directory(fault) => refused_image(rt, size, ProgramLine::Directory(fault)),
         ArchiveFault::Refused(fault) => Ended::Fault(fault),
     }
 }

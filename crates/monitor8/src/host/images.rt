@@ -7,12 +7,16 @@ use script8::SessionFault;
 use session8::MOST;
 use std::alloc::{AllocError, Global};
 use std::fs::{File, Files};
+use std::mem;
 
-/// The image in a file, which is held unless it may not be written.
+/// The image in a file, which is held unless it may not be written, or is only looked at.
 #[derive(Drop)]
 pub struct Image {
     held: Option<HeldFile>,
     bytes: Vec<u8>,
+
+    /// Whether it was told that the file is written in its place.
+    is_told: bool,
 }
 
 impl Image {
@@ -28,14 +32,21 @@ impl Image {
                 Ok(Image {
                     held: Some(held),
                     bytes,
+                    is_told: false,
                 })
             }
-            Err(HoldFault::Unwritable) => Ok(Image {
-                held: None,
-                bytes: seen(rt, name)?,
-            }),
+            Err(HoldFault::Unwritable) => Image::look(rt, name),
             Err(fault) => Err(unread(fault)),
         }
+    }
+
+    /// Reads an image file, and holds nothing: it can't be saved.
+    pub fn look<R: Files + AllocGlobal>(rt: &R, name: &str) -> Result<Image, Ended> {
+        Ok(Image {
+            held: None,
+            bytes: seen(rt, name)?,
+            is_told: false,
+        })
     }
 
     /// What the image held when it was read or saved.
@@ -50,19 +61,28 @@ impl Image {
         Ok(bytes)
     }
 
-    /// Has the file hold these bytes. Where it does already, nothing is written. No memory is taken.
+    /// Has the file hold these bytes, and gives those that it held in their place. Where it holds them already, nothing is written. No
+    /// memory is taken.
     pub fn save<R: Files<File = File> + Eprint>(
         &mut self,
         rt: &R,
-        bytes: &[u8],
+        bytes: &mut Vec<u8>,
     ) -> Result<(), Ended> {
-        if self.bytes.as_slice() == bytes {
+        if self.bytes.as_slice() == bytes.as_slice() {
             return Ok(());
         }
         match &mut self.held {
-            None => Err(Ended::Unwritten(Unwritten::AsItWas)),
-            Some(held) => write(rt, held, bytes),
+            None => return Err(Ended::Unwritten(Unwritten::AsItWas)),
+            Some(held) => {
+                if !self.is_told {
+                    tell_of_place(rt, held);
+                }
+                write(rt, held, bytes)?;
+            }
         }
+        self.is_told = true;
+        mem::swap(&mut self.bytes, bytes);
+        Ok(())
     }
 }
 
@@ -76,6 +96,7 @@ pub fn make_image<R: Files<File = File> + Eprint + AllocGlobal>(
         Ok(held) => {
             tell_of_lock(rt, &held);
             let mut own = held;
+            tell_of_place(rt, &own);
             write(rt, &mut own, bytes)
         }
         Err(HoldFault::Absent) => match make(rt, name, bytes) {
@@ -116,16 +137,15 @@ fn unmade(fault: HoldFault) -> Ended {
     }
 }
 
-fn write<R: Files<File = File> + Eprint>(
-    rt: &R,
-    held: &mut HeldFile,
-    bytes: &[u8],
-) -> Result<(), Ended> {
+fn tell_of_place<R: Eprint>(rt: &R, held: &HeldFile) {
     if !held.is_alone() {
         let _ = rt.eprint(
             "note: the image is written in its place, and is not whole if that breaks off\n",
         );
     }
+}
+
+fn write<R: Files<File = File>>(rt: &R, held: &mut HeldFile, bytes: &[u8]) -> Result<(), Ended> {
     match held.write(rt, bytes) {
         Ok(()) => Ok(()),
         Err(left) => Err(Ended::Unwritten(left)),

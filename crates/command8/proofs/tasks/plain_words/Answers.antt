@@ -1,4 +1,4 @@
-use Rattle.command8.proofs.PlainLemmas.{plain_check, plain_create, plain_get_frames, plain_get_tape, plain_get_text, plain_list, plain_put_frames, plain_put_text, plain_run, plain_source, plain_tape}
+use Rattle.command8.proofs.PlainLemmas.{plain_check, plain_create, plain_get_frames, plain_get_tape, plain_get_text, plain_list, plain_put_frames, plain_put_text, plain_run, plain_run_both, plain_run_keep, plain_run_look, plain_run_strict, plain_source, plain_tape}
 use Rattle.command8.proofs.tasks.plain_words.Goals as goal
 
 pub returns : goal.returns
@@ -6,6 +6,10 @@ returns c = record {
   tape = plain_tape;
   source = plain_source;
   run = plain_run;
+  run_look = plain_run_look;
+  run_keep = plain_run_keep;
+  run_strict = plain_run_strict;
+  run_both = plain_run_both;
   create = plain_create;
   list = plain_list;
   get = plain_get_frames;

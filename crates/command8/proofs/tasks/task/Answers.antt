@@ -1,8 +1,8 @@
-use Rattle.std.proofs.Common.{map, subst, sym}
+use Rattle.std.proofs.Common.{map, subst, sym, IfOk, IfErr}
 use Rattle.clap.specs.Words.{app_of}
 use Rattle.command8.specs.Tasks.{Asks}
-use Rattle.command8.specs.TaskSteps.{HasMet}
-use Rattle.command8.proofs.TaskLemmas.{fault_answer, is_pdp8, met_rows, no_fault, taken_fault, task_whole}
+use Rattle.command8.specs.TaskSteps.{HasMet, IsRefused}
+use Rattle.command8.proofs.TaskLemmas.{asked_answer, asked_kind, fault_answer, is_pdp8, met_rows, no_fault, taken_fault, task_whole}
 use Rattle.command8.proofs.tasks.task.Goals as goal
 
 pub asked-requires : goal.asked-requires
@@ -12,12 +12,16 @@ asked-requires c =
     subst HasMet (sym (met_rows (app_of c.in_ok-command.command) words c.in-Ok.matches (is_pdp8 c.in_ok-command.command c.in_ok-command.ensures) c.in-Ok.ensures.matches))
     (task_whole words none)
 
-pub returns-in_ok-asked-in-Ok-clause-answer : goal.returns-in_ok-asked-in-Ok-clause-answer
-returns-in_ok-asked-in-Ok-clause-answer c =
+pub returns-in-Ok-clause-answer : goal.returns-in-Ok-clause-answer
+returns-in-Ok-clause-answer c =
     let words = map (λ word. word.now) c.args.words.now in
     let none = no_fault (app_of c.in_ok-command.command) words (is_pdp8 c.in_ok-command.command c.in_ok-command.ensures) c.in-Ok.ensures.kinds in
     let met = met_rows (app_of c.in_ok-command.command) words c.in-Ok.matches (is_pdp8 c.in_ok-command.command c.in_ok-command.ensures) c.in-Ok.ensures.matches in
-    (none, subst (λ rows. Asks rows c.in_ok-asked-in-Ok.field-0) met c.in_ok-asked-in-Ok.ensures.task, c.in_ok-asked-in-Ok.ensures.fit)
+    asked_answer words c.asked.result none (subst (λ rows. IfOk c.asked.result (Asks rows)) met c.asked.ensures.task) c.asked.ensures.fit
+    (subst (λ rows. IfErr c.asked.result (IsRefused rows)) met c.asked.ensures.refused)
+
+pub returns-in-Ok-clause-taken : goal.returns-in-Ok-clause-taken
+returns-in-Ok-clause-taken c = λ takes. asked_kind _ c.asked.result c.asked.ensures.refused
 
 pub returns-in-Err-clause-taken : goal.returns-in-Err-clause-taken
 returns-in-Err-clause-taken c =

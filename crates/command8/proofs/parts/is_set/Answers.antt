@@ -3,7 +3,7 @@ use Rattle.std.specs.Option.{option_map_or}
 use Rattle.std.specs.Str.{bytes_eq}
 use Rattle.clap.proofs.WalkLemmas.{first_value-rows}
 use Rattle.clap.specs.Words.{Text, found_of}
-use Rattle.command8.proofs.tasks.is_set.Goals as goal
+use Rattle.command8.proofs.parts.is_set.Goals as goal
 
 pub returns-in-Some : goal.returns-in-Some
 returns-in-Some c =

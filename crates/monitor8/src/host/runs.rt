@@ -1,0 +1,169 @@
+//! Runs of scripts over the volume of an image file.
+
+use super::Ended;
+use super::hints::{line_hint, refused_image};
+use super::images::Image;
+use crate::ProgramLine;
+use command8::{RunForm, Saving};
+use script8::{Reply, Said, SessionFault};
+use session8::{Session, Watcher};
+use std::fs::{File, Files};
+use std::io::{self, BufWriter, Input, IsTerminal};
+use volume_image::MemoryVolume;
+
+/// Runs the script on standard input over the volume of an image file, and writes the image back when it is to be, if it changed. The
+/// memory for that is taken before the script.
+pub fn run_image<R: Files<File = File> + Input + Print + Eprint + AllocGlobal>(
+    rt: &R,
+    name: &str,
+    form: RunForm,
+) -> Result<(), Ended>
+where
+    R::Reader: IsTerminal,
+{
+    let image = match form.saving {
+        Saving::Never => Image::look(rt, name)?,
+        Saving::AtEnd | Saving::Always => Image::open(rt, name)?,
+    };
+    let bytes = image.copy(rt.alloc())?;
+    let Ok(mut writer) = BufWriter::new(rt.alloc(), io::writer(rt)) else {
+        return Err(Ended::Fault(SessionFault::Memory));
+    };
+    let mut session = mounted(rt, &bytes)?;
+    let mut reader = rt.reader();
+    let mut run = Run::new(rt, image, bytes, form.saving, reader.is_terminal());
+    let ran = session.run_watched(rt.alloc(), &mut reader, &mut writer, &mut run);
+    run.end(&session.into_store())?;
+    match ran {
+        Ok(()) if !(form.is_strict && run.is_refused) => Ok(()),
+        _ => Err(Ended::Told),
+    }
+}
+
+/// A session over the volume of an image.
+fn mounted<R: Eprint + AllocGlobal>(rt: &R, bytes: &[u8]) -> Result<Session<MemoryVolume>, Ended> {
+    let volume = match MemoryVolume::from_bytes(rt.alloc(), bytes) {
+        Ok(volume) => volume,
+        Err(fault) => return Err(refused_image(rt, bytes.len(), ProgramLine::Image(fault))),
+    };
+    match Session::mount(rt.alloc(), volume) {
+        Ok(session) => Ok(session),
+        Err((_, fault)) => Err(refused_image(rt, bytes.len(), ProgramLine::Directory(fault))),
+    }
+}
+
+/// What goes on beside a script: its image is written when it is to be, refusals are seen, and a person at a terminal is told the form of
+/// a bad line.
+#[derive(Drop)]
+struct Run<'a, R> {
+    rt: &'a R,
+    image: Image,
+    bytes: Vec<u8>,
+    saving: Saving,
+    is_terminal: bool,
+    hint: &'static str,
+    is_refused: bool,
+
+    /// Why the image could not be written.
+    failed: Option<Ended>,
+}
+
+impl<'a, R: Files<File = File> + Eprint> Run<'a, R> {
+    /// A run over an image, whose bytes are given once more.
+    fn new(
+        rt: &'a R,
+        image: Image,
+        bytes: Vec<u8>,
+        saving: Saving,
+        is_terminal: bool,
+    ) -> Run<'a, R> {
+        Run {
+            rt,
+            image,
+            bytes,
+            saving,
+            is_terminal,
+            hint: "",
+            is_refused: false,
+            failed: None,
+        }
+    }
+
+    /// Has the file hold the image of a store.
+    fn save(&mut self, store: &MemoryVolume) -> Result<(), Ended> {
+        match store.put_bytes(&mut self.bytes) {
+            Ok(()) => self.image.save(self.rt, &mut self.bytes),
+            Err(fault) => Err(Ended::Line(ProgramLine::Image(fault))),
+        }
+    }
+
+    /// Ends the run with the store that it leaves.
+    fn end(&mut self, store: &MemoryVolume) -> Result<(), Ended> {
+        if let Some(ended) = self.failed.take() {
+            return Err(ended);
+        }
+        match self.saving {
+            Saving::Never => Ok(()),
+            Saving::AtEnd | Saving::Always => self.save(store),
+        }
+    }
+}
+
+impl<'a, R: Files<File = File> + Eprint> Watcher<MemoryVolume> for Run<'a, R> {
+    fn begins(&mut self, lines: &[u8]) {
+        if self.is_terminal {
+            self.hint = line_hint(lines);
+        }
+    }
+
+    fn goes_on(&mut self, store: &MemoryVolume, answer: &Result<Reply, SessionFault>) -> bool {
+        if let Err(fault) = answer {
+            self.is_refused = true;
+            if self.is_terminal && is_bad_line(fault) {
+                let _ = eprintln!(self.rt; "note: {}", self.hint);
+            }
+        }
+        if self.saving != Saving::Always || !may_have_changed(answer) {
+            return true;
+        }
+        match self.save(store) {
+            Ok(()) => true,
+            Err(ended) => {
+                self.failed = Some(ended);
+                false
+            }
+        }
+    }
+}
+
+fn is_bad_line(fault: &SessionFault) -> bool {
+    match fault {
+        SessionFault::BadLine => true,
+        _ => false,
+    }
+}
+
+/// Whether the image may be another behind this answer; it is not where the console or a list of files was asked for, or a job was begun.
+fn may_have_changed(answer: &Result<Reply, SessionFault>) -> bool {
+    match answer {
+        Ok(Reply::Report(_)) => false,
+        Ok(Reply::Line(said)) => match said {
+            Said::Stored { .. }
+            | Said::Deleted(_)
+            | Said::Working(_)
+            | Said::Assembled { .. }
+            | Said::Loaded { .. }
+            | Said::Squeezed(_)
+            | Said::Finished => true,
+            Said::Job(_)
+            | Said::Started(_)
+            | Said::Steps { .. }
+            | Said::Key(_)
+            | Said::Done
+            | Said::Switches(_)
+            | Said::Core { .. }
+            | Said::Break { .. } => false,
+        },
+        Err(_) => true,
+    }
+}
