@@ -1,5 +1,0 @@
-use Rattle.file_tests.proofs.Tokens.{entered-of}
-use Rattle.file_tests.proofs.files.store.Goals as goal
-
-pub write_blocks-requires : goal.write_blocks-requires
-write_blocks-requires g c = entered-of _ _ _ _ _ c.in-Ok.ensures

@@ -1,0 +1,60 @@
+//! Large sources, with ample memory.
+
+use pal_asm::{AsmFault, assemble, assemble_all};
+use pal_lex::Lexer;
+use std::alloc::Global;
+use word12::{Cell, Word};
+
+/// The statements of a source, and the terms of the last one.
+const MANY: usize = 20000;
+
+/// A source of many lines with a word each, and at last a sum of many terms.
+fn source(alloc: Global) -> Vec<u8> {
+    let mut source = Vec::new(alloc);
+    put_many(&mut source, b"A=0;", 1);
+    put_many(&mut source, b"*300;A=A+1;A\r\n", MANY);
+    put_many(&mut source, b"+1", MANY);
+    put_many(&mut source, b"$", 1);
+    source
+}
+
+fn put_many(source: &mut Vec<u8>, part: &[u8], count: usize) {
+    for _ in 0..count {
+        let _ = source.extend_from_slice(part);
+    }
+}
+
+/// How many words there are, and the last one with its cell.
+fn seen(answer: Result<Vec<(Cell, Word)>, AsmFault>) -> (usize, usize, u16) {
+    match answer {
+        Ok(pairs) => match pairs.last() {
+            Some((cell, word)) => (pairs.len(), cell.index(), word.get()),
+            None => (0, 0, 0),
+        },
+        Err(_) => (0, 0, 0),
+    }
+}
+
+/// How many statements a lexer hands out for a source, and the tokens of the last one.
+fn counted(alloc: Global, source: &[u8]) -> (usize, usize) {
+    let mut lexer = Lexer::new(alloc);
+    let mut statements = 0usize;
+    let mut tokens = 0;
+    for byte in source {
+        if let Ok(Some(statement)) = lexer.push(*byte) {
+            statements = statements.saturating_add(1);
+            tokens = statement.tokens.as_slice().len();
+        }
+    }
+    (statements, tokens)
+}
+
+#[test]
+fn many_statements_and_terms(rt: HostRuntime) {
+    let bytes = source(rt.alloc());
+    // the last word is 20,000 modulo 4096, behind one in 0300
+    let sum = (MANY + 1, 0o301, 0o7040);
+    assert_eq!(rt; counted(rt.alloc(), &bytes), (3 * MANY + 2, 2 * MANY));
+    assert_eq!(rt; seen(assemble(rt.alloc(), &bytes)), sum);
+    assert_eq!(rt; seen(assemble_all(rt.alloc(), &[&bytes])), sum);
+}
