@@ -1,78 +1,54 @@
 //! Sessions over stores of which one block call fails: each read, and each write, in turn.
 
-use crate::making::long_text;
+use crate::items::{do_items, expanded, tells_device};
 use os8_dir::{DirFault, Directory, Name};
 use session8::Session;
 use std::alloc::Global;
 use volume_image::{BlockStore, FuseVolume, MemoryVolume};
 
-/// A fresh volume of 20 blocks that fails at the read or the write of a number, counted from 0.
-fn fuse(alloc: Global, read: Option<u32>, write: Option<u32>) -> Option<FuseVolume> {
+/// A number of items or block calls that none comes to.
+const NONE: u32 = 1000;
+
+/// A fresh volume of 20 blocks that fails at the read and the write of these numbers, counted from 0.
+fn fuse(alloc: Global, read: u32, write: u32) -> Option<FuseVolume> {
     let volume = MemoryVolume::create(alloc, 20).ok()?;
-    Some(FuseVolume::new(volume, read, write))
+    Some(FuseVolume::new(volume, Some(read), Some(write)))
 }
 
-/// Whether lines tell of a failed block call.
-fn tells_device(lines: &[u8]) -> bool {
-    lines.ends_with(b"? 4.8 DEVICE\n")
-}
-
-/// What a session over a store came to: at which item the first block call failed, if any did, and the image behind that.
-#[derive(Drop)]
-struct Outcome {
-    failed: Option<usize>,
-    image: Option<Vec<u8>>,
-}
-
-/// Does items of a script until a block call fails, each with what it writes; the replies of the last one are in `out`.
-fn done_on(alloc: Global, store: FuseVolume, items: &[Vec<u8>], out: &mut Vec<u8>) -> Outcome {
+/// Does items of a script over a store until a block call fails or so many are done: how many were, 0 where the mount was refused,
+/// and the image behind that; the replies to the last one are in `out`.
+fn done_on(
+    alloc: Global,
+    store: FuseVolume,
+    script: &[u8],
+    most: usize,
+    out: &mut Vec<u8>,
+) -> (usize, Option<Vec<u8>>) {
     match Session::mount(alloc, store) {
-        Err((store, _)) => Outcome {
-            failed: Some(0),
-            image: store.into_inner().to_bytes(alloc).ok(),
-        },
+        Err((store, _)) => (0, store.into_inner().to_bytes(alloc).ok()),
         Ok(session) => {
             let mut own = session;
-            let failed = first_failed(alloc, &mut own, items, out);
-            Outcome {
-                failed,
-                image: own.into_store().into_inner().to_bytes(alloc).ok(),
-            }
+            let done = do_items(alloc, &mut own, script, most, out);
+            (done, own.into_store().into_inner().to_bytes(alloc).ok())
         }
     }
-}
-
-/// The number of the item, from 1, in which a block call fails first.
-fn first_failed(
-    alloc: Global,
-    session: &mut Session<FuseVolume>,
-    items: &[Vec<u8>],
-    out: &mut Vec<u8>,
-) -> Option<usize> {
-    let mut number = 0usize;
-    for item in items {
-        out.clear();
-        let mut reader = item.as_slice();
-        let _answer = session.run_text(alloc, &mut reader, out);
-        number = number.saturating_add(1);
-        if tells_device(out) {
-            return Some(number);
-        }
-    }
-    None
 }
 
 /// The image behind the first items of a script, where no block call fails.
-fn image_behind(alloc: Global, items: &[Vec<u8>], count: usize) -> Option<Vec<u8>> {
+fn image_behind(alloc: Global, script: &[u8], count: usize) -> Option<Vec<u8>> {
     let mut out = Vec::new(alloc);
-    let front = items.split_at(count.min(items.len())).0;
-    done_on(alloc, fuse(alloc, None, None)?, front, &mut out).image
+    done_on(alloc, fuse(alloc, NONE, NONE)?, script, count, &mut out).1
 }
 
 /// The directory of an image.
-fn directory_of(alloc: Global, image: &[u8]) -> Option<Directory> {
-    let mut volume = MemoryVolume::from_bytes(alloc, image).ok()?;
-    Directory::read(alloc, &mut volume).ok()
+fn directory_of(alloc: Global, image: &[u8]) -> Result<Directory, DirFault> {
+    match MemoryVolume::from_bytes(alloc, image) {
+        Ok(volume) => {
+            let mut own = volume;
+            Directory::read(alloc, &mut own)
+        }
+        Err(_) => Err(DirFault::Memory),
+    }
 }
 
 /// The bytes of an image from a block on, so many blocks.
@@ -89,86 +65,32 @@ fn file_in<'a>(directory: &Directory, image: &'a [u8], name: &Name) -> &'a [u8] 
     }
 }
 
-/// Sources of several lines, and jobs over each other: two of them at once, and one file moved.
-const JOBS: [&[u8]; 16] = [
-    b"STORE X.PA 1\n1\n",
-    b"STORE S.PA 2\n*200;CLL STA;TAD ONE;HLT;ONE, 1\n$\n",
-    b"DELETE X.PA\n",
-    b"ASSEMBLE B.BN<S.PA\n",
-    b"TURN 1\n",
-    b"SQUEEZE\n",
-    b"TURN 2\n",
-    b"TURN 1\n",
-    b"TURN 1\n",
-    b"TURN 2\n",
-    b"TURN 2\n",
-    b"LOAD B.BN\n",
-    b"TURN 1\n",
-    b"TURN 1\n",
-    b"EXAMINE 00201\n",
-    b"DIRECT\n",
-];
+/// Jobs over each other: one that assembles, one that moves its source down, and one that loads.
+const JOBS: &[u8] =
+    b"STORE X.PA 1\n1\n~STORE S.PA 2\n*200;CLL STA;TAD ONE;HLT;ONE, 1\n$\n~DELETE X.PA\n~\
+    ASSEMBLE B.BN<S.PA\n~TURN 1\n~SQUEEZE\n~TURN 2\n~TURN 1\n~TURN 1\n~TURN 2\n~TURN 2\n~LOAD B.BN\n~TURN 1\n~TURN 1\n~\
+    EXAMINE 00201\n~DIRECT\n";
 
-/// Items of a script, each in memory of its own.
-fn owned(alloc: Global, items: &[&[u8]]) -> Option<Vec<Vec<u8>>> {
-    let mut all = Vec::new(alloc);
-    for item in items {
-        all.push(long_text(alloc, item, b'/', 0, b"").ok()?).ok()?;
-    }
-    Some(all)
-}
+/// Files of two blocks each, of which two are taken out, and a squeeze that makes room for one of four.
+const SHORT: &[u8] =
+    b"STORE F1 1\n1#\n~STORE F2 1\n2#\n~STORE F3 1\n3#\n~STORE F4 1\n4#\n~STORE F5 1\n5#\n~STORE F6 1\n6#\n~\
+    DELETE F2\n~DELETE F4\n~STORE H 1\nH\n~SQUEEZE\n~TURN 1\n~TURN 1\n~TURN 1\n~TURN 1\n~STORE G 1\nG###\n";
+
+/// A file of five blocks that moves down by two, and one that is stored in the place of an older one.
+const LONG: &[u8] =
+    b"STORE F1 1\n1#\n~STORE F2 1\n2####\n~STORE F3 1\n3\n~STORE F3 1\n4\n~DELETE F1\n~SQUEEZE\n~TURN 1\n~TURN 1\n~\
+    DELETE F2\n~TURN 1\n~TURN 1\n";
 
 /// Whether a session whose read of a number fails was refused at its mount with the image as it was, or behind the turn in which
 /// it failed has the image that was there before; nothing where no read failed.
-fn read_lost(alloc: Global, number: u32) -> Option<bool> {
-    let items = owned(alloc, &JOBS)?;
+fn read_lost(alloc: Global, script: &[u8], number: u32) -> Option<bool> {
     let mut out = Vec::new(alloc);
-    let outcome = done_on(alloc, fuse(alloc, Some(number), None)?, &items, &mut out);
-    let count = outcome.failed?;
-    let before = image_behind(alloc, &items, count.saturating_sub(1))?;
-    Some(outcome.image? == before && (count == 0 || out.starts_with(b"JOB ")))
-}
-
-#[test]
-fn each_read_failed(rt: HostRuntime) {
-    let mut failed = 0;
-    for number in 0..100 {
-        match read_lost(rt.alloc(), number) {
-            None => break,
-            Some(good) => assert!(rt; good, "at read {number}"),
-        }
-        failed = number + 1;
+    let (done, image) = done_on(alloc, fuse(alloc, number, NONE)?, script, 99, &mut out);
+    if done > 0 && !tells_device(&out) {
+        return None;
     }
-    assert_eq!(rt; failed, READS);
-}
-
-/// Files of two blocks each, of which two are taken out, and a squeeze that makes room for one of five.
-fn files_moved(alloc: Global) -> Option<Vec<Vec<u8>>> {
-    let mut items = Vec::new(alloc);
-    for name in [b'1', b'2', b'3', b'4', b'5', b'6'] {
-        let front = [
-            b'S', b'T', b'O', b'R', b'E', b' ', b'F', name, b' ', b'1', b'\n',
-        ];
-        items
-            .push(long_text(alloc, &front, name, 388, b"\n").ok()?)
-            .ok()?;
-    }
-    for item in [
-        b"DELETE F2\n".as_slice(),
-        b"DELETE F4\n",
-        b"STORE H 1\nH\n",
-        b"SQUEEZE\n",
-        b"TURN 1\n",
-        b"TURN 1\n",
-        b"TURN 1\n",
-        b"TURN 1\n",
-    ] {
-        items.push(long_text(alloc, item, b'/', 0, b"").ok()?).ok()?;
-    }
-    items
-        .push(long_text(alloc, b"STORE G 1\n", b'G', 1500, b"\n").ok()?)
-        .ok()?;
-    Some(items)
+    let before = image_behind(alloc, script, done.saturating_sub(1))?;
+    Some(image? == before && (done == 0 || out.starts_with(b"JOB ")))
 }
 
 /// Whether each file of an image stands in another one in full: at its old blocks, or where it came to stand behind the entry that
@@ -189,57 +111,118 @@ fn stand_in(old: &[u8], new: &[u8], before: &Directory, behind: &Directory) -> b
 }
 
 /// Whether a session whose write of a number fails leaves what it may of the files; nothing where no write failed.
-fn write_lost(alloc: Global, number: u32) -> Option<bool> {
-    let items = files_moved(alloc)?;
+fn write_lost(alloc: Global, script: &[u8], number: u32) -> Option<bool> {
     let mut out = Vec::new(alloc);
-    let outcome = done_on(alloc, fuse(alloc, None, Some(number))?, &items, &mut out);
-    let count = outcome.failed?;
-    let old = image_behind(alloc, &items, count.saturating_sub(1))?;
-    let next = image_behind(alloc, &items, count)?;
-    let before = directory_of(alloc, &old)?;
-    let behind = directory_of(alloc, &next)?;
-    let new = outcome.image?;
-    let kept = blocks_of(&old, 1, 6) != blocks_of(&new, 1, 6)
-        || directory_of(alloc, &new).is_some();
+    let (done, image) = done_on(alloc, fuse(alloc, NONE, number)?, script, 99, &mut out);
+    if !tells_device(&out) {
+        return None;
+    }
+    let old = image_behind(alloc, script, done.saturating_sub(1))?;
+    let next = image_behind(alloc, script, done)?;
+    let before = directory_of(alloc, &old).ok()?;
+    let behind = directory_of(alloc, &next).ok()?;
+    let new = image?;
+    let is_read = directory_of(alloc, &new).is_ok();
+    let kept = blocks_of(&old, 1, 6) != blocks_of(&new, 1, 6) || is_read;
     Some(kept && stand_in(&old, &new, &before, &behind))
 }
 
-#[test]
-fn each_write_failed(rt: HostRuntime) {
-    let mut failed = 0;
-    for number in 0..100 {
-        match write_lost(rt.alloc(), number) {
-            None => break,
-            Some(good) => assert!(rt; good, "at write {number}"),
+/// How many calls of a script were let fail, one in each run of it, until none did; 1000 more where one left what it may not.
+fn failed_calls(alloc: Global, script: &[u8], writes: bool) -> u32 {
+    let bytes = expanded(alloc, script);
+    for number in 0..NONE {
+        let lost = if writes {
+            write_lost(alloc, &bytes, number)
+        } else {
+            read_lost(alloc, &bytes, number)
+        };
+        match lost {
+            None => return number,
+            Some(true) => {}
+            Some(false) => return number.saturating_add(NONE),
         }
-        failed = number + 1;
     }
-    assert_eq!(rt; failed, WRITES);
+    NONE
 }
 
-/// What a session writes where its write of a number fails, and what is said of the volume when it is mounted again.
-fn stopped_at(alloc: Global, write: u32, out: &mut Vec<u8>) -> Option<Result<usize, DirFault>> {
-    let items = owned(alloc, &[b"STORE A.TX 0\nDIRECT\nEXAMINE 00000\n"])?;
-    let outcome = done_on(alloc, fuse(alloc, None, Some(write))?, &items, out);
-    let mut volume = MemoryVolume::from_bytes(alloc, &outcome.image?).ok()?;
-    match Directory::read(alloc, &mut volume) {
-        Ok(directory) => Some(Ok(directory.free())),
-        Err(fault) => Some(Err(fault)),
+#[test]
+fn each_call_failed(rt: HostRuntime) {
+    let alloc = rt.alloc();
+    assert_eq!(rt; failed_calls(alloc, JOBS, false), 11);
+    assert_eq!(rt; failed_calls(alloc, SHORT, true), 38);
+    assert_eq!(rt; failed_calls(alloc, LONG, true), 25);
+}
+
+/// What a script writes where its calls of these numbers fail, and what is said of the volume when it is mounted again: the free
+/// blocks, or 1000 where its first segment has a bad count.
+fn remounted(
+    alloc: Global,
+    read: u32,
+    write: u32,
+    script: &[u8],
+    out: &mut Vec<u8>,
+) -> Option<usize> {
+    let (_, image) = done_on(alloc, fuse(alloc, read, write)?, script, 1, out);
+    match directory_of(alloc, &image?) {
+        Ok(directory) => Some(directory.free()),
+        Err(DirFault::BadCount(1)) => Some(1000),
+        Err(_) => None,
     }
 }
+
+/// A text that is stored, and what asks for files and for none behind it.
+const STORED: &[u8] = b"STORE A.TX 0\nDIRECT\nEXAMINE 00000\n";
+
+/// A file that is moved down.
+const MOVED: &[u8] = b"STORE A 0\nSTORE B 0\nDELETE A\nSQUEEZE\nTURN 1\nDIRECT\nSQUEEZE\nFINISH\n";
+
+/// Which read and which write fail in a script, what is then written, and what is said when it is mounted again. The squeeze first
+/// reads at read 7, and writes at write 5.
+const STOPPED: [(u32, u32, &[u8], &[u8], usize); 5] = [
+    (
+        NONE,
+        0,
+        STORED,
+        b"? 4.8 DEVICE\n? 4.9 STOPPED\n00000 0000\n",
+        13,
+    ),
+    (
+        NONE,
+        1,
+        STORED,
+        b"? 4.8 DEVICE\n? 4.9 STOPPED\n00000 0000\n",
+        1000,
+    ),
+    (
+        7,
+        NONE,
+        MOVED,
+        b"STORED A 1\nSTORED B 1\nDELETED A\nJOB 1\nJOB 1 ? 4.8 DEVICE\nB 1\nFREE 12\nJOB 1\nJOB 1 SQUEEZED\nFINISHED\n",
+        12,
+    ),
+    (
+        NONE,
+        5,
+        MOVED,
+        b"STORED A 1\nSTORED B 1\nDELETED A\nJOB 1\nJOB 1 ? 4.8 DEVICE\n? 4.9 STOPPED\n? 4.9 STOPPED\nFINISHED\n",
+        12,
+    ),
+    (
+        NONE,
+        0,
+        MOVED,
+        b"? 4.8 DEVICE\n? 4.9 STOPPED\n? 4.9 STOPPED\n? 4.9 STOPPED\n? 2 NO JOB\n? 4.9 STOPPED\n? 4.9 STOPPED\nFINISHED\n",
+        13,
+    ),
+];
 
 #[test]
 fn stopped_sessions(rt: HostRuntime) {
     let alloc = rt.alloc();
-    let want: &[u8] = b"? 4.8 DEVICE\n? 4.9 STOPPED\n00000 0000\n";
-    for (write, said) in [(0, Ok(13)), (1, Err(DirFault::BadCount(1)))] {
-        let mut out = Vec::new(alloc);
-        assert_eq!(rt; stopped_at(alloc, write, &mut out), Some(said));
-        assert_eq!(rt; out.as_slice(), want);
+    let mut out = Vec::new(alloc);
+    for (read, write, script, want, said) in STOPPED {
+        out.clear();
+        let is_said = remounted(alloc, read, write, script, &mut out) == Some(said);
+        assert!(rt; is_said && out.as_slice() == want, "{out:?}");
     }
 }
-
-/// How many reads the jobs make, those of the mount first, and how many writes the files that are moved.
-const READS: u32 = 11;
-
-const WRITES: u32 = 38;

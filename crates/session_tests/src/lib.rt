@@ -1,13 +1,12 @@
-//! Tests of the items of scripts and of sessions, for what no run of the program can show.
+//! Tests of sessions over stores that fail or count, of a run of entries, and of the lines and texts of faults: what no run of the
+//! program can show.
 #![tactic(auto)]
 
 #[cfg(test)]
 mod failing;
 #[cfg(test)]
-mod making;
-#[cfg(test)]
-mod reading;
+mod items;
 #[cfg(test)]
 mod storing;
 #[cfg(test)]
-mod streaming;
+mod telling;
