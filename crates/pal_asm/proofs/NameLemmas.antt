@@ -9,6 +9,7 @@ use Rattle.pal_asm.specs.declared.faults.Code.TheVariants.{DT}
 use Rattle.pal_asm.specs.Expressions.{Known}
 use Rattle.pal_asm.specs.Places.{with_tags, is_among}
 use Rattle.pal_asm.specs.Faults.{first_of, past, defined_otherwise, tags_fault}
+use Rattle.pal_asm.specs.PassSteps.{tag_fault}
 
 -- what stands behind the first of a list
 abbrev pub behind_one : {A : Type 0} → List A → List A
@@ -68,6 +69,12 @@ tags_fault_more (t ∷ tags) tag place old new adds before =
 pub first_tag : (tags : List ℕ) (tag place : ℕ) (old : Known) → past place ≡ None → (old tag ≡ None) ⊎ (old tag ≡ Some place)
     → tags_fault old place (tag ∷ tags) ≡ tags_fault old place tags
 first_tag tags tag place old none before = rw (none, by_before place (old tag) before) refl
+
+-- a tag that has no fault leaves that of the others
+pub judged_one : (rest : List ℕ) (tag place : ℕ) (known : Known) → 1 ≤ length rest → tag ≡ get_or rest 0 tag → tag_fault place (known tag) ≡ None
+    → tags_fault known place (behind_one rest) ≡ tags_fault known place rest
+judged_one rest tag place known long first none =
+    sym (ap (tags_fault known place) (first_one rest tag long first) ∙ ap (λ f. first_of f (tags_fault known place (behind_one rest))) none)
 
 -- a tag that was defined is fixed
 now_fixed : (among test fixed : Bool) → (among || (if test then true else fixed)) ≡ ((test || among) || fixed)

@@ -1,5 +1,5 @@
 -- A statement more in the first pass.
-use Rattle.std.proofs.Common.{◌≡◌, ℕ, ◌+◌, Bool, true, ◌||◌, if◌then◌else◌, Option, Some, Result, Ok, Err, List, ◌∷◌, refl, ap, sym, subst, ◌∙◌, arith}
+use Rattle.std.proofs.Common.{◌≡◌, ℕ, ◌+◌, Bool, true, ◌||◌, if◌then◌else◌, Option, Some, None, Result, Ok, Err, List, ◌∷◌, refl, ap, sym, subst, ◌∙◌, arith}
 use Rattle.std.proofs.Math.Path.{fun_ext}
 use Rattle.pal_sym.specs.SymbolTable.{SymbolTable}
 use Rattle.pal_sym.specs.Values.{symbol_value, is_fixed as fixed_in, HasRoom}
@@ -93,6 +93,19 @@ first_more s older old n line again symbols roomed new spot next failed tags is 
       pass = ap (λ (p : Progress). p.has_turned) is ∙ first.pass;
       goes_on = ap (λ (p : Progress). p.failed) is ∙ first.goes_on;
     }
+
+-- tags that have no fault by a table that stands for the names before them
+pub tags_judged : (s : Statement) (older : Source) (old : Progress) (line : ℕ) (again : Bool) (symbols : SymbolTable) (spot : Spot) (failed : Option AsmFault) (tags : List ℕ)
+    → progress again symbols spot line failed ≡ old → tags ≡ s.tags → tags_fault (symbol_value symbols) spot.location tags ≡ None → IsFirst old older
+    → tags_fault (values older) (place_at older) s.tags ≡ None
+tags_judged s older old line again symbols spot failed tags is same none first =
+    ap (tags_fault (values older) (place_at older)) (sym same)
+    ∙ ap (λ k. tags_fault k (place_at older) tags) (sym (ap (λ p. symbol_value p.symbols) is ∙ first.symbols))
+    ∙ ap (λ p. tags_fault (symbol_value symbols) p tags) (sym (ap (λ (p : Progress). p.spot.location) is ∙ first.location)) ∙ none
+
+-- the table as it stands
+pub same_room : (symbols : SymbolTable) → HasRoom 0 symbols symbols
+same_room symbols = record { values = λ n. refl; fixed = λ n. refl; enough = omega arith; kept = omega arith }
 
 -- a statement more, which has a fault
 pub first_fault_more : (s : Statement) (older : Source) (old after : Progress) (n line : ℕ) (again : Bool) (symbols roomed : SymbolTable) (spot : Spot) (failed : Option AsmFault) (tags : List ℕ) (code : Code) (fault : AsmFault)

@@ -7,11 +7,12 @@ use Rattle.pal_lex.specs.declared.phrases.Body.{Body}
 use Rattle.pal_lex.specs.declared.phrases.Body.TheVariants.{Nothing, Origin, Define, Decimal, Octal, Pause, Field, Reference, Word}
 use Rattle.pal_lex.specs.declared.phrases.Part.{Part}
 use Rattle.pal_asm.specs.declared.faults.Code.{Code}
+use Rattle.pal_asm.specs.declared.faults.Code.TheVariants.{DT}
 use Rattle.pal_asm.specs.declared.spots.Spot.{Spot}
 use Rattle.pal_asm.specs.Expressions.{Known, value_of}
 use Rattle.pal_asm.specs.Places.{is_word, with_tags, with_body, is_among, field_by}
 use Rattle.pal_asm.specs.Words.{body_word}
-use Rattle.pal_asm.specs.Faults.{first_of, past, terms_fault, tags_fault, field_fault, body_fault, word_fault}
+use Rattle.pal_asm.specs.Faults.{first_of, past, defined_otherwise, terms_fault, tags_fault, field_fault, body_fault, word_fault}
 
 -- ## One statement
 
@@ -43,6 +44,15 @@ Gives value fault (Err code) = fault ≡ Some code
 abbrev pub Moves : Spot → Option Code → Result Spot Code → Type 0
 Moves next fault (Ok found) = (found ≡ next) × (fault ≡ None)
 Moves next fault (Err code) = fault ≡ Some code
+
+-- the fault of a tag at a place, by what it stands for so far
+abbrev pub tag_fault : ℕ → Option ℕ → Option Code
+tag_fault place known = first_of (past place) (defined_otherwise DT place known)
+
+-- the fault, or that there is none
+abbrev pub Judges : Option Code → Result (Unit {0}) Code → Type 0
+Judges fault (Ok done) = fault ≡ None
+Judges fault (Err code) = fault ≡ Some code
 
 -- Tags at a place were defined.
 pub record AreDefined (tags : List ℕ) (place : ℕ) (old new : SymbolTable) : Type 0 where

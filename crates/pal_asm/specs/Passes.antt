@@ -9,7 +9,7 @@ use Rattle.pal_asm.specs.declared.faults.AsmFault.TheVariants.{At, Memory}
 use Rattle.pal_asm.specs.Expressions.{Known}
 use Rattle.pal_asm.specs.Places.{Source, is_fixed, place_at, field_at, values}
 use Rattle.pal_asm.specs.Words.{pairs_by}
-use Rattle.pal_asm.specs.Faults.{first_order, words_fault, has_word, last_line, no_word}
+use Rattle.pal_asm.specs.Faults.{tags_fault, first_order, words_fault, has_word, last_line, no_word}
 use Rattle.pal_asm.specs.Progress.{Progress}
 
 -- ## One statement
@@ -50,6 +50,12 @@ abbrev pub AnswersFirst : Source → Statement → Result (Unit {0}) AsmFault �
 AnswersFirst older statement (Ok done) old new = IsFirst new (Ok statement ∷ older)
 AnswersFirst older statement (Err (At code line)) old new = (first_order (Ok statement ∷ older) ≡ Some (At code line)) × HasFailed new (At code line)
 AnswersFirst older statement (Err Memory) old new = (new ≡ old) × (old.symbols.room < length statement.tags + definitions statement.body)
+
+-- want of memory is answered only for a statement whose tags have no fault behind others
+abbrev pub IsJudged : Source → Statement → Result (Unit {0}) AsmFault → Type 0
+IsJudged older statement (Ok done) = Unit {0}
+IsJudged older statement (Err (At code line)) = Unit {0}
+IsJudged older statement (Err Memory) = tags_fault (values older) (place_at older) statement.tags ≡ None
 
 -- ## The second pass
 

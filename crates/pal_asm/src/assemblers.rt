@@ -6,10 +6,10 @@ ghost use Rattle.pal_asm.specs.declared.faults.AsmFault.TheVariants.{At};
 ghost use Rattle.pal_asm.specs.Places.{Source};
 ghost use Rattle.pal_asm.specs.Faults.{past};
 ghost use Rattle.pal_asm.specs.PassSteps.{Moves, Makes, spot_by, spot_fault, with_tags_again, with_body_again, SetsValue};
-ghost use Rattle.pal_asm.specs.Passes.{IsFirst, IsSecond, AnswersFirst, AnswersSecond, TurnsOver, HasTurned, HasNotTurned, StaysFailed};
+ghost use Rattle.pal_asm.specs.Passes.{IsFirst, IsSecond, AnswersFirst, IsJudged, AnswersSecond, TurnsOver, HasTurned, HasNotTurned, StaysFailed};
 
 use crate::again::{made, set_tags};
-use crate::names::{definitions, pass};
+use crate::names::{definitions, judge_tags, pass};
 use crate::spots::{Spot, first_spot};
 use crate::{AsmFault, Code};
 use pal_lex::{Body, Statement};
@@ -76,11 +76,12 @@ impl Assembler {
     ///
     /// Its fault is the first of the source in the order of its statements. A call that answers want of memory took
     /// nothing, and comes only for a statement that defines names, which asks for the room of each, also of one that is there
-    /// already; after another fault each call answers the same (PAL III Symbolic Assembler manual, and this project's profile
+    /// already, and asks for none where its tags have a fault; after another fault each call answers the same (PAL III Symbolic Assembler manual, and this project's profile
     /// of it). PAUSE says nothing: of several sources the statements come one after the other. Behind the turn nothing is
     /// taken.
     pub fn first(&mut self, statement: &Statement) -> Result<(), AsmFault>
         ensures answers { (older : Source) (tokens : List Token) → is_pause_body statement.now.body ≡ false → IsFirst self.old older → AnswersFirst older (with_tokens tokens statement.now) result self.old self.new }
+        ensures judged { (older : Source) → IsFirst self.old older → IsJudged older statement.now result }
         ensures paused { (older : Source) → is_pause_body statement.now.body ≡ true → IsFirst self.old older → (result ≡ Ok tt) × (self.new ≡ self.old) }
         ensures turned { HasTurned self.old → (result ≡ Ok tt) × (self.new ≡ self.old) }
         ensures failed { StaysFailed result self.old self.new }
@@ -95,6 +96,10 @@ impl Assembler {
             return Ok(());
         }
         let tags = statement.tags.names();
+        match judge_tags(&self.symbols, tags, self.spot.location) {
+            Ok(()) => {}
+            Err(code) => return Err(self.fail(code, statement.line)),
+        }
         match self.symbols.room(tags.len() + definitions(&statement.body)) {
             Ok(()) => match pass(&mut self.symbols, self.spot, tags, &statement.body) {
                 Ok(spot) => {
@@ -104,7 +109,7 @@ impl Assembler {
                 }
                 Err(code) => Err(self.fail(code, statement.line)),
             },
-            Err(_) => Err(AsmFault::Memory),
+            Err(refused) => Err(AsmFault::from(refused)),
         }
     }
 

@@ -2,7 +2,8 @@ ghost use Rattle.std.specs.Prelude.{◌≡◌, ◌+◌, ◌≤◌, length};
 ghost use Rattle.pal_sym.specs.Values.{symbol_value};
 ghost use Rattle.pal_lex.specs.declared.phrases.Body.{Body};
 ghost use Rattle.pal_asm.specs.Passes.{definitions};
-ghost use Rattle.pal_asm.specs.PassSteps.{DefinesTags, PassesBody, Reads};
+ghost use Rattle.pal_asm.specs.Faults.{tags_fault};
+ghost use Rattle.pal_asm.specs.PassSteps.{tag_fault, Judges, DefinesTags, PassesBody, Reads};
 
 use crate::Code;
 use crate::expressions::{place_value, value_of};
@@ -19,6 +20,34 @@ pub fn definitions(body: &Body) -> usize
         Body::Nothing | Body::Decimal | Body::Octal | Body::Pause => 0,
         Body::Origin(_) | Body::Field(_) | Body::Reference { .. } | Body::Word(_) => 0,
     }
+}
+
+/// Judges a tag at a place by what it stands for so far. It takes no memory.
+fn judge_tag(symbols: &Symbols, tag: Name, location: u16) -> Result<(), Code>
+    ensures { Judges (tag_fault location (symbol_value symbols.now tag)) result }
+{
+    let place = place_value(location)?;
+    match symbols.value(SymbolName::numbered(tag.number())) {
+        Some(known) => {
+            if known != place {
+                return Err(Code::DT);
+            }
+            Ok(())
+        }
+        None => Ok(()),
+    }
+}
+
+/// Judges tags at a place by what they stand for so far, from the left. It takes no memory.
+pub fn judge_tags(symbols: &Symbols, tags: &[Name], location: u16) -> Result<(), Code>
+    ensures { Judges (tags_fault (symbol_value symbols.now) location tags.now) result }
+{
+    let mut rest = tags;
+    while let [tag, others @ ..] = rest {
+        judge_tag(symbols, *tag, location)?;
+        rest = others;
+    }
+    Ok(())
 }
 
 /// Defines tags at a place, from the left.

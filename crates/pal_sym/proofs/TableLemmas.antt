@@ -6,7 +6,7 @@ use Rattle.std.proofs.lemmas.Cmp.{nat_cmp_total}
 use Rattle.std.specs.Ordering.{nat_cmp}
 use Rattle.std.specs.FinMap.{find, from_entries, get-from_entries}
 use Rattle.pal_sym.specs.Entries.{Entries}
-use Rattle.pal_sym.specs.Steps.{Puts, Inserts, IsRefused}
+use Rattle.pal_sym.specs.Steps.{Puts, IsRefused}
 use Rattle.pal_sym.specs.Permanent.{permanent}
 use Rattle.pal_sym.specs.SymbolTable.{SymbolTable}
 use Rattle.pal_sym.specs.Values.{symbol_value, is_fixed, if_none, defined_value, is_tag, set_again, IsOther, StandsFor, DefinesTag, DefinesValue, IsSetAgain, HasRoom}
@@ -149,7 +149,7 @@ module _ (entries : Entries) (room name : ℕ) (table : SymbolTable) (is : table
       λ n. put_fixed symbol new less put n ∙ ap (λ b. if nat_eq name n then b else is_fixed table n) tags,
     )
 
-    tag_added : (symbol : Symbol) → find nat_cmp name entries ≡ None → symbol.value ≡ value → symbol.is_tag ≡ true → room ≤ less + 1 → Puts name symbol entries new
+    pub tag_added : (symbol : Symbol) → find nat_cmp name entries ≡ None → symbol.value ≡ value → symbol.is_tag ≡ true → room ≤ less + 1 → Puts name symbol entries new
         → DefinesTag name value table (table_of new less) (Ok tt)
     tag_added symbol missing sets tags enough put = (
       inl (absent missing),
@@ -173,7 +173,7 @@ module _ (entries : Entries) (room name : ℕ) (table : SymbolTable) (is : table
       chosen_same (is_fixed (table_of new less)) (is_fixed table) name symbol.is_tag (put_fixed symbol new less put) (listed_fixed ∙ ap is_tag there ∙ free ∙ sym tags),
     )
 
-    value_added : (symbol : Symbol) → find nat_cmp name entries ≡ None → symbol.value ≡ value → symbol.is_tag ≡ false → room ≤ less + 1 → Puts name symbol entries new
+    pub value_added : (symbol : Symbol) → find nat_cmp name entries ≡ None → symbol.value ≡ value → symbol.is_tag ≡ false → room ≤ less + 1 → Puts name symbol entries new
         → DefinesValue name value table (table_of new less) (Ok tt)
     value_added symbol missing sets tags enough put = (
       inl (listed_fixed ∙ ap is_tag missing),
@@ -215,19 +215,10 @@ module _ (entries : Entries) (room name : ℕ) (table : SymbolTable) (is : table
   full : (new : Entries) (less : ℕ) → new ≡ entries → room ≡ 0 → less ≡ 0 → table_of new less ≡ table
   full new less kept none_before none_behind = ap (λ e. table_of e less) kept ∙ ap (table_of entries) (none_behind ∙ sym none_before) ∙ is
 
-  pub tag_inserted : (value : ℕ) (symbol : Symbol) (new : Entries) (less : ℕ) (result : Result (Unit {0}) SymFault) → find nat_cmp name entries ≡ None → symbol.value ≡ value → symbol.is_tag ≡ true
-      → Inserts name symbol entries room new less result → DefinesTag name value table (table_of new less) result
-  tag_inserted value symbol new less (Ok done) missing sets tags put = tag_added value new less symbol missing sets tags put.1 put.0
-  tag_inserted value symbol new less (Err DT) missing sets tags put = absurd put
-  tag_inserted value symbol new less (Err RD) missing sets tags put = absurd put
-  tag_inserted value symbol new less (Err Memory) missing sets tags put = (full new less put.0 put.1 put.2, absent missing, sym (ap (λ t. t.room) is) ∙ put.1)
-
-  pub value_inserted : (value : ℕ) (symbol : Symbol) (new : Entries) (less : ℕ) (result : Result (Unit {0}) SymFault) → find nat_cmp name entries ≡ None → symbol.value ≡ value → symbol.is_tag ≡ false
-      → Inserts name symbol entries room new less result → DefinesValue name value table (table_of new less) result
-  value_inserted value symbol new less (Ok done) missing sets tags put = value_added value new less symbol missing sets tags put.1 put.0
-  value_inserted value symbol new less (Err DT) missing sets tags put = absurd put
-  value_inserted value symbol new less (Err RD) missing sets tags put = absurd put
-  value_inserted value symbol new less (Err Memory) missing sets tags put = (full new less put.0 put.1 put.2, absent missing, sym (ap (λ t. t.room) is) ∙ put.1)
+  -- a name that no memory was there for
+  pub not_added : (new : Entries) (less : ℕ) → find nat_cmp name entries ≡ None → (new ≡ entries) × (room ≡ 0) × (less ≡ 0)
+      → (table_of new less ≡ table) × (symbol_value table name ≡ None) × (table.room ≡ 0)
+  not_added new less missing kept = (full new less kept.0 kept.1 kept.2, absent missing, sym (ap (λ t. t.room) is) ∙ kept.1)
 
   pub set_missing : (value : ℕ) → find nat_cmp name entries ≡ None → IsSetAgain name value table table
   set_missing value missing = record {

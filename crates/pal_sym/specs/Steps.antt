@@ -2,9 +2,9 @@
 use Rattle.std.specs.Prelude.{◌≡◌, ℕ, ◌+◌, ◌<◌, ◌≤◌, nat_eq, if◌then◌else◌, Some, Result, Ok, Err, length, Bool, true, ◌&&◌, nat_lt, List, [], ◌∷◌, ◌≢◌}
 use Rattle.std.specs.Ordering.{nat_cmp}
 use Rattle.std.specs.FinMap.{find}
+use Rattle.std.specs.declared.alloc.AllocError.{AllocError}
 use Rattle.pal_sym.specs.declared.symbols.Symbol.{Symbol}
 use Rattle.pal_sym.specs.declared.faults.SymFault.{SymFault}
-use Rattle.pal_sym.specs.declared.faults.SymFault.TheVariants.{DT, RD, Memory}
 use Rattle.pal_sym.specs.Entries.{Entries, name_at, Rise}
 
 -- ## Entries
@@ -26,11 +26,9 @@ pub record Puts (name : ℕ) (symbol : Symbol) (old new : Entries) : Type 0 wher
   pub found : (n : ℕ) → find nat_cmp n new ≡ (if nat_eq name n then Some symbol else find nat_cmp n old)
 
 -- What putting a name among entries with so much room answers: it takes the room of one, or there was none.
-abbrev pub Inserts : ℕ → Symbol → Entries → ℕ → Entries → ℕ → Result (Unit {0}) SymFault → Type 0
+abbrev pub Inserts : ℕ → Symbol → Entries → ℕ → Entries → ℕ → Result (Unit {0}) AllocError → Type 0
 Inserts name symbol old room new less (Ok done) = Puts name symbol old new × (room ≤ less + 1)
-Inserts name symbol old room new less (Err DT) = ⊥
-Inserts name symbol old room new less (Err RD) = ⊥
-Inserts name symbol old room new less (Err Memory) = (new ≡ old) × (room ≡ 0) × (less ≡ 0)
+Inserts name symbol old room new less (Err refused) = (new ≡ old) × (room ≡ 0) × (less ≡ 0)
 
 -- ## Permanent
 

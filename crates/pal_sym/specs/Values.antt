@@ -1,6 +1,7 @@
 -- The value of a name, and what defining it changes (PAL III Symbolic Assembler manual, and this project's profile).
 use Rattle.std.specs.Prelude.{◌≡◌, ◌≢◌, ℕ, ◌+◌, ◌≤◌, ◌<◌, nat_eq, Bool, true, false, ◌||◌, if◌then◌else◌, ◌⊎◌, Option, Some, None, is_some, Result, Ok, Err}
 use Rattle.std.specs.FinMap.{get}
+use Rattle.std.specs.declared.alloc.AllocError.{AllocError}
 use Rattle.pal_sym.specs.Permanent.{permanent}
 use Rattle.pal_sym.specs.SymbolTable.{SymbolTable}
 use Rattle.pal_sym.specs.declared.symbols.Symbol.{Symbol}
@@ -78,8 +79,6 @@ pub record HasRoom (names : ℕ) (old new : SymbolTable) : Type 0 where
   pub kept : old.room ≤ new.room
 
 -- what making room for new names answers
-abbrev pub MakesRoom : ℕ → SymbolTable → SymbolTable → Result (Unit {0}) SymFault → Type 0
+abbrev pub MakesRoom : ℕ → SymbolTable → SymbolTable → Result (Unit {0}) AllocError → Type 0
 MakesRoom names old new (Ok done) = HasRoom names old new
-MakesRoom names old new (Err DT) = ⊥
-MakesRoom names old new (Err RD) = ⊥
-MakesRoom names old new (Err Memory) = (new ≡ old) × (old.room < names)
+MakesRoom names old new (Err refused) = (new ≡ old) × (old.room < names)

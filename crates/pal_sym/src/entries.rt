@@ -7,8 +7,9 @@ ghost use Rattle.pal_sym.specs.Entries.{Rise};
 ghost use Rattle.pal_sym.specs.Steps.{IsAt, IsGapFor, Inserts};
 ghost use Rattle.pal_sym.specs.Values.{defined_value};
 
+use crate::SymbolName;
 use crate::symbols::Symbol;
-use crate::{SymFault, SymbolName};
+use std::alloc::AllocError;
 use word12::Word;
 
 /// The place of a name, or that at which it would stand.
@@ -42,14 +43,12 @@ pub fn insert(
     place: usize,
     name: SymbolName,
     symbol: Symbol,
-) -> Result<(), SymFault>
+) -> Result<(), AllocError>
     requires rise { Rise entries.old.items }
     requires gap { IsGapFor entries.old.items name place }
     ensures { Inserts name symbol entries.old.items (vec_capacity entries.old - vec_len entries.old) entries.new.items (vec_capacity entries.new - vec_len entries.new) result }
 {
     entries.reserve(1)?;
-    match entries.insert(place, (name, symbol)) {
-        Ok(()) => Ok(()),
-        Err(_) => Err(SymFault::Memory),
-    }
+    entries.insert(place, (name, symbol))?;
+    Ok(())
 }

@@ -7,7 +7,7 @@ use crate::entries::{find, insert, search};
 use crate::permanent_names::permanent_value;
 use crate::symbols::Symbol;
 use crate::{SymFault, SymbolName};
-use std::alloc::Global;
+use std::alloc::{AllocError, Global};
 use std::marker::Model;
 use word12::Word;
 
@@ -56,7 +56,7 @@ impl Symbols {
 
     /// Makes room for so many new names: that many definitions then take no memory. It doesn't ask which names come, so a
     /// caller that counts names that are there already asks for more than it needs.
-    pub fn room(&mut self, names: usize) -> Result<(), SymFault>
+    pub fn room(&mut self, names: usize) -> Result<(), AllocError>
         ensures { MakesRoom names self.old self.new result }
     {
         self.entries.reserve(names)?;
@@ -123,7 +123,10 @@ impl Symbols {
                 self.entries[place] = (name, tag);
                 Ok(())
             }
-            Err(place) => insert(&mut self.entries, place, name, tag),
+            Err(place) => {
+                insert(&mut self.entries, place, name, tag)?;
+                Ok(())
+            }
         }
     }
 
@@ -144,7 +147,10 @@ impl Symbols {
                 self.entries[place] = (name, symbol);
                 Ok(())
             }
-            Err(place) => insert(&mut self.entries, place, name, symbol),
+            Err(place) => {
+                insert(&mut self.entries, place, name, symbol)?;
+                Ok(())
+            }
         }
     }
 
