@@ -12,12 +12,15 @@ use Rattle.os8_files.specs.Puts.{Puts, HasKept, HasNoEntry, PutFailed, blocks_fi
 use Rattle.os8_files.specs.declared.faults.FileFault.{FileFault}
 use Rattle.os8_files.specs.declared.faults.FileFault.TheVariants as file
 use Rattle.pal_asm.specs.Faults.{fault_of}
+use Rattle.pal_asm.specs.declared.faults.AsmFault.{AsmFault}
+use Rattle.pal_asm.specs.declared.faults.AsmFault.TheVariants as asm
 use Rattle.pal_blocks.specs.Blocks.{blocks_in}
 use Rattle.pal_blocks.specs.Progress.{IsAssembling}
 use Rattle.pal_blocks.specs.Sources.{newest_first, assembled_words, IsTapeOfSources}
+use Rattle.pal_blocks.specs.Turns.{MakesTarget}
 use Rattle.jobs8.specs.Steps.{TurnsJob, without_holds}
 use Rattle.jobs8.specs.Steps.{is_memory}
-use Rattle.jobs8.specs.Faults.{fault_of_file}
+use Rattle.jobs8.specs.Faults.{fault_of_asm, fault_of_file}
 use Rattle.jobs8.specs.Jobs as plain
 use Rattle.jobs8.specs.Settled.{state_over}
 use Rattle.jobs8.specs.Sources.{names_of, AssemblyFits, AssemblyStands}
@@ -77,6 +80,11 @@ no_target old core a left running none fits is =
     (λ number l there. same_put number (plain.assembling a.to (names_of a.holds) left) l there)
     (λ still. is) (λ still. omega arith) (λ other. absurd (other refl))
     (inl (refl, inl refl)) tt
+
+-- the last turn of an assembly has no fault but want of memory
+pub memory_of_asm : (sources : List (List ℕ)) (why : AsmFault) → MakesTarget sources (Err why) → fault_of_asm why ≡ fault.Memory
+memory_of_asm sources (asm.At code line) made = absurd made
+memory_of_asm sources asm.Memory made = refl
 
 pub memory_of_file : (why : FileFault) → is_memory (fault_of_file why) ≡ true → why ≡ file.Memory
 memory_of_file file.Memory is = refl

@@ -67,7 +67,7 @@ fn target_turn<S: BlockStore>(
     kept_holds();
     failed_writes();
     match job.assembling.target(alloc) {
-        Err(_) => (Err(JobFault::Memory), assembles_on(job, left)),
+        Err(fault) => (Err(JobFault::from(fault)), assembles_on(job, left)),
         Ok(words) => match files.put(alloc, job.to, &words) {
             Ok(()) => {
                 let name = job.to;

@@ -4,6 +4,7 @@ ghost use Rattle.jobs8.specs.Steps.{is_memory};
 use bin_tape::TapeFault;
 use os8_files::FileFault;
 use pal_asm::AsmFault;
+use std::alloc::AllocError;
 use thiserror::Error;
 
 /// Why a job isn't begun, or ends.
@@ -29,6 +30,17 @@ pub enum JobFault {
 
     #[error("out of memory")]
     Memory,
+}
+
+impl From<AllocError> for JobFault {
+    ghost use Rattle.std.specs.Prelude.{◌≡◌};
+    ghost use Rattle.jobs8.specs.declared.faults.JobFault.TheVariants.{Memory};
+
+    ghost from_gives = { λ _ fault. fault ≡ Memory };
+
+    fn from(_error: AllocError) -> JobFault {
+        JobFault::Memory
+    }
 }
 
 impl From<TapeFault> for JobFault {

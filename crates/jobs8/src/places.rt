@@ -66,10 +66,9 @@ fn hold_next<S: BlockStore>(
         Ok(hold) => {
             put_hold(places, place, hold);
             let count = files.lookup(&name).unwrap_or(0);
-            match blocks.push(count) {
-                Ok(()) => Ok(count),
-                Err(_) => Err(JobFault::Memory),
-            }
+            blocks.reserve(1)?;
+            blocks.push_reserved(count);
+            Ok(count)
         }
     }
 }

@@ -24,6 +24,7 @@ use Rattle.pal_blocks.specs.Passing.{text_in, added, IsOver, IsMade}
 use Rattle.pal_blocks.specs.Steps.{Tells, IsWithin, HasMade, MakesBlock, EndsSource, HoldsTape}
 use Rattle.pal_blocks.specs.Progress.{due_of, block_of, Place, GoesOn, IsInPass, IsSecondPass, IsAtEnd, IsAssembling}
 use Rattle.pal_blocks.specs.Turns.{TakesBlock, MakesTarget}
+use Rattle.pal_blocks.proofs.BeginLemmas.{as_many}
 use Rattle.pal_blocks.proofs.TextLemmas.{JoinedCharacters}
 use Rattle.pal_blocks.proofs.PlaceLemmas.{among_append, all_among, IsAfter, told_in, told_whole, within_whole, so_far, next_source}
 use Rattle.pal_blocks.proofs.TurnLemmas.{the_second, due_block, block_inside, more_frames, count_is, none_more, known_all, from_none, from_now, fault_all, takes_fault, lt_from, last_block, how_many, no_others, may_pause_next, next_place, end_missing, all_read}
@@ -268,7 +269,7 @@ second_next chars law sources left it block offset count total pass pass2 pairs 
 pub second_end : JoinedCharacters → EndsJoin → (sources : List (List ℕ)) (left : ℕ) (it : Assembling) (block : List ℕ) (offset count total : ℕ) (pass : Pass) (pairs : Vec (ℕ × ℕ)) → IsAssembling sources it left → 2 ≤ left → it.again ≡ true
     → block ≡ block_of sources (due_of it) → count ≡ get_or it.blocks.items it.source 0 → nat_lt (it.block + 1) count ≡ false → total ≡ length it.blocks.items → nat_lt (it.source + 1) total ≡ false
     → MakesClause it.pass it.pairs.items block it.offset offset (Ok tt) pass pairs.items → SkipsClause it.pass it.pairs (Ok tt) pass pairs
-    → TakesBlock sources left (Ok tt) (record { blocks = it.blocks; source = it.source; block = 0; offset = 0; again = it.again; pass = pass; pairs = pairs })
+    → TakesBlock sources left (Ok tt) (record { blocks = it.blocks; source = total; block = 0; offset = 0; again = it.again; pass = pass; pairs = pairs })
 second_end chars law sources left it block offset count total pass pairs is more again this counted test many stops makes skips = (
   record {
     files = is.files;
@@ -277,6 +278,7 @@ second_end chars law sources left it block offset count total pass pairs is more
     none = none_more sources (assembling_turns (blocks_among sources)) left _ more (most_left (blocks_among sources) (blocks_among second.place.before) it.block left second.turns) turn_at is.none now;
     at = inr (inr (record {
       one = omega (arith, second.turns, all, more);
+      source = many ∙ ap length is.each ∙ as_many sources;
       no_fault = fault_all (newest_first sources) None fine.0 second.ends (ap (λ o. first_of o (no_word (Whole sources))) made.1.words ∙ fine.1);
       pairs = made.2;
     }));
@@ -326,6 +328,20 @@ at_last sources it is = elim is.at [
     | inr e ↦ e
   ]
 ]
+
+-- before it there are sources to read
+pub goes_on : (sources : List (List ℕ)) (it : Assembling) (left : ℕ) → IsAssembling sources it left → 2 ≤ left → it.source < length it.blocks.items
+goes_on sources it left is more = elim is.at [
+  | inl f ↦ omega (arith, how_many sources it f.place _ is.each refl)
+  | inr rest ↦ elim rest [
+    | inl s ↦ omega (arith, how_many sources it s.place _ is.each refl)
+    | inr e ↦ absurd (omega (arith, e.one, more))
+  ]
+]
+
+-- at it there are none
+pub is_over : (sources : List (List ℕ)) (it : Assembling) → IsAssembling sources it 1 → it.source ≡ length it.blocks.items
+is_over sources it is = (at_last sources it is).source ∙ sym (ap length is.each ∙ as_many sources)
 
 pub some_pairs : HasWords → (sources : List (List ℕ)) (it : Assembling) → IsAssembling sources it 1 → 0 < length it.pairs.items
 some_pairs has sources it is =

@@ -80,6 +80,7 @@ pub record IsSecondPass (sources : List (List ℕ)) (it : Assembling) (left : �
 -- All blocks were read twice, and the sources are without fault.
 pub record IsAtEnd (sources : List (List ℕ)) (it : Assembling) (left : ℕ) : Type 0 where
   pub one : left ≡ 1
+  pub source : it.source ≡ length sources
   pub no_fault : fault_of (newest_first sources) ≡ None
   pub pairs : it.pairs.items ≡ pairs_of (newest_first sources)
 

@@ -1,5 +1,5 @@
 -- What a turn of an assembling comes to.
-use Rattle.std.specs.Prelude.{◌≡◌, ℕ, ◌-◌, None, Some, List, Result, Ok, Err}
+use Rattle.std.specs.Prelude.{◌≡◌, ℕ, ◌-◌, None, Some, List, [], Result, Ok, Err}
 use Rattle.std.specs.Global.{Vec}
 use Rattle.pal_asm.specs.Faults.{fault_of}
 use Rattle.pal_asm.specs.declared.faults.AsmFault.{AsmFault}
@@ -17,6 +17,11 @@ TakesBlock sources left (Ok done) new =
 TakesBlock sources left (Err Memory) new = IsAssembling sources new left
 TakesBlock sources left (Err (At code line)) new =
     IsFirstKnown sources (turn_of (assembling_turns (blocks_among sources)) left) (At code line) × (fault_of (newest_first sources) ≡ Some (At code line))
+
+-- before the last turn nothing is made of the sources
+abbrev pub MakesNone : Result (Vec ℕ) AsmFault → Type 0
+MakesNone (Ok target) = target.items ≡ []
+MakesNone (Err fault) = ⊥
 
 -- what the last turn makes of sources
 abbrev pub MakesTarget : List (List ℕ) → Result (Vec ℕ) AsmFault → Type 0

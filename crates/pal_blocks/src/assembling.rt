@@ -3,15 +3,15 @@ ghost use Rattle.pal_lex.specs.Reading.{HasRead};
 ghost use Rattle.pal_asm.specs.declared.faults.AsmFault.TheVariants.{Memory};
 ghost use Rattle.pal_blocks.specs.Blocks.{blocks_among, blocks_of_each, AreFiles, assembling_turns};
 ghost use Rattle.pal_blocks.specs.Progress.{due_of, block_of, IsBlockOf, IsAssembling};
-ghost use Rattle.pal_blocks.specs.Turns.{TakesBlock, MakesTarget};
+ghost use Rattle.pal_blocks.specs.Turns.{TakesBlock, MakesTarget, MakesNone};
 ghost use Rattle.pal_blocks.specs.Steps.{HoldsTape};
 
 use crate::making::make_block;
 use crate::passing::{Pass, end_source, pass_block, turn_pass};
 use bin_tape::laws::written_tape;
-use bin_tape::write_tape;
+use bin_tape::{TapeFault, write_tape};
 use char_pack::laws::joined_text;
-use char_pack::pack_blocks;
+use char_pack::{PackFault, pack_blocks};
 use pal_asm::laws::{has_words, no_lexical_fault, no_word_is_told};
 use pal_asm::{AsmFault, Assembler};
 use pal_lex::Lexer;
@@ -32,7 +32,7 @@ pub struct Due {
 pub struct Assembling {
     /// How many blocks each source has.
     blocks: Vec<usize>,
-    /// The source that the next block is of.
+    /// The source that the next block is of, as many as there are where all were read twice.
     source: usize,
     /// That block.
     block: usize,
@@ -93,10 +93,14 @@ impl Assembling {
     }
 
     /// The words of the file that the sources are assembled to, where one turn is left: the fewest blocks that hold the tape
-    /// of their words. The only fault is want of memory. Before any word was made they are none.
+    /// of their words. The only fault is want of memory. Where more turns are left they are none, and take no memory.
     pub fn target(&self, alloc: Global) -> Result<Vec<Word>, AsmFault>
-        ensures { (sources : List (List ℕ)) → IsAssembling sources self.now 1 → MakesTarget sources result }
+        ensures last { (sources : List (List ℕ)) → IsAssembling sources self.now 1 → MakesTarget sources result }
+        ensures early { (sources : List (List ℕ)) (left : ℕ) → IsAssembling sources self.now left → 2 ≤ left → MakesNone result }
     {
+        if self.source < count(&self.blocks) {
+            return Ok(Vec::new(alloc));
+        }
         written_tape();
         has_words();
         tape_words(alloc, &self.pairs)
@@ -157,6 +161,7 @@ impl Assembling {
             self.source += 1;
             return end_source(&mut self.pass, !follows(self.source, sources));
         }
+        self.source = sources;
         Ok(())
     }
 }
@@ -171,9 +176,10 @@ fn tape_words(alloc: Global, pairs: &[(Cell, Word)]) -> Result<Vec<Word>, AsmFau
         _ => match write_tape(alloc, pairs) {
             Ok(frames) => match pack_blocks(alloc, &frames) {
                 Ok(words) => Ok(words),
-                Err(_) => Err(AsmFault::Memory),
+                Err(PackFault::Memory) => Err(AsmFault::Memory),
             },
-            Err(_) => Err(AsmFault::Memory),
+            Err(TapeFault::Memory) => Err(AsmFault::Memory),
+            Err(_) => unreachable!(),
         },
     }
 }
