@@ -5,6 +5,7 @@ pub mod OrderLemmas
 pub mod FoundLemmas
 pub mod ReadingLemmas
 pub mod LinkLemmas
+pub mod ReadsLemmas
 pub mod LawLemmas
 pub mod MapLemmas
 pub mod KnownLemmas

@@ -2,6 +2,7 @@ pub mod Names
 pub mod Packed
 pub mod Entries
 pub mod Reading
+pub mod Reads
 pub mod Kept
 pub mod Found
 pub mod Files

@@ -1,5 +1,7 @@
 ghost use Rattle.std.specs.Prelude.{◌≡◌, ℕ, ◌+◌, ◌<◌, ◌≤◌, [], ◌∷◌, length, is_ok, if◌then◌else◌, OnOk, IfOk, IfErr};
+ghost use Rattle.volume_image.specs.Volume.{counted};
 ghost use Rattle.os8_dir.specs.Reading.{Gives, word, block, directory_of, with_links, with_segment, is_device};
+ghost use Rattle.os8_dir.specs.Reads.{judged_from, segments_judged, ReadsSegments};
 ghost use Rattle.os8_dir.specs.Found.{IsDirectory};
 ghost use Rattle.os8_dir.specs.Steps.{LeavesRead};
 ghost use Rattle.os8_dir.specs.declared.faults.DirFault.TheVariants.{Device};
@@ -21,6 +23,7 @@ fn read_block<S: BlockStore>(
     ensures err { IfErr result (λ fault. fault ≡ Device) }
     ensures same { S.contents store.new ≡ S.contents store.old }
     ensures reads { S.reads store.new ≤ S.reads store.old + 1 }
+    ensures count { S.reads store.new ≡ counted (S.reads store.old) }
     ensures failed_reads { S.failed_reads store.new ≡ (if is_ok result then S.failed_reads store.old else S.failed_reads store.old + 1) }
     ensures failed_writes { S.failed_writes store.new ≡ S.failed_writes store.old }
     ensures writes { S.writes store.new ≡ S.writes store.old }
@@ -32,13 +35,15 @@ fn read_block<S: BlockStore>(
 }
 
 impl Directory {
-    /// Reads the directory of a volume: up to six segments in blocks 1 to 6, each read at most once (OS/8 Software
-    /// Support Manual; the faults and their order are this project's profile). No block is written.
+    /// Reads the directory of a volume: up to six segments in blocks 1 to 6, each read at most once, and none behind
+    /// the first that has a fault (OS/8 Software Support Manual; the faults and their order are this project's profile). No block is
+    /// written.
     pub fn read<S: BlockStore>(alloc: Global, store: &mut S) -> Result<Directory, DirFault>
         ensures reading { Gives (λ d. d) result (directory_of (S.contents store.old)) }
         ensures directory { IfOk result (IsDirectory (length (S.contents store.old))) }
         ensures same { S.contents store.new ≡ S.contents store.old }
         ensures reads { S.reads store.new ≤ S.reads store.old + 6 }
+        ensures segments { ReadsSegments (segments_judged (S.contents store.old)) result (S.reads store.old) (S.reads store.new) }
         ensures failed_reads { S.failed_reads store.new ≡ (if is_device result then S.failed_reads store.old + 1 else S.failed_reads store.old) }
         ensures failed_writes { S.failed_writes store.new ≡ S.failed_writes store.old }
         ensures writes { S.writes store.new ≡ S.writes store.old }
@@ -69,6 +74,7 @@ impl Draft {
         ensures link { IfOk result (λ link. link ≡ word (block (S.contents store.old) number) 2) }
         ensures same { S.contents store.new ≡ S.contents store.old }
         ensures reads { S.reads store.new ≤ S.reads store.old + 1 }
+        ensures count { S.reads store.new ≡ counted (S.reads store.old) }
         ensures failed_reads { S.failed_reads store.new ≡ (if is_device result then S.failed_reads store.old + 1 else S.failed_reads store.old) }
         ensures failed_writes { S.failed_writes store.new ≡ S.failed_writes store.old }
         ensures writes { S.writes store.new ≡ S.writes store.old }
@@ -93,6 +99,7 @@ impl Draft {
         ensures reading { LeavesRead result self.new (with_links 5 self.old (S.contents store.old) (1 ∷ []) 1 first_link) }
         ensures same { S.contents store.new ≡ S.contents store.old }
         ensures reads { S.reads store.new ≤ S.reads store.old + 5 }
+        ensures segments { ReadsSegments (judged_from 5 self.old (S.contents store.old) (1 ∷ []) first_link) result (S.reads store.old) (S.reads store.new) }
         ensures failed_reads { S.failed_reads store.new ≡ (if is_device result then S.failed_reads store.old + 1 else S.failed_reads store.old) }
         ensures failed_writes { S.failed_writes store.new ≡ S.failed_writes store.old }
         ensures writes { S.writes store.new ≡ S.writes store.old }
