@@ -12,11 +12,11 @@ use Rattle.archive8.specs.Opening.{IsUnopened}
 
 -- a block, and how many from it on
 abbrev pub extent_text : ℕ → ℕ → List ℕ
-extent_text place size = decimal place ++ 32 ∷ decimal size ++ 10 ∷ []
+extent_text place size = decimal place ++ 0o40 ∷ decimal size ++ 0o12 ∷ []
 
 -- the line of the number of blocks
 abbrev pub blocks_line : ℕ → List ℕ
-blocks_line count = codes "BLOCKS " ++ decimal count ++ 10 ∷ []
+blocks_line count = codes "BLOCKS " ++ decimal count ++ 0o12 ∷ []
 
 -- the line of a segment in a block: how many entries its first word tells (OS/8 Software Support Manual: minus their number)
 abbrev pub segment_line : ℕ → ℕ → List ℕ
@@ -31,7 +31,7 @@ segment_lines (suc left) blocks (suc number) =
 
 -- the line of an entry that begins at a block
 abbrev pub entry_line : ℕ → DirEntry → List ℕ
-entry_line place (File name info size) = codes "FILE " ++ shown name ++ 32 ∷ extent_text place size
+entry_line place (File name info size) = codes "FILE " ++ shown name ++ 0o40 ∷ extent_text place size
 entry_line place (Empty size) = codes "EMPTY " ++ extent_text place size
 
 -- the lines of entries, the first of which begins at a block

@@ -58,17 +58,17 @@ pub record IsNoFile (image name : List ℕ) : Type 0 where
 -- an LF comes next
 abbrev pub is_before_lf : List ℕ → Bool
 is_before_lf [] = false
-is_before_lf (byte ∷ others) = nat_eq byte 10
+is_before_lf (byte ∷ others) = nat_eq byte 0o12
 
 -- a text without each CR that stands directly before an LF
 abbrev pub line_feeds : List ℕ → List ℕ
 line_feeds [] = []
-line_feeds (byte ∷ others) = if nat_eq byte 13 && is_before_lf others then line_feeds others else byte ∷ line_feeds others
+line_feeds (byte ∷ others) = if nat_eq byte 0o15 && is_before_lf others then line_feeds others else byte ∷ line_feeds others
 
 -- the frames 0200 that frames begin with
 abbrev pub trailer : List ℕ → List ℕ
 trailer [] = []
-trailer (frame ∷ others) = if nat_eq frame 128 then frame ∷ trailer others else []
+trailer (frame ∷ others) = if nat_eq frame 0o200 then frame ∷ trailer others else []
 
 -- Frames begin with a BIN tape: its first trailer frame is the first frame with which they are one, and its last is the last
 -- 0200 that follows directly.

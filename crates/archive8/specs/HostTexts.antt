@@ -10,7 +10,7 @@ use Rattle.archive8.specs.declared.places.TextPlace.{TextPlace}
 -- a text with each LF as CR LF
 abbrev pub with_returns : List ℕ → List ℕ
 with_returns [] = []
-with_returns (byte ∷ others) = if nat_eq byte 10 then 13 ∷ 10 ∷ with_returns others else byte ∷ with_returns others
+with_returns (byte ∷ others) = if nat_eq byte 0o12 then 0o15 ∷ 0o12 ∷ with_returns others else byte ∷ with_returns others
 
 -- what a text of the host is in a file: each line end, LF or CR LF, is CR LF, and any other CR stays
 abbrev pub file_text : List ℕ → List ℕ
@@ -30,7 +30,7 @@ lines_text end (line ∷ lines) last = line ++ (end ++ lines_text end lines last
 -- no LF stands in a line
 abbrev pub is_unbroken : List ℕ → Bool
 is_unbroken [] = true
-is_unbroken (byte ∷ others) = not (nat_eq byte 10) && is_unbroken others
+is_unbroken (byte ∷ others) = not (nat_eq byte 0o12) && is_unbroken others
 
 -- no LF stands in any of these lines
 abbrev pub AreUnbroken : List (List ℕ) → Type 0
@@ -44,7 +44,7 @@ AreUnbroken (line ∷ lines) = (is_unbroken line ≡ true) × AreUnbroken lines
 pub record IsPlaceBehind (before : List ℕ) (at : TextPlace) : Type 0 where
   pub lines : List (List ℕ)
   pub begun : List ℕ
-  pub before_are : before ≡ lines_text (10 ∷ []) lines begun
+  pub before_are : before ≡ lines_text (0o12 ∷ []) lines begun
   pub unbroken : AreUnbroken lines
   pub in_line : is_unbroken begun ≡ true
   pub line_is : at.line ≡ length lines + 1

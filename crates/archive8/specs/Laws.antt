@@ -45,7 +45,7 @@ TapeComesBack = (image name bytes tape : List ℕ) (new : NewImage) (answer : Re
 -- a CR stands in a text
 abbrev pub has_return : List ℕ → Bool
 has_return [] = false
-has_return (byte ∷ others) = if nat_eq byte 13 then true else has_return others
+has_return (byte ∷ others) = if nat_eq byte 0o15 then true else has_return others
 
 -- a text comes back with each of its line ends, LF or CR LF, as LF; so one without CR comes back as it is
 pub record LinesComeBack : Type 0 where
@@ -57,8 +57,8 @@ pub record LinesComeBack : Type 0 where
 -- no LF stands in a line, and no CR at its end
 abbrev pub is_line : List ℕ → Bool
 is_line [] = true
-is_line (byte ∷ []) = not (nat_eq byte 10) && not (nat_eq byte 13)
-is_line (byte ∷ next ∷ others) = not (nat_eq byte 10) && is_line (next ∷ others)
+is_line (byte ∷ []) = not (nat_eq byte 0o12) && not (nat_eq byte 0o15)
+is_line (byte ∷ next ∷ others) = not (nat_eq byte 0o12) && is_line (next ∷ others)
 
 abbrev pub AreLines : List (List ℕ) → Type 0
 AreLines [] = Unit {0}
@@ -68,7 +68,7 @@ AreLines (line ∷ lines) = (is_line line ≡ true) × AreLines lines
 pub record HasLineEnds (chars : List ℕ) : Type 0 where
   pub lines : List (List ℕ)
   pub last : List ℕ
-  pub chars_are : chars ≡ lines_text (13 ∷ 10 ∷ []) lines last
+  pub chars_are : chars ≡ lines_text (0o15 ∷ 0o12 ∷ []) lines last
   pub are_lines : AreLines lines
   pub unbroken : is_unbroken last ≡ true
 
@@ -95,7 +95,7 @@ pub record Extent : Type 0 where
 
 -- what an entry's line begins with
 abbrev pub entry_label : DirEntry → List ℕ
-entry_label (File name info size) = codes "FILE " ++ shown name ++ 32 ∷ []
+entry_label (File name info size) = codes "FILE " ++ shown name ++ 0o40 ∷ []
 entry_label (Empty size) = codes "EMPTY "
 
 -- the extents of entries, the first of which begins at a block

@@ -40,7 +40,8 @@ fn put_check(
     out: &mut Vec<u8>,
 ) -> Result<(), AllocError>
     requires { IsDirectory (length volume.now.blocks) directory.now }
-    ensures { OnOk result (out.new.items ≡ out.old.items ++ spec.check_lines volume.now.blocks directory.now) }
+    ensures { OnOk result (out.new.items ≡ out.old.items
+        ++ spec.check_lines volume.now.blocks directory.now) }
 {
     let first = directory.first_block();
     let end = first + directory.capacity();

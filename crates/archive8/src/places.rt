@@ -36,14 +36,15 @@ pub fn bad_text_at(bytes: &[u8]) -> Option<TextPlace>
 fn may_stand(byte: u8) -> bool
     ensures { result ≡ may_stand byte }
 {
-    byte < 128 && byte != CONTROL_Z
+    byte < 0o200 && byte != CONTROL_Z
 }
 
 /// The place behind a byte that stands at a place.
 fn behind(place: TextPlace, byte: u8) -> TextPlace
     requires line { place.line + 1 ≤ 18446744073709551615 }
     requires byte { place.byte + 1 ≤ 18446744073709551615 }
-    ensures place { (before : List ℕ) → IsPlaceBehind before place → IsPlaceBehind (before ++ byte ∷ []) result }
+    ensures place { (before : List ℕ) → IsPlaceBehind before place
+        → IsPlaceBehind (before ++ byte ∷ []) result }
     ensures line { result.line ≤ place.line + 1 }
     ensures byte { result.byte ≤ place.byte + 1 }
 {

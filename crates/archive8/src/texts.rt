@@ -68,7 +68,8 @@ pub fn text_frames(alloc: Global, text: &[u8]) -> Result<Vec<u8>, AllocError>
 /// The characters of a text of the host in a file, each with its top bit set.
 fn marked(alloc: Global, text: &[u8]) -> Result<Vec<u8>, AllocError>
     requires { is_storable text.now ≡ true }
-    ensures { IfOk result (λ frames. frames.items ≡ map (λ character. 128 + character) (file_text text.now)) }
+    ensures { IfOk result (λ frames. frames.items
+        ≡ map (λ character. 0o200 + character) (file_text text.now)) }
 {
     let mut frames = Vec::with_capacity(alloc, text.len())?;
     let mut rest = text;
@@ -81,8 +82,9 @@ fn marked(alloc: Global, text: &[u8]) -> Result<Vec<u8>, AllocError>
 
 /// Appends a character that isn't left out with its top bit set, where an LF is CR LF.
 fn push_marked(frames: &mut Vec<u8>, byte: u8, is_left_out: bool) -> Result<(), AllocError>
-    requires { byte < 128 }
-    ensures { OnOk result (frames.new.items ≡ frames.old.items ++ map (λ character. 128 + character) (with_returns (if is_left_out then [] else byte ∷ []))) }
+    requires { byte < 0o200 }
+    ensures { OnOk result (frames.new.items ≡ frames.old.items
+        ++ map (λ character. 0o200 + character) (with_returns (if is_left_out then [] else byte ∷ []))) }
 {
     if is_left_out {
         return Ok(());

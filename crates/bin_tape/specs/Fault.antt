@@ -10,14 +10,14 @@ use Rattle.bin_tape.specs.declared.faults.TapeFault.TheVariants.{BadFrame, NoOri
 -- trailer that doesn't follow a word directly.
 abbrev pub IsOutOfPlace : List Item → List ℕ → ℕ → Type 0
 IsOutOfPlace items [] frame =
-    ((128 < frame) × ((frame < 192) ⊎ (0 < frame % 8)))
-    ⊎ ((frame ≡ 128) × (has_origin items ≡ true) × (ends_in_word items ≡ false))
-IsOutOfPlace items (p ∷ rest) frame = 64 ≤ frame
+    ((0o200 < frame) × ((frame < 0o300) ⊎ (0 < frame % 8)))
+    ⊎ ((frame ≡ 0o200) × (has_origin items ≡ true) × (ends_in_word items ≡ false))
+IsOutOfPlace items (p ∷ rest) frame = 0o100 ≤ frame
 
 -- the newest item is a word, but it isn't the sum
 abbrev pub IsWrongSum : List Item → ℕ → ℕ → Type 0
 IsWrongSum [] found computed = ⊥
-IsWrongSum (Word high low ∷ older) found computed = (found ≡ 64 * high + low) × (computed ≡ check_sum older) × (found ≢ computed)
+IsWrongSum (Word high low ∷ older) found computed = (found ≡ 0o100 * high + low) × (computed ≡ check_sum older) × (found ≢ computed)
 IsWrongSum (Leader f ∷ older) found computed = ⊥
 IsWrongSum (Field n ∷ older) found computed = ⊥
 IsWrongSum (Origin high low ∷ older) found computed = ⊥
@@ -25,8 +25,8 @@ IsWrongSum (Origin high low ∷ older) found computed = ⊥
 -- the fault of a frame, at a place, that comes behind these items and perhaps a first frame of a pair
 abbrev pub IsRefused : List Item → List ℕ → ℕ → ℕ → TapeFault → Type 0
 IsRefused items part frame place (BadFrame at) = (at ≡ place) × IsOutOfPlace items part frame
-IsRefused items part frame place NoOrigin = (part ≡ []) × (has_origin items ≡ false) × (0 < frame) × (frame < 64)
-IsRefused items part frame place (CheckSum found computed) = (part ≡ []) × (frame ≡ 128) × IsWrongSum items found computed
+IsRefused items part frame place NoOrigin = (part ≡ []) × (has_origin items ≡ false) × (0 < frame) × (frame < 0o100)
+IsRefused items part frame place (CheckSum found computed) = (part ≡ []) × (frame ≡ 0o200) × IsWrongSum items found computed
 IsRefused items part frame place NoTrailer = ⊥
 IsRefused items part frame place Memory = ⊥
 
@@ -42,7 +42,7 @@ pub record Refuses (frames : List ℕ) (fault : TapeFault) : Type 0 where
   pub items : List Item
   pub part : List ℕ
   pub split : frames ≡ before ++ frame ∷ after
-  pub not_ignore : frame ≢ 255
+  pub not_ignore : frame ≢ 0o377
   pub not_ignored : ignore_count before % 2 ≡ 0
   pub is_open : IsOpen (kept before) items part
   pub refused : IsRefused items part frame (place_after before) fault

@@ -4,14 +4,14 @@ use Rattle.std.specs.Prelude.{ℕ, ◌+◌, ◌%◌, nat_eq, if◌then◌else◌
 -- how many frames 0377 there are, each of which begins or ends a stretch that is ignored
 abbrev pub ignore_count : List ℕ → ℕ
 ignore_count [] = 0
-ignore_count (f ∷ fs) = (if nat_eq f 255 then 1 else 0) + ignore_count fs
+ignore_count (f ∷ fs) = (if nat_eq f 0o377 then 1 else 0) + ignore_count fs
 
 -- The kept frames among those that come after so many frames 0377: a frame is kept if it isn't 0377 itself and an
 -- even number of 0377 stand before it.
 abbrev pub kept_after : ℕ → List ℕ → List ℕ
 kept_after n [] = []
 kept_after n (f ∷ fs) =
-    if nat_eq f 255 then kept_after (n + 1) fs
+    if nat_eq f 0o377 then kept_after (n + 1) fs
     else (if nat_eq (n % 2) 0 then f ∷ kept_after n fs else kept_after n fs)
 
 -- the frames of a tape that aren't ignored

@@ -10,7 +10,7 @@ abbrev pub IsLast : Option LastWord → List Item → Type 0
 IsLast None [] = Unit {0}
 IsLast (Some last) [] = ⊥
 IsLast None (Word high low ∷ older) = ⊥
-IsLast (Some last) (Word high low ∷ older) = (last.cell ≡ cell_after older) × (last.word ≡ 64 * high + low) × (last.sum ≡ check_sum older)
+IsLast (Some last) (Word high low ∷ older) = (last.cell ≡ cell_after older) × (last.word ≡ 0o100 * high + low) × (last.sum ≡ check_sum older)
 IsLast last (Leader f ∷ older) = IsLast last older
 IsLast last (Field n ∷ older) = IsLast last older
 IsLast last (Origin high low ∷ older) = IsLast last older

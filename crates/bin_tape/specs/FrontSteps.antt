@@ -10,7 +10,7 @@ use Rattle.bin_tape.specs.Front.{Keeps}
 -- a trailer frame right behind a word that is the sum of the items before it
 abbrev pub EndsTape : List Item → List ℕ → ℕ → Type 0
 EndsTape [] part frame = ⊥
-EndsTape (Word high low ∷ older) part frame = (part ≡ []) × (frame ≡ 128) × (64 * high + low ≡ check_sum older)
+EndsTape (Word high low ∷ older) part frame = (part ≡ []) × (frame ≡ 0o200) × (0o100 * high + low ≡ check_sum older)
 EndsTape (Leader f ∷ older) part frame = ⊥
 EndsTape (Field n ∷ older) part frame = ⊥
 EndsTape (Origin high low ∷ older) part frame = ⊥

@@ -11,8 +11,8 @@ pub data Item : Type 0 where
 -- 0000 or 0200 in the leader; 11fff000; 01hhhhhh and 00llllll; 00hhhhhh and 00llllll
 abbrev pub frames_of : Item → List ℕ
 frames_of (Leader f) = f ∷ []
-frames_of (Field n) = (192 + 8 * n) ∷ []
-frames_of (Origin high low) = (64 + high) ∷ low ∷ []
+frames_of (Field n) = (0o300 + 8 * n) ∷ []
+frames_of (Origin high low) = (0o100 + high) ∷ low ∷ []
 frames_of (Word high low) = high ∷ low ∷ []
 
 -- A list of items has the newest first. These are its frames, in the order of the tape.
@@ -38,10 +38,10 @@ ends_in_word (Origin high low ∷ older) = false
 -- Leader frames stand before the first origin, words after it, field settings anywhere.
 abbrev pub IsFront : List Item → Type 0
 IsFront [] = Unit {0}
-IsFront (Leader f ∷ older) = ((f ≡ 0) ⊎ (f ≡ 128)) × (has_origin older ≡ false) × IsFront older
+IsFront (Leader f ∷ older) = ((f ≡ 0) ⊎ (f ≡ 0o200)) × (has_origin older ≡ false) × IsFront older
 IsFront (Field n ∷ older) = (n < 8) × IsFront older
-IsFront (Origin high low ∷ older) = (high < 64) × (low < 64) × IsFront older
-IsFront (Word high low ∷ older) = (high < 64) × (low < 64) × (has_origin older ≡ true) × IsFront older
+IsFront (Origin high low ∷ older) = (high < 0o100) × (low < 0o100) × IsFront older
+IsFront (Word high low ∷ older) = (high < 0o100) × (low < 0o100) × (has_origin older ≡ true) × IsFront older
 
 -- ## What the items mean
 
@@ -53,34 +53,34 @@ field_after (Leader f ∷ older) = field_after older
 field_after (Origin high low ∷ older) = field_after older
 field_after (Word high low ∷ older) = field_after older
 
--- the last origin plus the number of words since, modulo 4096
+-- the last origin plus the number of words since, modulo 0o10000
 abbrev pub address_after : List Item → ℕ
 address_after [] = 0
-address_after (Origin high low ∷ older) = 64 * high + low
-address_after (Word high low ∷ older) = (address_after older + 1) % 4096
+address_after (Origin high low ∷ older) = 0o100 * high + low
+address_after (Word high low ∷ older) = (address_after older + 1) % 0o10000
 address_after (Leader f ∷ older) = address_after older
 address_after (Field n ∷ older) = address_after older
 
 -- the cell of a word that comes behind these items
 abbrev pub cell_after : List Item → ℕ
-cell_after items = 4096 * field_after items + address_after items
+cell_after items = 0o10000 * field_after items + address_after items
 
 -- the origin and word frames, added up
 abbrev pub frame_sum : List Item → ℕ
 frame_sum [] = 0
-frame_sum (Origin high low ∷ older) = frame_sum older + (64 + high + low)
+frame_sum (Origin high low ∷ older) = frame_sum older + (0o100 + high + low)
 frame_sum (Word high low ∷ older) = frame_sum older + (high + low)
 frame_sum (Leader f ∷ older) = frame_sum older
 frame_sum (Field n ∷ older) = frame_sum older
 
 -- what the check sum behind these items has to be
 abbrev pub check_sum : List Item → ℕ
-check_sum items = frame_sum items % 4096
+check_sum items = frame_sum items % 0o10000
 
 -- the words with their cells, in the order of the tape
 abbrev pub words_of : List Item → List (ℕ × ℕ)
 words_of [] = []
-words_of (Word high low ∷ older) = words_of older ++ (cell_after older, 64 * high + low) ∷ []
+words_of (Word high low ∷ older) = words_of older ++ (cell_after older, 0o100 * high + low) ∷ []
 words_of (Leader f ∷ older) = words_of older
 words_of (Field n ∷ older) = words_of older
 words_of (Origin high low ∷ older) = words_of older
@@ -96,7 +96,7 @@ words_but_last (Origin high low ∷ older) = words_but_last older
 -- the word of the last item at a cell
 abbrev pub tape_map : List Item → ℕ → Option ℕ
 tape_map [] cell = None
-tape_map (Word high low ∷ older) cell = if nat_eq (cell_after older) cell then Some (64 * high + low) else tape_map older cell
+tape_map (Word high low ∷ older) cell = if nat_eq (cell_after older) cell then Some (0o100 * high + low) else tape_map older cell
 tape_map (Leader f ∷ older) cell = tape_map older cell
 tape_map (Field n ∷ older) cell = tape_map older cell
 tape_map (Origin high low ∷ older) cell = tape_map older cell

@@ -12,7 +12,7 @@ use Rattle.bin_tape.specs.declared.fronts.Front.{Front}
 
 -- each cell of core has the word of the last pair there
 abbrev pub Holds : List (Option ℕ) → List (ℕ × ℕ) → Type 0
-Holds words pairs = (cell : ℕ) → cell < 32768 → slice_index_or words cell None ≡ last_word pairs cell
+Holds words pairs = (cell : ℕ) → cell < 0o100000 → slice_index_or words cell None ≡ last_word pairs cell
 
 -- Of these frames a reader was given all but the rest, and each cell has the last word that it handed out.
 pub record HasReadTo (frames rest : List ℕ) (reader : Progress) (words : List (Option ℕ)) : Type 0 where

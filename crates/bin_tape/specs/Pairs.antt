@@ -7,7 +7,7 @@ use Rattle.bin_tape.specs.Tape.{IsTape}
 -- each is a cell of core with a word of twelve bits
 abbrev pub ArePairs : List (ℕ × ℕ) → Type 0
 ArePairs [] = Unit {0}
-ArePairs (pair ∷ later) = (pair.0 < 32768) × (pair.1 < 4096) × ArePairs later
+ArePairs (pair ∷ later) = (pair.0 < 0o100000) × (pair.1 < 0o10000) × ArePairs later
 
 -- the word of the last pair at a cell
 abbrev pub last_word : List (ℕ × ℕ) → ℕ → Option ℕ

@@ -6,7 +6,7 @@ use Rattle.bin_tape.specs.Items.{Item, Word, spelled, has_origin, IsFront, check
 -- nothing, or the first frame of an origin or, behind an origin, of a word
 abbrev pub IsPart : List Item → List ℕ → Type 0
 IsPart items [] = Unit {0}
-IsPart items (p ∷ []) = (p < 128) × ((64 ≤ p) ⊎ (has_origin items ≡ true))
+IsPart items (p ∷ []) = (p < 0o200) × ((0o100 ≤ p) ⊎ (has_origin items ≡ true))
 IsPart items (p ∷ q ∷ rest) = ⊥
 
 -- The kept frames may go on as a tape: they are these items, and perhaps the first frame of one more.
@@ -20,6 +20,6 @@ pub record IsTape (frames : List ℕ) (items : List Item) : Type 0 where
   pub high : ℕ
   pub low : ℕ
   pub rest : List ℕ
-  pub kept_frames : kept frames ≡ spelled (Word high low ∷ items) ++ 128 ∷ rest
+  pub kept_frames : kept frames ≡ spelled (Word high low ∷ items) ++ 0o200 ∷ rest
   pub is_front : IsFront (Word high low ∷ items)
-  pub sum : 64 * high + low ≡ check_sum items
+  pub sum : 0o100 * high + low ≡ check_sum items

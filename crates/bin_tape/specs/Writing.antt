@@ -4,29 +4,29 @@ use Rattle.bin_tape.specs.Items.{Item, Leader, Field, Origin, Word, spelled, che
 
 -- a word, and an origin, by their high and low six bits
 abbrev pub word_item : ℕ → Item
-word_item word = Word (word / 64) (word % 64)
+word_item word = Word (word / 0o100) (word % 0o100)
 
 abbrev pub origin_item : ℕ → Item
-origin_item address = Origin (address / 64) (address % 64)
+origin_item address = Origin (address / 0o100) (address % 0o100)
 
 -- the field that words go to behind a word for this cell, or behind none
 abbrev pub field_behind : Option ℕ → ℕ
 field_behind None = 0
-field_behind (Some before) = before / 4096
+field_behind (Some before) = before / 0o10000
 
 -- Whether a word for the cell needs no origin behind a word for the cell before: it has the next address of the same
 -- field. Nothing is next behind address 7777, nor behind no word.
 abbrev pub is_next : Option ℕ → ℕ → Bool
 is_next None cell = false
-is_next (Some before) cell = nat_eq (cell / 4096) (before / 4096) && nat_eq (cell % 4096) (before % 4096 + 1)
+is_next (Some before) cell = nat_eq (cell / 0o10000) (before / 0o10000) && nat_eq (cell % 0o10000) (before % 0o10000 + 1)
 
 -- the items, and a field setting where the field changes
 abbrev pub with_field : Option ℕ → ℕ → List Item → List Item
-with_field before cell items = if nat_eq (cell / 4096) (field_behind before) then items else Field (cell / 4096) ∷ items
+with_field before cell items = if nat_eq (cell / 0o10000) (field_behind before) then items else Field (cell / 0o10000) ∷ items
 
 -- the items, and an origin where the cell isn't the next
 abbrev pub with_origin : Option ℕ → ℕ → List Item → List Item
-with_origin before cell items = if is_next before cell then items else origin_item (cell % 4096) ∷ items
+with_origin before cell items = if is_next before cell then items else origin_item (cell % 0o10000) ∷ items
 
 -- the items, and those of one more cell and word behind the cell before
 abbrev pub with_pair : Option ℕ → ℕ → ℕ → List Item → List Item
@@ -38,7 +38,7 @@ newest_cell [] = None
 newest_cell (pair ∷ older) = Some pair.0
 
 abbrev pub leader : List Item
-leader = replicate 16 (Leader 128)
+leader = replicate 16 (Leader 0o200)
 
 -- The items of these cells and words, both newest first: a leader, and what each pair adds behind the pair before it.
 abbrev pub items_of : List (ℕ × ℕ) → List Item
@@ -47,7 +47,7 @@ items_of (pair ∷ older) = with_pair (newest_cell older) pair.0 pair.1 (items_o
 
 -- the frames of a tape of these items: their own, the check sum and the trailer
 abbrev pub tape_with : List Item → List ℕ
-tape_with items = spelled (word_item (check_sum items) ∷ items) ++ replicate 16 128
+tape_with items = spelled (word_item (check_sum items) ∷ items) ++ replicate 16 0o200
 
 -- the frames that are written for these cells and words, which stand in the order of the tape
 unfoldable pub tape_of : List (ℕ × ℕ) → List ℕ

@@ -61,8 +61,9 @@ impl Front {
 
     /// Takes a kept frame, which stands at this place.
     pub fn take(self, frame: u8, place: u64) -> Result<Taken, TapeFault>
-        requires { frame ≢ 255 }
-        ensures { (items : List Item) (part : List ℕ) → Reads self items part → Takes items part frame place result }
+        requires { frame ≢ 0o377 }
+        ensures { (items : List Item) (part : List ℕ) → Reads self items part
+            → Takes items part frame place result }
     {
         match self.first {
             Some(first) => self.take_second(first, frame, place),
@@ -86,7 +87,8 @@ impl Front {
     /// its cell once a later one shows that it is no check sum.
     pub fn take_pairs<'a>(&mut self, frames: &'a [u8], words: &mut [Option<Word>]) -> &'a [u8]
         requires { IsTable words.old }
-        ensures reads { (whole : List ℕ) → ReadsTo whole frames.now self.old words.old → ReadsTo whole result.now self.new words.new }
+        ensures reads { (whole : List ℕ) → ReadsTo whole frames.now self.old words.old
+            → ReadsTo whole result.now self.new words.new }
         ensures left { length result.now ≤ length frames.now }
     {
         let mut front = *self;
@@ -108,16 +110,16 @@ impl Front {
         ensures { (whole later : List ℕ) → ReadsTo whole (first ∷ second ∷ later) self.old words.old
             → MatchBool result (ReadsTo whole later self.new words.new) (ReadsTo whole (first ∷ second ∷ later) self.new words.new) }
     {
-        if second >= 64 {
+        if second >= 0o100 {
             return false;
         }
-        if first < 64 {
+        if first < 0o100 {
             put_last(self.last, words);
             *self = self.with_word(first, second);
             return true;
         }
-        if first < 128 {
-            *self = self.with_origin(first - 64, second);
+        if first < 0o200 {
+            *self = self.with_origin(first - 0o100, second);
             return true;
         }
         false
@@ -126,24 +128,25 @@ impl Front {
     /// Takes the second frame of a pair.
     fn take_second(self, first: u8, frame: u8, place: u64) -> Result<Taken, TapeFault>
         requires { self.first ≡ Some first }
-        ensures { (items : List Item) (part : List ℕ) → Reads self items part → Takes items part frame place result }
+        ensures { (items : List Item) (part : List ℕ) → Reads self items part
+            → Takes items part frame place result }
     {
-        if frame >= 64 {
+        if frame >= 0o100 {
             return Err(TapeFault::BadFrame(place));
         }
-        if first < 64 {
+        if first < 0o100 {
             return Ok(self.taken_word(first, frame));
         }
-        if first < 128 {
-            return Ok(Taken::More(self.with_origin(first - 64, frame)));
+        if first < 0o200 {
+            return Ok(Taken::More(self.with_origin(first - 0o100, frame)));
         }
         Err(TapeFault::BadFrame(place))
     }
 
     /// Takes a word, by its two frames. The word before it is no check sum.
     fn taken_word(self, high: u8, low: u8) -> Taken
-        requires high { high < 64 }
-        requires low { low < 64 }
+        requires high { high < 0o100 }
+        requires low { low < 0o100 }
         ensures { (items : List Item) → Reads self items (high ∷ []) → TakesWord items high low result }
     {
         let last = self.last;
@@ -157,8 +160,9 @@ impl Front {
     /// Takes a frame that begins an item.
     fn take_first(self, frame: u8, place: u64) -> Result<Taken, TapeFault>
         requires first { self.first ≡ None }
-        requires frame { frame ≢ 255 }
-        ensures { (items : List Item) (part : List ℕ) → Reads self items part → Takes items part frame place result }
+        requires frame { frame ≢ 0o377 }
+        ensures { (items : List Item) (part : List ℕ) → Reads self items part
+            → Takes items part frame place result }
     {
         match frame {
             0o000 if !self.has_origin => Ok(Taken::More(self.with_leader())),
@@ -177,7 +181,8 @@ impl Front {
     fn take_trailer(self, place: u64) -> Result<Taken, TapeFault>
         requires first { self.first ≡ None }
         requires origin { self.has_origin ≡ true }
-        ensures { (items : List Item) (part : List ℕ) → Reads self items part → Takes items part 128 place result }
+        ensures { (items : List Item) (part : List ℕ) → Reads self items part
+            → Takes items part 0o200 place result }
     {
         if !self.ends_in_word {
             return Err(TapeFault::BadFrame(place));
@@ -210,7 +215,8 @@ impl Front {
 
     /// The first frame of a pair more.
     fn begun(self, frame: u8) -> Front
-        ensures { (items : List Item) → Reads self items [] → IsPart items (frame ∷ []) → Reads result items (frame ∷ []) }
+        ensures { (items : List Item) → Reads self items [] → IsPart items (frame ∷ [])
+            → Reads result items (frame ∷ []) }
     {
         Front {
             first: Some(frame),
@@ -233,15 +239,16 @@ impl Front {
     /// One origin more, by the low six bits of its frames.
     #[inline(always)]
     fn with_origin(self, high: u8, low: u8) -> Front
-        requires high { high < 64 }
-        requires low { low < 64 }
-        ensures { (items : List Item) (part : List ℕ) → Reads self items part → Reads result (Origin high low ∷ items) [] }
+        requires high { high < 0o100 }
+        requires low { low < 0o100 }
+        ensures { (items : List Item) (part : List ℕ) → Reads self items part
+            → Reads result (Origin high low ∷ items) [] }
     {
         Front {
             next: Cell::at(self.next.field(), pair(high, low)),
             sum: self
                 .sum
-                .plus(Word::low(64 + u16::from(high) + u16::from(low))),
+                .plus(Word::low(0o100 + u16::from(high) + u16::from(low))),
             has_origin: true,
             ends_in_word: false,
             last: self.last,
@@ -252,8 +259,8 @@ impl Front {
     /// One word more, by its two frames.
     #[inline(always)]
     fn with_word(self, high: u8, low: u8) -> Front
-        requires high { high < 64 }
-        requires low { low < 64 }
+        requires high { high < 0o100 }
+        requires low { low < 0o100 }
         ensures { (items : List Item) (part : List ℕ) → Reads self items part → has_origin items ≡ true
             → Reads result (item.Word high low ∷ items) [] }
     {
@@ -277,7 +284,8 @@ impl Front {
 #[inline(always)]
 fn put_last(last: Option<LastWord>, words: &mut [Option<Word>])
     requires { IsTable words.old }
-    ensures { (items : List Item) → IsLast last items → Holds words.old (words_but_last items) → Holds words.new (words_of items) }
+    ensures { (items : List Item) → IsLast last items → Holds words.old (words_but_last items)
+        → Holds words.new (words_of items) }
 {
     if let Some(last) = last {
         words[last.cell.index()] = Some(last.word);
@@ -287,10 +295,10 @@ fn put_last(last: Option<LastWord>, words: &mut [Option<Word>])
 /// The word of twelve bits that two frames of six bits spell.
 #[inline(always)]
 fn pair(high: u8, low: u8) -> Word
-    requires high { high < 64 }
-    requires low { low < 64 }
-    ensures value { result ≡ 64 * high + low }
-    ensures range { result < 4096 }
+    requires high { high < 0o100 }
+    requires low { low < 0o100 }
+    ensures value { result ≡ 0o100 * high + low }
+    ensures range { result < 0o10000 }
 {
-    Word::low(64 * u16::from(high) + u16::from(low))
+    Word::low(0o100 * u16::from(high) + u16::from(low))
 }

@@ -19,12 +19,14 @@ pub fn one_reading()
 
 /// What follows the trailer means nothing.
 pub fn longer_tape()
-    ensures { (frames more : List ℕ) (items : List Item) → IsTape frames items → IsTape (frames ++ more) items }
+    ensures { (frames more : List ℕ) (items : List Item) → IsTape frames items
+        → IsTape (frames ++ more) items }
 {}
 
 /// A tape has no fault.
 pub fn no_fault()
-    ensures { (frames : List ℕ) (items : List Item) (fault : TapeFault) → IsTape frames items → IsFault frames fault → ⊥ }
+    ensures { (frames : List ℕ) (items : List Item) (fault : TapeFault) → IsTape frames items
+        → IsFault frames fault → ⊥ }
 {}
 
 /// Frames have one fault at most.
@@ -41,7 +43,8 @@ pub fn first_closing()
 
 /// What is open can go on as a tape: some further frames make it one, and leave its items.
 pub fn open_goes_on()
-    ensures { (frames : List ℕ) (items : List Item) (part : List ℕ) → IsOpen (kept frames) items part → GoesOn frames items }
+    ensures { (frames : List ℕ) (items : List Item) (part : List ℕ) → IsOpen (kept frames) items part
+        → GoesOn frames items }
 {}
 
 /// The words that a reader has handed out are those of the tape that it was given, or all but the last of what may go
@@ -56,5 +59,6 @@ pub fn handed_words()
 /// What is written for words with their cells is a tape of these words, whatever frames follow it; each cell has the
 /// word of the last pair there, and a cell that no pair names has none.
 pub fn written_tape()
-    ensures { (pairs : List (ℕ × ℕ)) (rest : List ℕ) → ArePairs pairs → 0 < length pairs → IsTapeOf (tape_of pairs ++ rest) pairs }
+    ensures { (pairs : List (ℕ × ℕ)) (rest : List ℕ) → ArePairs pairs → 0 < length pairs
+        → IsTapeOf (tape_of pairs ++ rest) pairs }
 {}

@@ -8,12 +8,12 @@ use std::alloc::{AllocError, Global};
 use std::marker::Model;
 use word12::{Cell, Word};
 
-/// The words of core: eight fields of 4096 (Small Computer Handbook, MC8 extended memory).
-const CELLS: usize = 32768;
+/// The words of core: eight fields of 0o10000 (Small Computer Handbook, MC8 extended memory).
+const CELLS: usize = 0o100000;
 
 /// The words that a BIN tape gives to cells of core.
 ///
-/// A contract sees a list of 32768 words or none, by number of their cells.
+/// A contract sees a list of 0o100000 words or none, by number of their cells.
 #[derive(Drop)]
 pub struct TapeMap {
     words: Vec<Option<Word>>,

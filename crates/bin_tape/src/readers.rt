@@ -134,7 +134,8 @@ impl TapeReader {
         words: &mut [Option<Word>],
     ) -> &'a [u8]
         requires { IsTable words.old }
-        ensures read { (whole : List ℕ) → HasReadTo whole frames.now self.old words.old → HasReadTo whole result.now self.new words.new }
+        ensures read { (whole : List ℕ) → HasReadTo whole frames.now self.old words.old
+            → HasReadTo whole result.now self.new words.new }
         ensures left { length result.now ≤ length frames.now }
     {
         if self.ignoring {
@@ -162,7 +163,7 @@ impl TapeReader {
             → Counts self.new.place self.new.ignoring (frames ++ frame ∷ []) }
         ensures kept { (frames : List ℕ) → Counts self.old.place self.old.ignoring frames
             → kept (frames ++ frame ∷ []) ≡ kept frames ++ (if result then frame ∷ [] else []) }
-        ensures is_kept { OnTrue result ((frame ≢ 255) × ((frames : List ℕ)
+        ensures is_kept { OnTrue result ((frame ≢ 0o377) × ((frames : List ℕ)
             → Counts self.old.place self.old.ignoring frames → ignore_count frames % 2 ≡ 0)) }
         ensures same { self.new.state ≡ self.old.state }
     {
@@ -176,7 +177,7 @@ impl TapeReader {
 
     /// Takes a kept frame behind a front.
     fn take(&mut self, front: Front, frame: u8, place: u64) -> Result<Tape, TapeFault>
-        requires { frame ≢ 255 }
+        requires { frame ≢ 0o377 }
         ensures comes { (items : List Item) (part : List ℕ) → Reads front items part
             → Comes items part frame place result self.new.state }
         ensures same { self.new ≡ record self.old { state = self.new.state } }

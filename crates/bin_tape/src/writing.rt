@@ -58,7 +58,7 @@ impl Writer {
     fn put_pair(&mut self, before: Option<Cell>, cell: Cell, word: Word) -> Result<(), AllocError>
         ensures put { (items : List Item) → Holds self.old.frames.items self.old.sum items
             → OnOk result (Holds self.new.frames.items self.new.sum (with_pair before cell word items)) }
-        ensures pair { (cell < 32768) × (word < 4096) }
+        ensures pair { (cell < 0o100000) × (word < 0o10000) }
     {
         let again = before;
         self.put_field(before, cell)?;
@@ -102,7 +102,7 @@ impl Writer {
     /// Puts the two frames of an origin or a word.
     fn put_frames(&mut self, first: u8, second: u8) -> Result<(), AllocError>
         ensures frames { OnOk result (self.new.frames.items ≡ self.old.frames.items ++ first ∷ second ∷ []) }
-        ensures sum { OnOk result (self.new.sum ≡ (self.old.sum + (first + second)) % 4096) }
+        ensures sum { OnOk result (self.new.sum ≡ (self.old.sum + (first + second)) % 0o10000) }
     {
         self.frames.push(first)?;
         self.frames.push(second)?;
@@ -148,16 +148,16 @@ fn is_next(before: Option<Cell>, cell: Cell) -> bool
 
 /// The high six bits.
 fn high(word: Word) -> u8
-    ensures value { result ≡ word / 64 }
-    ensures range { result < 64 }
+    ensures value { result ≡ word / 0o100 }
+    ensures range { result < 0o100 }
 {
-    (word.get() / 64) as u8
+    (word.get() / 0o100) as u8
 }
 
 /// The low six bits.
 fn low(word: Word) -> u8
-    ensures value { result ≡ word % 64 }
-    ensures range { result < 64 }
+    ensures value { result ≡ word % 0o100 }
+    ensures range { result < 0o100 }
 {
-    (word.get() % 64) as u8
+    (word.get() % 0o100) as u8
 }

@@ -1,4 +1,4 @@
 pub mod Packing
 pub mod Texts
 pub mod Reading
-pub mod Storing
+pub mod StoreSteps

@@ -6,18 +6,18 @@ use Rattle.char_pack.specs.Packing.{frames, packed_blocks}
 
 -- control Z, which ends a text
 abbrev pub control_z : ℕ
-control_z = 26
+control_z = 0o32
 
 -- the characters of frames: each without its top bit, up to the first control Z or the end
 abbrev pub characters : List ℕ → List ℕ
 characters [] = []
 characters (frame ∷ others) =
-    if nat_eq (frame % 128) control_z then [] else (frame % 128) ∷ characters others
+    if nat_eq (frame % 0o200) control_z then [] else (frame % 0o200) ∷ characters others
 
 -- whether a control Z stands in frames
 abbrev pub is_ended : List ℕ → Bool
 is_ended [] = false
-is_ended (frame ∷ others) = if nat_eq (frame % 128) control_z then true else is_ended others
+is_ended (frame ∷ others) = if nat_eq (frame % 0o200) control_z then true else is_ended others
 
 -- the text of words
 abbrev pub text : List ℕ → List ℕ
@@ -25,7 +25,7 @@ text words = characters (frames words)
 
 -- what a host byte becomes in a text: CR is dropped, LF becomes CR and LF
 abbrev pub line_ends : ℕ → List ℕ
-line_ends byte = if nat_eq byte 13 then [] else (if nat_eq byte 10 then 13 ∷ 10 ∷ [] else byte ∷ [])
+line_ends byte = if nat_eq byte 0o15 then [] else (if nat_eq byte 0o12 then 0o15 ∷ 0o12 ∷ [] else byte ∷ [])
 
 -- the text that a host text becomes
 abbrev pub host_text : List ℕ → List ℕ
@@ -34,7 +34,7 @@ host_text (byte ∷ host) = line_ends byte ++ host_text host
 
 -- a host byte that may stand in a text: it has seven bits and is no control Z
 abbrev pub may_stand : ℕ → Bool
-may_stand byte = nat_lt byte 128 && not (nat_eq byte control_z)
+may_stand byte = nat_lt byte 0o200 && not (nat_eq byte control_z)
 
 -- a host text that can be stored
 abbrev pub is_storable : List ℕ → Bool
@@ -42,7 +42,7 @@ is_storable host = list_all may_stand host
 
 -- the frames of a text in a file: its characters, then control Z, each with the top bit set
 abbrev pub text_frames : List ℕ → List ℕ
-text_frames chars = map (λ character. 128 + character) chars ++ (128 + control_z) ∷ []
+text_frames chars = map (λ character. 0o200 + character) chars ++ (0o200 + control_z) ∷ []
 
 -- the words of a host text in a file
 abbrev pub stored : List ℕ → List ℕ

@@ -7,17 +7,20 @@ ghost use Rattle.char_pack.specs.Texts.{characters, is_ended, text, host_text, i
 /// Packed bytes read back, and no shorter even list of words has them.
 pub fn packed_bytes()
     ensures words { (bytes : List ℕ) → All (λ byte. byte < 256) bytes → IsPacking bytes (packed bytes) }
-    ensures blocks { (bytes : List ℕ) → All (λ byte. byte < 256) bytes → IsBlockPacking bytes (packed_blocks bytes) }
+    ensures blocks { (bytes : List ℕ) → All (λ byte. byte < 256) bytes
+        → IsBlockPacking bytes (packed_blocks bytes) }
 {}
 
 /// The frames of an even list of words give the words back.
 pub fn packed_frames()
-    ensures { (words : List ℕ) → length words % 2 ≡ 0 → All (λ word. word < 4096) words → packed (frames words) ≡ words }
+    ensures { (words : List ℕ) → length words % 2 ≡ 0 → All (λ word. word < 0o10000) words
+        → packed (frames words) ≡ words }
 {}
 
 /// The frames of an even list of words and of others behind it are those of both, so a file is read block by block.
 pub fn joined_frames()
-    ensures { (words others : List ℕ) → length words % 2 ≡ 0 → frames (words ++ others) ≡ frames words ++ frames others }
+    ensures { (words others : List ℕ) → length words % 2 ≡ 0
+        → frames (words ++ others) ≡ frames words ++ frames others }
 {}
 
 /// A text goes on in the frames behind it exactly where no control Z has come.
@@ -32,5 +35,6 @@ pub fn joined_text()
 /// as CR LF.
 pub fn stored_text()
     ensures host { (host : List ℕ) → is_storable host ≡ true → text (stored host) ≡ host_text host }
-    ensures characters { (chars : List ℕ) → is_storable chars ≡ true → text (packed_blocks (text_frames chars)) ≡ chars }
+    ensures characters { (chars : List ℕ) → is_storable chars ≡ true
+        → text (packed_blocks (text_frames chars)) ≡ chars }
 {}

@@ -1,6 +1,6 @@
 //! Three characters in two words, as OS/8 keeps texts and tapes in files: frames of words, words of bytes, and texts.
 //!
-//! In each contract a word is a number below 4096. A block of 256 words holds 384 frames.
+//! In each contract a word is a number below 0o10000. A block of 256 words holds 384 frames.
 #![tactic(auto)]
 
 mod faults;

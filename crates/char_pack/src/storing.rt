@@ -1,6 +1,6 @@
 ghost use Rattle.std.specs.Prelude.{◌≡◌, ◌+◌, ◌*◌, ◌++◌, ◌∷◌, ◌↔◌, ◌≤◌, ℕ, List, [], true, false, map, length, IfOk, OnOk, IsErrOf, vec_len};
 ghost use Rattle.char_pack.specs.Packing.{packed, block_count};
-ghost use Rattle.char_pack.specs.Storing.{held_bytes, packed_text, is_plain};
+ghost use Rattle.char_pack.specs.StoreSteps.{held_bytes, packed_text, is_plain};
 ghost use Rattle.char_pack.specs.Texts as spec;
 ghost use Rattle.char_pack.specs.declared.faults.TextFault.TheVariants.{BadText};
 ghost use Rattle.char_pack.specs.declared.storing.Held.TheVariants.{Nothing};
@@ -27,7 +27,7 @@ pub fn is_storable(host: &[u8]) -> bool
 {
     let mut refused = false;
     for byte in host {
-        refused |= *byte >= 128 || *byte == CONTROL_Z;
+        refused |= *byte >= 0o200 || *byte == CONTROL_Z;
     }
     !refused
 }
@@ -58,7 +58,8 @@ pub fn stored_block_count(host: &[u8]) -> usize
 /// 0232, then zeros (this project's profile).
 pub fn store(alloc: Global, host: &[u8]) -> Result<Vec<Word>, TextFault>
     ensures words { IfOk result (λ words. words.items ≡ spec.stored host.now) }
-    ensures length { IfOk result (λ words. vec_len words ≡ 256 * block_count (length (spec.host_text host.now) + 1)) }
+    ensures length { IfOk result (λ words. vec_len words
+        ≡ 256 * block_count (length (spec.host_text host.now) + 1)) }
     ensures bad_text { IsErrOf result BadText ↔ (spec.is_storable host.now ≡ false) }
 {
     if !is_storable(host) {
@@ -72,7 +73,8 @@ pub fn store(alloc: Global, host: &[u8]) -> Result<Vec<Word>, TextFault>
 fn stored_words(alloc: Global, host: &[u8]) -> Result<Vec<Word>, AllocError>
     requires { spec.is_storable host.now ≡ true }
     ensures words { IfOk result (λ words. words.items ≡ spec.stored host.now) }
-    ensures length { IfOk result (λ words. vec_len words ≡ 256 * block_count (length (spec.host_text host.now) + 1)) }
+    ensures length { IfOk result (λ words. vec_len words
+        ≡ 256 * block_count (length (spec.host_text host.now) + 1)) }
 {
     let count = BLOCK_WORDS * (character_count(host) / BLOCK_FRAMES + 1);
     let mut words = Vec::with_capacity(alloc, count)?;
@@ -93,7 +95,8 @@ enum Held {
 /// Appends the words of the frames of a host text, and of the control Z behind them.
 fn push_text(words: &mut Vec<Word>, host: &[u8]) -> Result<(), AllocError>
     requires { spec.is_storable host.now ≡ true }
-    ensures { OnOk result (words.new.items ≡ words.old.items ++ packed (spec.text_frames (spec.host_text host.now))) }
+    ensures { OnOk result (words.new.items ≡ words.old.items
+        ++ packed (spec.text_frames (spec.host_text host.now))) }
 {
     let mut held = Held::Nothing;
     let mut rest = host;
@@ -108,7 +111,8 @@ fn push_text(words: &mut Vec<Word>, host: &[u8]) -> Result<(), AllocError>
 /// is left of it.
 fn push_run<'a>(words: &mut Vec<Word>, held: Held, host: &'a [u8]) -> Result<&'a [u8], AllocError>
     requires { spec.is_storable host.now ≡ true }
-    ensures words { IfOk result (λ left. words.new.items ++ packed_text held left.now ≡ words.old.items ++ packed_text held host.now) }
+    ensures words { IfOk result (λ left. words.new.items ++ packed_text held left.now ≡ words.old.items
+        ++ packed_text held host.now) }
     ensures storable { IfOk result (λ left. spec.is_storable left.now ≡ true) }
     ensures shorter { IfOk result (λ left. length left.now ≤ length host.now) }
 {
@@ -121,7 +125,8 @@ fn push_run<'a>(words: &mut Vec<Word>, held: Held, host: &'a [u8]) -> Result<&'a
 /// Appends the words of groups of plain characters from the front of a host text, and answers what is left of it.
 fn push_groups<'a>(words: &mut Vec<Word>, host: &'a [u8]) -> Result<&'a [u8], AllocError>
     requires { spec.is_storable host.now ≡ true }
-    ensures words { IfOk result (λ left. words.new.items ++ packed_text Nothing left.now ≡ words.old.items ++ packed_text Nothing host.now) }
+    ensures words { IfOk result (λ left. words.new.items ++ packed_text Nothing left.now ≡ words.old.items
+        ++ packed_text Nothing host.now) }
     ensures storable { IfOk result (λ left. spec.is_storable left.now ≡ true) }
     ensures shorter { IfOk result (λ left. length left.now ≤ length host.now) }
 {
@@ -148,7 +153,7 @@ fn is_plain(byte: u8) -> bool
 fn put_byte(words: &mut Vec<Word>, held: Held, byte: u8) -> Result<Held, AllocError>
     requires { spec.may_stand byte ≡ true }
     ensures { IfOk result (λ next. (later : List ℕ) → words.new.items ++ packed (held_bytes next ++ later)
-        ≡ words.old.items ++ packed (held_bytes held ++ (map (λ character. 128 + character) (spec.line_ends byte) ++ later))) }
+        ≡ words.old.items ++ packed (held_bytes held ++ (map (λ character. 0o200 + character) (spec.line_ends byte) ++ later))) }
 {
     match byte {
         CR => Ok(held),

@@ -40,7 +40,7 @@ impl Iterator for Text<'_> {
     ghost remaining = { item_count text_left };
 
     fn next(&mut self) -> Option<u8> {
-        let character = self.frames.next()? % 128;
+        let character = self.frames.next()? % 0o200;
         if character == CONTROL_Z {
             self.frames = Frames::new(&[]);
             return None;

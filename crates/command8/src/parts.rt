@@ -45,14 +45,16 @@ pub fn file_leaf<'a>(alloc: Global, word: &'a str, about: &'a str, long_about: &
 
 /// A command with the name of the image's file.
 pub fn with_image<'a>(alloc: Global, command: Command<'a>) -> Draft<'a>
-    ensures { (app : App) → IsCommand command.entry app → IfOk result (λ new. IsCommand new (with_rule app image_rule)) }
+    ensures { (app : App) → IsCommand command.entry app
+        → IfOk result (λ new. IsCommand new (with_rule app image_rule)) }
 {
     with_word(alloc, command, "IMAGE", "The file that holds the volume")
 }
 
 /// A command with a number of blocks.
 pub fn with_blocks<'a>(alloc: Global, command: Command<'a>) -> Draft<'a>
-    ensures { (app : App) → IsCommand command.entry app → IfOk result (λ new. IsCommand new (with_rule app blocks_rule)) }
+    ensures { (app : App) → IsCommand command.entry app
+        → IfOk result (λ new. IsCommand new (with_rule app blocks_rule)) }
 {
     command.arg(blocks(alloc))
 }

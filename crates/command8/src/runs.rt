@@ -71,7 +71,8 @@ pub fn run_asked(found: &ArgMatches<'_>, image: String) -> Result<Task, TaskFaul
     requires image { first_of (codes "IMAGE") (rows_of (found_of found.now)) ≡ Some image.bytes.items }
     ensures task { IfOk result (λ task. AsksFor (codes "run") (rows_of (found_of found.now)) task) }
     ensures fit { IfOk result HasFitBlocks }
-    ensures both { IfErr result (λ fault. (fault ≡ LookAndKeep) × AsksBoth (Some (codes "run", rows_of (found_of found.now)))) }
+    ensures both { IfErr result (λ fault. (fault ≡ LookAndKeep)
+        × AsksBoth (Some (codes "run", rows_of (found_of found.now)))) }
 {
     match saving(is_set(found, "look"), is_set(found, "keep")) {
         Some(saving) => Ok(Task::Run(

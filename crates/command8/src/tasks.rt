@@ -26,7 +26,8 @@ use std::alloc::{AllocError, Global};
 /// profile). A request for help or the version comes back as an error of `clap`, as it gives it.
 pub fn task(alloc: Global, words: &[&str]) -> Result<Task, TaskFault>
     ensures answer { Answers (map (λ word. word.now) words.now) result }
-    ensures taken { takes pdp8 (map (λ word. word.now) words.now) ≡ true → IfErr result (λ fault. (fault ≡ Memory) ⊎ (fault ≡ LookAndKeep)) }
+    ensures taken { takes pdp8 (map (λ word. word.now) words.now) ≡ true
+        → IfErr result (λ fault. (fault ≡ Memory) ⊎ (fault ≡ LookAndKeep)) }
 {
     let command = command_line(alloc)?;
     match command.try_get_matches_from(words) {
@@ -40,7 +41,8 @@ pub fn task(alloc: Global, words: &[&str]) -> Result<Task, TaskFault>
 pub fn plain_words()
     ensures tape { (name : List ℕ) → IsTakenAs (name ∷ codes "tape" ∷ []) IsTape }
     ensures source { (name : List ℕ) → IsTakenAs (name ∷ codes "source" ∷ []) IsSource }
-    ensures run { (name image : List ℕ) → IsPlain image → IsTakenAs (name ∷ codes "run" ∷ image ∷ []) (IsRunOf image AtEnd false) }
+    ensures run { (name image : List ℕ) → IsPlain image
+        → IsTakenAs (name ∷ codes "run" ∷ image ∷ []) (IsRunOf image AtEnd false) }
     ensures run_look { (name image : List ℕ) → IsPlain image
         → IsTakenAs (name ∷ codes "run" ∷ image ∷ codes "--look" ∷ []) (IsRunOf image Never false) }
     ensures run_keep { (name image : List ℕ) → IsPlain image
@@ -51,7 +53,8 @@ pub fn plain_words()
         → IsTakenAs (name ∷ codes "run" ∷ image ∷ codes "--look" ∷ codes "--keep" ∷ []) (λ task. ⊥) }
     ensures create { (name image blocks : List ℕ) → IsPlain image → IsPlain blocks → IsUnsignedIn 8 4095 blocks
         → IsTakenAs (name ∷ codes "create" ∷ image ∷ blocks ∷ []) (IsCreateOf image (number_of blocks)) }
-    ensures list { (name image : List ℕ) → IsPlain image → IsTakenAs (name ∷ codes "list" ∷ image ∷ []) (IsListOf image) }
+    ensures list { (name image : List ℕ) → IsPlain image
+        → IsTakenAs (name ∷ codes "list" ∷ image ∷ []) (IsListOf image) }
     ensures get { (name image file : List ℕ) → IsPlain image → IsPlain file
         → IsTakenAs (name ∷ codes "get" ∷ image ∷ file ∷ []) (IsGetOf image file get_as.Frames) }
     ensures get_text { (name image file : List ℕ) → IsPlain image → IsPlain file
@@ -62,7 +65,8 @@ pub fn plain_words()
         → IsTakenAs (name ∷ codes "put" ∷ image ∷ file ∷ []) (IsPutOf image file put_as.Frames) }
     ensures put_text { (name image file : List ℕ) → IsPlain image → IsPlain file
         → IsTakenAs (name ∷ codes "put" ∷ image ∷ file ∷ codes "--text" ∷ []) (IsPutOf image file put_as.Text) }
-    ensures check { (name image : List ℕ) → IsPlain image → IsTakenAs (name ∷ codes "check" ∷ image ∷ []) (IsCheckOf image) }
+    ensures check { (name image : List ℕ) → IsPlain image
+        → IsTakenAs (name ∷ codes "check" ∷ image ∷ []) (IsCheckOf image) }
 {}
 
 /// The command `pdp8` with its subcommands.
@@ -223,7 +227,8 @@ fn files_asked(
 /// The name of the image's file.
 fn image_of(alloc: Global, found: &ArgMatches<'_>) -> Result<String, AllocError>
     requires { HasImage (rows_of (found_of found.now)) }
-    ensures { IfOk result (λ image. first_of (codes "IMAGE") (rows_of (found_of found.now)) ≡ Some image.bytes.items) }
+    ensures { IfOk result (λ image. first_of (codes "IMAGE") (rows_of (found_of found.now))
+        ≡ Some image.bytes.items) }
 {
     match found.get_str("IMAGE") {
         Some(text) => String::from_str(alloc, text),
@@ -234,7 +239,8 @@ fn image_of(alloc: Global, found: &ArgMatches<'_>) -> Result<String, AllocError>
 /// The name of a file of the volume.
 fn name_of(alloc: Global, found: &ArgMatches<'_>) -> Result<String, AllocError>
     requires { HasName (rows_of (found_of found.now)) }
-    ensures { IfOk result (λ name. first_of (codes "NAME") (rows_of (found_of found.now)) ≡ Some name.bytes.items) }
+    ensures { IfOk result (λ name. first_of (codes "NAME") (rows_of (found_of found.now))
+        ≡ Some name.bytes.items) }
 {
     match found.get_str("NAME") {
         Some(text) => String::from_str(alloc, text),
@@ -268,7 +274,8 @@ fn put_form(found: &ArgMatches<'_>) -> PutForm
 /// The number of blocks.
 fn blocks_of(found: &ArgMatches<'_>) -> usize
     requires { HasBlocks (rows_of (found_of found.now)) }
-    ensures number { (text : List ℕ) → one_of (codes "BLOCKS") (rows_of (found_of found.now)) ≡ Some text → result ≡ number_of text }
+    ensures number { (text : List ℕ) → one_of (codes "BLOCKS") (rows_of (found_of found.now)) ≡ Some text
+        → result ≡ number_of text }
     ensures range { (8 ≤ result) × (result ≤ 4095) }
 {
     match found.get_one::<usize>("BLOCKS") {

@@ -5,6 +5,6 @@ use Rattle.std.specs.Prelude.{◌≡◌, ℕ, List, length, replicate}
 unfoldable pub zeros : ℕ → List ℕ
 zeros count = replicate count 0
 
--- eight fields of 4096 words
+-- eight fields of 0o10000 words
 abbrev pub IsCore : List ℕ → Type 0
-IsCore words = length words ≡ 32768
+IsCore words = length words ≡ 0o100000

@@ -7,7 +7,7 @@ use std::alloc::{AllocError, Global};
 use std::marker::Model;
 use word12::{Cell, Word};
 
-/// Core of 32768 words: eight fields of 4096 (Small Computer Handbook, MC8 extended memory).
+/// Core of 0o100000 words: eight fields of 0o10000 (Small Computer Handbook, MC8 extended memory).
 #[derive(Drop)]
 pub struct Core {
     words: Vec<Word>,
@@ -24,7 +24,7 @@ impl Model for Core {
 impl Core {
     /// Core whose words are all 0.
     pub fn new(alloc: Global) -> Result<Core, TapeFault>
-        ensures zeros { IfOk result (λ core. core ≡ zeros 32768) }
+        ensures zeros { IfOk result (λ core. core ≡ zeros 0o100000) }
         ensures memory { IsOkUnless result Memory }
     {
         let words = zero_words(alloc, CELLS)?;
@@ -35,7 +35,7 @@ impl Core {
     #[inline]
     pub fn get(&self, cell: Cell) -> Word
         ensures value { result ≡ slice_index self.now cell }
-        ensures range { result < 4096 }
+        ensures range { result < 0o10000 }
         ensures size { IsCore self.now }
     {
         let word = self.words[cell.index()];
@@ -53,7 +53,7 @@ impl Core {
     }
 }
 
-const CELLS: usize = 32768;
+const CELLS: usize = 0o100000;
 
 #[tactic(auto, unfolding(crate::specs::Core::zeros))]
 fn zero_words(alloc: Global, count: usize) -> Result<Vec<Word>, AllocError>

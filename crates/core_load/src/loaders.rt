@@ -47,7 +47,8 @@ impl Loader {
     /// Takes the next frame. Memory is taken, and can run out, only where the frame shows a word to be no check sum; then
     /// nothing is taken of the frame. Another fault is answered for good.
     pub fn push(&mut self, frame: u8) -> Result<(), TapeFault>
-        ensures { (frames : List ℕ) → IsFed self.old frames → Feeds frames (frame ∷ []) self.old self.new result }
+        ensures { (frames : List ℕ) → IsFed self.old frames
+            → Feeds frames (frame ∷ []) self.old self.new result }
     {
         longer_tape();
         let before = self.reader;
@@ -80,7 +81,8 @@ impl Loader {
     /// Lays the tape over core: each cell that the tape names has the last word that the tape gives it.
     pub fn lay(self, core: &mut Core)
         requires { IsComplete self }
-        ensures { (frames : List ℕ) (items : List Item) → IsFed self frames → IsTape frames items → IsOverlaid items core.old core.new }
+        ensures { (frames : List ℕ) (items : List Item) → IsFed self frames → IsTape frames items
+            → IsOverlaid items core.old core.new }
     {
         handed_words();
         lay_words(&self.words, core);

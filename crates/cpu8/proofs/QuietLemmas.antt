@@ -5,7 +5,7 @@ use Rattle.tty8.specs.Teletype.{is_requesting}
 use Rattle.cpu8.specs.State.{State, next_cell, printer_done}
 use Rattle.cpu8.specs.Step.{executed, fetched, step}
 use Rattle.cpu8.specs.Go.{turn, after, answer, break_ahead, reason, ending, IsGo, character_of, printed_by, is_break}
-use Rattle.cpu8.specs.Quiet.{is_quiet, Stays, Does, AreQuiet}
+use Rattle.cpu8.specs.QuietSteps.{is_quiet, Stays, Does, AreQuiet}
 use Rattle.cpu8.specs.declared.outcomes.Stepped.{Stepped}
 use Rattle.cpu8.specs.declared.outcomes.Stepped.TheVariants.{Ran, Stopped, Interrupted, Halted, Unassigned}
 use Rattle.cpu8.specs.declared.outcomes.Why.{Why}

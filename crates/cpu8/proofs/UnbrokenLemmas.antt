@@ -8,7 +8,7 @@ use Rattle.std.proofs.lemmas.List.Folds.{list_any_at}
 use Rattle.std.proofs.Math.Logic.{⊎_elim}
 use Rattle.cpu8.specs.State.{place}
 use Rattle.cpu8.specs.Go.{is_break}
-use Rattle.cpu8.specs.Quiet.{IsUnbroken, AreUnbroken}
+use Rattle.cpu8.specs.QuietSteps.{IsUnbroken, AreUnbroken}
 
 -- none of the field's part of the list is a break
 pub unbroken-part : (breaks : List Bool) (field n : ℕ) (p : Bool → Bool) → p true ≡ true → n ≡ 4096 → 4096 * field + 4096 ≤ length breaks

@@ -57,12 +57,12 @@ after word s = (executed s word).0
 
 -- L and AC as one number of thirteen bits
 abbrev pub link_and_ac : State → ℕ
-link_and_ac s = 4096 * s.l + s.ac
+link_and_ac s = 0o10000 * s.l + s.ac
 
 -- L is a bit, and AC a word
 pub record HasLinkAndAc (s : State) : Type 0 where
   pub l : s.l < 2
-  pub ac : s.ac < 4096
+  pub ac : s.ac < 0o10000
 
 -- ## Runs
 
@@ -104,7 +104,7 @@ pub record IsInterruptAndReturn (program back : State) : Type 0 where
   pub undisturbed : grants_interrupt back ≡ false
   pub field_0 : back.instruction_field ≡ 0
   pub restores : slice_index back.core back.pc ≡ rmf
-  pub jumps : slice_index back.core ((back.pc + 1) % 4096) ≡ jmp_i_0
+  pub jumps : slice_index back.core ((back.pc + 1) % 0o10000) ≡ jmp_i_0
   pub kept : slice_index back.core 0 ≡ slice_index (step program).0.core 0
   pub saved : back.save_field ≡ (step program).0.save_field
 
@@ -121,11 +121,11 @@ pub record Resumes (program s : State) : Type 0 where
 
 -- an instruction of this word skips the next one
 abbrev pub Skips : ℕ → State → Type 0
-Skips word s = (after word s).pc ≡ (s.pc + 2) % 4096
+Skips word s = (after word s).pc ≡ (s.pc + 2) % 0o10000
 
 -- the next one comes
 abbrev pub SkipsNot : ℕ → State → Type 0
-SkipsNot word s = (after word s).pc ≡ (s.pc + 1) % 4096
+SkipsNot word s = (after word s).pc ≡ (s.pc + 1) % 0o10000
 
 -- a word of group 2 of the operates that has 0010 clear
 pub record IsTest (word : ℕ) : Type 0 where
@@ -206,4 +206,4 @@ pub record UsesAutoIndex (kind : Operation) (s : State) : Type 0 where
 
 -- the word of the pointer of the next instruction, made one more
 abbrev pub next_pointer : State → ℕ
-next_pointer s = (slice_index s.core (pointer_place s (fetched s)) + 1) % 4096
+next_pointer s = (slice_index s.core (pointer_place s (fetched s)) + 1) % 0o10000

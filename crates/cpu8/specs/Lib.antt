@@ -7,5 +7,5 @@ pub mod Operate
 pub mod Transfer
 pub mod Step
 pub mod Go
-pub mod Quiet
+pub mod QuietSteps
 pub mod Laws

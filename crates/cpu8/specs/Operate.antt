@@ -23,7 +23,7 @@ is_group1_unassigned w = (has_rar w && has_ral w) || (rotates_twice w && not (ha
 abbrev pub group1_ac : ℕ → ℕ → ℕ
 group1_ac w ac =
     let cleared = if has_cla w then 0 else ac in
-    if has_cma w then 4095 - cleared else cleared
+    if has_cma w then 0o7777 - cleared else cleared
 
 -- CLL clears L, then CML complements it
 abbrev pub group1_l : ℕ → ℕ → ℕ
@@ -33,7 +33,7 @@ group1_l w l =
 
 -- then IAC adds one to L and AC as a number of thirteen bits
 abbrev pub group1_sum : ℕ → ℕ → ℕ → ℕ
-group1_sum w l ac = (4096 * group1_l w l + group1_ac w ac + iac_of w) % 8192
+group1_sum w l ac = (0o10000 * group1_l w l + group1_ac w ac + iac_of w) % 0o20000
 
 -- then RAR rotates L and AC right, and RAL left
 abbrev pub rotated : ℕ → List ℕ → List ℕ
@@ -48,8 +48,8 @@ group1_number w l ac = number_of (rotated w (thirteen_bits (group1_sum w l ac)))
 
 abbrev pub group1_done : State → ℕ → State
 group1_done s w = record (advanced s) {
-  l = group1_number w s.l s.ac / 4096;
-  ac = group1_number w s.l s.ac % 4096;
+  l = group1_number w s.l s.ac / 0o10000;
+  ac = group1_number w s.l s.ac % 0o10000;
 }
 
 abbrev pub group1_row : State → ℕ → State × Stepped
@@ -59,7 +59,7 @@ group1_row s w = if is_group1_unassigned w then unassigned_row s w else (group1_
 
 -- a chosen condition holds: SMA that AC is negative, SZA that AC is 0, SNL that L is 1
 abbrev pub is_met : ℕ → ℕ → ℕ → Bool
-is_met w l ac = (has_sma w && has ac 2048) || ((has_sza w && nat_eq ac 0) || (has_snl w && nat_eq l 1))
+is_met w l ac = (has_sma w && has ac 0o4000) || ((has_sza w && nat_eq ac 0) || (has_snl w && nat_eq l 1))
 
 -- the skip: if a chosen condition holds, or in the reversed sense if none does
 abbrev pub group2_skips : ℕ → ℕ → ℕ → Bool
@@ -74,7 +74,7 @@ group2_ac w ac switches =
 -- then HLT halts
 abbrev pub group2_done : State → ℕ → State
 group2_done s w = record (advanced s) {
-  pc = (s.pc + (if group2_skips w s.l s.ac then 2 else 1)) % 4096;
+  pc = (s.pc + (if group2_skips w s.l s.ac then 2 else 1)) % 0o10000;
   ac = group2_ac w s.ac s.switches;
   running = if has_hlt w then false else s.running;
 }

@@ -8,7 +8,7 @@ use Rattle.cpu8.specs.Decoding.{is_indirect, is_in_current_page, offset_of}
 
 -- the direct address: the offset in the page of the instruction, or in page zero
 abbrev pub direct_address : State → ℕ → ℕ
-direct_address s w = if is_in_current_page w then s.pc / 128 * 128 + offset_of w else offset_of w
+direct_address s w = if is_in_current_page w then s.pc / 0o200 * 0o200 + offset_of w else offset_of w
 
 -- where the pointer of an indirect reference stands: at the direct address in the instruction field
 abbrev pub pointer_place : State → ℕ → ℕ
@@ -21,7 +21,7 @@ is_auto_index s w = is_indirect w && (nat_le 8 (direct_address s w) && nat_le (d
 -- core once the pointer was read: an auto-index is first made one more, and kept so
 abbrev pub indexed : State → ℕ → List ℕ
 indexed s w =
-    if is_auto_index s w then slice_set s.core (pointer_place s w) ((slice_index s.core (pointer_place s w) + 1) % 4096)
+    if is_auto_index s w then slice_set s.core (pointer_place s w) ((slice_index s.core (pointer_place s w) + 1) % 0o10000)
     else s.core
 
 -- the effective address: the direct address, or the pointer's word there
@@ -40,7 +40,7 @@ operand s w = slice_index (indexed s w) (operand_place s w)
 
 -- what every instruction does: PC is advanced by one, and the waiting of ION is over
 abbrev pub advanced : State → State
-advanced s = record s { pc = (s.pc + 1) % 4096; waiting = false }
+advanced s = record s { pc = (s.pc + 1) % 0o10000; waiting = false }
 
 -- and what every reference to memory does
 abbrev pub referred : State → ℕ → State
@@ -52,19 +52,19 @@ and_row s w = record (referred s w) { ac = bit_and s.ac (operand s w) }
 -- a carry out of AC complements L
 abbrev pub tad_row : State → ℕ → State
 tad_row s w = record (referred s w) {
-  ac = (s.ac + operand s w) % 4096;
-  l = (s.l + (s.ac + operand s w) / 4096) % 2;
+  ac = (s.ac + operand s w) % 0o10000;
+  l = (s.l + (s.ac + operand s w) / 0o10000) % 2;
 }
 
 -- the operand, one more
 abbrev pub raised : State → ℕ → ℕ
-raised s w = (operand s w + 1) % 4096
+raised s w = (operand s w + 1) % 0o10000
 
 -- the next instruction is skipped if the operand becomes 0
 abbrev pub isz_row : State → ℕ → State
 isz_row s w = record (referred s w) {
   core = slice_set (indexed s w) (operand_place s w) (raised s w);
-  pc = (s.pc + (if nat_eq (raised s w) 0 then 2 else 1)) % 4096;
+  pc = (s.pc + (if nat_eq (raised s w) 0 then 2 else 1)) % 0o10000;
 }
 
 abbrev pub dca_row : State → ℕ → State
@@ -84,6 +84,6 @@ jmp_row s w = record (referred s w) {
 -- JMS stores PC at the effective address in the new field, and goes on behind it
 abbrev pub jms_row : State → ℕ → State
 jms_row s w = record (jmp_row s w) {
-  core = slice_set (indexed s w) (place s.instruction_buffer (effective_address s w)) ((s.pc + 1) % 4096);
-  pc = (effective_address s w + 1) % 4096;
+  core = slice_set (indexed s w) (place s.instruction_buffer (effective_address s w)) ((s.pc + 1) % 0o10000);
+  pc = (effective_address s w + 1) % 0o10000;
 }

@@ -6,7 +6,7 @@ abbrev pub bits : ℕ → ℕ → List ℕ
 bits zero n = []
 bits (suc k) n = n / 2 ^ k % 2 ∷ bits k n
 
--- L and AC, 4096 times L plus AC, as a list of thirteen bits, L first
+-- L and AC, 0o10000 times L plus AC, as a list of thirteen bits, L first
 unfoldable pub thirteen_bits : ℕ → List ℕ
 thirteen_bits n = bits 13 n
 

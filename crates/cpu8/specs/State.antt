@@ -31,7 +31,7 @@ pub record State : Type 0 where
 
 -- the number of the cell of an address in a field
 abbrev pub place : ℕ → ℕ → ℕ
-place field address = 4096 * field + address
+place field address = 0o10000 * field + address
 
 -- the cell of the next instruction
 abbrev pub next_cell : State → ℕ
@@ -66,10 +66,10 @@ stopped core = record {
 -- fields are its field (this project's profile).
 abbrev pub started : State → ℕ → State
 started s cell = record (stopped s.core) {
-  pc = cell % 4096;
-  instruction_field = cell / 4096;
-  instruction_buffer = cell / 4096;
-  data_field = cell / 4096;
+  pc = cell % 0o10000;
+  instruction_field = cell / 0o10000;
+  instruction_buffer = cell / 0o10000;
+  data_field = cell / 0o10000;
   switches = s.switches;
   running = true;
   teletype = cleared s.teletype;

@@ -32,7 +32,7 @@ interrupts_row s w =
 
 -- PC goes on by one, or by two where the instruction skips
 abbrev pub skipped : State → Bool → State
-skipped s skips = record (advanced s) { pc = (s.pc + (if skips then 2 else 1)) % 4096 }
+skipped s skips = record (advanced s) { pc = (s.pc + (if skips then 2 else 1)) % 0o10000 }
 
 abbrev pub keyboard_row : State → ℕ → State
 keyboard_row s w = record (skipped s (keyboard_skips s.teletype (pulses_of w))) {

@@ -90,7 +90,7 @@ pub(crate) fn has(word: Word, bit: u16) -> bool
 /// The offset of a reference to memory in its page.
 #[inline(always)]
 pub(crate) fn offset_of(word: Word) -> u16
-    ensures { result ≡ word % 128 }
+    ensures { result ≡ word % 0o200 }
 {
     word.get() % PAGE
 }

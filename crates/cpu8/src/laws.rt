@@ -13,8 +13,10 @@ ghost use Rattle.cpu8.specs.Laws.{cia, tsf, tls, cif, rmf, later, next_pointer, 
 
 /// RTL leaves L and AC as two RAL do, and RTR as two RAR do.
 pub fn double_rotation()
-    ensures left { (s : State) → HasLinkAndAc s → link_and_ac (after rtl s) ≡ link_and_ac (after ral (after ral s)) }
-    ensures right { (s : State) → HasLinkAndAc s → link_and_ac (after rtr s) ≡ link_and_ac (after rar (after rar s)) }
+    ensures left { (s : State) → HasLinkAndAc s → link_and_ac (after rtl s)
+        ≡ link_and_ac (after ral (after ral s)) }
+    ensures right { (s : State) → HasLinkAndAc s → link_and_ac (after rtr s)
+        ≡ link_and_ac (after rar (after rar s)) }
 {}
 
 /// RAL and then RAR give back L and AC, and so do RAR and then RAL.
@@ -25,17 +27,18 @@ pub fn rotation_back()
 
 /// CLL CML sets the link, and leaves AC.
 pub fn link_set()
-    ensures { (s : State) → HasLinkAndAc s → link_and_ac (after cll_cml s) ≡ 4096 + s.ac }
+    ensures { (s : State) → HasLinkAndAc s → link_and_ac (after cll_cml s) ≡ 0o10000 + s.ac }
 {}
 
 /// TAD adds its operand to L and AC as one number of thirteen bits.
 pub fn addition()
-    ensures { (s : State) → IsNext Tad s → link_and_ac (step s).0 ≡ (link_and_ac s + operand s (fetched s)) % 8192 }
+    ensures { (s : State) → IsNext Tad s → link_and_ac (step s).0
+        ≡ (link_and_ac s + operand s (fetched s)) % 0o20000 }
 {}
 
-/// CIA negates AC: what it leaves is 4096 less AC, or 0 where AC is 0.
+/// CIA negates AC: what it leaves is 0o10000 less AC, or 0 where AC is 0.
 pub fn negation()
-    ensures { (s : State) → HasLinkAndAc s → (after cia s).ac ≡ (4096 - s.ac) % 4096 }
+    ensures { (s : State) → HasLinkAndAc s → (after cia s).ac ≡ (0o10000 - s.ac) % 0o10000 }
 {}
 
 /// Bit 0010 of group 2 turns the skip round: with it a word skips where it doesn't without.
@@ -46,41 +49,48 @@ pub fn reversed_skip()
 
 /// TSF behind TLS doesn't skip until the printer is done, and skips then.
 pub fn printing()
-    ensures before { (s : State) → IsNextWord tls s → IsNextWord tsf (step s).0 → (step (step s).0).0.pc ≡ ((step s).0.pc + 1) % 4096 }
+    ensures before { (s : State) → IsNextWord tls s → IsNextWord tsf (step s).0
+        → (step (step s).0).0.pc ≡ ((step s).0.pc + 1) % 0o10000 }
     ensures done { (s : State) → IsNextWord tls s → IsNextWord tsf (printer_done (step s).0)
-        → (step (printer_done (step s).0)).0.pc ≡ ((step s).0.pc + 2) % 4096 }
+        → (step (printer_done (step s).0)).0.pc ≡ ((step s).0.pc + 2) % 0o10000 }
 {}
 
 /// An indirect JMP through the first word of a subroutine comes back to the cell after the JMS that called it.
 pub fn subroutine()
-    ensures pc { (call back : State) → IsCallAndReturn call back → (step back).0.pc ≡ (call.pc + 1) % 4096 }
-    ensures field { (call back : State) → IsCallAndReturn call back → (step back).0.instruction_field ≡ call.instruction_field }
+    ensures pc { (call back : State) → IsCallAndReturn call back
+        → (step back).0.pc ≡ (call.pc + 1) % 0o10000 }
+    ensures field { (call back : State) → IsCallAndReturn call back
+        → (step back).0.instruction_field ≡ call.instruction_field }
 {}
 
 /// After an interrupt, RMF and JMP I 0 resume where the program was, with its fields.
 pub fn interrupt_return()
-    ensures { (program back : State) → IsInterruptAndReturn program back → Resumes program (step (step back).0).0 }
+    ensures { (program back : State) → IsInterruptAndReturn program back
+        → Resumes program (step (step back).0).0 }
 {}
 
 /// The step behind an ION that found interrupts off is never an interrupt. The one behind that is one where interrupts are
 /// on then, not held off, and requested.
 pub fn ion_delay()
     ensures not_at_once { (s : State) → IsIon s → (step (step s).0).1 ≢ Interrupted }
-    ensures then_granted { (s : State) → IsIon s → IsRequested (step (step s).0).0 → (step (step (step s).0).0).1 ≡ Interrupted }
+    ensures then_granted { (s : State) → IsIon s → IsRequested (step (step s).0).0
+        → (step (step (step s).0).0).1 ≡ Interrupted }
 {}
 
 /// CIF and RMF hold interrupts off: as long as no JMP or JMS is done, no step is an interrupt. JMP and JMS end that.
 pub fn interrupts_held_off()
     ensures cif { (n : ℕ) (s : State) → n < 8 → IsNextWord (cif n) s → (step s).0.held_off ≡ true }
     ensures rmf { (s : State) → IsNextWord rmf s → (step s).0.held_off ≡ true }
-    ensures none { (s : State) (k : ℕ) → s.held_off ≡ true → NoJump s k → (m : ℕ) → m < k + 1 → (step (later m s)).1 ≢ Interrupted }
+    ensures none { (s : State) (k : ℕ) → s.held_off ≡ true → NoJump s k → (m : ℕ) → m < k + 1
+        → (step (later m s)).1 ≢ Interrupted }
     ensures jmp { (s : State) → IsNext Jmp s → (step s).0.held_off ≡ false }
     ensures jms { (s : State) → IsNext Jms s → (step s).0.held_off ≡ false }
 {}
 
 /// The pointer of an auto-index is one more after each use, and the effective address is the pointer then.
 pub fn auto_index()
-    ensures address { (kind : Operation) (s : State) → UsesAutoIndex kind s → effective_address s (fetched s) ≡ next_pointer s }
+    ensures address { (kind : Operation) (s : State) → UsesAutoIndex kind s
+        → effective_address s (fetched s) ≡ next_pointer s }
     ensures pointer { (kind : Operation) (s : State) → UsesAutoIndex kind s
         → slice_index (step s).0.core (pointer_place s (fetched s)) ≡ next_pointer s }
 {}
@@ -94,9 +104,9 @@ pub fn unset_breaks()
 /// ISZ skips exactly where the word that it leaves is 0.
 pub fn increment_and_skip()
     ensures zero { (s : State) → IsNext Isz s → operand_place s (fetched s) < length s.core
-        → slice_index (step s).0.core (operand_place s (fetched s)) ≡ 0 → (step s).0.pc ≡ (s.pc + 2) % 4096 }
+        → slice_index (step s).0.core (operand_place s (fetched s)) ≡ 0 → (step s).0.pc ≡ (s.pc + 2) % 0o10000 }
     ensures other { (s : State) → IsNext Isz s → operand_place s (fetched s) < length s.core
-        → slice_index (step s).0.core (operand_place s (fetched s)) ≢ 0 → (step s).0.pc ≡ (s.pc + 1) % 4096 }
+        → slice_index (step s).0.core (operand_place s (fetched s)) ≢ 0 → (step s).0.pc ≡ (s.pc + 1) % 0o10000 }
 {}
 
 /// A machine runs on after a step exactly where an instruction was done that does not halt, or an interrupt came.

@@ -1,7 +1,7 @@
 //! The PDP-8/I with MC8 extended memory, interrupts and a Teletype: a step is one instruction of the table, or one
 //! interrupt (Small Computer Handbook).
 //!
-//! Words have twelve bits; a field is 0 to 7 and an address in it 0 to 4095. Nothing here takes memory.
+//! Words have twelve bits; a field is 0 to 7 and an address in it 0 to 0o7777. Nothing here takes memory.
 #![tactic(auto)]
 
 mod decoding;

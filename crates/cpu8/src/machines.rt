@@ -12,7 +12,7 @@ use word12::{Cell, Word};
 mod registers;
 mod runs;
 
-/// A PDP-8/I with 32768 words of core, MC8 extended memory and a Teletype (Small Computer Handbook).
+/// A PDP-8/I with 0o100000 words of core, MC8 extended memory and a Teletype (Small Computer Handbook).
 #[derive(Drop)]
 pub struct Machine {
     core: Core,

@@ -75,7 +75,7 @@ impl Model for Processor {
       held_off = s.held_off;
     } };
 
-    ghost invariant = { λ p. (p.l < 2) × (p.instruction_field < 8) × (p.instruction_buffer < 8) × (p.data_field < 8) × (p.save_field < 64) };
+    ghost invariant = { λ p. (p.l < 2) × (p.instruction_field < 8) × (p.instruction_buffer < 8) × (p.data_field < 8) × (p.save_field < 0o100) };
 }
 
 impl Processor {
@@ -121,7 +121,7 @@ impl Processor {
     #[inline(always)]
     pub(crate) fn next_cell(&self) -> Cell
         ensures value { result ≡ next_cell self.now }
-        ensures range { result < 32768 }
+        ensures range { result < 0o100000 }
     {
         Cell::at(self.instruction_field, self.pc)
     }

@@ -1,4 +1,4 @@
-//! L and AC as one number of thirteen bits, 4096 times L plus AC, and its rotation.
+//! L and AC as one number of thirteen bits, 0o10000 times L plus AC, and its rotation.
 
 ghost use Rattle.std.specs.Prelude.{◌≡◌, ◌<◌};
 ghost use Rattle.cpu8.specs.Rotation.{thirteen_bits, rotated_left, rotated_right};
@@ -10,29 +10,29 @@ use word12::Word;
 /// One place to the left.
 #[inline(always)]
 fn left(number: u16) -> u16
-    requires { number < 8192 }
+    requires { number < 0o20000 }
     ensures bits { thirteen_bits result ≡ rotated_left (thirteen_bits number) }
-    ensures range { result < 8192 }
+    ensures range { result < 0o20000 }
 {
-    number % 4096 * 2 + number / 4096
+    number % 0o10000 * 2 + number / 0o10000
 }
 
 /// One place to the right.
 #[inline(always)]
 fn right(number: u16) -> u16
-    requires { number < 8192 }
+    requires { number < 0o20000 }
     ensures bits { thirteen_bits result ≡ rotated_right (thirteen_bits number) }
-    ensures range { result < 8192 }
+    ensures range { result < 0o20000 }
 {
-    number / 2 + number % 2 * 4096
+    number / 2 + number % 2 * 0o10000
 }
 
 /// The rotation that a word of group 1 names.
 #[inline(always)]
 pub(crate) fn rotate(word: Word, number: u16) -> u16
-    requires { number < 8192 }
+    requires { number < 0o20000 }
     ensures bits { thirteen_bits result ≡ rotated word (thirteen_bits number) }
-    ensures range { result < 8192 }
+    ensures range { result < 0o20000 }
 {
     let twice = has(word, TWICE);
     if has(word, RAR) {

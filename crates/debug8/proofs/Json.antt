@@ -6,7 +6,7 @@ use Rattle.json.specs.Print.{escape, escape_byte, quoted}
 use Rattle.serde_json.specs.Data.{boolean, string, object, Members, put}
 use Rattle.serde_json.specs.Written.{compact_text, members_text}
 use Rattle.debug8.specs.Snapshot.{octal1, octal2, octal3, Shown, digits, truth, members, shown_text, member_text, later_text, object_text, snapshot}
-use Rattle.debug8.specs.Values.{data_of, members_of}
+use Rattle.debug8.specs.ValueSteps.{data_of, members_of}
 use Rattle.debug8.proofs.Digits.{escape-digit}
 
 -- nothing of it is escaped

@@ -5,9 +5,9 @@ use Rattle.cpu8.specs.State.{State}
 -- The registers have their widths: one bit, three bits, six, eight and twelve.
 pub record HasRegisters (s : State) : Type 0 where
   pub l : s.l < 2
-  pub ac : s.ac < 4096
-  pub pc : s.pc < 4096
-  pub switches : s.switches < 4096
+  pub ac : s.ac < 0o10000
+  pub pc : s.pc < 0o10000
+  pub switches : s.switches < 0o10000
   pub instruction_field : s.instruction_field < 8
   pub instruction_buffer : s.instruction_buffer < 8
   pub data_field : s.data_field < 8

@@ -1,4 +1,4 @@
 pub mod Breaks
 pub mod Laws
 pub mod Snapshot
-pub mod Values
+pub mod ValueSteps

@@ -26,17 +26,17 @@ impl Model for Debugger {
 
     ghost view = { λ d. d.breaks.items };
 
-    ghost invariant = { λ d. (length d.breaks.items ≡ 32768) × (d.count ≡ count_breaks d.breaks.items) × (d.count ≤ 64) };
+    ghost invariant = { λ d. (length d.breaks.items ≡ 0o100000) × (d.count ≡ count_breaks d.breaks.items) × (d.count ≤ 64) };
 }
 
-const CELLS: usize = 32768;
+const CELLS: usize = 0o100000;
 
 const MOST_BREAKS: usize = 64;
 
 impl Debugger {
-    /// A debugger with no break. It takes all its memory here, a flag for each of the 32768 cells.
+    /// A debugger with no break. It takes all its memory here, a flag for each of the 0o100000 cells.
     pub fn new(alloc: Global) -> Result<Debugger, DebugFault>
-        ensures breaks { IfOk result (λ d. d ≡ no_breaks 32768) }
+        ensures breaks { IfOk result (λ d. d ≡ no_breaks 0o100000) }
         ensures memory { IsOkUnless result Memory }
     {
         let breaks = no_breaks_in(alloc, CELLS)?;
@@ -101,7 +101,7 @@ impl Debugger {
     /// The word of a cell of a machine, as EXAM at the console shows it (Small Computer Handbook).
     pub fn examine(machine: &Machine, cell: Cell) -> Word
         ensures word { result ≡ slice_index machine.now.core cell }
-        ensures range { result < 4096 }
+        ensures range { result < 0o10000 }
     {
         machine.core().get(cell)
     }

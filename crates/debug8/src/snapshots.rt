@@ -3,7 +3,7 @@ ghost use Rattle.word12.specs.Octal.{octal4};
 ghost use Rattle.serde_json.specs.Data.{boolean, object, string, put as with_member};
 ghost use Rattle.serde_json.specs.View.{members_view, view};
 ghost use Rattle.debug8.specs.Snapshot.{members, octal1, octal2, octal3, snapshot};
-ghost use Rattle.debug8.specs.Values.{members_of};
+ghost use Rattle.debug8.specs.ValueSteps.{members_of};
 ghost use Rattle.debug8.specs.declared.faults.DebugFault.TheVariants.{Memory};
 
 use crate::{DebugFault, Debugger};
@@ -72,7 +72,8 @@ fn put_digits(
     key: &str,
     text: String,
 ) -> Result<(), AllocError>
-    ensures { OnOk result (members_view members.new.entries ≡ with_member key.now (string (string_bytes text)) (members_view members.old.entries)) }
+    ensures { OnOk result (members_view members.new.entries
+        ≡ with_member key.now (string (string_bytes text)) (members_view members.old.entries)) }
 {
     put(members, alloc, key, Value::String(text))
 }
@@ -84,7 +85,8 @@ fn put_truth(
     key: &str,
     is_set: bool,
 ) -> Result<(), AllocError>
-    ensures { OnOk result (members_view members.new.entries ≡ with_member key.now (boolean is_set) (members_view members.old.entries)) }
+    ensures { OnOk result (members_view members.new.entries
+        ≡ with_member key.now (boolean is_set) (members_view members.old.entries)) }
 {
     put(members, alloc, key, Value::Bool(is_set))
 }

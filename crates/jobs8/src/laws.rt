@@ -16,44 +16,57 @@ use os8_files::laws::{block_reads, counted_holds, file_places};
 /// The number that a new job gets is the lowest that no job has, and there is none where each number has a job. The job that
 /// FINISH gives a turn is that of the lowest number that has one, and there is none where no number has a job.
 pub fn job_numbers()
-    ensures free { (jobs : List (Option Job)) (number : ℕ) → least_free jobs ≡ Some number → IsLowest (IsFree jobs) (length jobs) number }
-    ensures full { (jobs : List (Option Job)) → least_free jobs ≡ None → IsOfNone (IsFree jobs) (length jobs) }
-    ensures lowest { (jobs : List (Option Job)) (number : ℕ) → lowest_job jobs ≡ Some number → IsLowest (IsTaken jobs) (length jobs) number }
-    ensures none { (jobs : List (Option Job)) → lowest_job jobs ≡ None → IsOfNone (IsTaken jobs) (length jobs) }
+    ensures free { (jobs : List (Option Job)) (number : ℕ) → least_free jobs ≡ Some number
+        → IsLowest (IsFree jobs) (length jobs) number }
+    ensures full { (jobs : List (Option Job)) → least_free jobs ≡ None
+        → IsOfNone (IsFree jobs) (length jobs) }
+    ensures lowest { (jobs : List (Option Job)) (number : ℕ) → lowest_job jobs ≡ Some number
+        → IsLowest (IsTaken jobs) (length jobs) number }
+    ensures none { (jobs : List (Option Job)) → lowest_job jobs ≡ None
+        → IsOfNone (IsTaken jobs) (length jobs) }
 {}
 
 /// Where a job is put, or taken away, its number has it or no job, and no other number is changed.
 pub fn job_put()
-    ensures it { (jobs : List (Option Job)) (number : ℕ) (job : Option Job) → 1 ≤ number → number ≤ length jobs → job_of number (with_job number job jobs) ≡ job }
-    ensures others { (jobs : List (Option Job)) (number other : ℕ) (job : Option Job) → number ≢ other → job_of other (with_job number job jobs) ≡ job_of other jobs }
+    ensures it { (jobs : List (Option Job)) (number : ℕ) (job : Option Job) → 1 ≤ number
+        → number ≤ length jobs → job_of number (with_job number job jobs) ≡ job }
+    ensures others { (jobs : List (Option Job)) (number other : ℕ) (job : Option Job) → number ≢ other
+        → job_of other (with_job number job jobs) ≡ job_of other jobs }
 {}
 
 /// What stands between entries stays behind calls that keep the holds, and by which no more files have a free block below them;
 /// and where the jobs are told that the directory has changed, behind all calls that keep the holds.
 pub fn settled_calls()
-    ensures kept { (old new : Mounted) (jobs : List (Option kept.Job)) → IsSettled old jobs → KeepsHolds old new → new.tentative ≡ None → (new.stopped ≡ false → above_of new.blocks ≤ above_of old.blocks) → IsSettled new jobs }
-    ensures disturbed { (old new : Mounted) (jobs : List (Option kept.Job)) → IsSettled old jobs → KeepsHolds old new → new.tentative ≡ None → IsSettled new (settled.disturbed jobs) }
+    ensures kept { (old new : Mounted) (jobs : List (Option kept.Job)) → IsSettled old jobs
+        → KeepsHolds old new → new.tentative ≡ None
+        → (new.stopped ≡ false → above_of new.blocks ≤ above_of old.blocks) → IsSettled new jobs }
+    ensures disturbed { (old new : Mounted) (jobs : List (Option kept.Job)) → IsSettled old jobs
+        → KeepsHolds old new → new.tentative ≡ None → IsSettled new (settled.disturbed jobs) }
 {
     counted_holds();
 }
 
 /// Between entries a name is held just where a job holds it.
 pub fn held_names()
-    ensures { (volume : Mounted) (jobs : List (Option kept.Job)) (name : ℕ) → IsSettled volume jobs → contains volume.holds name ≡ contains (held_by (plain_jobs jobs)) name }
+    ensures { (volume : Mounted) (jobs : List (Option kept.Job)) (name : ℕ) → IsSettled volume jobs
+        → contains volume.holds name ≡ contains (held_by (plain_jobs jobs)) name }
 {
     counted_holds();
 }
 
 /// The jobs that are told of a change are those of the system machine that it has disturbed.
 pub fn disturbed_jobs()
-    ensures { (jobs : List (Option kept.Job)) → plain_jobs (settled.disturbed jobs) ≡ disturbed (plain_jobs jobs) }
+    ensures { (jobs : List (Option kept.Job)) → plain_jobs (settled.disturbed jobs)
+        ≡ disturbed (plain_jobs jobs) }
 {}
 
 /// A turn of a job that assembles or loads reads one block of the store at most; only one that squeezes changes the place of a
 /// file that it doesn't put, and of one file at most.
 pub fn job_calls()
-    ensures reads { (old new : Mounted) (it : Work) (left : ℕ) → WorkCalls it left old new → ReadsFew (work_of it) old new }
-    ensures places { (old new : Mounted) (it : Work) (left : ℕ) → WorkCalls it left old new → MovesFew (work_of it) old new }
+    ensures reads { (old new : Mounted) (it : Work) (left : ℕ) → WorkCalls it left old new
+        → ReadsFew (work_of it) old new }
+    ensures places { (old new : Mounted) (it : Work) (left : ℕ) → WorkCalls it left old new
+        → MovesFew (work_of it) old new }
 {
     block_reads();
     file_places();

@@ -68,9 +68,12 @@ impl Loading {
     ) -> Result<(), JobFault>
         requires running { files.old.stopped ≡ false }
         requires more { 2 ≤ left }
-        requires there { (words : List ℕ) × HasWords (files_of files.old.blocks) self.old.hold words × IsLoading words self.old left }
+        requires there { (words : List ℕ) × HasWords (files_of files.old.blocks) self.old.hold words
+            × IsLoading words self.old left }
         requires range { (self.old.offset ≤ 384) × (self.old.done + left ≤ 18446744073709551615) }
-        ensures turn { (words : List ℕ) → HasWords (files_of files.old.blocks) self.old.hold words → IsLoading words self.old left → LoadsOn words files.old self.old left result files.new self.new }
+        ensures turn { (words : List ℕ) → HasWords (files_of files.old.blocks) self.old.hold words
+            → IsLoading words self.old left
+            → LoadsOn words files.old self.old left result files.new self.new }
         ensures same { (self.new.hold ≡ self.old.hold) × (self.new.offset ≤ 384) }
         ensures done { self.new.done ≤ self.old.done + 1 }
         ensures memory { IsErrOf result fault.Memory → self.new.done ≡ self.old.done }
@@ -118,7 +121,9 @@ impl Loading {
         requires block { length block.now ≡ 256 }
         requires offset { self.old.offset ≤ 384 }
         requires done { self.old.done < 18446744073709551615 }
-        ensures block { (words : List ℕ) (left : ℕ) → IsLoading words self.old left → block.now ≡ block_at self.old.done words → 2 ≤ left → last ≡ nat_eq left 2 → ReadsBlock words self.old left result self.new }
+        ensures block { (words : List ℕ) (left : ℕ) → IsLoading words self.old left
+            → block.now ≡ block_at self.old.done words → 2 ≤ left → last ≡ nat_eq left 2
+            → ReadsBlock words self.old left result self.new }
         ensures same { (self.new.hold ≡ self.old.hold) × (self.new.offset ≤ 384) }
         ensures done { self.new.done ≤ self.old.done + 1 }
         ensures memory { IsErrOf result fault.Memory → self.new.done ≡ self.old.done }
@@ -161,7 +166,8 @@ pub(crate) fn loading_turn<S: BlockStore>(
     job: Loading,
     left: usize,
 ) -> (Result<Turned, JobFault>, Option<Job>)
-    requires there { files.old.stopped ≡ false → (words : List ℕ) × HasWords (files_of files.old.blocks) job.hold words × IsLoading words job left }
+    requires there { files.old.stopped ≡ false → (words : List ℕ)
+        × HasWords (files_of files.old.blocks) job.hold words × IsLoading words job left }
     requires fits { LoadingFits job left }
     ensures { TurnsLoading files.old core.old job left result.0 result.1 files.new core.new }
 {
@@ -203,7 +209,8 @@ pub(crate) fn loading_turn<S: BlockStore>(
 fn take_frames(loader: &mut Loader, block: &[Word], offset: &mut usize) -> Result<(), TapeFault>
     requires block { length block.now ≡ 256 }
     requires offset { offset.old ≤ 384 }
-    ensures takes { (before : List ℕ) → HasTaken loader.old (before ++ take offset.old (frames block.now)) → TakesFrames before block.now result loader.new offset.new }
+    ensures takes { (before : List ℕ) → HasTaken loader.old (before ++ take offset.old (frames block.now))
+        → TakesFrames before block.now result loader.new offset.new }
     ensures range { offset.new ≤ 384 }
 {
     while *offset < BLOCK_FRAMES {

@@ -57,7 +57,8 @@ fn hold_next<S: BlockStore>(
     requires inside { place < length places.old }
     requires free { get_or places.old place None ≡ None }
     ensures next { TakesNext (files_of files.old.blocks) name places.old place blocks.old.items result places.new blocks.new.items }
-    ensures held { (first : Mounted) → HasHeld first places.old files.old → HasHeld first places.new files.new }
+    ensures held { (first : Mounted) → HasHeld first places.old files.old
+        → HasHeld first places.new files.new }
     ensures size { length places.new ≡ length places.old }
 {
     counted_holds();
@@ -125,7 +126,8 @@ fn let_none_go(hold: Option<Hold>)
 
 fn release_each<S: BlockStore>(files: &mut FileService<S>, places: &mut [Option<Hold>])
     ensures files { files.new ≡ record files.old { holds = without_holds places.old files.old.holds } }
-    ensures none { (place : ℕ) (hold : Option ℕ) → place < length places.old → get_or places.new place hold ≡ None }
+    ensures none { (place : ℕ) (hold : Option ℕ) → place < length places.old
+        → get_or places.new place hold ≡ None }
 {
     for place in 0..places.len() {
         release_at(files, places, place);

@@ -20,7 +20,8 @@ pub(crate) fn squeezing_turn<S: BlockStore>(
     left: usize,
 ) -> (Result<Turned, JobFault>, Option<Job>)
     requires { 1 ≤ left }
-    ensures { (call : Result token.Squeezed fault.FileFault) × Squeezes files.old call files.new × SqueezeTurns clean left call result.0 result.1 }
+    ensures { (call : Result token.Squeezed fault.FileFault) × Squeezes files.old call files.new
+        × SqueezeTurns clean left call result.0 result.1 }
 {
     match files.squeeze_turn(alloc) {
         Ok(Squeezed::Moved(_)) => {

@@ -42,7 +42,8 @@ impl Jobs {
     /// No job.
     pub fn new() -> Jobs
         ensures none { settled.plain_jobs result ≡ plain.no_jobs }
-        ensures settled { (volume : Mounted) → volume.tentative ≡ None → volume.holds ≡ [] → IsSettled volume result }
+        ensures settled { (volume : Mounted) → volume.tentative ≡ None → volume.holds ≡ []
+            → IsSettled volume result }
     {
         Jobs {
             places: [None, None, None, None, None, None, None, None],
@@ -189,7 +190,8 @@ fn let_none_go(job: Option<Job>)
 
 fn let_all_go<S: BlockStore>(files: &mut FileService<S>, places: &mut [Option<Job>])
     ensures files { files.new ≡ record files.old { holds = without_jobs places.old files.old.holds } }
-    ensures none { (place : ℕ) (job : Option job.Job) → place < length places.old → get_or places.new place job ≡ None }
+    ensures none { (place : ℕ) (job : Option job.Job) → place < length places.old
+        → get_or places.new place job ≡ None }
 {
     for place in 0..places.len() {
         let job = take_at(places, place);

@@ -5,7 +5,7 @@ use Rattle.bin_tape.specs.Items.{Item, tape_map}
 
 -- the line of a cell with its word: field, address and word in octal
 abbrev pub cell_line : ℕ → ℕ → List ℕ
-cell_line cell word = octal_digit (cell / 4096) ∷ 32 ∷ octal4 (cell % 4096) ++ 32 ∷ octal4 word ++ 10 ∷ []
+cell_line cell word = octal_digit (cell / 0o10000) ∷ 0o40 ∷ octal4 (cell % 0o10000) ++ 0o40 ∷ octal4 word ++ 0o12 ∷ []
 
 -- the line of a cell that a tape gives a word
 abbrev pub line_of : Option ℕ → ℕ → List ℕ

@@ -13,7 +13,7 @@ use Rattle.script8.specs.declared.faults.SessionFault.TheVariants.{Tape, Reader,
 pub record IsListed (frames text : List ℕ) : Type 0 where
   pub items : List Item
   pub is_tape : IsTape frames items
-  pub lines : text ≡ lines_below items 32768
+  pub lines : text ≡ lines_below items 0o100000
 
 -- What listing a reader's tape comes to: its lines are written and nothing else; on a fault of the tape, of the reader
 -- or of memory nothing is written.

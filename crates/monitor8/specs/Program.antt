@@ -36,4 +36,4 @@ program_text (line.Directory fault) = directory_text fault
 
 -- a line of the program
 abbrev pub program_line : ProgramLine → List ℕ
-program_line line = program_text line ++ 10 ∷ []
+program_line line = program_text line ++ 0o12 ∷ []

@@ -6,7 +6,7 @@ use Rattle.std.proofs.Math.Dec.{leb-zero, leb-suc-zero, leb-suc-suc}
 use Rattle.std.specs.Prelude.{if◌then◌else◌, nat_le}
 use Rattle.word12.specs.Sixbit.{sixbit_code}
 use Rattle.os8_dir.specs.Names.{name_of, before_dot, after_dot, with_code, codes_of, codes_within, padded, paired, spelled, extension_codes, parsed_name}
-use Rattle.os8_dir.specs.Packed.{digits, packed, extension_from, with_digit, packed_codes, joined_name}
+use Rattle.os8_dir.specs.PackSteps.{digits, packed, extension_from, with_digit, packed_codes, joined_name}
 
 -- the text before the dot
 pub take-before_dot : (text : List ℕ) → take (length (before_dot text)) text ≡ before_dot text

@@ -1,5 +1,5 @@
 pub mod Names
-pub mod Packed
+pub mod PackSteps
 pub mod Entries
 pub mod Reading
 pub mod Reads

@@ -4,16 +4,16 @@ use Rattle.word12.specs.Sixbit.{sixbit_code}
 
 -- a name's four words as one number, whose order is that of the words
 abbrev pub name_of : List ℕ → ℕ
-name_of (a ∷ b ∷ c ∷ d ∷ []) = ((a * 4096 + b) * 4096 + c) * 4096 + d
+name_of (a ∷ b ∷ c ∷ d ∷ []) = ((a * 0o10000 + b) * 0o10000 + c) * 0o10000 + d
 name_of words = 0
 
 -- the four words of a name
 abbrev pub words_of_name : ℕ → List ℕ
-words_of_name n = n / 68719476736 ∷ n / 16777216 % 4096 ∷ n / 4096 % 4096 ∷ n % 4096 ∷ []
+words_of_name n = n / 0o1000000000000 ∷ n / 0o100000000 % 0o10000 ∷ n / 0o10000 % 0o10000 ∷ n % 0o10000 ∷ []
 
 -- four words of twelve bits
 abbrev pub IsFourWords : List ℕ → Type 0
-IsFourWords (a ∷ b ∷ c ∷ d ∷ []) = (a < 4096) × (b < 4096) × (c < 4096) × (d < 4096)
+IsFourWords (a ∷ b ∷ c ∷ d ∷ []) = (a < 0o10000) × (b < 0o10000) × (c < 0o10000) × (d < 0o10000)
 IsFourWords words = ⊥
 
 -- the first words that differ are in order
@@ -25,12 +25,12 @@ IsBefore (x ∷ xs) (y ∷ ys) = (x < y) ⊎ ((x ≡ y) × IsBefore xs ys)
 -- the characters before the first dot
 abbrev pub before_dot : List ℕ → List ℕ
 before_dot [] = []
-before_dot (c ∷ cs) = if c == 46 then [] else c ∷ before_dot cs
+before_dot (c ∷ cs) = if c == 0o56 then [] else c ∷ before_dot cs
 
 -- the characters behind the first dot, where there is one
 abbrev pub after_dot : List ℕ → Option (List ℕ)
 after_dot [] = None
-after_dot (c ∷ cs) = if c == 46 then Some cs else after_dot cs
+after_dot (c ∷ cs) = if c == 0o56 then Some cs else after_dot cs
 
 -- one more code
 abbrev pub with_code : Option ℕ → Option (List ℕ) → Option (List ℕ)
@@ -55,7 +55,7 @@ padded (suc size) (code ∷ codes) = code ∷ padded size codes
 
 -- words of two codes each, the first code in the high six bits
 abbrev pub paired : List ℕ → List ℕ
-paired (high ∷ low ∷ codes) = (64 * high + low) ∷ paired codes
+paired (high ∷ low ∷ codes) = (0o100 * high + low) ∷ paired codes
 paired (high ∷ []) = []
 paired [] = []
 

@@ -93,7 +93,8 @@ fn with_file(
 ) -> Result<Vec<DirEntry>, DirFault>
     requires inside { first + total entries.now ≤ 4095 }
     requires near { from + size_of file.now ≤ 4095 }
-    ensures list { IfOk result (λ kept. kept.items ≡ tidy (put first from file.now (emptied_of name entries.now))) }
+    ensures list { IfOk result (λ kept. kept.items
+        ≡ tidy (put first from file.now (emptied_of name entries.now))) }
     ensures err { IfErr result (λ fault. fault ≡ Memory) }
 {
     let mut kept = Vec::new(alloc);
@@ -166,7 +167,8 @@ impl Directory {
         requires named { IsNamed name.now }
         requires some { 0 < length }
         requires room { LieIn first_block length (rooms_at self.now.first self.now.entries) }
-        ensures list { IfOk result (λ d. d ≡ relisted self.now (placed_of self.now.first (new_file self.now name.now info.now first_block length) self.now.entries)) }
+        ensures list { IfOk result (λ d. d
+            ≡ relisted self.now (placed_of self.now.first (new_file self.now name.now info.now first_block length) self.now.entries)) }
         ensures err { IfErr result (λ fault. fault ≡ Memory) }
     {
         let first = self.first_block();

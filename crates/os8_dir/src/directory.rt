@@ -65,7 +65,8 @@ impl Directory {
     /// How many covered blocks belong to no file (this project's profile).
     pub fn free(&self) -> usize
         ensures empties { result ≡ free_blocks self.now.entries }
-        ensures files { result + used_blocks (files_at self.now.first self.now.entries) ≡ capacity_of self.now }
+        ensures files { result + used_blocks (files_at self.now.first self.now.entries)
+            ≡ capacity_of self.now }
     {
         free_blocks(self.entries.as_slice())
     }

@@ -61,7 +61,7 @@ impl Draft {
     /// Adds an entry behind the others. Where there is no memory for it, no entry is left.
     fn add(&mut self, volume: usize, entry: DirEntry) -> Result<(), DirFault>
         requires most { volume ≤ 4095 }
-        requires small { size_of entry < 4096 }
+        requires small { size_of entry < 0o10000 }
         ensures reading { Leaves result self.new (with_entry volume self.old entry) }
     {
         let length = entry.length();

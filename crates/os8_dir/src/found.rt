@@ -111,7 +111,9 @@ fn is_gap(low: &DirEntry, high: &DirEntry, name: Name) -> bool
 pub fn gap_place(entries: &[DirEntry], name: Name) -> usize
     requires { 0 < gap_below name entries.now }
     ensures range { result + 2 ≤ length entries.now }
-    ensures list { swapped name entries.now ≡ take result entries.now ++ (take 1 (drop 1 (drop result entries.now)) ++ (take 1 (drop result entries.now) ++ drop 1 (drop 1 (drop result entries.now)))) }
+    ensures list { swapped name entries.now ≡ take result entries.now
+        ++ (take 1 (drop 1 (drop result entries.now))
+        ++ (take 1 (drop result entries.now) ++ drop 1 (drop 1 (drop result entries.now)))) }
 {
     let pairs = entries.len().saturating_sub(1);
     for place in 0..pairs {

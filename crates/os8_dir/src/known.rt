@@ -8,7 +8,8 @@ use std::collections::BTreeSet;
 /// Adds the name of a file that has blocks to those known, and says whether it is new.
 pub fn add_name(names: &mut BTreeSet<u64>, entry: &DirEntry) -> Result<bool, DirFault>
     ensures new { IfOk result (λ new. new ≡ is_new_to (has_key names.old) entry.now) }
-    ensures names { IfOk result (λ new. (q : ℕ) → has_key names.new q ≡ (has_key names.old q || is_named q entry.now)) }
+    ensures names { IfOk result (λ new. (q : ℕ) → has_key names.new q
+        ≡ (has_key names.old q || is_named q entry.now)) }
     ensures err { IfErr result (λ fault. fault ≡ Memory) }
     ensures kept { OnErr result ((q : ℕ) → has_key names.new q ≡ has_key names.old q) }
 {

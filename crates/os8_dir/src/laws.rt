@@ -16,7 +16,8 @@ ghost use Rattle.os8_dir.specs.declared.entries.DirEntry.{DirEntry};
 /// A volume is sound or has a first fault, and never both.
 pub fn sound_or_fault()
     ensures either { (blocks : List (List ℕ)) → Sound blocks ⊎ ((fault : DirFault) × HasFault blocks fault) }
-    ensures not_both { (blocks : List (List ℕ)) (fault : DirFault) → Sound blocks → HasFault blocks fault → ⊥ }
+    ensures not_both { (blocks : List (List ℕ)) (fault : DirFault) → Sound blocks → HasFault blocks fault
+        → ⊥ }
 {}
 
 /// A volume's first fault is one of its words, not one of the device or of memory.
@@ -28,68 +29,88 @@ pub fn faults_of_words()
 /// do not overlap, no entry has length 0, no empties touch, and its
 /// entries can be written.
 pub fn sound_directory()
-    ensures { (blocks : List (List ℕ)) (d : Listed) → directory_of blocks ≡ Ok d → IsDirectory (length blocks) d }
+    ensures { (blocks : List (List ℕ)) (d : Listed) → directory_of blocks ≡ Ok d
+        → IsDirectory (length blocks) d }
 {}
 
 /// A volume whose blocks 1, 2 and so on hold the segments of a directory is read as that directory, where six segments
 /// take its entries.
 pub fn read_back()
-    ensures { (blocks : List (List ℕ)) (d : Listed) → IsDirectory (length blocks) d → length blocks ≤ 4095 → length d.entries ≤ limit d → HoldsSegments blocks d → directory_of blocks ≡ Ok d }
+    ensures { (blocks : List (List ℕ)) (d : Listed) → IsDirectory (length blocks) d → length blocks ≤ 4095
+        → length d.entries ≤ limit d → HoldsSegments blocks d → directory_of blocks ≡ Ok d }
 {}
 
 /// A volume is read as a directory by its number of blocks and blocks 1 to 6 alone.
 pub fn directory_blocks()
-    ensures { (old new : List (List ℕ)) → length new ≡ length old → ((k : ℕ) → k < 7 → block new k ≡ block old k) → directory_of new ≡ directory_of old }
+    ensures { (old new : List (List ℕ)) → length new ≡ length old
+        → ((k : ℕ) → k < 7 → block new k ≡ block old k) → directory_of new ≡ directory_of old }
 {}
 
 /// The map of a sound volume's files has, for each name, what the blocks hold of the file that is found under it.
 pub fn files_found()
-    ensures { (blocks : List (List ℕ)) (d : Listed) (name : ℕ) → directory_of blocks ≡ Ok d → get (files_of blocks) name ≡ held_of blocks d.info (find name (files_at d.first d.entries)) }
+    ensures { (blocks : List (List ℕ)) (d : Listed) (name : ℕ) → directory_of blocks ≡ Ok d
+        → get (files_of blocks) name ≡ held_of blocks d.info (find name (files_at d.first d.entries)) }
 {}
 
 /// The map of a sound volume's files is made of the files of its directory with what the blocks hold of each.
 pub fn files_made()
-    ensures { (blocks : List (List ℕ)) (d : Listed) → directory_of blocks ≡ Ok d → files_of blocks ≡ from_entries (held_by blocks d.info (files_at d.first d.entries)) }
+    ensures { (blocks : List (List ℕ)) (d : Listed) → directory_of blocks ≡ Ok d
+        → files_of blocks ≡ from_entries (held_by blocks d.info (files_at d.first d.entries)) }
 {}
 
 /// Of two names, the one whose first differing word is less comes first.
 pub fn name_order()
-    ensures { (name other : List ℕ) → IsFourWords name → IsFourWords other → IsBefore name other → name_of name < name_of other }
+    ensures { (name other : List ℕ) → IsFourWords name → IsFourWords other → IsBefore name other
+        → name_of name < name_of other }
 {}
 
 /// How many blocks a sound volume's directory covers, how many entries it may have, and how many of its files have an
 /// empty below them, are those of what the volume is read as.
 pub fn directory_numbers()
-    ensures capacity { (blocks : List (List ℕ)) (d : Listed) → directory_of blocks ≡ Ok d → capacity_of blocks ≡ capacity d }
-    ensures limit { (blocks : List (List ℕ)) (d : Listed) → directory_of blocks ≡ Ok d → limit_of blocks ≡ limit d }
-    ensures above { (blocks : List (List ℕ)) (d : Listed) → directory_of blocks ≡ Ok d → above_of blocks ≡ above d.entries }
+    ensures capacity { (blocks : List (List ℕ)) (d : Listed) → directory_of blocks ≡ Ok d
+        → capacity_of blocks ≡ capacity d }
+    ensures limit { (blocks : List (List ℕ)) (d : Listed) → directory_of blocks ≡ Ok d
+        → limit_of blocks ≡ limit d }
+    ensures above { (blocks : List (List ℕ)) (d : Listed) → directory_of blocks ≡ Ok d
+        → above_of blocks ≡ above d.entries }
 {}
 
 /// An empty volume is sound and has no files, and all its blocks but the first seven are covered and free.
 pub fn new_volumes()
     ensures sound { (count : ℕ) (blocks : List (List ℕ)) → IsNewVolume count blocks → Sound blocks }
-    ensures files { (count : ℕ) (blocks : List (List ℕ)) → IsNewVolume count blocks → files_of blocks ≡ from_entries [] }
-    ensures free { (count : ℕ) (blocks : List (List ℕ)) → IsNewVolume count blocks → capacity_of blocks ≡ count - 7 }
+    ensures files { (count : ℕ) (blocks : List (List ℕ)) → IsNewVolume count blocks
+        → files_of blocks ≡ from_entries [] }
+    ensures free { (count : ℕ) (blocks : List (List ℕ)) → IsNewVolume count blocks
+        → capacity_of blocks ≡ count - 7 }
 {}
 
 /// A volume that is not sound has no files, and none has an empty below it.
 pub fn unsound_volumes()
-    ensures files { (blocks : List (List ℕ)) (fault : DirFault) → HasFault blocks fault → files_of blocks ≡ from_entries [] }
-    ensures above { (blocks : List (List ℕ)) (fault : DirFault) → HasFault blocks fault → above_of blocks ≡ 0 }
+    ensures files { (blocks : List (List ℕ)) (fault : DirFault) → HasFault blocks fault
+        → files_of blocks ≡ from_entries [] }
+    ensures above { (blocks : List (List ℕ)) (fault : DirFault) → HasFault blocks fault
+        → above_of blocks ≡ 0 }
 {}
 
 /// A file that is found has its name and some blocks, and lies inside its directory's volume; two files do not overlap.
 pub fn files_inside()
-    ensures inside { (volume name : ℕ) (d : Listed) (f : Placed) → IsDirectory volume d → find name (files_at d.first d.entries) ≡ Some f → (f.name ≡ name) × (d.first ≤ f.place) × (0 < f.size) × (f.place + f.size ≤ volume) }
-    ensures apart { (volume name other : ℕ) (d : Listed) (f g : Placed) → IsDirectory volume d → name ≢ other → find name (files_at d.first d.entries) ≡ Some f → find other (files_at d.first d.entries) ≡ Some g → (f.place + f.size ≤ g.place) ⊎ (g.place + g.size ≤ f.place) }
+    ensures inside { (volume name : ℕ) (d : Listed) (f : Placed) → IsDirectory volume d
+        → find name (files_at d.first d.entries) ≡ Some f
+        → (f.name ≡ name) × (d.first ≤ f.place) × (0 < f.size) × (f.place + f.size ≤ volume) }
+    ensures apart { (volume name other : ℕ) (d : Listed) (f g : Placed) → IsDirectory volume d → name ≢ other
+        → find name (files_at d.first d.entries) ≡ Some f → find other (files_at d.first d.entries) ≡ Some g
+        → (f.place + f.size ≤ g.place) ⊎ (g.place + g.size ≤ f.place) }
 {}
 
 /// Without a file a directory is one of the same volume that covers as many blocks and has no more entries. The file is
 /// gone, and the others are found as before.
 pub fn file_removed()
-    ensures directory { (volume name : ℕ) (d : Listed) → IsDirectory volume d → IsDirectory volume (relisted d (removed name d.entries)) }
-    ensures gone { (name first : ℕ) (es : List DirEntry) → find name (files_at first (removed name es)) ≡ None }
-    ensures others { (name other first : ℕ) (es : List DirEntry) → name ≢ other → find other (files_at first (removed name es)) ≡ find other (files_at first es) }
+    ensures directory { (volume name : ℕ) (d : Listed) → IsDirectory volume d
+        → IsDirectory volume (relisted d (removed name d.entries)) }
+    ensures gone { (name first : ℕ) (es : List DirEntry)
+        → find name (files_at first (removed name es)) ≡ None }
+    ensures others { (name other first : ℕ) (es : List DirEntry) → name ≢ other
+        → find other (files_at first (removed name es)) ≡ find other (files_at first es) }
     ensures covered { (name : ℕ) (es : List DirEntry) → total (removed name es) ≡ total es }
     ensures entries { (name : ℕ) (es : List DirEntry) → length (removed name es) ≤ length es }
 {}
@@ -99,22 +120,37 @@ pub fn file_removed()
 /// the beginning of an empty, there is at most one entry more; and where besides its name is new, and no file had an
 /// empty below it, then none has.
 pub fn file_placed()
-    ensures directory { (volume name place size : ℕ) (words : List ℕ) (d : Listed) → IsDirectory volume d → IsNamed name → 0 < size → IsDirectory volume (relisted d (placed d.first (new_file d name words place size) d.entries)) }
-    ensures there { (first : ℕ) (f : Placed) (es : List DirEntry) → 0 < f.size → LieIn f.place f.size (rooms_at first es) → find f.name (files_at first (placed first f es)) ≡ Some f }
-    ensures info { (name place size : ℕ) (words : List ℕ) (d : Listed) → d.info ≤ 10 → take d.info (new_file d name words place size).info ≡ padded d.info words }
-    ensures others { (other first : ℕ) (f : Placed) (es : List DirEntry) → f.name ≢ other → find other (files_at first (placed first f es)) ≡ find other (files_at first es) }
+    ensures directory { (volume name place size : ℕ) (words : List ℕ) (d : Listed) → IsDirectory volume d
+        → IsNamed name → 0 < size → IsDirectory volume (relisted d (placed d.first (new_file d name words place size) d.entries)) }
+    ensures there { (first : ℕ) (f : Placed) (es : List DirEntry) → 0 < f.size
+        → LieIn f.place f.size (rooms_at first es) → find f.name (files_at first (placed first f es))
+        ≡ Some f }
+    ensures info { (name place size : ℕ) (words : List ℕ) (d : Listed) → d.info ≤ 10
+        → take d.info (new_file d name words place size).info ≡ padded d.info words }
+    ensures others { (other first : ℕ) (f : Placed) (es : List DirEntry) → f.name ≢ other
+        → find other (files_at first (placed first f es)) ≡ find other (files_at first es) }
     ensures covered { (first : ℕ) (f : Placed) (es : List DirEntry) → total (placed first f es) ≡ total es }
-    ensures entries { (first size : ℕ) (f : Placed) (es : List DirEntry) → 0 < f.size → f.size ≤ size → IsRoom f.place size (rooms_at first es) → length (placed first f es) ≤ length es + 1 }
-    ensures tight { (first size : ℕ) (f : Placed) (es : List DirEntry) → IsTidy es → IsTight es → find f.name (files_at first es) ≡ None → 0 < f.size → f.size ≤ size → IsRoom f.place size (rooms_at first es) → IsTight (placed first f es) }
+    ensures entries { (first size : ℕ) (f : Placed) (es : List DirEntry) → 0 < f.size → f.size ≤ size
+        → IsRoom f.place size (rooms_at first es) → length (placed first f es) ≤ length es + 1 }
+    ensures tight { (first size : ℕ) (f : Placed) (es : List DirEntry) → IsTidy es → IsTight es
+        → find f.name (files_at first es) ≡ None → 0 < f.size → f.size ≤ size
+        → IsRoom f.place size (rooms_at first es) → IsTight (placed first f es) }
 {}
 
 /// With a file moved down a directory is one of the same volume that covers as many blocks and has no more entries. The
 /// file was found directly above an empty, and is found so much lower, and the others are found as before.
 pub fn file_moved_down()
-    ensures directory { (volume name : ℕ) (d : Listed) → IsDirectory volume d → IsDirectory volume (relisted d (moved_down name d.entries)) }
-    ensures found { (volume name : ℕ) (d : Listed) → IsDirectory volume d → 0 < gap_below name d.entries → (f : Placed) × ((find name (files_at d.first d.entries) ≡ Some f) × (gap_below name d.entries ≤ f.place) × IsRoom (f.place - gap_below name d.entries) (gap_below name d.entries) (rooms_at d.first d.entries)) }
-    ensures there { (volume name : ℕ) (d : Listed) → IsDirectory volume d → 0 < gap_below name d.entries → find name (files_at d.first (moved_down name d.entries)) ≡ lowered (gap_below name d.entries) (find name (files_at d.first d.entries)) }
-    ensures others { (name other first : ℕ) (es : List DirEntry) → name ≢ other → find other (files_at first (moved_down name es)) ≡ find other (files_at first es) }
+    ensures directory { (volume name : ℕ) (d : Listed) → IsDirectory volume d
+        → IsDirectory volume (relisted d (moved_down name d.entries)) }
+    ensures found { (volume name : ℕ) (d : Listed) → IsDirectory volume d → 0 < gap_below name d.entries
+        → (f : Placed) × ((find name (files_at d.first d.entries) ≡ Some f)
+        × (gap_below name d.entries ≤ f.place)
+        × IsRoom (f.place - gap_below name d.entries) (gap_below name d.entries) (rooms_at d.first d.entries)) }
+    ensures there { (volume name : ℕ) (d : Listed) → IsDirectory volume d → 0 < gap_below name d.entries
+        → find name (files_at d.first (moved_down name d.entries))
+        ≡ lowered (gap_below name d.entries) (find name (files_at d.first d.entries)) }
+    ensures others { (name other first : ℕ) (es : List DirEntry) → name ≢ other
+        → find other (files_at first (moved_down name es)) ≡ find other (files_at first es) }
     ensures covered { (name : ℕ) (es : List DirEntry) → total (moved_down name es) ≡ total es }
     ensures entries { (name : ℕ) (es : List DirEntry) → length (moved_down name es) ≤ length es }
 {}
@@ -124,33 +160,49 @@ pub fn file_moved_down()
 /// covered block of no file below them.
 pub fn lowest_file()
     ensures none { (es : List DirEntry) → IsTidy es → (lowest_above es ≡ None) ↔ (above es ≡ 0) }
-    ensures gap { (es : List DirEntry) (name gap : ℕ) → IsTidy es → lowest_above es ≡ Some (name, gap) → (0 < gap) × (gap_below name es ≡ gap) }
-    ensures fewer { (es : List DirEntry) (name gap : ℕ) → IsTidy es → lowest_above es ≡ Some (name, gap) → above (moved_down name es) + 1 ≡ above es }
-    ensures first { (es : List DirEntry) (name gap : ℕ) → IsTidy es → lowest_above es ≡ Some (name, gap) → IsLowestAbove es name gap }
+    ensures gap { (es : List DirEntry) (name gap : ℕ) → IsTidy es → lowest_above es ≡ Some (name, gap)
+        → (0 < gap) × (gap_below name es ≡ gap) }
+    ensures fewer { (es : List DirEntry) (name gap : ℕ) → IsTidy es → lowest_above es ≡ Some (name, gap)
+        → above (moved_down name es) + 1 ≡ above es }
+    ensures first { (es : List DirEntry) (name gap : ℕ) → IsTidy es → lowest_above es ≡ Some (name, gap)
+        → IsLowestAbove es name gap }
     ensures count { (first : ℕ) (es : List DirEntry) → IsTidy es → IsCountAbove first es (above es) }
 {}
 
 /// The room for a wish is an empty that has so many blocks, and there is one where any empty has: the smallest of those, or
 /// for a wish of 0 the largest, of equals the first. Blocks that lie in an empty are no file's.
 pub fn rooms()
-    ensures fitting { (wish from size : ℕ) (rooms : List (ℕ × ℕ)) → fitting wish rooms ≡ Some (from, size) → IsRoom from size rooms × (wish ≤ size) }
-    ensures smallest { (wish : ℕ) (rooms : List (ℕ × ℕ)) (room : ℕ × ℕ) → 0 < wish → fitting wish rooms ≡ Some room → IsFirstSmallest wish rooms room }
-    ensures largest { (rooms : List (ℕ × ℕ)) (room : ℕ × ℕ) → largest rooms ≡ Some room → IsFirstLargest rooms room }
-    ensures no_wish { (rooms : List (ℕ × ℕ)) (room : ℕ × ℕ) → fitting 0 rooms ≡ Some room → IsFirstLargest rooms room }
-    ensures none { (wish : ℕ) (rooms : List (ℕ × ℕ)) → fitting wish rooms ≡ None → (from size : ℕ) → IsRoom from size rooms → wish ≤ size → ⊥ }
-    ensures short { (wish : ℕ) (rooms : List (ℕ × ℕ)) → 0 < wish → fitting wish rooms ≡ None → size_or_zero (largest rooms) < wish }
-    ensures lie { (place size from count : ℕ) (rooms : List (ℕ × ℕ)) → IsRoom place size rooms → place ≤ from → from + count ≤ place + size → LieIn from count rooms }
-    ensures outside { (from count name first : ℕ) (es : List DirEntry) (f : Placed) → LieIn from count (rooms_at first es) → find name (files_at first es) ≡ Some f → (f.place + f.size ≤ from) ⊎ (from + count ≤ f.place) }
+    ensures fitting { (wish from size : ℕ) (rooms : List (ℕ × ℕ)) → fitting wish rooms ≡ Some (from, size)
+        → IsRoom from size rooms × (wish ≤ size) }
+    ensures smallest { (wish : ℕ) (rooms : List (ℕ × ℕ)) (room : ℕ × ℕ) → 0 < wish
+        → fitting wish rooms ≡ Some room → IsFirstSmallest wish rooms room }
+    ensures largest { (rooms : List (ℕ × ℕ)) (room : ℕ × ℕ) → largest rooms ≡ Some room
+        → IsFirstLargest rooms room }
+    ensures no_wish { (rooms : List (ℕ × ℕ)) (room : ℕ × ℕ) → fitting 0 rooms ≡ Some room
+        → IsFirstLargest rooms room }
+    ensures none { (wish : ℕ) (rooms : List (ℕ × ℕ)) → fitting wish rooms ≡ None → (from size : ℕ)
+        → IsRoom from size rooms → wish ≤ size → ⊥ }
+    ensures short { (wish : ℕ) (rooms : List (ℕ × ℕ)) → 0 < wish → fitting wish rooms ≡ None
+        → size_or_zero (largest rooms) < wish }
+    ensures lie { (place size from count : ℕ) (rooms : List (ℕ × ℕ)) → IsRoom place size rooms → place ≤ from
+        → from + count ≤ place + size → LieIn from count rooms }
+    ensures outside { (from count name first : ℕ) (es : List DirEntry) (f : Placed)
+        → LieIn from count (rooms_at first es) → find name (files_at first es) ≡ Some f
+        → (f.place + f.size ≤ from) ⊎ (from + count ≤ f.place) }
 {}
 
 /// A directory has at most one empty more than files. Where no file has an empty below it, it has at most one, which has
 /// all free blocks.
 pub fn entry_counts()
-    ensures files { (first : ℕ) (es : List DirEntry) → IsTidy es → length (files_at first es) ≡ count_files es }
+    ensures files { (first : ℕ) (es : List DirEntry) → IsTidy es
+        → length (files_at first es) ≡ count_files es }
     ensures entries { (es : List DirEntry) → length es ≡ count_files es + count_empties es }
     ensures empties { (es : List DirEntry) → IsTidy es → count_empties es ≤ count_files es + 1 }
     ensures one { (es : List DirEntry) → IsTidy es → IsTight es → count_empties es ≤ 1 }
-    ensures least { (first : ℕ) (es : List DirEntry) → size_or_zero (largest (rooms_at first es)) ≤ free_blocks es }
-    ensures most { (first : ℕ) (es : List DirEntry) → IsTidy es → free_blocks es ≤ size_or_zero (largest (rooms_at first es)) * (count_files es + 1) }
-    ensures all { (first : ℕ) (es : List DirEntry) → IsTidy es → IsTight es → size_or_zero (largest (rooms_at first es)) ≡ free_blocks es }
+    ensures least { (first : ℕ) (es : List DirEntry)
+        → size_or_zero (largest (rooms_at first es)) ≤ free_blocks es }
+    ensures most { (first : ℕ) (es : List DirEntry) → IsTidy es
+        → free_blocks es ≤ size_or_zero (largest (rooms_at first es)) * (count_files es + 1) }
+    ensures all { (first : ℕ) (es : List DirEntry) → IsTidy es → IsTight es
+        → size_or_zero (largest (rooms_at first es)) ≡ free_blocks es }
 {}

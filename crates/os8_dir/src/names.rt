@@ -1,7 +1,7 @@
 ghost use Rattle.std.specs.Prelude.{◌≡◌, ℕ, ◌+◌, ◌*◌, ◌/◌, ◌%◌, ◌<◌, ◌≤◌, ◌^◌, length, IfSome};
 ghost use Rattle.os8_dir.specs.Entries.{IsNamed};
 ghost use Rattle.os8_dir.specs.Names.{name_of, words_of_name, before_dot, codes_within, parsed_name};
-ghost use Rattle.os8_dir.specs.Packed.{packed as packed_of, packed_codes, extension_from};
+ghost use Rattle.os8_dir.specs.PackSteps.{packed as packed_of, packed_codes, extension_from};
 
 use std::marker::Model;
 use word12::{Word, sixbit};
@@ -9,7 +9,7 @@ use word12::{Word, sixbit};
 /// The name of a file: six characters and two of extension in sixbit, as four words, padded with 0 (OS/8 Software
 /// Support Manual).
 ///
-/// A contract sees one number, the four words to the base 4096; so names are in order of their words.
+/// A contract sees one number, the four words to the base 0o10000; so names are in order of their words.
 #[derive(Clone, Copy, PartialEq, Eq, PartialOrd, Ord, Debug)]
 pub struct Name {
     number: u64,
@@ -44,7 +44,7 @@ fn dot_in(text: &[u8]) -> usize
 fn packed(text: &[u8], size: u8) -> Option<u64>
     requires { size ≤ 6 }
     ensures number { result ≡ packed_codes size text.now }
-    ensures range { IfSome result (λ number. number < 64 ^ size) }
+    ensures range { IfSome result (λ number. number < 0o100 ^ size) }
 {
     match text {
         [] => Some(0),
@@ -63,7 +63,7 @@ fn packed(text: &[u8], size: u8) -> Option<u64>
 fn packed_within(text: &[u8], size: u8) -> Option<u64>
     requires { size ≤ 6 }
     ensures number { result ≡ packed_of size (codes_within size text.now) }
-    ensures range { IfSome result (λ number. number < 64 ^ size) }
+    ensures range { IfSome result (λ number. number < 0o100 ^ size) }
 {
     if text.is_empty() {
         return None;
@@ -74,7 +74,7 @@ fn packed_within(text: &[u8], size: u8) -> Option<u64>
 /// The extension that stands from the first dot on, as one number to the base 64.
 fn packed_extension(text: &[u8]) -> Option<u64>
     ensures number { result ≡ packed_of 2 (extension_from text.now) }
-    ensures range { IfSome result (λ number. number < 4096) }
+    ensures range { IfSome result (λ number. number < 0o10000) }
 {
     if text.is_empty() {
         return Some(0);
@@ -94,7 +94,7 @@ impl Name {
         let front = packed_within(stem, 6)?;
         let behind = packed_extension(rest)?;
         Some(Name {
-            number: front * 4096 + behind,
+            number: front * 0o10000 + behind,
         })
     }
 
@@ -104,8 +104,8 @@ impl Name {
         ensures words { words_of_name result ≡ words }
     {
         let [a, b, c, d] = words;
-        let front = u64::from(a.get()) * 4096 + u64::from(b.get());
-        let number = (front * 4096 + u64::from(c.get())) * 4096 + u64::from(d.get());
+        let front = u64::from(a.get()) * 0o10000 + u64::from(b.get());
+        let number = (front * 0o10000 + u64::from(c.get())) * 0o10000 + u64::from(d.get());
         Name { number }
     }
 
@@ -114,11 +114,16 @@ impl Name {
         ensures words { result ≡ words_of_name self }
         ensures number { name_of result ≡ self }
     {
-        let word = |place: u64| Word::low((self.number / place % 4096) as u16);
-        [word(68719476736), word(16777216), word(4096), word(1)]
+        let word = |place: u64| Word::low((self.number / place % 0o10000) as u16);
+        [
+            word(0o1000000000000),
+            word(0o100000000),
+            word(0o10000),
+            word(1),
+        ]
     }
 
-    /// The four words as one number to the base 4096.
+    /// The four words as one number to the base 0o10000.
     pub(crate) fn number(self) -> u64
         ensures { result ≡ self }
     {

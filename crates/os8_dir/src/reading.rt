@@ -7,13 +7,13 @@ ghost use Rattle.os8_dir.specs.Steps.{seen_entry, Shows};
 use crate::{DirEntry, DirFault, Name};
 use word12::Word;
 
-/// Minus a word, modulo 4096.
+/// Minus a word, modulo 0o10000.
 pub fn minus(word: Word) -> usize
     ensures value { result ≡ minus_of word }
-    ensures range { result < 4096 }
+    ensures range { result < 0o10000 }
 {
     let number = usize::from(word.get());
-    (4096 - number) % 4096
+    (0o10000 - number) % 0o10000
 }
 
 /// So many words, with zeros behind them.
@@ -33,7 +33,7 @@ pub fn information(words: &[Word], info: usize) -> [Word; 10]
 #[tactic(auto, unfolding(crate::specs::Reading::empty_at))]
 fn empty_at(words: &[Word]) -> Result<(DirEntry, &[Word]), DirFault>
     ensures reading { Shows seen_entry result (empty_of words.now) }
-    ensures range { IfOk result (λ entry. size_of entry.0 < 4096) }
+    ensures range { IfOk result (λ entry. size_of entry.0 < 0o10000) }
 {
     if words.is_empty() {
         return Err(DirFault::EntryPastSegment);
@@ -48,7 +48,7 @@ fn empty_at(words: &[Word]) -> Result<(DirEntry, &[Word]), DirFault>
 fn file_at(words: &[Word], info: usize) -> Result<(DirEntry, &[Word]), DirFault>
     requires { info ≤ 10 }
     ensures reading { Shows seen_entry result (file_of info words.now) }
-    ensures range { IfOk result (λ entry. size_of entry.0 < 4096) }
+    ensures range { IfOk result (λ entry. size_of entry.0 < 0o10000) }
 {
     if words.len() < 5 + info {
         return Err(DirFault::EntryPastSegment);
@@ -71,7 +71,7 @@ fn file_at(words: &[Word], info: usize) -> Result<(DirEntry, &[Word]), DirFault>
 pub fn entry_at(words: &[Word], info: usize) -> Result<(DirEntry, &[Word]), DirFault>
     requires { info ≤ 10 }
     ensures reading { Shows seen_entry result (entry_of info words.now) }
-    ensures range { IfOk result (λ entry. size_of entry.0 < 4096) }
+    ensures range { IfOk result (λ entry. size_of entry.0 < 0o10000) }
 {
     if words.is_empty() {
         return Err(DirFault::EntryPastSegment);

@@ -17,12 +17,12 @@ fn per_segment(info: usize) -> usize
     251 / (5 + info)
 }
 
-/// The word that is minus a number, modulo 4096.
+/// The word that is minus a number, modulo 0o10000.
 fn minus_word(number: usize) -> Word
-    requires { number < 4096 }
+    requires { number < 0o10000 }
     ensures { result ≡ minus_of number }
 {
-    Word::low((4096 - number) as u16)
+    Word::low((0o10000 - number) as u16)
 }
 
 /// The blocks of some entries.
@@ -51,7 +51,7 @@ fn put_words(segment: &mut Block, at: usize, words: &[Word])
 fn put_entry(segment: &mut Block, at: usize, entry: &DirEntry, info: usize) -> usize
     requires few { info ≤ 10 }
     requires fits { at + 5 + info ≤ 256 }
-    requires small { size_of entry.now < 4096 }
+    requires small { size_of entry.now < 0o10000 }
     ensures words { segment.new ≡ written segment.old at (words_of_entry info entry.now) }
     ensures place { result ≡ at + length (words_of_entry info entry.now) }
     ensures range { result ≤ at + 5 + info }
@@ -95,7 +95,7 @@ fn put_segment(segment: &mut Block, entries: &[DirEntry], first: usize, info: us
     requires few { info ≤ 10 }
     requires fits { length entries.now * (5 + info) ≤ 251 }
     requires inside { first + total entries.now ≤ 4095 }
-    requires near { link < 4096 }
+    requires near { link < 0o10000 }
     ensures { segment.new ≡ words_of_segment first info link entries.now }
 {
     let blank = [Word::ZERO; 256];
@@ -112,7 +112,7 @@ fn link_behind(count: usize, number: usize) -> u16
     requires most { count ≤ 4095 }
     requires inside { number < count }
     ensures value { result ≡ link_of count number }
-    ensures range { result < 4096 }
+    ensures range { result < 0o10000 }
 {
     if number + 1 < count {
         (number + 2) as u16

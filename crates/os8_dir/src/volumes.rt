@@ -24,7 +24,8 @@ fn read_block<S: BlockStore>(
     ensures same { S.contents store.new ≡ S.contents store.old }
     ensures reads { S.reads store.new ≤ S.reads store.old + 1 }
     ensures count { S.reads store.new ≡ counted (S.reads store.old) }
-    ensures failed_reads { S.failed_reads store.new ≡ (if is_ok result then S.failed_reads store.old else S.failed_reads store.old + 1) }
+    ensures failed_reads { S.failed_reads store.new
+        ≡ (if is_ok result then S.failed_reads store.old else S.failed_reads store.old + 1) }
     ensures failed_writes { S.failed_writes store.new ≡ S.failed_writes store.old }
     ensures writes { S.writes store.new ≡ S.writes store.old }
 {
@@ -44,7 +45,8 @@ impl Directory {
         ensures same { S.contents store.new ≡ S.contents store.old }
         ensures reads { S.reads store.new ≤ S.reads store.old + 6 }
         ensures segments { ReadsSegments (segments_judged (S.contents store.old)) result (S.reads store.old) (S.reads store.new) }
-        ensures failed_reads { S.failed_reads store.new ≡ (if is_device result then S.failed_reads store.old + 1 else S.failed_reads store.old) }
+        ensures failed_reads { S.failed_reads store.new
+            ≡ (if is_device result then S.failed_reads store.old + 1 else S.failed_reads store.old) }
         ensures failed_writes { S.failed_writes store.new ≡ S.failed_writes store.old }
         ensures writes { S.writes store.new ≡ S.writes store.old }
     {
@@ -75,7 +77,8 @@ impl Draft {
         ensures same { S.contents store.new ≡ S.contents store.old }
         ensures reads { S.reads store.new ≤ S.reads store.old + 1 }
         ensures count { S.reads store.new ≡ counted (S.reads store.old) }
-        ensures failed_reads { S.failed_reads store.new ≡ (if is_device result then S.failed_reads store.old + 1 else S.failed_reads store.old) }
+        ensures failed_reads { S.failed_reads store.new
+            ≡ (if is_device result then S.failed_reads store.old + 1 else S.failed_reads store.old) }
         ensures failed_writes { S.failed_writes store.new ≡ S.failed_writes store.old }
         ensures writes { S.writes store.new ≡ S.writes store.old }
     {
@@ -100,7 +103,8 @@ impl Draft {
         ensures same { S.contents store.new ≡ S.contents store.old }
         ensures reads { S.reads store.new ≤ S.reads store.old + 5 }
         ensures segments { ReadsSegments (judged_from 5 self.old (S.contents store.old) (1 ∷ []) first_link) result (S.reads store.old) (S.reads store.new) }
-        ensures failed_reads { S.failed_reads store.new ≡ (if is_device result then S.failed_reads store.old + 1 else S.failed_reads store.old) }
+        ensures failed_reads { S.failed_reads store.new
+            ≡ (if is_device result then S.failed_reads store.old + 1 else S.failed_reads store.old) }
         ensures failed_writes { S.failed_writes store.new ≡ S.failed_writes store.old }
         ensures writes { S.writes store.new ≡ S.writes store.old }
     {

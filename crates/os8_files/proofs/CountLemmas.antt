@@ -8,7 +8,7 @@ use Rattle.os8_dir.specs.Reading.{block}
 use Rattle.volume_image.specs.Volume.{counted}
 use Rattle.os8_dir.specs.Segments.{segment_of, segment_count}
 use Rattle.os8_files.specs.Calls.{differing, counted_more, StopsInPart}
-use Rattle.os8_files.specs.Written.{changed, with_segments}
+use Rattle.os8_files.specs.WriteSteps.{changed, with_segments}
 use Rattle.os8_files.proofs.WrittenLemmas.{block-segments, unused-segments}
 
 pub same-list : (xs : List ℕ) → pointwise nat_eq xs xs ≡ true

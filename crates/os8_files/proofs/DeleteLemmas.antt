@@ -10,7 +10,7 @@ use Rattle.os8_dir.specs.Changes.{removed, relisted}
 use Rattle.os8_files.specs.Mounted.{Mounted}
 use Rattle.os8_files.specs.Calls.{IsReady, IsFree, HasDeleted}
 use Rattle.os8_files.specs.Failed.{extent_or, with_list}
-use Rattle.os8_files.specs.Written.{HasDirectory}
+use Rattle.os8_files.specs.WriteSteps.{HasDirectory}
 use Rattle.os8_files.proofs.MapLemmas.{files-removed}
 use Rattle.os8_files.proofs.CallLemmas.{FindsFiles, file-kept}
 use Rattle.os8_files.proofs.KeepLemmas.{directory-keeps, info-of}

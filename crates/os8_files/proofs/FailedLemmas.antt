@@ -16,7 +16,7 @@ use Rattle.os8_files.specs.Mounted.{Mounted, Begun, IsBegun}
 use Rattle.volume_image.specs.Volume.{counted}
 use Rattle.os8_files.specs.Failed.{extent_or, listed_or, KeepsDirectory, StandInFull, with_list, lowest_or}
 use Rattle.os8_files.specs.Calls.{IsReady, IsFree, IsThere, HasFailed, DeleteFailed, WriteFailed, PlaceFailed, MoveFailed, StopsInPart, counted_more, differing, list_with, files_with, entries_with}
-use Rattle.os8_files.specs.Written.{KeepsHigh, HasBrokenOff, with_run}
+use Rattle.os8_files.specs.WriteSteps.{KeepsHigh, HasBrokenOff, with_run}
 use Rattle.os8_files.proofs.LookupLemmas.{find_within}
 use Rattle.os8_files.proofs.MapLemmas.{files-same}
 use Rattle.os8_files.proofs.WrittenLemmas.{run-high, held-kept}

@@ -8,7 +8,7 @@ use Rattle.os8_dir.specs.Reading.{directory_of, block}
 use Rattle.os8_dir.specs.Files.{joined, run, of_directory}
 use Rattle.os8_files.specs.Mounted.{Mounted}
 use Rattle.os8_files.specs.Calls.{KeepsBlocks, info_of}
-use Rattle.os8_files.specs.Written.{HasDirectory, KeepsHigh, with_run}
+use Rattle.os8_files.specs.WriteSteps.{HasDirectory, KeepsHigh, with_run}
 use Rattle.os8_files.proofs.RunLemmas.{length-with_run, block-with_run}
 
 block-high : (old new : List (List ℕ)) (k : ℕ) → drop 7 new ≡ drop 7 old → 7 ≤ k → block new k ≡ block old k

@@ -13,7 +13,7 @@ use Rattle.os8_dir.specs.Changes.{placed, relisted, new_file, LieIn, IsRoom}
 use Rattle.os8_files.specs.Mounted.{Mounted, Begun, IsBegun}
 use Rattle.os8_files.specs.Calls.{IsFree, IsReady, HasClosed, HasWritten, HasEntered, IsOf, info_of, entries_with}
 use Rattle.os8_files.specs.Failed.{extent_or, with_list}
-use Rattle.os8_files.specs.Written.{HasDirectory}
+use Rattle.os8_files.specs.WriteSteps.{HasDirectory}
 use Rattle.os8_files.proofs.MapLemmas.{files-inserted, files-same}
 use Rattle.os8_files.proofs.WrittenLemmas.{run-high, held-kept}
 use Rattle.os8_files.proofs.RoomLemmas.{room-inside, run-other, info-again}

@@ -13,7 +13,7 @@ use Rattle.os8_dir.specs.Reading.{block}
 use Rattle.os8_dir.specs.Found.{Placed, AreApart, find}
 use Rattle.os8_dir.specs.Files.{joined, run}
 use Rattle.os8_files.specs.Calls.{counted_more}
-use Rattle.os8_files.specs.Written.{with_run, HasBrokenOff}
+use Rattle.os8_files.specs.WriteSteps.{with_run, HasBrokenOff}
 use Rattle.os8_files.proofs.RoomLemmas.{run-other}
 use Rattle.os8_files.proofs.CallLemmas.{find-from}
 

@@ -3,7 +3,7 @@ use Rattle.std.proofs.Common.{ℕ, zero, suc, ◌+◌, ◌≤◌, Bool, true, fa
 use Rattle.volume_image.specs.Volume.{counted}
 use Rattle.os8_files.specs.Mounted.{AreSegments}
 use Rattle.os8_files.specs.Calls.{counted_more}
-use Rattle.os8_files.specs.Written.{with_run}
+use Rattle.os8_files.specs.WriteSteps.{with_run}
 use Rattle.os8_files.proofs.RunLemmas.{block-with_run}
 
 pub segments-written : (blocks kept : List (List ℕ)) (place : ℕ) (words : List ℕ) → AreSegments blocks kept → 7 ≤ place → AreSegments (slice_set blocks place words) kept

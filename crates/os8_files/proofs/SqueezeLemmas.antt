@@ -14,7 +14,7 @@ use Rattle.os8_files.specs.Mounted.{Mounted}
 use Rattle.os8_files.specs.Calls.{IsReady, HasFailed, HasMoved, MoveMissed, MoveFailed, RisesBy, StopsInPart, Squeezes, counted_more, differing}
 use Rattle.os8_files.specs.Failed.{with_list, lowest_or, extent_or}
 use Rattle.os8_files.proofs.CountLemmas.{differing-same}
-use Rattle.os8_files.specs.Written.{HasDirectory, HasBrokenOff, KeepsHigh, Rewrites, Copies, with_run}
+use Rattle.os8_files.specs.WriteSteps.{HasDirectory, HasBrokenOff, KeepsHigh, Rewrites, Copies, with_run}
 use Rattle.os8_files.specs.declared.faults.FileFault.{FileFault}
 use Rattle.os8_files.specs.declared.faults.FileFault.TheVariants.{NotFound, NoRoom, DirectoryFull, Busy, BadName, TooLong, TentativeOpen, Device, Stopped, Memory, NothingWritten}
 use Rattle.os8_files.proofs.LookupLemmas.{find_within}

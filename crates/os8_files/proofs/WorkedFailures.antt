@@ -8,7 +8,7 @@ use Rattle.os8_dir.specs.declared.entries.DirEntry.TheVariants.{File, Empty}
 use Rattle.os8_dir.specs.declared.faults.DirFault.{DirFault}
 use Rattle.os8_files.specs.Failed.{extent_or, with_list, lowest_or}
 use Rattle.os8_files.specs.Calls.{differing}
-use Rattle.os8_files.specs.Written.{with_run}
+use Rattle.os8_files.specs.WriteSteps.{with_run}
 
 abbrev a : ℕ
 a = 100000000000

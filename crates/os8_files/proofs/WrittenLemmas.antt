@@ -10,7 +10,7 @@ use Rattle.os8_dir.specs.Reading.{block}
 use Rattle.os8_dir.specs.Found.{Placed}
 use Rattle.os8_dir.specs.Files.{joined, run, held_of}
 use Rattle.os8_dir.specs.Segments.{segment_of}
-use Rattle.os8_files.specs.Written.{with_segments, KeepsHigh}
+use Rattle.os8_files.specs.WriteSteps.{with_segments, KeepsHigh}
 
 pub segments-next : (k : ℕ) (d : Listed) (blocks : List (List ℕ)) → with_segments (k + 1) d blocks ≡ slice_set (with_segments k d blocks) (k + 1) (segment_of d k)
 segments-next k d blocks = ap (λ j. with_segments j d blocks) (add-one k) ∙ ap (λ j. slice_set (with_segments k d blocks) j (segment_of d k)) (sym (add-one k))

@@ -1,10 +1,10 @@
 pub mod Mounted
 pub mod Service
-pub mod Lengths
+pub mod LengthSteps
 pub mod Holds
 pub mod Steps
 pub mod Failed
 pub mod Calls
-pub mod Written
+pub mod WriteSteps
 pub mod Laws
 pub mod Puts

@@ -2,7 +2,7 @@
 ghost use Rattle.std.specs.Prelude.{◌≡◌, ◌+◌, ◌≤◌, length, take, drop, is_ok, if◌then◌else◌, IfOk, OnOk, OnErr, MatchResult, IfErr};
 ghost use Rattle.volume_image.specs.Volume.{IsVolume};
 ghost use Rattle.os8_files.specs.Calls.{counted_more, RisesBy};
-ghost use Rattle.os8_files.specs.Written.{with_run, HasBrokenOff};
+ghost use Rattle.os8_files.specs.WriteSteps.{with_run, HasBrokenOff};
 
 use std::alloc::{AllocError, Global};
 use volume_image::{Block, BlockStore, DeviceFault};
@@ -28,7 +28,8 @@ pub(crate) fn read_run<S: BlockStore>(
     ensures missed { OnErr result (RisesBy (length run.old) (S.reads store.old) (S.reads store.new)) }
     ensures few { S.reads store.new ≤ S.reads store.old + length run.old }
     ensures size { length run.new ≡ length run.old }
-    ensures failed_reads { S.failed_reads store.new ≡ (if is_ok result then S.failed_reads store.old else S.failed_reads store.old + 1) }
+    ensures failed_reads { S.failed_reads store.new
+        ≡ (if is_ok result then S.failed_reads store.old else S.failed_reads store.old + 1) }
     ensures writes { S.writes store.new ≡ S.writes store.old }
     ensures failed_writes { S.failed_writes store.new ≡ S.failed_writes store.old }
 {
@@ -56,7 +57,8 @@ pub(crate) fn write_run<S: BlockStore>(
     ensures writes { OnOk result (S.writes store.new ≡ counted_more (length run.now) (S.writes store.old)) }
     ensures reads { S.reads store.new ≡ S.reads store.old }
     ensures failed_reads { S.failed_reads store.new ≡ S.failed_reads store.old }
-    ensures failed_writes { S.failed_writes store.new ≡ (if is_ok result then S.failed_writes store.old else S.failed_writes store.old + 1) }
+    ensures failed_writes { S.failed_writes store.new
+        ≡ (if is_ok result then S.failed_writes store.old else S.failed_writes store.old + 1) }
 {
     let _blocks = store.blocks();
     for k in 0..run.len() {

@@ -23,14 +23,22 @@ use os8_dir::laws::{
 /// A file that is held keeps its words through every call, whatever is answered, until a write fails.
 pub fn held_files()
     ensures read_block { (old new : Mounted) (name k : ℕ) (before after : List ℕ) (result : Result (Unit {0}) FileFault) → Reads old name k before result new after → KeepsHeld old new }
-    ensures hold { (old new : Mounted) (name : ℕ) (result : Result ℕ FileFault) → Holds old name result new → KeepsHeld old new }
-    ensures enter { (old new : Mounted) (name wish : ℕ) (result : Result ℕ FileFault) → Enters old name wish result new → KeepsHeld old new }
-    ensures write { (old new : Mounted) (words : List ℕ) (result : Result (Unit {0}) FileFault) → Writes old words result new → KeepsHeld old new }
-    ensures close { (old new : Mounted) (name : ℕ) (info : List ℕ) (result : Result (Unit {0}) FileFault) → Closes old name info result new → KeepsHeld old new }
-    ensures put { (old new : Mounted) (name : ℕ) (words : List ℕ) (result : Result (Unit {0}) FileFault) → Puts old name words result new → KeepsHeld old new }
-    ensures delete { (old new : Mounted) (name : ℕ) (result : Result (Unit {0}) FileFault) → Deletes old name result new → KeepsHeld old new }
-    ensures squeeze_turn { (old new : Mounted) (result : Result Squeezed FileFault) → Squeezes old result new → KeepsHeld old new }
-    ensures release { (old : Mounted) (hold : ℕ) → KeepsHeld old (record old { holds = without_hold hold old.holds }) }
+    ensures hold { (old new : Mounted) (name : ℕ) (result : Result ℕ FileFault) → Holds old name result new
+        → KeepsHeld old new }
+    ensures enter { (old new : Mounted) (name wish : ℕ) (result : Result ℕ FileFault)
+        → Enters old name wish result new → KeepsHeld old new }
+    ensures write { (old new : Mounted) (words : List ℕ) (result : Result (Unit {0}) FileFault)
+        → Writes old words result new → KeepsHeld old new }
+    ensures close { (old new : Mounted) (name : ℕ) (info : List ℕ) (result : Result (Unit {0}) FileFault)
+        → Closes old name info result new → KeepsHeld old new }
+    ensures put { (old new : Mounted) (name : ℕ) (words : List ℕ) (result : Result (Unit {0}) FileFault)
+        → Puts old name words result new → KeepsHeld old new }
+    ensures delete { (old new : Mounted) (name : ℕ) (result : Result (Unit {0}) FileFault)
+        → Deletes old name result new → KeepsHeld old new }
+    ensures squeeze_turn { (old new : Mounted) (result : Result Squeezed FileFault) → Squeezes old result new
+        → KeepsHeld old new }
+    ensures release { (old : Mounted) (hold : ℕ)
+        → KeepsHeld old (record old { holds = without_hold hold old.holds }) }
     ensures give_up { (old : Mounted) → KeepsHeld old (Spent old) }
 {}
 
@@ -43,14 +51,21 @@ pub fn held_blocks()
 /// such calls. None of them, and no hold that is taken, lets a service go on that has stopped.
 pub fn kept_holds()
     ensures read_block { (old new : Mounted) (name k : ℕ) (before after : List ℕ) (result : Result (Unit {0}) FileFault) → Reads old name k before result new after → KeepsHolds old new }
-    ensures hold { (old new : Mounted) (name : ℕ) (result : Result ℕ FileFault) → Holds old name result new → new.stopped ≡ old.stopped }
-    ensures enter { (old new : Mounted) (name wish : ℕ) (result : Result ℕ FileFault) → Enters old name wish result new → KeepsHolds old new }
-    ensures write { (old new : Mounted) (words : List ℕ) (result : Result (Unit {0}) FileFault) → Writes old words result new → KeepsHolds old new }
-    ensures close { (old new : Mounted) (name : ℕ) (info : List ℕ) (result : Result (Unit {0}) FileFault) → Closes old name info result new → KeepsHolds old new }
-    ensures put { (old new : Mounted) (name : ℕ) (words : List ℕ) (result : Result (Unit {0}) FileFault) → Puts old name words result new → KeepsHolds old new }
+    ensures hold { (old new : Mounted) (name : ℕ) (result : Result ℕ FileFault) → Holds old name result new
+        → new.stopped ≡ old.stopped }
+    ensures enter { (old new : Mounted) (name wish : ℕ) (result : Result ℕ FileFault)
+        → Enters old name wish result new → KeepsHolds old new }
+    ensures write { (old new : Mounted) (words : List ℕ) (result : Result (Unit {0}) FileFault)
+        → Writes old words result new → KeepsHolds old new }
+    ensures close { (old new : Mounted) (name : ℕ) (info : List ℕ) (result : Result (Unit {0}) FileFault)
+        → Closes old name info result new → KeepsHolds old new }
+    ensures put { (old new : Mounted) (name : ℕ) (words : List ℕ) (result : Result (Unit {0}) FileFault)
+        → Puts old name words result new → KeepsHolds old new }
     ensures give_up { (old : Mounted) → KeepsHolds old (Spent old) }
-    ensures delete { (old new : Mounted) (name : ℕ) (result : Result (Unit {0}) FileFault) → Deletes old name result new → KeepsHolds old new }
-    ensures squeeze_turn { (old new : Mounted) (result : Result Squeezed FileFault) → Squeezes old result new → KeepsHolds old new }
+    ensures delete { (old new : Mounted) (name : ℕ) (result : Result (Unit {0}) FileFault)
+        → Deletes old name result new → KeepsHolds old new }
+    ensures squeeze_turn { (old new : Mounted) (result : Result Squeezed FileFault) → Squeezes old result new
+        → KeepsHolds old new }
     ensures both { (old mid new : Mounted) → KeepsHolds old mid → KeepsHolds mid new → KeepsHolds old new }
 {}
 
@@ -62,9 +77,12 @@ pub fn released_hold()
 /// How often a name is held: a hold that is taken adds one to its name alone, and one that is released takes one away from
 /// it. In which order two are taken is all one. A name is held where it stands among the holds at least once.
 pub fn counted_holds()
-    ensures taken { (name hold : ℕ) (holds : List ℕ) → times name (with_hold hold holds) ≡ times name (hold ∷ []) + times name holds }
-    ensures released { (name hold : ℕ) (holds : List ℕ) → 1 ≤ times hold holds → times name (hold ∷ []) + times name (without_hold hold holds) ≡ times name holds }
-    ensures order { (one two : ℕ) (holds : List ℕ) → with_hold one (with_hold two holds) ≡ with_hold two (with_hold one holds) }
+    ensures taken { (name hold : ℕ) (holds : List ℕ) → times name (with_hold hold holds)
+        ≡ times name (hold ∷ []) + times name holds }
+    ensures released { (name hold : ℕ) (holds : List ℕ) → 1 ≤ times hold holds
+        → times name (hold ∷ []) + times name (without_hold hold holds) ≡ times name holds }
+    ensures order { (one two : ℕ) (holds : List ℕ) → with_hold one (with_hold two holds)
+        ≡ with_hold two (with_hold one holds) }
     ensures held { (name : ℕ) (holds : List ℕ) → contains holds name ≡ nat_lt 0 (times name holds) }
 {}
 
@@ -72,35 +90,53 @@ pub fn counted_holds()
 /// most, the one that it answers.
 pub fn file_places()
     ensures read_block { (old new : Mounted) (name k : ℕ) (before after : List ℕ) (result : Result (Unit {0}) FileFault) → Reads old name k before result new after → KeepsPlaces old new }
-    ensures hold { (old new : Mounted) (name : ℕ) (result : Result ℕ FileFault) → Holds old name result new → KeepsPlaces old new }
-    ensures release { (old : Mounted) (hold : ℕ) → KeepsPlaces old (record old { holds = without_hold hold old.holds }) }
-    ensures enter { (old new : Mounted) (name wish : ℕ) (result : Result ℕ FileFault) → Enters old name wish result new → KeepsPlaces old new }
-    ensures write { (old new : Mounted) (words : List ℕ) (result : Result (Unit {0}) FileFault) → Writes old words result new → KeepsPlaces old new }
-    ensures close { (old new : Mounted) (name : ℕ) (info : List ℕ) (result : Result (Unit {0}) FileFault) → Closes old name info result new → KeepsOtherPlaces name old new }
-    ensures put { (old new : Mounted) (name : ℕ) (words : List ℕ) (result : Result (Unit {0}) FileFault) → Puts old name words result new → KeepsOtherPlaces name old new }
+    ensures hold { (old new : Mounted) (name : ℕ) (result : Result ℕ FileFault) → Holds old name result new
+        → KeepsPlaces old new }
+    ensures release { (old : Mounted) (hold : ℕ)
+        → KeepsPlaces old (record old { holds = without_hold hold old.holds }) }
+    ensures enter { (old new : Mounted) (name wish : ℕ) (result : Result ℕ FileFault)
+        → Enters old name wish result new → KeepsPlaces old new }
+    ensures write { (old new : Mounted) (words : List ℕ) (result : Result (Unit {0}) FileFault)
+        → Writes old words result new → KeepsPlaces old new }
+    ensures close { (old new : Mounted) (name : ℕ) (info : List ℕ) (result : Result (Unit {0}) FileFault)
+        → Closes old name info result new → KeepsOtherPlaces name old new }
+    ensures put { (old new : Mounted) (name : ℕ) (words : List ℕ) (result : Result (Unit {0}) FileFault)
+        → Puts old name words result new → KeepsOtherPlaces name old new }
     ensures give_up { (old : Mounted) → KeepsPlaces old (Spent old) }
-    ensures delete { (old new : Mounted) (name : ℕ) (result : Result (Unit {0}) FileFault) → Deletes old name result new → KeepsOtherPlaces name old new }
-    ensures squeeze_turn { (old new : Mounted) (result : Result Squeezed FileFault) → Squeezes old result new → MovesOne old result new }
+    ensures delete { (old new : Mounted) (name : ℕ) (result : Result (Unit {0}) FileFault)
+        → Deletes old name result new → KeepsOtherPlaces name old new }
+    ensures squeeze_turn { (old new : Mounted) (result : Result Squeezed FileFault) → Squeezes old result new
+        → MovesOne old result new }
 {}
 
 /// Which calls of a mounted volume read: `read_block` one block at most, and `squeeze_turn` each block of the file that it is to
 /// move at most once. The others read none.
 pub fn block_reads()
     ensures read_block { (old new : Mounted) (name k : ℕ) (before after : List ℕ) (result : Result (Unit {0}) FileFault) → Reads old name k before result new after → ReadsOne old new }
-    ensures hold { (old new : Mounted) (name : ℕ) (result : Result ℕ FileFault) → Holds old name result new → new.reads ≡ old.reads }
-    ensures enter { (old new : Mounted) (name wish : ℕ) (result : Result ℕ FileFault) → Enters old name wish result new → new.reads ≡ old.reads }
-    ensures write { (old new : Mounted) (words : List ℕ) (result : Result (Unit {0}) FileFault) → Writes old words result new → new.reads ≡ old.reads }
-    ensures close { (old new : Mounted) (name : ℕ) (info : List ℕ) (result : Result (Unit {0}) FileFault) → Closes old name info result new → new.reads ≡ old.reads }
-    ensures put { (old new : Mounted) (name : ℕ) (words : List ℕ) (result : Result (Unit {0}) FileFault) → Puts old name words result new → new.reads ≡ old.reads }
-    ensures delete { (old new : Mounted) (name : ℕ) (result : Result (Unit {0}) FileFault) → Deletes old name result new → new.reads ≡ old.reads }
-    ensures squeeze_turn { (old new : Mounted) (result : Result Squeezed FileFault) → Squeezes old result new → (new.reads ≡ old.reads) ⊎ ReadsLowest old new }
+    ensures hold { (old new : Mounted) (name : ℕ) (result : Result ℕ FileFault) → Holds old name result new
+        → new.reads ≡ old.reads }
+    ensures enter { (old new : Mounted) (name wish : ℕ) (result : Result ℕ FileFault)
+        → Enters old name wish result new → new.reads ≡ old.reads }
+    ensures write { (old new : Mounted) (words : List ℕ) (result : Result (Unit {0}) FileFault)
+        → Writes old words result new → new.reads ≡ old.reads }
+    ensures close { (old new : Mounted) (name : ℕ) (info : List ℕ) (result : Result (Unit {0}) FileFault)
+        → Closes old name info result new → new.reads ≡ old.reads }
+    ensures put { (old new : Mounted) (name : ℕ) (words : List ℕ) (result : Result (Unit {0}) FileFault)
+        → Puts old name words result new → new.reads ≡ old.reads }
+    ensures delete { (old new : Mounted) (name : ℕ) (result : Result (Unit {0}) FileFault)
+        → Deletes old name result new → new.reads ≡ old.reads }
+    ensures squeeze_turn { (old new : Mounted) (result : Result Squeezed FileFault) → Squeezes old result new
+        → (new.reads ≡ old.reads) ⊎ ReadsLowest old new }
 {}
 
 /// A file has 256 words for each of its blocks, and 1 to 4095 blocks.
 pub fn whole_files()
-    ensures whole { (blocks : List (List ℕ)) (name : ℕ) (file : Held) → IsVolume blocks → get (files_of blocks) name ≡ Some file → 256 * blocks_in file ≡ length file.1 }
-    ensures some { (blocks : List (List ℕ)) (name : ℕ) (file : Held) → IsVolume blocks → get (files_of blocks) name ≡ Some file → 0 < blocks_in file }
-    ensures most { (blocks : List (List ℕ)) (name : ℕ) (file : Held) → IsVolume blocks → get (files_of blocks) name ≡ Some file → blocks_in file ≤ 4095 }
+    ensures whole { (blocks : List (List ℕ)) (name : ℕ) (file : Held) → IsVolume blocks
+        → get (files_of blocks) name ≡ Some file → 256 * blocks_in file ≡ length file.1 }
+    ensures some { (blocks : List (List ℕ)) (name : ℕ) (file : Held) → IsVolume blocks
+        → get (files_of blocks) name ≡ Some file → 0 < blocks_in file }
+    ensures most { (blocks : List (List ℕ)) (name : ℕ) (file : Held) → IsVolume blocks
+        → get (files_of blocks) name ≡ Some file → blocks_in file ≤ 4095 }
 {
     files_found();
     sound_directory();
@@ -122,7 +158,8 @@ pub fn files_above()
 /// What a read that fails leaves: nothing is changed but the two counts of reads.
 pub fn failed_reads()
     ensures read_block { (old new : Mounted) (name k : ℕ) (before after : List ℕ) (result : Result (Unit {0}) FileFault) → Reads old name k before result new after → old.failed_reads < new.failed_reads → HasMissed old new × (after ≡ before) }
-    ensures squeeze_turn { (old new : Mounted) (result : Result Squeezed FileFault) → Squeezes old result new → old.failed_reads < new.failed_reads → HasMissed old new }
+    ensures squeeze_turn { (old new : Mounted) (result : Result Squeezed FileFault) → Squeezes old result new
+        → old.failed_reads < new.failed_reads → HasMissed old new }
 {}
 
 /// What a write that fails leaves of the files. Either blocks 1 to 6 are as before, and mounting the store again finds every
@@ -130,23 +167,41 @@ pub fn failed_reads()
 /// file's words stand in full in its old blocks, and those of a moved file in its new ones. The same is left of the volume as it
 /// was before earlier writes that kept blocks 1 to 6 and all files.
 pub fn failed_writes()
-    ensures write { (old new : Mounted) (words : List ℕ) (result : Result (Unit {0}) FileFault) → Writes old words result new → old.failed_writes < new.failed_writes → Survives old.blocks new.blocks }
-    ensures close { (old new : Mounted) (name : ℕ) (info : List ℕ) (result : Result (Unit {0}) FileFault) → Closes old name info result new → old.failed_writes < new.failed_writes → Survives old.blocks new.blocks }
-    ensures put { (old new : Mounted) (name : ℕ) (words : List ℕ) (result : Result (Unit {0}) FileFault) → Puts old name words result new → old.failed_writes < new.failed_writes → Survives old.blocks new.blocks }
-    ensures delete { (old new : Mounted) (name : ℕ) (result : Result (Unit {0}) FileFault) → Deletes old name result new → old.failed_writes < new.failed_writes → Survives old.blocks new.blocks }
-    ensures squeeze_turn { (old new : Mounted) (result : Result Squeezed FileFault) → Squeezes old result new → old.failed_writes < new.failed_writes → Survives old.blocks new.blocks }
-    ensures later { (old mid new : List (List ℕ)) → KeepsDirectory old mid → files_of mid ≡ files_of old → Survives mid new → Survives old new }
+    ensures write { (old new : Mounted) (words : List ℕ) (result : Result (Unit {0}) FileFault)
+        → Writes old words result new → old.failed_writes < new.failed_writes
+        → Survives old.blocks new.blocks }
+    ensures close { (old new : Mounted) (name : ℕ) (info : List ℕ) (result : Result (Unit {0}) FileFault)
+        → Closes old name info result new → old.failed_writes < new.failed_writes
+        → Survives old.blocks new.blocks }
+    ensures put { (old new : Mounted) (name : ℕ) (words : List ℕ) (result : Result (Unit {0}) FileFault)
+        → Puts old name words result new → old.failed_writes < new.failed_writes
+        → Survives old.blocks new.blocks }
+    ensures delete { (old new : Mounted) (name : ℕ) (result : Result (Unit {0}) FileFault)
+        → Deletes old name result new → old.failed_writes < new.failed_writes
+        → Survives old.blocks new.blocks }
+    ensures squeeze_turn { (old new : Mounted) (result : Result Squeezed FileFault) → Squeezes old result new
+        → old.failed_writes < new.failed_writes → Survives old.blocks new.blocks }
+    ensures later { (old mid new : List (List ℕ)) → KeepsDirectory old mid → files_of mid ≡ files_of old
+        → Survives mid new → Survives old new }
 {}
 
 /// Each call that can answer a `FileFault` answers `Stopped` just where a write has failed before.
 pub fn stopped_calls()
     ensures read_block { (old new : Mounted) (name k : ℕ) (before after : List ℕ) (result : Result (Unit {0}) FileFault) → Reads old name k before result new after → IsStopped old result }
-    ensures listing { (old : Mounted) (result : Result (Vec (ℕ × ℕ)) FileFault) → Lists old result → IsStopped old result }
-    ensures hold { (old new : Mounted) (name : ℕ) (result : Result ℕ FileFault) → Holds old name result new → IsStopped old result }
-    ensures enter { (old new : Mounted) (name wish : ℕ) (result : Result ℕ FileFault) → Enters old name wish result new → IsStopped old result }
-    ensures write { (old new : Mounted) (words : List ℕ) (result : Result (Unit {0}) FileFault) → Writes old words result new → IsStopped old result }
-    ensures close { (old new : Mounted) (name : ℕ) (info : List ℕ) (result : Result (Unit {0}) FileFault) → Closes old name info result new → IsStopped old result }
-    ensures put { (old new : Mounted) (name : ℕ) (words : List ℕ) (result : Result (Unit {0}) FileFault) → Puts old name words result new → IsStopped old result }
-    ensures delete { (old new : Mounted) (name : ℕ) (result : Result (Unit {0}) FileFault) → Deletes old name result new → IsStopped old result }
-    ensures squeeze_turn { (old new : Mounted) (result : Result Squeezed FileFault) → Squeezes old result new → IsStopped old result }
+    ensures listing { (old : Mounted) (result : Result (Vec (ℕ × ℕ)) FileFault) → Lists old result
+        → IsStopped old result }
+    ensures hold { (old new : Mounted) (name : ℕ) (result : Result ℕ FileFault) → Holds old name result new
+        → IsStopped old result }
+    ensures enter { (old new : Mounted) (name wish : ℕ) (result : Result ℕ FileFault)
+        → Enters old name wish result new → IsStopped old result }
+    ensures write { (old new : Mounted) (words : List ℕ) (result : Result (Unit {0}) FileFault)
+        → Writes old words result new → IsStopped old result }
+    ensures close { (old new : Mounted) (name : ℕ) (info : List ℕ) (result : Result (Unit {0}) FileFault)
+        → Closes old name info result new → IsStopped old result }
+    ensures put { (old new : Mounted) (name : ℕ) (words : List ℕ) (result : Result (Unit {0}) FileFault)
+        → Puts old name words result new → IsStopped old result }
+    ensures delete { (old new : Mounted) (name : ℕ) (result : Result (Unit {0}) FileFault)
+        → Deletes old name result new → IsStopped old result }
+    ensures squeeze_turn { (old new : Mounted) (result : Result Squeezed FileFault) → Squeezes old result new
+        → IsStopped old result }
 {}

@@ -7,7 +7,7 @@ ghost use Rattle.os8_files.specs.Calls.{counted_more, StopsInPart};
 ghost use Rattle.os8_dir.specs.Found.{limit};
 ghost use Rattle.os8_dir.specs.Segments.{segment_count};
 ghost use Rattle.os8_files.specs.Mounted.{AreSegments};
-ghost use Rattle.os8_files.specs.Written.{changed, with_segments, KeepsHigh};
+ghost use Rattle.os8_files.specs.WriteSteps.{changed, with_segments, KeepsHigh};
 
 use os8_dir::Directory;
 use volume_image::{Block, BlockStore, DeviceFault};
@@ -22,15 +22,18 @@ fn write_segment<S: BlockStore>(
 ) -> Result<(), DeviceFault>
     requires kept { AreSegments (S.contents store.old) kept.old }
     requires inside { number < 6 }
-    ensures ok { OnOk result (S.contents store.new ≡ slice_set (S.contents store.old) (number + 1) words.now) }
+    ensures ok { OnOk result (S.contents store.new
+        ≡ slice_set (S.contents store.old) (number + 1) words.now) }
     ensures kept { OnOk result (AreSegments (S.contents store.new) kept.new) }
     ensures err { OnErr result (IsDamaged (S.contents store.old) (S.contents store.new) (number + 1)) }
     ensures volume { IsVolume (S.contents store.new) }
-    ensures writes { OnOk result (S.writes store.new ≡ (if pointwise nat_eq (block (S.contents store.old) (number + 1)) words.now then S.writes store.old else counted (S.writes store.old))) }
+    ensures writes { OnOk result (S.writes store.new
+        ≡ (if pointwise nat_eq (block (S.contents store.old) (number + 1)) words.now then S.writes store.old else counted (S.writes store.old))) }
     ensures tried { OnErr result (S.writes store.new ≡ counted (S.writes store.old)) }
     ensures reads { S.reads store.new ≡ S.reads store.old }
     ensures failed_reads { S.failed_reads store.new ≡ S.failed_reads store.old }
-    ensures failed_writes { S.failed_writes store.new ≡ (if is_ok result then S.failed_writes store.old else S.failed_writes store.old + 1) }
+    ensures failed_writes { S.failed_writes store.new
+        ≡ (if is_ok result then S.failed_writes store.old else S.failed_writes store.old + 1) }
 {
     let _blocks = store.blocks();
     if kept[number] == *words {
@@ -56,16 +59,19 @@ pub(crate) fn write_segments<S: BlockStore>(
 ) -> Result<(), DeviceFault>
     requires fits { length directory.now.entries ≤ limit directory.now }
     requires kept { AreSegments (S.contents store.old) kept.old }
-    ensures ok { OnOk result (S.contents store.new ≡ with_segments (segment_count directory.now) directory.now (S.contents store.old)) }
+    ensures ok { OnOk result (S.contents store.new
+        ≡ with_segments (segment_count directory.now) directory.now (S.contents store.old)) }
     ensures kept { OnOk result (AreSegments (S.contents store.new) kept.new) }
     ensures err { OnErr result (KeepsHigh (S.contents store.old) (S.contents store.new)) }
     ensures part { OnErr result (StopsInPart (S.contents store.old) (S.contents store.new) directory.now (S.writes store.old) (S.writes store.new)) }
     ensures few { segment_count directory.now ≤ 6 }
     ensures volume { IsVolume (S.contents store.new) }
-    ensures writes { OnOk result (S.writes store.new ≡ counted_more (changed (segment_count directory.now) directory.now (S.contents store.old)) (S.writes store.old)) }
+    ensures writes { OnOk result (S.writes store.new
+        ≡ counted_more (changed (segment_count directory.now) directory.now (S.contents store.old)) (S.writes store.old)) }
     ensures reads { S.reads store.new ≡ S.reads store.old }
     ensures failed_reads { S.failed_reads store.new ≡ S.failed_reads store.old }
-    ensures failed_writes { S.failed_writes store.new ≡ (if is_ok result then S.failed_writes store.old else S.failed_writes store.old + 1) }
+    ensures failed_writes { S.failed_writes store.new
+        ≡ (if is_ok result then S.failed_writes store.old else S.failed_writes store.old + 1) }
 {
     let _blocks = store.blocks();
     for number in 0..directory.segment_count() {

@@ -67,10 +67,13 @@ impl<S: BlockStore> FileService<S> {
     pub fn mount(alloc: Global, mut store: S) -> Result<FileService<S>, (S, DirFault)>
         ensures blocks { IfOk result (λ s. s.blocks ≡ S.contents store) }
         ensures sound { IfOk result (λ s. Sound (S.contents store)) }
-        ensures fresh { IfOk result (λ s. (s.stopped ≡ false) × (s.holds ≡ []) × (s.last ≡ None) × (s.tentative ≡ None)) }
-        ensures reads { IfOk result (λ s. (s.reads ≤ S.reads store + 12) × (s.writes ≡ S.writes store) × (s.failed_reads ≡ S.failed_reads store) × (s.failed_writes ≡ S.failed_writes store)) }
+        ensures fresh { IfOk result (λ s. (s.stopped ≡ false) × (s.holds ≡ []) × (s.last ≡ None)
+            × (s.tentative ≡ None)) }
+        ensures reads { IfOk result (λ s. (s.reads ≤ S.reads store + 12) × (s.writes ≡ S.writes store)
+            × (s.failed_reads ≡ S.failed_reads store) × (s.failed_writes ≡ S.failed_writes store)) }
         ensures no_write { IfErr result (λ e. S.writes e.0 ≡ S.writes store) }
-        ensures handed_back { IfErr result (λ e. (S.contents e.0 ≡ S.contents store) × (S.reads e.0 ≤ S.reads store + 12) × (S.failed_writes e.0 ≡ S.failed_writes store)) }
+        ensures handed_back { IfErr result (λ e. (S.contents e.0 ≡ S.contents store)
+            × (S.reads e.0 ≤ S.reads store + 12) × (S.failed_writes e.0 ≡ S.failed_writes store)) }
         ensures fault { IfErr result (λ e. Meets e.1 (directory_of (S.contents store))) }
         ensures device { IfErr result (λ e. (e.1 ≡ Device) ↔ (S.failed_reads store < S.failed_reads e.0)) }
     {
@@ -97,7 +100,8 @@ impl<S: BlockStore> FileService<S> {
     /// The store.
     pub fn into_store(self) -> S
         ensures blocks { S.contents result ≡ self.blocks }
-        ensures counts { (S.reads result ≡ self.reads) × (S.writes result ≡ self.writes) × (S.failed_reads result ≡ self.failed_reads) × (S.failed_writes result ≡ self.failed_writes) }
+        ensures counts { (S.reads result ≡ self.reads) × (S.writes result ≡ self.writes)
+            × (S.failed_reads result ≡ self.failed_reads) × (S.failed_writes result ≡ self.failed_writes) }
     {
         let FileService {
             store,
@@ -116,7 +120,9 @@ impl<S: BlockStore> FileService<S> {
     /// The store as it stands, to be looked at.
     pub fn store(&self) -> &S
         ensures blocks { S.contents result.now ≡ self.now.blocks }
-        ensures counts { (S.reads result.now ≡ self.now.reads) × (S.writes result.now ≡ self.now.writes) × (S.failed_reads result.now ≡ self.now.failed_reads) × (S.failed_writes result.now ≡ self.now.failed_writes) }
+        ensures counts { (S.reads result.now ≡ self.now.reads) × (S.writes result.now ≡ self.now.writes)
+            × (S.failed_reads result.now ≡ self.now.failed_reads)
+            × (S.failed_writes result.now ≡ self.now.failed_writes) }
     {
         &self.store
     }
@@ -124,7 +130,8 @@ impl<S: BlockStore> FileService<S> {
     /// The length in blocks of the file of a name; nothing where there is none. Where a write has failed it is that of the
     /// directory that was held then.
     pub fn lookup(&self, name: &Name) -> Option<usize>
-        ensures running { self.now.stopped ≡ false → result ≡ blocks_of (get (files_of self.now.blocks) name.now) }
+        ensures running { self.now.stopped ≡ false → result
+            ≡ blocks_of (get (files_of self.now.blocks) name.now) }
         ensures stopped { (d : Listed) → self.now.last ≡ Some d → result ≡ size_in d name.now }
     {
         files_found();
@@ -138,7 +145,8 @@ impl<S: BlockStore> FileService<S> {
     /// The covered blocks that belong to no file. Where a write has failed they are those of the directory that was held
     /// then.
     pub fn free(&self) -> usize
-        ensures running { self.now.stopped ≡ false → result + used_of (files_of self.now.blocks) ≡ capacity_of self.now.blocks }
+        ensures running { self.now.stopped ≡ false → result + used_of (files_of self.now.blocks)
+            ≡ capacity_of self.now.blocks }
         ensures stopped { (d : Listed) → self.now.last ≡ Some d → result ≡ free_blocks d.entries }
     {
         sound_directory();

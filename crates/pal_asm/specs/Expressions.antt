@@ -16,10 +16,10 @@ term_value known place (Name n) = known n
 term_value known place (Number n) = Some n
 term_value known place Here = Some place
 
--- sum and difference modulo 4096, inclusive or
+-- sum and difference modulo 0o10000, inclusive or
 abbrev pub joined : Joint → ℕ → ℕ → ℕ
-joined Add a b = (a + b) % 4096
-joined Subtract a b = (a + 4096 - b) % 4096
+joined Add a b = (a + b) % 0o10000
+joined Subtract a b = (a + 0o10000 - b) % 0o10000
 joined Or a b = bit_or a b
 
 abbrev pub joined_values : Joint → Option ℕ → Option ℕ → Option ℕ

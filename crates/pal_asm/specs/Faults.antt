@@ -25,7 +25,7 @@ first_of (Some fault) later = Some fault
 
 -- no address is past 7777
 abbrev pub past : ℕ → Option Code
-past place = if nat_lt 4095 place then Some PF else None
+past place = if nat_lt 0o7777 place then Some PF else None
 
 abbrev pub undefined : Option ℕ → Option Code
 undefined None = Some UA

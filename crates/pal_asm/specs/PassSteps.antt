@@ -24,7 +24,7 @@ place_by known place (Define name e) = place
 place_by known place Decimal = place
 place_by known place Pause = place
 place_by known place Octal = place
-place_by known place (Field e) = 128
+place_by known place (Field e) = 0o200
 place_by known place (Reference operation indirect address) = place + 1
 place_by known place (Word e) = place + 1
 
@@ -147,7 +147,7 @@ MakesWord word fault (Err code) = fault ≡ Some code
 
 abbrev pub pair_at : Spot → Option ℕ → Option (ℕ × ℕ)
 pair_at spot None = None
-pair_at spot (Some word) = Some (4096 * spot.field + spot.location % 4096, word)
+pair_at spot (Some word) = Some (0o10000 * spot.field + spot.location % 0o10000, word)
 
 -- A body was passed in the second pass, where names stood for these values.
 pub record IsMade (known : Known) (new : SymbolTable) (spot next : Spot) (body : Body) (pair : Option (ℕ × ℕ)) : Type 0 where

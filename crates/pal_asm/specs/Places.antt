@@ -50,7 +50,7 @@ set_by known place (Define name e) before = before
 set_by known place Decimal before = before
 set_by known place Pause before = before
 set_by known place Octal before = before
-set_by known place (Field e) before = 128
+set_by known place (Field e) before = 0o200
 set_by known place (Reference operation indirect address) before = before
 set_by known place (Word e) before = before
 
@@ -74,7 +74,7 @@ with_body known place (Word e) name = known name
 abbrev mutual
   -- the value of the last `*`, or 0200 behind `FIELD` and where there is none
   pub last_setting : Source → ℕ
-  last_setting [] = 128
+  last_setting [] = 0o200
   last_setting (Err fault ∷ older) = last_setting older
   last_setting (Ok s ∷ older) =
       set_by (with_tags s.tags (last_setting older + words_since older) (values older)) (last_setting older + words_since older) s.body (last_setting older)

@@ -13,8 +13,8 @@ use Rattle.pal_asm.specs.Places.{Source, place_at, field_at, values, values_at}
 -- offset with 0200; no other address can be reached
 abbrev pub offset_of : ℕ → ℕ → Option ℕ
 offset_of place address =
-    if nat_lt address 128 then Some address
-    else (if nat_eq (address / 128) (place / 128) then Some (address % 128 + 128) else None)
+    if nat_lt address 0o200 then Some address
+    else (if nat_eq (address / 0o200) (place / 0o200) then Some (address % 0o200 + 0o200) else None)
 
 abbrev pub offset_to : ℕ → Option ℕ → Option ℕ
 offset_to place None = None
@@ -23,7 +23,7 @@ offset_to place (Some address) = offset_of place address
 -- `I` is 0400
 abbrev pub with_offset : Operation → Bool → Option ℕ → Option ℕ
 with_offset operation indirect None = None
-with_offset operation indirect (Some offset) = Some (word_of operation + (if indirect then 256 else 0) + offset)
+with_offset operation indirect (Some offset) = Some (word_of operation + (if indirect then 0o400 else 0) + offset)
 
 -- the word of a body at a place, where it is one and has one
 abbrev pub body_word : Known → ℕ → Body → Option ℕ
@@ -39,7 +39,7 @@ body_word known place (Word e) = value_of known place e
 
 -- the cell of a word behind these statements
 abbrev pub cell_at : Source → ℕ
-cell_at older = 4096 * field_at older + place_at older
+cell_at older = 0o10000 * field_at older + place_at older
 
 abbrev pub with_pair : List (ℕ × ℕ) → ℕ → Option ℕ → List (ℕ × ℕ)
 with_pair pairs cell None = pairs

@@ -15,7 +15,8 @@ use word12::{Cell, Word};
 
 /// Sets tags again to a place, from the left.
 pub fn set_tags(symbols: &mut Symbols, tags: &[Name], place: Word)
-    ensures { (n : ℕ) → symbol_value symbols.new n ≡ with_tags_again tags.now place (symbol_value symbols.old) n }
+    ensures { (n : ℕ) → symbol_value symbols.new n
+        ≡ with_tags_again tags.now place (symbol_value symbols.old) n }
 {
     let mut rest = tags;
     while let [tag, others @ ..] = rest {
@@ -36,7 +37,8 @@ fn set_value(symbols: &mut Symbols, location: u16, name: Name, parts: &[Part]) -
 /// The spot behind a body, in the second pass, which sets names again.
 fn moved(symbols: &mut Symbols, spot: Spot, body: &Body) -> Result<Spot, Code>
     ensures spot { Moves (spot_by (symbol_value symbols.old) body.now spot) (spot_fault (symbol_value symbols.old) spot.location body.now) result }
-    ensures values { OnOk result ((n : ℕ) → symbol_value symbols.new n ≡ with_body_again (symbol_value symbols.old) spot.location body.now n) }
+    ensures values { OnOk result ((n : ℕ) → symbol_value symbols.new n
+        ≡ with_body_again (symbol_value symbols.old) spot.location body.now n) }
     ensures field { spot.field < 8 → IfOk result (λ s. s.field < 8) }
 {
     match body {

@@ -80,9 +80,11 @@ impl Assembler {
     /// of it). PAUSE says nothing: of several sources the statements come one after the other. Behind the turn nothing is
     /// taken.
     pub fn first(&mut self, statement: &Statement) -> Result<(), AsmFault>
-        ensures answers { (older : Source) (tokens : List Token) → is_pause_body statement.now.body ≡ false → IsFirst self.old older → AnswersFirst older (with_tokens tokens statement.now) result self.old self.new }
+        ensures answers { (older : Source) (tokens : List Token) → is_pause_body statement.now.body ≡ false
+            → IsFirst self.old older → AnswersFirst older (with_tokens tokens statement.now) result self.old self.new }
         ensures judged { (older : Source) → IsFirst self.old older → IsJudged older statement.now result }
-        ensures paused { (older : Source) → is_pause_body statement.now.body ≡ true → IsFirst self.old older → (result ≡ Ok tt) × (self.new ≡ self.old) }
+        ensures paused { (older : Source) → is_pause_body statement.now.body ≡ true → IsFirst self.old older
+            → (result ≡ Ok tt) × (self.new ≡ self.old) }
         ensures turned { HasTurned self.old → (result ≡ Ok tt) × (self.new ≡ self.old) }
         ensures failed { StaysFailed result self.old self.new }
     {
@@ -139,8 +141,12 @@ impl Assembler {
     /// the source (PAL III Symbolic Assembler manual, and this project's profile of it). It takes no memory, PAUSE says nothing,
     /// and before the turn nothing is handed out.
     pub fn second(&mut self, statement: &Statement) -> Result<Option<(Cell, Word)>, AsmFault>
-        ensures answers { (whole later older : Source) (tokens : List Token) → is_pause_body statement.now.body ≡ false → whole ≡ later ++ Ok (with_tokens tokens statement.now) ∷ older → IsSecond self.old whole older → AnswersSecond whole older (with_tokens tokens statement.now) result self.old self.new }
-        ensures paused { (whole older : Source) → is_pause_body statement.now.body ≡ true → IsSecond self.old whole older → (result ≡ Ok None) × (self.new ≡ self.old) }
+        ensures answers { (whole later older : Source) (tokens : List Token)
+            → is_pause_body statement.now.body ≡ false → whole ≡ later
+            ++ Ok (with_tokens tokens statement.now) ∷ older → IsSecond self.old whole older
+            → AnswersSecond whole older (with_tokens tokens statement.now) result self.old self.new }
+        ensures paused { (whole older : Source) → is_pause_body statement.now.body ≡ true
+            → IsSecond self.old whole older → (result ≡ Ok None) × (self.new ≡ self.old) }
         ensures unturned { HasNotTurned self.old → (result ≡ Ok None) × (self.new ≡ self.old) }
         ensures failed { StaysFailed result self.old self.new }
     {

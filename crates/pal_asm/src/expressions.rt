@@ -12,7 +12,7 @@ use word12::Word;
 /// The value of a name.
 fn name_value(symbols: &Symbols, name: Name) -> Result<Word, Code>
     ensures value { Gives (symbol_value symbols.now name) (undefined (symbol_value symbols.now name)) result }
-    ensures range { IfOk result (λ word. word < 4096) }
+    ensures range { IfOk result (λ word. word < 0o10000) }
 {
     match symbols.value(SymbolName::numbered(name.number())) {
         Some(word) => {
@@ -26,7 +26,7 @@ fn name_value(symbols: &Symbols, name: Name) -> Result<Word, Code>
 /// The place as a word.
 pub fn place_value(location: u16) -> Result<Word, Code>
     ensures value { Gives (Some location) (past location) result }
-    ensures range { IfOk result (λ word. word < 4096) }
+    ensures range { IfOk result (λ word. word < 0o10000) }
 {
     match Word::new(location) {
         Some(word) => {
@@ -40,7 +40,7 @@ pub fn place_value(location: u16) -> Result<Word, Code>
 /// The value of a term at a place.
 fn term_value(symbols: &Symbols, location: u16, term: Term) -> Result<Word, Code>
     ensures value { Gives (term_value (symbol_value symbols.now) location term) (term_fault (symbol_value symbols.now) location term) result }
-    ensures range { IfOk result (λ word. word < 4096) }
+    ensures range { IfOk result (λ word. word < 0o10000) }
 {
     match term {
         Term::Name(name) => name_value(symbols, name),
@@ -55,7 +55,7 @@ fn term_value(symbols: &Symbols, location: u16, term: Term) -> Result<Word, Code
 /// Two values joined.
 fn joined(joint: Joint, before: Word, value: Word) -> Word
     ensures value { result ≡ joined joint before value }
-    ensures range { result < 4096 }
+    ensures range { result < 0o10000 }
 {
     match joint {
         Joint::Add => before.plus(value),
@@ -67,7 +67,7 @@ fn joined(joint: Joint, before: Word, value: Word) -> Word
 /// The value of an expression at a place, from left to right.
 pub fn value_of(symbols: &Symbols, location: u16, parts: &[Part]) -> Result<Word, Code>
     ensures value { Gives (value_of (symbol_value symbols.now) location parts.now) (terms_fault (symbol_value symbols.now) location parts.now) result }
-    ensures range { IfOk result (λ word. word < 4096) }
+    ensures range { IfOk result (λ word. word < 0o10000) }
 {
     let mut rest = parts;
     let mut value = Word::low(0);
@@ -85,7 +85,7 @@ pub fn address_value(
     address: &Option<Expression>,
 ) -> Result<Word, Code>
     ensures value { Gives (address_value (symbol_value symbols.now) location address.now) (address_fault (symbol_value symbols.now) location address.now) result }
-    ensures range { IfOk result (λ word. word < 4096) }
+    ensures range { IfOk result (λ word. word < 0o10000) }
 {
     match address {
         Some(address) => value_of(symbols, location, address.parts()),

@@ -14,7 +14,7 @@ use pal_sym::Symbols;
 /// Where an assembler is in core.
 #[derive(Clone, Copy)]
 pub struct Spot {
-    /// The place of the next word, 0 to 4096, which is past 7777.
+    /// The place of the next word, 0 to 0o10000, which is past 7777.
     pub location: u16,
     pub field: u8,
     /// Whether there was a word.
@@ -26,7 +26,7 @@ const FIRST: u16 = 0o200;
 
 /// The spot at which a source begins.
 pub fn first_spot() -> Spot
-    ensures { result ≡ record { location = 128; field = 0; word = false } }
+    ensures { result ≡ record { location = 0o200; field = 0; word = false } }
 {
     Spot {
         location: FIRST,

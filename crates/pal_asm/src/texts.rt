@@ -67,7 +67,8 @@ fn lexer_of(alloc: Global, sources: &[&[u8]]) -> Lexer
 
 /// Begins the next source, behind one that has paused.
 fn begin(lexer: &mut Lexer, sources: &[&[u8]]) -> Result<(), AsmFault>
-    ensures { (text : List ℕ) → HasPaused lexer.old text → BeginsNext text (texts sources.now) result lexer.new }
+    ensures { (text : List ℕ) → HasPaused lexer.old text
+        → BeginsNext text (texts sources.now) result lexer.new }
 {
     lexer.next_source(!are_several(sources))?;
     Ok(())
@@ -75,7 +76,8 @@ fn begin(lexer: &mut Lexer, sources: &[&[u8]]) -> Result<(), AsmFault>
 
 /// Takes bytes that end no statement, and answers those behind them.
 fn read_on<'a>(lexer: &mut Lexer, bytes: &'a [u8]) -> &'a [u8]
-    ensures read { (seam : ℕ) (before here : List ℕ) → HasRead lexer.old seam (here ++ before) → ReadsTo seam before here bytes.now result.now lexer.new }
+    ensures read { (seam : ℕ) (before here : List ℕ) → HasRead lexer.old seam (here ++ before)
+        → ReadsTo seam before here bytes.now result.now lexer.new }
     ensures range { length result.now ≤ length bytes.now }
     ensures setting { setting lexer.new ≡ setting lexer.old }
 {
@@ -91,7 +93,8 @@ fn is_pause(statement: &Statement) -> bool
 
 /// Whether a source has its `$`.
 fn ended(lexer: &Lexer) -> Result<(), AsmFault>
-    ensures { (seam : ℕ) (text : List ℕ) → HasRead lexer.now seam text → first_order (statements text) ≡ None → EndsText text result }
+    ensures { (seam : ℕ) (text : List ℕ) → HasRead lexer.now seam text → first_order (statements text) ≡ None
+        → EndsText text result }
 {
     lexer.end()?;
     Ok(())
@@ -99,7 +102,8 @@ fn ended(lexer: &Lexer) -> Result<(), AsmFault>
 
 /// Takes a statement more in the first pass, and answers whether the source goes on.
 fn first_statement(assembler: &mut Assembler, statement: &Statement) -> Result<bool, AsmFault>
-    ensures { (older : Source) (tokens : List Token) → IsFirst assembler.old older → PassesStatement (is_pause_body statement.now.body) older (with_tokens tokens statement.now) result assembler.old assembler.new }
+    ensures { (older : Source) (tokens : List Token) → IsFirst assembler.old older
+        → PassesStatement (is_pause_body statement.now.body) older (with_tokens tokens statement.now) result assembler.old assembler.new }
 {
     if is_pause(statement) {
         return Ok(false);
@@ -110,7 +114,9 @@ fn first_statement(assembler: &mut Assembler, statement: &Statement) -> Result<b
 
 /// Takes a byte more in the first pass, and answers whether the source goes on.
 fn first_byte(lexer: &mut Lexer, assembler: &mut Assembler, byte: u8) -> Result<bool, AsmFault>
-    ensures passed { (seam : ℕ) (text : List ℕ) → PauseIsBad → HasRead lexer.old seam text → IsFirst assembler.old (statements text) → PassesByte seam text byte result lexer.old lexer.new assembler.new }
+    ensures passed { (seam : ℕ) (text : List ℕ) → PauseIsBad → HasRead lexer.old seam text
+        → IsFirst assembler.old (statements text)
+        → PassesByte seam text byte result lexer.old lexer.new assembler.new }
     ensures setting { setting lexer.new ≡ setting lexer.old }
 {
     match lexer.push(byte) {
@@ -128,7 +134,10 @@ fn first_source(
     assembler: &mut Assembler,
     source: &[u8],
 ) -> Result<bool, AsmFault>
-    ensures { (before : List ℕ) (others : List (List ℕ)) → IsClear before → HasRead lexer.old (length before) before → IsFirst assembler.old (statements before) → lexer.old.may_pause ≡ has_next others → PassesSource before (text_of source.now) others result lexer.new assembler.new }
+    ensures { (before : List ℕ) (others : List (List ℕ)) → IsClear before
+        → HasRead lexer.old (length before) before → IsFirst assembler.old (statements before)
+        → lexer.old.may_pause ≡ has_next others
+        → PassesSource before (text_of source.now) others result lexer.new assembler.new }
 {
     pause_is_bad();
     join_goes_on();
@@ -186,7 +195,11 @@ fn second_statement(
     pairs: &mut Vec<(Cell, Word)>,
     statement: &Statement,
 ) -> Result<bool, AsmFault>
-    ensures { (whole older : Source) (tokens : List Token) → (is_pause_body statement.now.body ≡ false → Behind whole (Ok (with_tokens tokens statement.now) ∷ older)) → HasMade whole older pairs.old.items assembler.old → MakesStatement (is_pause_body statement.now.body) whole older (with_tokens tokens statement.now) result pairs.new.items assembler.new }
+    ensures { (whole older : Source) (tokens : List Token)
+        → (is_pause_body statement.now.body ≡ false
+        → Behind whole (Ok (with_tokens tokens statement.now) ∷ older))
+        → HasMade whole older pairs.old.items assembler.old
+        → MakesStatement (is_pause_body statement.now.body) whole older (with_tokens tokens statement.now) result pairs.new.items assembler.new }
 {
     if is_pause(statement) {
         return Ok(false);
@@ -207,7 +220,10 @@ fn second_byte(
     pairs: &mut Vec<(Cell, Word)>,
     byte: u8,
 ) -> Result<bool, AsmFault>
-    ensures made { (whole : Source) (seam : ℕ) (text : List ℕ) → PauseIsBad → (ends_source lexer.old text byte ≡ false → Behind whole (statements (byte ∷ text))) → HasRead lexer.old seam text → HasMade whole (statements text) pairs.old.items assembler.old → MakesByte whole seam text byte result lexer.old lexer.new pairs.new.items assembler.new }
+    ensures made { (whole : Source) (seam : ℕ) (text : List ℕ) → PauseIsBad
+        → (ends_source lexer.old text byte ≡ false → Behind whole (statements (byte ∷ text)))
+        → HasRead lexer.old seam text → HasMade whole (statements text) pairs.old.items assembler.old
+        → MakesByte whole seam text byte result lexer.old lexer.new pairs.new.items assembler.new }
     ensures setting { setting lexer.new ≡ setting lexer.old }
 {
     match lexer.push(byte) {
@@ -226,7 +242,12 @@ fn second_source(
     pairs: &mut Vec<(Cell, Word)>,
     source: &[u8],
 ) -> Result<bool, AsmFault>
-    ensures { (before : List ℕ) (others : List (List ℕ)) → IsClear before → HasRead lexer.old (length before) before → HasMade (statements (join_of (text_of source.now ∷ others) ++ before)) (statements before) pairs.old.items assembler.old → lexer.old.may_pause ≡ has_next others → MakesSource (statements (join_of (text_of source.now ∷ others) ++ before)) before (text_of source.now) others result lexer.new pairs.new.items assembler.new }
+    ensures { (before : List ℕ) (others : List (List ℕ)) → IsClear before
+        → HasRead lexer.old (length before) before
+        → HasMade (statements (join_of (text_of source.now ∷ others)
+        ++ before)) (statements before) pairs.old.items assembler.old → lexer.old.may_pause ≡ has_next others
+        → MakesSource (statements (join_of (text_of source.now ∷ others)
+        ++ before)) before (text_of source.now) others result lexer.new pairs.new.items assembler.new }
 {
     pause_is_bad();
     join_goes_on();

@@ -19,7 +19,7 @@ const INDIRECT: u16 = 0o400;
 /// What stands in a memory reference at a place for an address, if it can be reached.
 fn offset_of(location: u16, address: Word) -> Option<Word>
     ensures value { result ≡ offset_of location address }
-    ensures range { IfSome result (λ offset. offset < 256) }
+    ensures range { IfSome result (λ offset. offset < 0o400) }
 {
     let number = address.get();
     if number < PAGE {
@@ -40,7 +40,7 @@ pub fn reference_word(
     address: &Option<Expression>,
 ) -> Result<Word, Code>
     ensures value { Gives (body_word (symbol_value symbols.now) location (Body.Reference operation indirect address.now)) (word_fault (symbol_value symbols.now) location (Body.Reference operation indirect address.now)) result }
-    ensures range { IfOk result (λ word. word < 4096) }
+    ensures range { IfOk result (λ word. word < 0o10000) }
 {
     let address = address_value(symbols, location, address)?;
     match offset_of(location, address) {
@@ -55,7 +55,7 @@ pub fn reference_word(
 /// The word of a body at a place, if it is one.
 pub fn word_of(symbols: &Symbols, location: u16, body: &Body) -> Result<Option<Word>, Code>
     ensures value { MakesWord (body_word (symbol_value symbols.now) location body.now) (word_fault (symbol_value symbols.now) location body.now) result }
-    ensures range { IfOk result (λ word. IfSome word (λ w. w < 4096)) }
+    ensures range { IfOk result (λ word. IfSome word (λ w. w < 0o10000)) }
 {
     match body {
         Body::Reference {

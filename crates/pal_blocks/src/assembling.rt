@@ -48,7 +48,9 @@ pub struct Assembling {
 impl Assembling {
     /// Begins to assemble files, of which each has so many blocks, at least one. It takes no memory.
     pub fn new(alloc: Global, blocks: Vec<usize>) -> Assembling
-        ensures { (sources : List (List ℕ)) → 0 < length sources → AreFiles sources → blocks.items ≡ blocks_of_each sources → IsAssembling sources result (assembling_turns (blocks_among sources)) }
+        ensures { (sources : List (List ℕ)) → 0 < length sources → AreFiles sources
+            → blocks.items ≡ blocks_of_each sources
+            → IsAssembling sources result (assembling_turns (blocks_among sources)) }
     {
         let lexer = lexer_of(alloc, &blocks);
         Assembling {
@@ -70,7 +72,8 @@ impl Assembling {
     /// The block that comes next, where at least two turns are left.
     pub fn due(&self) -> Due
         ensures due { result ≡ due_of self.now }
-        ensures inside { (sources : List (List ℕ)) (left : ℕ) → IsAssembling sources self.now left → 2 ≤ left → IsBlockOf sources result }
+        ensures inside { (sources : List (List ℕ)) (left : ℕ) → IsAssembling sources self.now left → 2 ≤ left
+            → IsBlockOf sources result }
     {
         Due {
             source: self.source,
@@ -84,7 +87,8 @@ impl Assembling {
     /// project's profile of PAL III). Where memory runs out no turn is taken, and the same block is due again.
     pub fn take(&mut self, alloc: Global, block: &[Word]) -> Result<(), AsmFault>
         requires { length block.now ≡ 256 }
-        ensures { (sources : List (List ℕ)) (left : ℕ) → IsAssembling sources self.old left → 2 ≤ left → block.now ≡ block_of sources (due_of self.old) → TakesBlock sources left result self.new }
+        ensures { (sources : List (List ℕ)) (left : ℕ) → IsAssembling sources self.old left → 2 ≤ left
+            → block.now ≡ block_of sources (due_of self.old) → TakesBlock sources left result self.new }
     {
         if self.again {
             return self.take_again(block);
@@ -95,8 +99,10 @@ impl Assembling {
     /// The words of the file that the sources are assembled to, where one turn is left: the fewest blocks that hold the tape
     /// of their words. The only fault is want of memory. Where more turns are left they are none, and take no memory.
     pub fn target(&self, alloc: Global) -> Result<Vec<Word>, AsmFault>
-        ensures last { (sources : List (List ℕ)) → IsAssembling sources self.now 1 → MakesTarget sources result }
-        ensures early { (sources : List (List ℕ)) (left : ℕ) → IsAssembling sources self.now left → 2 ≤ left → MakesNone result }
+        ensures last { (sources : List (List ℕ)) → IsAssembling sources self.now 1
+            → MakesTarget sources result }
+        ensures early { (sources : List (List ℕ)) (left : ℕ) → IsAssembling sources self.now left → 2 ≤ left
+            → MakesNone result }
     {
         if self.source < count(&self.blocks) {
             return Ok(Vec::new(alloc));
@@ -110,7 +116,8 @@ impl Assembling {
     fn take_first(&mut self, alloc: Global, block: &[Word]) -> Result<(), AsmFault>
         requires block { length block.now ≡ 256 }
         requires first { self.old.again ≡ false }
-        ensures { (sources : List (List ℕ)) (left : ℕ) → IsAssembling sources self.old left → 2 ≤ left → block.now ≡ block_of sources (due_of self.old) → TakesBlock sources left result self.new }
+        ensures { (sources : List (List ℕ)) (left : ℕ) → IsAssembling sources self.old left → 2 ≤ left
+            → block.now ≡ block_of sources (due_of self.old) → TakesBlock sources left result self.new }
     {
         joined_text();
         no_lexical_fault();
@@ -141,7 +148,8 @@ impl Assembling {
     fn take_again(&mut self, block: &[Word]) -> Result<(), AsmFault>
         requires block { length block.now ≡ 256 }
         requires second { self.old.again ≡ true }
-        ensures { (sources : List (List ℕ)) (left : ℕ) → IsAssembling sources self.old left → 2 ≤ left → block.now ≡ block_of sources (due_of self.old) → TakesBlock sources left result self.new }
+        ensures { (sources : List (List ℕ)) (left : ℕ) → IsAssembling sources self.old left → 2 ≤ left
+            → block.now ≡ block_of sources (due_of self.old) → TakesBlock sources left result self.new }
     {
         joined_text();
         no_lexical_fault();

@@ -45,7 +45,7 @@ pub(crate) fn lay_characters(block: &[Word], bytes: &mut [u8]) -> usize
     joined_text();
     let mut count = 0;
     while count < BLOCK_FRAMES {
-        let character = frame_at(block, count) % 128;
+        let character = frame_at(block, count) % 0o200;
         if character == CONTROL_Z {
             return count;
         }
@@ -76,7 +76,11 @@ fn is_pause(answer: &Option<Statement>) -> bool
 pub(crate) fn read_on(lexer: &mut Lexer, text: &[u8], offset: usize) -> usize
     requires { offset ≤ length text.now }
     ensures range { (offset ≤ result) × (result ≤ length text.now) }
-    ensures read { (seam : ℕ) (before here : List ℕ) → HasRead lexer.old seam (text_from here (take offset text.now) ++ before) → HasRead lexer.new seam (text_from here (take result text.now) ++ before) × (statements (text_from here (take result text.now) ++ before) ≡ statements (text_from here (take offset text.now) ++ before)) }
+    ensures read { (seam : ℕ) (before here : List ℕ)
+        → HasRead lexer.old seam (text_from here (take offset text.now) ++ before)
+        → HasRead lexer.new seam (text_from here (take result text.now) ++ before)
+        × (statements (text_from here (take result text.now) ++ before)
+        ≡ statements (text_from here (take offset text.now) ++ before)) }
     ensures paused { (cut : List ℕ) → HasPaused lexer.old cut → lexer.new ≡ lexer.old }
     ensures setting { setting lexer.new ≡ setting lexer.old }
 {
@@ -86,7 +90,8 @@ pub(crate) fn read_on(lexer: &mut Lexer, text: &[u8], offset: usize) -> usize
 
 /// Hands the statement that waits, if one does, to the assembler.
 fn settle(pass: &mut Pass) -> Result<(), AsmFault>
-    ensures settles { (source : Source) → IsBehind pass.old.waiting pass.old.assembler source → Settles source result pass.old pass.new }
+    ensures settles { (source : Source) → IsBehind pass.old.waiting pass.old.assembler source
+        → Settles source result pass.old pass.new }
     ensures none { OnOk result (pass.new.waiting ≡ None) }
 {
     match &pass.waiting {
@@ -116,7 +121,8 @@ fn keep(pass: &mut Pass, answer: Option<Statement>)
 /// Takes the next character, where no statement waits.
 fn pass_byte(pass: &mut Pass, byte: u8) -> Result<(), AsmFault>
     requires { pass.old.waiting ≡ None }
-    ensures { (front here : List ℕ) (several : Bool) → HasPassed pass.old front several here false → PassesByte front several here byte result pass.new }
+    ensures { (front here : List ℕ) (several : Bool) → HasPassed pass.old front several here false
+        → PassesByte front several here byte result pass.new }
 {
     byte_goes_on();
     pause_joins();
@@ -136,7 +142,9 @@ fn pass_statement(pass: &mut Pass, text: &[u8], offset: &mut usize) -> Result<()
     requires range { offset.old < length text.now }
     ensures range { offset.new ≤ length text.now }
     ensures more { OnOk result (offset.old < offset.new) }
-    ensures passes { (front here : List ℕ) (several : Bool) → HasPassed pass.old front several (text_from here (take offset.old text.now)) false → PassesTo front several here text.now offset.new result pass.new }
+    ensures passes { (front here : List ℕ) (several : Bool)
+        → HasPassed pass.old front several (text_from here (take offset.old text.now)) false
+        → PassesTo front several here text.now offset.new result pass.new }
 {
     *offset = read_on(&mut pass.lexer, text, *offset);
     if *offset < text.len() {
@@ -151,7 +159,9 @@ fn pass_statement(pass: &mut Pass, text: &[u8], offset: &mut usize) -> Result<()
 /// Takes characters from a place on. Where memory runs out the place tells how many were taken.
 fn pass_text(pass: &mut Pass, text: &[u8], offset: &mut usize) -> Result<(), AsmFault>
     ensures none { OnOk result ((pass.new.waiting ≡ None) × (length text.now ≤ offset.new)) }
-    ensures passes { (front here : List ℕ) (several : Bool) → HasPassed pass.old front several (text_from here (take offset.old text.now)) false → PassesTo front several here text.now offset.new result pass.new }
+    ensures passes { (front here : List ℕ) (several : Bool)
+        → HasPassed pass.old front several (text_from here (take offset.old text.now)) false
+        → PassesTo front several here text.now offset.new result pass.new }
 {
     join_goes_on();
     statements_stay();
@@ -174,8 +184,10 @@ pub(crate) fn pass_block(
     offset: &mut usize,
 ) -> Result<(), AsmFault>
     requires { length block.now ≡ 256 }
-    ensures passes { (front given : List ℕ) (several : Bool) → HasPassed pass.old front several (text_from (text_in given) (take offset.old (added given block.now))) (is_ended given) → PassesBlock front several given block.now offset.new result pass.new }
-    ensures ended { pass.old.ended ≡ true → (source : Source) → IsBehind pass.old.waiting pass.old.assembler source → Settles source result pass.old pass.new }
+    ensures passes { (front given : List ℕ) (several : Bool)
+        → HasPassed pass.old front several (text_from (text_in given) (take offset.old (added given block.now))) (is_ended given) → PassesBlock front several given block.now offset.new result pass.new }
+    ensures ended { pass.old.ended ≡ true → (source : Source)
+        → IsBehind pass.old.waiting pass.old.assembler source → Settles source result pass.old pass.new }
     ensures none { OnOk result (pass.new.waiting ≡ None) }
 {
     joined_text();
@@ -214,7 +226,8 @@ pub(crate) fn end_source(pass: &mut Pass, last: bool) -> Result<(), AsmFault>
 
 /// Whether a `$` has ended the sources.
 fn is_over(lexer: &Lexer) -> bool
-    ensures { (seam : ℕ) (text : List ℕ) → HasRead lexer.now seam text → first_fault (statements text) ≡ None → result ≡ is_over text }
+    ensures { (seam : ℕ) (text : List ℕ) → HasRead lexer.now seam text → first_fault (statements text) ≡ None
+        → result ≡ is_over text }
 {
     lexer.end().is_ok()
 }
@@ -223,7 +236,8 @@ fn is_over(lexer: &Lexer) -> bool
 /// It takes no memory.
 pub(crate) fn turn_pass(pass: &mut Pass, lexer: Lexer) -> Result<(), AsmFault>
     requires { pass.old.waiting ≡ None }
-    ensures turns { (seam : ℕ) (text : List ℕ) → HasRead pass.old.lexer seam text → IsFirst pass.old.assembler (statements text) → TurnsPass text result pass.new }
+    ensures turns { (seam : ℕ) (text : List ℕ) → HasRead pass.old.lexer seam text
+        → IsFirst pass.old.assembler (statements text) → TurnsPass text result pass.new }
     ensures lexer { OnOk result ((pass.new.lexer ≡ lexer) × (pass.new.ended ≡ false)) }
 {
     no_lexical_fault();

@@ -5,7 +5,7 @@ use Rattle.std.proofs.Math.Seq.{set-append_seam}
 use Rattle.pal_lex.specs.Text.{limit}
 use Rattle.pal_lex.specs.Cutting.{Piece, Run, Mark, is_blank, is_operand, with_character, pieces, has_illegal}
 use Rattle.pal_lex.specs.Runs.{base, token, in_order, run_kind}
-use Rattle.pal_lex.specs.Growth.{grown}
+use Rattle.pal_lex.specs.GrowthSteps.{grown}
 use Rattle.pal_lex.specs.Drafting.{Cut, cut_of, cut, weight_after}
 use Rattle.pal_lex.specs.declared.pieces.Token.{Token}
 use Rattle.pal_lex.specs.declared.drafts.Tail.{Tail}

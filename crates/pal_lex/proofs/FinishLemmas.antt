@@ -8,7 +8,7 @@ use Rattle.pal_lex.specs.Drafting.{Cut, cut}
 use Rattle.pal_lex.specs.Statements.{radix_by, radix_after, statements, fault_of, first_of, first_fault}
 use Rattle.pal_lex.specs.Joins.{is_lone_pause, is_pause}
 use Rattle.pal_lex.specs.Progress.{Progress}
-use Rattle.pal_lex.specs.Judging.{Judges, dies, comment_after, ended, ended_statement, paused, pause_statement, next, failed}
+use Rattle.pal_lex.specs.JudgeSteps.{Judges, dies, comment_after, ended, ended_statement, paused, pause_statement, next, failed}
 use Rattle.pal_lex.specs.Reading.{IsReading, StateIs, HasRead, IsPaused, HasPaused, tokens_behind, tokens_since, with_tokens, is_pause_body, IsHandedOut, Pauses, HandsOut, Tells, Answers, ReadsOn, BeginsSource}
 use Rattle.pal_lex.specs.declared.faults.LexFault.{LexFault}
 use Rattle.pal_lex.specs.declared.faults.LexFault.TheVariants.{IC, SY, NU, NE, Memory}

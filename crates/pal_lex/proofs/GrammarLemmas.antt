@@ -6,7 +6,7 @@ use Rattle.pal_lex.specs.Language.{is_named, free_name}
 use Rattle.pal_lex.specs.Runs.{name_number}
 use Rattle.std.specs.Prelude.{codes}
 use Rattle.pal_lex.specs.Grammar.{joint_of, term_of, parts, with_part, terms, reference, is_comma, with_tag, said}
-use Rattle.pal_lex.specs.Behind.{behind, tagged}
+use Rattle.pal_lex.specs.BehindSteps.{behind, tagged}
 use Rattle.pal_lex.specs.declared.pieces.Token.{Token}
 use Rattle.pal_lex.specs.declared.pieces.Term.{Term}
 use Rattle.pal_lex.specs.declared.phrases.Joint.{Joint}

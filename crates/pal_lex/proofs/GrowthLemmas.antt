@@ -6,7 +6,7 @@ use Rattle.word12.specs.Sixbit.{is_letter, sixbit_code}
 use Rattle.pal_lex.specs.Text.{limit}
 use Rattle.pal_lex.specs.Runs.{code_at, name_number, are_digits, number_after, number, number_kind, run_kind}
 use Rattle.pal_lex.specs.Drafting.{weight_after}
-use Rattle.pal_lex.specs.Growth.{longer_name, longer_number, grown, begun}
+use Rattle.pal_lex.specs.GrowthSteps.{longer_name, longer_number, grown, begun}
 use Rattle.pal_lex.specs.declared.pieces.Term.TheVariants.{Name, Number}
 use Rattle.pal_lex.specs.declared.pieces.Kind.TheVariants.{Term, BadNumber}
 

@@ -8,7 +8,7 @@ use Rattle.pal_lex.specs.Grammar.{said, has_bad_number}
 use Rattle.pal_lex.specs.Drafting.{Cut, cut}
 use Rattle.pal_lex.specs.Statements.{stated, judged, radix_by, radix_after, statements, fault_of, first_of, first_fault}
 use Rattle.pal_lex.specs.Progress.{Progress}
-use Rattle.pal_lex.specs.Judging.{passed, ended}
+use Rattle.pal_lex.specs.JudgeSteps.{passed, ended}
 use Rattle.pal_lex.specs.Reading.{StateIs, HasRead, Tells, Answers, Ends, EndsSource}
 use Rattle.pal_lex.specs.Laws.{IsOfStatement, FaultsAreOfStatements}
 use Rattle.pal_lex.specs.declared.faults.LexFault.{LexFault}

@@ -5,7 +5,7 @@ use Rattle.pal_lex.specs.Text.{is_ignored, in_comment, is_dead, is_end, is_over,
 use Rattle.pal_lex.specs.Steps.{has_cr, with_characters, pending, PutsRun}
 use Rattle.pal_lex.specs.Cutting.{Piece, Run, Mark, is_coded, are_coded, has_illegal, trimmed, with_character, pieces}
 use Rattle.pal_lex.specs.Runs.{base, run_kind, token, in_order}
-use Rattle.pal_lex.specs.Growth.{IsRun, grown}
+use Rattle.pal_lex.specs.GrowthSteps.{IsRun, grown}
 use Rattle.pal_lex.specs.Drafting.{Cut, cut_of, cut, tail_of, weight_after}
 use Rattle.pal_lex.specs.Statements.{statements, with_stretch, radix_after, first_fault}
 use Rattle.pal_lex.specs.Progress.{Progress}

@@ -17,20 +17,20 @@ is_coded b = is_letter b || is_digit b
 
 -- blank and tab
 abbrev pub is_space : ℕ → Bool
-is_space b = nat_eq b 32 || nat_eq b 9
+is_space b = nat_eq b 0o40 || nat_eq b 0o11
 
 -- the signs beside which a blank means nothing
 abbrev pub sign_of : ℕ → Option Kind
 sign_of b =
     if nat_eq b 43 then Some Plus
     else (if nat_eq b 45 then Some Minus
-    else (if nat_eq b 61 then Some Equals
-    else (if nat_eq b 44 then Some Comma
-    else (if nat_eq b 42 then Some Star
+    else (if nat_eq b 0o75 then Some Equals
+    else (if nat_eq b 0o54 then Some Comma
+    else (if nat_eq b 0o52 then Some Star
     else None))))
 
 abbrev pub is_legal : ℕ → Bool
-is_legal b = is_coded b || is_space b || nat_eq b 46 || is_some (sign_of b)
+is_legal b = is_coded b || is_space b || nat_eq b 0o56 || is_some (sign_of b)
 
 abbrev pub has_illegal : List (ℕ × ℕ) → Bool
 has_illegal [] = false
@@ -89,7 +89,7 @@ abbrev pub with_byte : ℕ → ℕ → List Piece → List Piece
 with_byte b place before =
     if is_coded b then with_character b place before
     else (if is_space b then with_blank place before
-    else (if nat_eq b 46 then Mark (Term Here) place ∷ before
+    else (if nat_eq b 0o56 then Mark (Term Here) place ∷ before
     else with_sign (sign_of b) place before))
 
 -- the pieces of live bytes so far

@@ -15,8 +15,8 @@ pub record Cut : Type 0 where
 
 -- the weight of the next character of a name that has so many
 abbrev pub weight_after : ℕ → ℕ
-weight_after zero = 1073741824
-weight_after (suc n) = weight_after n / 64
+weight_after zero = 0o10000000000
+weight_after (suc n) = weight_after n / 0o100
 
 -- what the next byte may go on with
 abbrev pub tail_of : List Piece → Tail

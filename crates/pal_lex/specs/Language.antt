@@ -11,11 +11,11 @@ use Rattle.pal_lex.specs.declared.phrases.Operation.TheVariants.{And, Tad, Isz, 
 -- the word of an operation (Small Computer Handbook)
 abbrev pub word_of : Operation → ℕ
 word_of And = 0
-word_of Tad = 512
-word_of Isz = 1024
-word_of Dca = 1536
-word_of Jms = 2048
-word_of Jmp = 2560
+word_of Tad = 0o1000
+word_of Isz = 0o2000
+word_of Dca = 0o3000
+word_of Jms = 0o4000
+word_of Jmp = 0o5000
 
 -- the names that have a meaning of their own, and stand for no value
 abbrev pub is_reserved : ℕ → Bool

@@ -1,10 +1,10 @@
-pub mod Behind
+pub mod BehindSteps
 pub mod Cutting
 pub mod Drafting
 pub mod Grammar
-pub mod Growth
+pub mod GrowthSteps
 pub mod Joins
-pub mod Judging
+pub mod JudgeSteps
 pub mod Language
 pub mod Laws
 pub mod Progress

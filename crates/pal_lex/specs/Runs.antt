@@ -19,12 +19,12 @@ base Decimal = 10
 -- each character is a digit below this base
 abbrev pub are_digits : ℕ → List ℕ → Bool
 are_digits base [] = true
-are_digits base (c ∷ others) = nat_le 48 c && nat_lt c (48 + base) && are_digits base others
+are_digits base (c ∷ others) = nat_le 0o60 c && nat_lt c (0o60 + base) && are_digits base others
 
 -- the number that digits spell behind a number that was spelled before them
 abbrev pub number_after : ℕ → ℕ → List ℕ → ℕ
 number_after base n [] = n
-number_after base n (c ∷ others) = number_after base (base * n + (c - 48)) others
+number_after base n (c ∷ others) = number_after base (base * n + (c - 0o60)) others
 
 abbrev pub number : ℕ → List ℕ → ℕ
 number base digits = number_after base 0 digits
@@ -32,7 +32,7 @@ number base digits = number_after base 0 digits
 -- a number of twelve bits by this base
 abbrev pub number_kind : ℕ → List ℕ → Kind
 number_kind base digits =
-    if are_digits base digits && nat_lt (number base digits) 4096 then Term (Number (number base digits)) else BadNumber
+    if are_digits base digits && nat_lt (number base digits) 0o10000 then Term (Number (number base digits)) else BadNumber
 
 abbrev pub run_kind : ℕ → ℕ → List ℕ → Kind
 run_kind base first others =

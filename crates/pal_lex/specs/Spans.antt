@@ -20,7 +20,7 @@ between (b ∷ older) start end =
 
 -- the token of a character that is no letter and no digit
 abbrev pub mark_of : ℕ → Option Kind
-mark_of c = if is_space c then Some Blank else (if nat_eq c 46 then Some (Term Here) else sign_of c)
+mark_of c = if is_space c then Some Blank else (if nat_eq c 0o56 then Some (Term Here) else sign_of c)
 
 -- the token that bytes spell, by a base
 abbrev pub spelled : ℕ → List ℕ → Option Kind

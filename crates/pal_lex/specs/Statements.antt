@@ -54,7 +54,7 @@ with_stretch line last live older = judged line last live (radix_after older) �
 unfoldable pub statements : List ℕ → List (Result Statement LexFault)
 statements [] = []
 statements (b ∷ older) =
-    if ends_statement older b then with_stretch (line_after older) (nat_eq b 36) (stretch older) (statements older)
+    if ends_statement older b then with_stretch (line_after older) (nat_eq b 0o44) (stretch older) (statements older)
     else statements older
 
 abbrev pub fault_of : Result Statement LexFault → Option LexFault

@@ -46,4 +46,4 @@ TakesByte seam text b false old new = new ≡ old
 -- a CR stands among bytes
 abbrev pub has_cr : List ℕ → Bool
 has_cr [] = false
-has_cr (b ∷ bytes) = nat_eq b 13 || has_cr bytes
+has_cr (b ∷ bytes) = nat_eq b 0o15 || has_cr bytes

@@ -4,12 +4,12 @@ use Rattle.std.specs.Prelude.{ℕ, ◌+◌, ◌-◌, nat_eq, Bool, true, false, 
 
 -- line feed, form feed, NUL and rubout are as if they weren't there
 abbrev pub is_ignored : ℕ → Bool
-is_ignored b = nat_eq b 10 || nat_eq b 12 || nat_eq b 0 || nat_eq b 127
+is_ignored b = nat_eq b 0o12 || nat_eq b 0o14 || nat_eq b 0 || nat_eq b 0o177
 
 -- a `/` stands behind the last CR
 abbrev pub in_comment : List ℕ → Bool
 in_comment [] = false
-in_comment (b ∷ older) = if nat_eq b 13 then false else (if nat_eq b 47 then true else in_comment older)
+in_comment (b ∷ older) = if nat_eq b 0o15 then false else (if nat_eq b 0o57 then true else in_comment older)
 
 -- a byte behind a text means nothing: it is ignored, or stands in a comment, which `/` begins and CR ends
 abbrev pub is_dead : List ℕ → ℕ → Bool
@@ -17,12 +17,12 @@ is_dead older b = is_ignored b || in_comment (b ∷ older)
 
 -- `;`, CR and `$`
 abbrev pub is_end : ℕ → Bool
-is_end b = nat_eq b 59 || nat_eq b 13 || nat_eq b 36
+is_end b = nat_eq b 0o73 || nat_eq b 0o15 || nat_eq b 0o44
 
 -- a live `$` ended the source
 abbrev pub is_over : List ℕ → Bool
 is_over [] = false
-is_over (b ∷ older) = is_over older || (nat_eq b 36 && not (is_dead older b))
+is_over (b ∷ older) = is_over older || (nat_eq b 0o44 && not (is_dead older b))
 
 -- a byte behind a text ends a statement
 abbrev pub ends_statement : List ℕ → ℕ → Bool
@@ -45,7 +45,7 @@ up_to_end (b ∷ older) = if is_dead older b then up_to_end older else (if is_en
 
 abbrev pub cr_count : List ℕ → ℕ
 cr_count [] = 0
-cr_count (b ∷ older) = (if nat_eq b 13 then 1 else 0) + cr_count older
+cr_count (b ∷ older) = (if nat_eq b 0o15 then 1 else 0) + cr_count older
 
 -- a place or a line, as far as a number of 64 bits goes
 abbrev pub limit : ℕ → ℕ

@@ -2,7 +2,7 @@ ghost use Rattle.std.specs.Prelude.{◌≡◌, ℕ, Bool, true, false, if◌then
 ghost use Rattle.pal_lex.specs.Text.{limit};
 ghost use Rattle.pal_lex.specs.Cutting.{Piece, Run, Mark, is_coded, is_operand, is_blank, sign_of, with_character, with_blank, with_sign};
 ghost use Rattle.pal_lex.specs.Runs.{base};
-ghost use Rattle.pal_lex.specs.Growth.{grown};
+ghost use Rattle.pal_lex.specs.GrowthSteps.{grown};
 ghost use Rattle.pal_lex.specs.Drafting.{cut, cut_of, spoiled};
 ghost use Rattle.pal_lex.specs.Steps.{pending, PutsRun};
 
@@ -181,7 +181,7 @@ impl Draft {
         let end = place.saturating_add(1);
         if let Tail::Run(weight) = self.tail {
             lengthen(&mut self.tokens, radix, weight, byte, end);
-            self.tail = Tail::Run(weight / 64);
+            self.tail = Tail::Run(weight / 0o100);
             return Ok(());
         }
         let token = Token {
@@ -189,7 +189,7 @@ impl Draft {
             start: place,
             end,
         };
-        self.add(token, Tail::Run(16777216))
+        self.add(token, Tail::Run(0o100000000))
     }
 
     /// Puts a letter or a digit behind the stretch, and the letters and digits that stand at the front of other bytes as

@@ -1,7 +1,7 @@
 ghost use Rattle.std.specs.Prelude.{◌≡◌, true, false, Some, IfOk, [], ◌∷◌};
 ghost use Rattle.pal_lex.specs.Language.{free_name};
 ghost use Rattle.pal_lex.specs.Grammar.{sum, expression, map_body, reference, definition, field_number, lone_body, longer_body, body, untagged, said, has_bad_number};
-ghost use Rattle.pal_lex.specs.Behind.{tagged};
+ghost use Rattle.pal_lex.specs.BehindSteps.{tagged};
 
 use crate::expressions::{expression, terms};
 use crate::kinds::{is_bad, is_blank, is_comma, is_equals, is_sign, is_star};

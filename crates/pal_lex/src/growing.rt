@@ -5,7 +5,7 @@ ghost use Rattle.pal_lex.specs.Text.{limit};
 ghost use Rattle.pal_lex.specs.Runs.{base};
 ghost use Rattle.word12.specs.Sixbit.{is_letter};
 ghost use Rattle.pal_lex.specs.Cutting.{is_coded};
-ghost use Rattle.pal_lex.specs.Growth.{IsRun};
+ghost use Rattle.pal_lex.specs.GrowthSteps.{IsRun};
 
 use crate::runs::{Radix, begun, grown, longer_name};
 use crate::{Kind, Name, Term, Token};
@@ -38,17 +38,18 @@ fn is_letter(byte: u8) -> bool
 #[inline(always)]
 fn name_of(first: u8, others: &[u8], place: u64) -> Grown
     requires { is_letter first ≡ true }
-    ensures run { (radix : Radix) (at : ℕ) → place ≡ limit at → IsRun (base radix) first others.now at result }
+    ensures run { (radix : Radix) (at : ℕ) → place ≡ limit at
+        → IsRun (base radix) first others.now at result }
     ensures range { result.more ≤ length others.now }
 {
-    let mut name = longer_name(Name::numbered(0), 1073741824, first);
+    let mut name = longer_name(Name::numbered(0), 0o10000000000, first);
     let mut end = place.saturating_add(1);
-    let mut weight = 16777216;
+    let mut weight = 0o100000000;
     let mut more = 0;
     while more < others.len() && is_coded(others[more]) {
         name = longer_name(name, weight, others[more]);
         end = end.saturating_add(1);
-        weight /= 64;
+        weight /= 0o100;
         more += 1;
     }
     Grown {
@@ -77,12 +78,12 @@ pub fn run_of(radix: Radix, first: u8, others: &[u8], place: u64) -> Grown
         start: place,
         end: place.saturating_add(1),
     };
-    let mut weight = 16777216;
+    let mut weight = 0o100000000;
     let mut more = 0;
     while more < others.len() && is_coded(others[more]) {
         token.kind = grown(token.kind, radix, weight, others[more]);
         token.end = token.end.saturating_add(1);
-        weight /= 64;
+        weight /= 0o100;
         more += 1;
     }
     Grown {

@@ -6,12 +6,12 @@ use crate::{Kind, Name, Operation, Term};
 /// The number of a name of up to six characters, of which missing ones are written as 0.
 macro_rules! name {
     ($a:literal $b:literal $c:literal $d:literal $e:literal $f:literal) => {
-        1073741824 * ($a as u64 % 64)
-            + 16777216 * ($b as u64 % 64)
-            + 262144 * ($c as u64 % 64)
-            + 4096 * ($d as u64 % 64)
-            + 64 * ($e as u64 % 64)
-            + ($f as u64 % 64)
+        0o10000000000 * ($a as u64 % 0o100)
+            + 0o100000000 * ($b as u64 % 0o100)
+            + 0o1000000 * ($c as u64 % 0o100)
+            + 0o10000 * ($d as u64 % 0o100)
+            + 0o100 * ($e as u64 % 0o100)
+            + ($f as u64 % 0o100)
     };
 }
 

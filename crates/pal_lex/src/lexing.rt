@@ -6,7 +6,7 @@ ghost use Rattle.pal_lex.specs.Joins.{is_lone_pause};
 ghost use Rattle.pal_lex.specs.Cutting.{is_coded};
 ghost use Rattle.pal_lex.specs.Progress.{setting};
 ghost use Rattle.pal_lex.specs.Reading.{HasRead, HasPaused, HasFailed, Answers, Pauses, ReadsOn, Ends, EndsSource, BeginsNext};
-ghost use Rattle.pal_lex.specs.Judging.{Judges, comment_after, dies, passed, ended, ended_statement, paused, pause_statement, next, failed};
+ghost use Rattle.pal_lex.specs.JudgeSteps.{Judges, comment_after, dies, passed, ended, ended_statement, paused, pause_statement, next, failed};
 
 use crate::drafts::Draft;
 use crate::grammar::{has_bad_number, said};
@@ -205,10 +205,14 @@ impl Lexer {
     #[tactic(auto, unfolding(crate::specs::Statements::statements, crate::specs::Reading::HasRead, crate::specs::Reading::HasPaused, crate::specs::Reading::HasFailed))]
     #[inline(always)]
     pub fn push(&mut self, byte: u8) -> Result<Option<Statement>, LexFault>
-        ensures answers { (seam : ℕ) (text : List ℕ) → HasRead self.old seam text → Answers seam text byte result self.old self.new }
-        ensures over { (seam : ℕ) (text : List ℕ) → HasRead self.old seam text → first_fault (statements text) ≡ None → is_over text ≡ true → self.new ≡ self.old }
-        ensures paused { (text : List ℕ) → HasPaused self.old text → (result ≡ Ok None) × (self.new ≡ self.old) }
-        ensures failed { (fault : LexFault) → HasFailed self.old fault → (result ≡ Err fault) × (self.new ≡ self.old) }
+        ensures answers { (seam : ℕ) (text : List ℕ) → HasRead self.old seam text
+            → Answers seam text byte result self.old self.new }
+        ensures over { (seam : ℕ) (text : List ℕ) → HasRead self.old seam text
+            → first_fault (statements text) ≡ None → is_over text ≡ true → self.new ≡ self.old }
+        ensures paused { (text : List ℕ) → HasPaused self.old text
+            → (result ≡ Ok None) × (self.new ≡ self.old) }
+        ensures failed { (fault : LexFault) → HasFailed self.old fault
+            → (result ≡ Err fault) × (self.new ≡ self.old) }
         ensures setting { setting self.new ≡ setting self.old }
     {
         match self.state {
@@ -225,10 +229,14 @@ impl Lexer {
     #[tactic(auto, unfolding(crate::specs::Reading::HasRead, crate::specs::Reading::HasPaused, crate::specs::Reading::HasFailed))]
     pub fn read_on(&mut self, bytes: &[u8]) -> usize
         ensures range { result ≤ length bytes.now }
-        ensures read { (seam : ℕ) (text : List ℕ) → HasRead self.old seam text → ReadsOn seam text bytes.now result self.new }
-        ensures over { (seam : ℕ) (text : List ℕ) → HasRead self.old seam text → first_fault (statements text) ≡ None → is_over text ≡ true → self.new ≡ self.old }
-        ensures paused { (text : List ℕ) → HasPaused self.old text → (result ≡ length bytes.now) × (self.new ≡ self.old) }
-        ensures failed { (fault : LexFault) → HasFailed self.old fault → (result ≡ 0) × (self.new ≡ self.old) }
+        ensures read { (seam : ℕ) (text : List ℕ) → HasRead self.old seam text
+            → ReadsOn seam text bytes.now result self.new }
+        ensures over { (seam : ℕ) (text : List ℕ) → HasRead self.old seam text
+            → first_fault (statements text) ≡ None → is_over text ≡ true → self.new ≡ self.old }
+        ensures paused { (text : List ℕ) → HasPaused self.old text
+            → (result ≡ length bytes.now) × (self.new ≡ self.old) }
+        ensures failed { (fault : LexFault) → HasFailed self.old fault
+            → (result ≡ 0) × (self.new ≡ self.old) }
         ensures setting { setting self.new ≡ setting self.old }
     {
         match self.state {
@@ -245,9 +253,12 @@ impl Lexer {
     /// answered that. Behind the `$` that ends them all nothing comes.
     #[tactic(auto, unfolding(crate::specs::Statements::statements, crate::specs::Reading::HasRead, crate::specs::Reading::HasPaused, crate::specs::Reading::HasFailed))]
     pub fn next_source(&mut self, last: bool) -> Result<(), LexFault>
-        ensures read { (seam : ℕ) (text : List ℕ) → HasRead self.old seam text → Ends text result × EndsSource result self.old self.new }
-        ensures paused { (text : List ℕ) → HasPaused self.old text → BeginsNext text last result self.old self.new }
-        ensures failed { (fault : LexFault) → HasFailed self.old fault → (result ≡ Err fault) × (self.new ≡ self.old) }
+        ensures read { (seam : ℕ) (text : List ℕ) → HasRead self.old seam text
+            → Ends text result × EndsSource result self.old self.new }
+        ensures paused { (text : List ℕ) → HasPaused self.old text
+            → BeginsNext text last result self.old self.new }
+        ensures failed { (fault : LexFault) → HasFailed self.old fault
+            → (result ≡ Err fault) × (self.new ≡ self.old) }
         ensures tokens { self.new.keeps_tokens ≡ self.old.keeps_tokens }
     {
         match self.state {
@@ -268,7 +279,8 @@ impl Lexer {
     #[tactic(auto, unfolding(crate::specs::Statements::statements, crate::specs::Reading::HasRead, crate::specs::Reading::HasPaused, crate::specs::Reading::HasFailed))]
     pub fn end(&self) -> Result<(), LexFault>
         ensures read { (seam : ℕ) (text : List ℕ) → HasRead self.now seam text → Ends text result }
-        ensures paused { (text : List ℕ) → HasPaused self.now text → result ≡ Err (LexFault.NE (line_after text)) }
+        ensures paused { (text : List ℕ) → HasPaused self.now text
+            → result ≡ Err (LexFault.NE (line_after text)) }
         ensures failed { (fault : LexFault) → HasFailed self.now fault → result ≡ Err fault }
     {
         match self.state {
@@ -282,7 +294,8 @@ impl Lexer {
     #[tactic(auto, unfolding(crate::specs::Statements::statements, crate::specs::Reading::HasRead))]
     fn begun(alloc: Global, keeps_tokens: bool, may_pause: bool) -> Lexer
         ensures read { HasRead result 0 [] }
-        ensures setting { setting result ≡ record { keeps_tokens = keeps_tokens; source = 0; may_pause = may_pause } }
+        ensures setting { setting result
+            ≡ record { keeps_tokens = keeps_tokens; source = 0; may_pause = may_pause } }
     {
         Lexer {
             alloc,
@@ -314,7 +327,8 @@ impl Lexer {
     #[inline(always)]
     fn read(&mut self, byte: u8) -> Result<Option<Statement>, LexFault>
         requires { self.old.state ≡ State.Reading }
-        ensures answers { (seam : ℕ) (text : List ℕ) → HasRead self.old seam text → Answers seam text byte result self.old self.new }
+        ensures answers { (seam : ℕ) (text : List ℕ) → HasRead self.old seam text
+            → Answers seam text byte result self.old self.new }
         ensures setting { setting self.new ≡ setting self.old }
     {
         if dies(self.comment, byte) {
@@ -333,7 +347,8 @@ impl Lexer {
     fn take(&mut self, bytes: &[u8]) -> usize
         requires { self.old.state ≡ State.Reading }
         ensures range { result ≤ length bytes.now }
-        ensures read { (seam : ℕ) (text : List ℕ) → HasRead self.old seam text → ReadsOn seam text bytes.now result self.new }
+        ensures read { (seam : ℕ) (text : List ℕ) → HasRead self.old seam text
+            → ReadsOn seam text bytes.now result self.new }
         ensures setting { setting self.new ≡ setting self.old }
     {
         let mut taken = 0;
@@ -353,7 +368,8 @@ impl Lexer {
     fn take_some(&mut self, bytes: &[u8]) -> usize
         requires { self.old.state ≡ State.Reading }
         ensures range { result ≤ length bytes.now }
-        ensures read { (seam : ℕ) (text : List ℕ) → HasRead self.old seam text → ReadsOn seam text bytes.now result self.new }
+        ensures read { (seam : ℕ) (text : List ℕ) → HasRead self.old seam text
+            → ReadsOn seam text bytes.now result self.new }
         ensures state { self.new.state ≡ State.Reading }
         ensures setting { setting self.new ≡ setting self.old }
     {
@@ -379,7 +395,8 @@ impl Lexer {
     #[inline(always)]
     fn take_byte(&mut self, byte: u8) -> bool
         requires { self.old.state ≡ State.Reading }
-        ensures read { (seam : ℕ) (text : List ℕ) → HasRead self.old seam text → TakesByte seam text byte result self.old self.new }
+        ensures read { (seam : ℕ) (text : List ℕ) → HasRead self.old seam text
+            → TakesByte seam text byte result self.old self.new }
         ensures state { self.new.state ≡ State.Reading }
         ensures setting { setting self.new ≡ setting self.old }
     {
@@ -405,7 +422,8 @@ impl Lexer {
         requires reading { self.old.state ≡ State.Reading }
         requires comment { self.old.comment ≡ true }
         ensures range { result ≤ length bytes.now }
-        ensures read { (seam : ℕ) (text : List ℕ) → HasRead self.old seam text → ReadsOn seam text bytes.now result self.new }
+        ensures read { (seam : ℕ) (text : List ℕ) → HasRead self.old seam text
+            → ReadsOn seam text bytes.now result self.new }
         ensures state { self.new.state ≡ State.Reading }
         ensures setting { setting self.new ≡ setting self.old }
     {
@@ -422,7 +440,8 @@ impl Lexer {
         requires live { self.old.comment ≡ false }
         requires coded { is_coded first ≡ true }
         ensures range { result ≤ length bytes.now }
-        ensures read { (seam : ℕ) (text : List ℕ) → HasRead self.old seam text → ReadsOn seam text bytes.now result self.new }
+        ensures read { (seam : ℕ) (text : List ℕ) → HasRead self.old seam text
+            → ReadsOn seam text bytes.now result self.new }
         ensures state { self.new.state ≡ State.Reading }
         ensures setting { setting self.new ≡ setting self.old }
     {
@@ -443,7 +462,8 @@ impl Lexer {
         requires reading { self.old.state ≡ State.Reading }
         requires live { dies self.old.comment byte ≡ false }
         requires end { is_end byte ≡ true }
-        ensures answers { (seam : ℕ) (text : List ℕ) → HasRead self.old seam text → Answers seam text byte result self.old self.new }
+        ensures answers { (seam : ℕ) (text : List ℕ) → HasRead self.old seam text
+            → Answers seam text byte result self.old self.new }
         ensures setting { setting self.new ≡ setting self.old }
     {
         if self.may_pause && is_pause(&self.draft) {

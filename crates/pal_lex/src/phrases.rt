@@ -68,7 +68,7 @@ impl Operation {
     /// The word of the operation, with no address (Small Computer Handbook).
     pub fn word(self) -> Word
         ensures value { result ≡ word_of self }
-        ensures range { result < 4096 }
+        ensures range { result < 0o10000 }
     {
         match self {
             Operation::And => Word::low(0o0000),

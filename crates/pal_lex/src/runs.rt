@@ -1,6 +1,6 @@
 ghost use Rattle.std.specs.Prelude.{◌≡◌, ◌≤◌};
 ghost use Rattle.pal_lex.specs.Runs.{base};
-ghost use Rattle.pal_lex.specs.Growth.{longer_name, longer_number, grown_term, grown, begun};
+ghost use Rattle.pal_lex.specs.GrowthSteps.{longer_name, longer_number, grown_term, grown, begun};
 
 use crate::{Kind, Name, Term};
 use word12::{Word, sixbit};
@@ -40,10 +40,10 @@ fn longer_number(number: Word, radix: Radix, character: u8) -> Kind
     ensures { result ≡ longer_number (base radix) number character }
 {
     let base = radix.base();
-    if character < 48 || u16::from(character) >= 48 + base {
+    if character < 0o60 || u16::from(character) >= 0o60 + base {
         return Kind::BadNumber;
     }
-    match Word::new(base * number.get() + u16::from(character - 48)) {
+    match Word::new(base * number.get() + u16::from(character - 0o60)) {
         Some(word) => Kind::Term(Term::Number(word)),
         None => Kind::BadNumber,
     }
@@ -80,7 +80,7 @@ pub fn begun(radix: Radix, character: u8) -> Kind
     match character {
         b'A'..=b'Z' => Kind::Term(Term::Name(longer_name(
             Name::numbered(0),
-            1073741824,
+            0o10000000000,
             character,
         ))),
         _ => longer_number(Word::ZERO, radix, character),

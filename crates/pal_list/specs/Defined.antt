@@ -32,14 +32,14 @@ Differ (name ∷ others) = IsNoneOf others name × Differ others
 
 -- a name is no cell's tag
 abbrev pub IsNoTag : ℕ → Type 0
-IsNoTag name = (cell : ℕ) → cell < 32768 → tag_name cell ≢ name
+IsNoTag name = (cell : ℕ) → cell < 0o100000 → tag_name cell ≢ name
 
 -- A text defines the tags of the tagged cells among these, the newest first, each once; they stand for the addresses of
 -- their cells, and other names for their permanent values.
 pub record DefinesTags (text : List ℕ) (pairs : List (ℕ × ℕ)) : Type 0 where
   pub tags_are : tags_in (statements (text_of text)) ≡ tags_of (is_tagged pairs) (reverse pairs)
   pub once : Differ (tags_in (statements (text_of text)))
-  pub values_are : (cell : ℕ) → cell < 32768 → values (statements (text_of text)) (tag_name cell) ≡ (if is_tagged pairs cell then Some (cell % 4096) else None)
+  pub values_are : (cell : ℕ) → cell < 0o100000 → values (statements (text_of text)) (tag_name cell) ≡ (if is_tagged pairs cell then Some (cell % 0o10000) else None)
   pub others_are : (name : ℕ) → IsNoTag name → values (statements (text_of text)) name ≡ permanent name
 
 -- ## Which cells are tagged, by the tape alone
@@ -49,9 +49,9 @@ pub record Refers (items : List Item) (named : ℕ) : Type 0 where
   pub cell : ℕ
   pub word : ℕ
   pub there : tape_map items cell ≡ Some word
-  pub reference : is_reference (cell % 4096) word ≡ true
+  pub reference : is_reference (cell % 0o10000) word ≡ true
   pub names : referred_cell cell word ≡ named
 
 -- Just the cells of a tape are tagged that a memory reference of the tape names.
 abbrev pub TagsWhatIsNamed : List Item → Type 0
-TagsWhatIsNamed items = (cell : ℕ) → cell < 32768 → (is_tagged (words_of_tape items) cell ≡ true) ↔ ((tape_map items cell ≢ None) × Refers items cell)
+TagsWhatIsNamed items = (cell : ℕ) → cell < 0o100000 → (is_tagged (words_of_tape items) cell ≡ true) ↔ ((tape_map items cell ≢ None) × Refers items cell)

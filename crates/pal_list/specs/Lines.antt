@@ -7,38 +7,38 @@ use Rattle.pal_list.specs.Tags.{tag, is_tagged}
 
 -- CR and LF
 abbrev pub line_end : List ℕ
-line_end = 13 ∷ 10 ∷ []
+line_end = 0o15 ∷ 0o12 ∷ []
 
 -- `FIELD` with the number of the cell's field
 abbrev pub field_line : ℕ → List ℕ
-field_line cell = codes "FIELD " ++ octal_digit (cell / 4096) ∷ line_end
+field_line cell = codes "FIELD " ++ octal_digit (cell / 0o10000) ∷ line_end
 
 -- `*` with the cell's address in octal
 abbrev pub origin_line : ℕ → List ℕ
-origin_line cell = 42 ∷ octal4 (cell % 4096) ++ line_end
+origin_line cell = 0o52 ∷ octal4 (cell % 0o10000) ++ line_end
 
 -- a `/` with the cell, its field first, and the word in octal
 abbrev pub comment : ℕ → ℕ → List ℕ
-comment cell word = 47 ∷ octal_digit (cell / 4096) ∷ octal4 (cell % 4096) ++ 32 ∷ octal4 word
+comment cell word = 0o57 ∷ octal_digit (cell / 0o10000) ∷ octal4 (cell % 0o10000) ++ 0o40 ∷ octal4 word
 
 -- pieces, the first behind this byte and the others behind a blank
 abbrev pub led : ℕ → List (List ℕ) → List ℕ
 led byte [] = []
-led byte (piece ∷ others) = byte ∷ piece ++ led 32 others
+led byte (piece ∷ others) = byte ∷ piece ++ led 0o40 others
 
 -- a cell's tag with a comma, where it has one
 abbrev pub tag_part : (ℕ → Bool) → ℕ → List ℕ
-tag_part tagged cell = if tagged cell then tag cell ++ 44 ∷ [] else []
+tag_part tagged cell = if tagged cell then tag cell ++ 0o54 ∷ [] else []
 
 -- the cell's tag, the statement of the word behind a tab, and behind another the comment
 abbrev pub word_line : (ℕ → Bool) → ℕ → ℕ → List ℕ
-word_line tagged cell word = tag_part tagged cell ++ led 9 (statement tagged cell word) ++ 9 ∷ comment cell word ++ line_end
+word_line tagged cell word = tag_part tagged cell ++ led 9 (statement tagged cell word) ++ 0o11 ∷ comment cell word ++ line_end
 
 -- the lines of a cell's word behind a word for the cell before: the field where it changes, an origin where the cell isn't
 -- the next, and the word
 abbrev pub cell_lines : (ℕ → Bool) → Option ℕ → ℕ → ℕ → List ℕ
 cell_lines tagged before cell word =
-    (if nat_eq (cell / 4096) (field_behind before) then [] else field_line cell) ++ (if is_next before cell then [] else origin_line cell)
+    (if nat_eq (cell / 0o10000) (field_behind before) then [] else field_line cell) ++ (if is_next before cell then [] else origin_line cell)
     ++ word_line tagged cell word
 
 -- the lines of cells with their words, the newest first, where these cells are tagged
@@ -48,4 +48,4 @@ lines_of tagged (pair ∷ older) = lines_of tagged older ++ cell_lines tagged (n
 
 -- the source of cells with their words, the newest first: their lines, with a tag for each cell that they refer to, and `$`
 abbrev pub source_of : List (ℕ × ℕ) → List ℕ
-source_of pairs = lines_of (is_tagged pairs) pairs ++ 36 ∷ line_end
+source_of pairs = lines_of (is_tagged pairs) pairs ++ 0o44 ∷ line_end

@@ -20,13 +20,13 @@ pub record NamesThere (source : Source) (cell word name : ℕ) : Type 0 where
   pub older : Source
   pub statement : Statement
   pub split : source ≡ newer ++ Ok statement ∷ older
-  pub place : 4096 * field_at older + place_at older ≡ cell
+  pub place : 0o10000 * field_at older + place_at older ≡ cell
   pub operation : Operation
-  pub is_operation : word_of operation ≡ 512 * (word / 512)
-  pub body : statement.body ≡ Reference operation (nat_eq (word / 256 % 2) 1) (Some (record { joint = Add; term = Name name } ∷ []))
+  pub is_operation : word_of operation ≡ 0o1000 * (word / 0o1000)
+  pub body : statement.body ≡ Reference operation (nat_eq (word / 0o400 % 2) 1) (Some (record { joint = Add; term = Name name } ∷ []))
 
 -- At each memory reference of a tape whose cell has a tag the statement of a text there is a reference by that tag's name.
 abbrev pub NamesTags : List ℕ → List Item → Type 0
 NamesTags text items =
-    (cell word : ℕ) → tape_map items cell ≡ Some word → is_reference (cell % 4096) word ≡ true → is_tagged (words_of_tape items) (referred_cell cell word) ≡ true
+    (cell word : ℕ) → tape_map items cell ≡ Some word → is_reference (cell % 0o10000) word ≡ true → is_tagged (words_of_tape items) (referred_cell cell word) ≡ true
     → NamesThere (statements (text_of text)) cell word (tag_name (referred_cell cell word))

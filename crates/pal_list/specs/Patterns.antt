@@ -93,7 +93,7 @@ or_behind before (p ∷ others) = or_behind (bit_or before p.3) others
 -- a name, or a number without a zero in front
 abbrev pub shown_name : List ℕ → List ℕ
 shown_name [] = []
-shown_name (first ∷ others) = if nat_eq first 48 then others else first ∷ others
+shown_name (first ∷ others) = if nat_eq first 0o60 then others else first ∷ others
 
 -- the names that are shown for patterns
 abbrev pub names : List Pattern → List (List ℕ)

@@ -14,12 +14,12 @@ operation_name operation =
 -- Whether a word at an address is what a memory reference says: an operation below 6; on page zero the assembler leaves the
 -- page bit, 0200, clear.
 abbrev pub is_reference : ℕ → ℕ → Bool
-is_reference at word = nat_lt word 3072 && (nat_eq (word / 128 % 2) 0 || nat_le 128 at)
+is_reference at word = nat_lt word 0o6000 && (nat_eq (word / 0o200 % 2) 0 || nat_le 0o200 at)
 
 -- the address that a memory reference at an address has: on page zero, or on its own page where the page bit is set
 abbrev pub referred : ℕ → ℕ → ℕ
-referred at word = if nat_eq (word / 128 % 2) 0 then word % 128 else 128 * (at / 128) + word % 128
+referred at word = if nat_eq (word / 0o200 % 2) 0 then word % 0o200 else 0o200 * (at / 0o200) + word % 0o200
 
 -- the cell that a memory reference in a cell names: the one of its field at that address
 abbrev pub referred_cell : ℕ → ℕ → ℕ
-referred_cell cell word = 4096 * (cell / 4096) + referred (cell % 4096) word
+referred_cell cell word = 0o10000 * (cell / 0o10000) + referred (cell % 0o10000) word

@@ -21,9 +21,9 @@ unfoldable pub words_below : List Item → ℕ → List (ℕ × ℕ)
 words_below items zero = []
 words_below items (suc cell) = with_word (tape_map items cell) cell (words_below items cell)
 
--- the words of a tape of 32768 cells, the highest cell first
+-- the words of a tape of 0o100000 cells, the highest cell first
 abbrev pub words_of_tape : List Item → List (ℕ × ℕ)
-words_of_tape items = words_below items 32768
+words_of_tape items = words_below items 0o100000
 
 -- A text assembles without a fault to these words with their cells.
 pub record IsReadAs (text : List ℕ) (pairs : List (ℕ × ℕ)) : Type 0 where

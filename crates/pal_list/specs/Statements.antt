@@ -8,12 +8,12 @@ use Rattle.pal_list.specs.Tags.{tag}
 
 -- the cell that a memory reference names, by its tag where the source has it, else by its address
 abbrev pub address : (ℕ → Bool) → ℕ → ℕ → List ℕ
-address tagged cell word = if tagged (referred_cell cell word) then tag (referred_cell cell word) else octal4 (referred (cell % 4096) word)
+address tagged cell word = if tagged (referred_cell cell word) then tag (referred_cell cell word) else octal4 (referred (cell % 0o10000) word)
 
 -- the operation, `I` where the word is indirect, and the address
 abbrev pub reference : (ℕ → Bool) → ℕ → ℕ → List (List ℕ)
 reference tagged cell word =
-    operation_name (word / 512) ∷ (if nat_eq (word / 256 % 2) 1 then codes "I" ∷ [] else []) ++ address tagged cell word ∷ []
+    operation_name (word / 0o1000) ∷ (if nat_eq (word / 0o400 % 2) 1 then codes "I" ∷ [] else []) ++ address tagged cell word ∷ []
 
 -- whether the names of a word's patterns come to the word
 abbrev pub is_named : ℕ → Bool
@@ -22,5 +22,5 @@ is_named word = nat_lt 3071 word && nat_eq (or_behind 0 (chosen word patterns)) 
 -- the pieces of the statement of a cell's word: a memory reference or names where they come to the word, else its number
 abbrev pub statement : (ℕ → Bool) → ℕ → ℕ → List (List ℕ)
 statement tagged cell word =
-    if is_reference (cell % 4096) word then reference tagged cell word
+    if is_reference (cell % 0o10000) word then reference tagged cell word
     else (if is_named word then names (chosen word patterns) else octal4 word ∷ [])

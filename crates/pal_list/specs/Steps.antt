@@ -12,7 +12,7 @@ use Rattle.pal_list.specs.Sources.{words_below, words_of_tape}
 
 -- these are the last words of a tape's cells
 abbrev pub HoldsMap : List Item → List (Option ℕ) → Type 0
-HoldsMap items words = (cell : ℕ) → cell < 32768 → slice_index_or words cell None ≡ tape_map items cell
+HoldsMap items words = (cell : ℕ) → cell < 0o100000 → slice_index_or words cell None ≡ tape_map items cell
 
 -- the frames are a tape, and these are the last words of its cells
 pub record IsHeld (frames : List ℕ) (words : List (Option ℕ)) : Type 0 where
@@ -24,7 +24,7 @@ pub record IsHeld (frames : List ℕ) (words : List (Option ℕ)) : Type 0 where
 pub record HoldsRead (reader : Progress) (frames : List ℕ) (words : List (Option ℕ)) : Type 0 where
   pub out : List (ℕ × ℕ)
   pub read : HasRead reader frames out
-  pub cells : (cell : ℕ) → cell < 32768 → slice_index_or words cell None ≡ last_word out cell
+  pub cells : (cell : ℕ) → cell < 0o100000 → slice_index_or words cell None ≡ last_word out cell
 
 -- ## Tags
 
@@ -38,4 +38,4 @@ tagged_in tags cell = slice_index_or tags cell false
 
 -- these tell which cells are tagged
 abbrev pub HoldsTags : (ℕ → Bool) → List Bool → Type 0
-HoldsTags tagged tags = (cell : ℕ) → cell < 32768 → tagged_in tags cell ≡ tagged cell
+HoldsTags tagged tags = (cell : ℕ) → cell < 0o100000 → tagged_in tags cell ≡ tagged cell

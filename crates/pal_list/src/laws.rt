@@ -19,7 +19,8 @@ use pal_asm::laws::has_words;
 /// The source of cells with their words assembles without a fault to just these pairs, in its order. So the statement that
 /// is shown for a word at a place is that word there.
 pub fn source_reads_back()
-    ensures { (pairs : List (ℕ × ℕ)) → ArePairs pairs → 0 < length pairs → IsReadAs (source_of pairs) (reverse pairs) }
+    ensures { (pairs : List (ℕ × ℕ)) → ArePairs pairs → 0 < length pairs
+        → IsReadAs (source_of pairs) (reverse pairs) }
 {}
 
 /// The tape that is written for the words of a tape's source, whatever follows it, gives each cell what the tape gave it.
@@ -40,7 +41,8 @@ pub fn named_cells_are_tagged()
 /// The tags that a tape's source defines are those of the cells that it tags, by rising cell, and each is defined once. Each
 /// stands for the address of its cell, and every other name for its permanent value.
 pub fn tags_are_defined_once()
-    ensures { (frames text : List ℕ) (source : IsSourceOf frames text) → DefinesTags text (words_of_tape source.items) }
+    ensures { (frames text : List ℕ) (source : IsSourceOf frames text)
+        → DefinesTags text (words_of_tape source.items) }
 {}
 
 /// At each memory reference of a tape whose cell has a tag, the statement of the tape's source there is a reference by that
@@ -51,7 +53,7 @@ pub fn references_are_by_tags()
 
 /// No two cells have the same tag, and no tag is a permanent name.
 pub fn tags_are_names_of_their_own()
-    ensures differ { (a b : ℕ) → a < 32768 → b < 32768 → tag_name a ≡ tag_name b → a ≡ b }
+    ensures differ { (a b : ℕ) → a < 0o100000 → b < 0o100000 → tag_name a ≡ tag_name b → a ≡ b }
     ensures free { (cell : ℕ) → permanent (tag_name cell) ≡ None }
 {}
 

@@ -16,8 +16,9 @@ pub fn put_cell(
     cell: Cell,
     word: Word,
 ) -> Result<(), AllocError>
-    requires { length tags.now ≡ 32768 }
-    ensures { OnOk result (text.new.items ≡ text.old.items ++ cell_lines (tagged_in tags.now) before cell word) }
+    requires { length tags.now ≡ 0o100000 }
+    ensures { OnOk result (text.new.items ≡ text.old.items
+        ++ cell_lines (tagged_in tags.now) before cell word) }
 {
     let again = before;
     put_field(text, before, cell)?;
@@ -28,7 +29,8 @@ pub fn put_cell(
 
 /// Appends a field where it changes.
 fn put_field(text: &mut Vec<u8>, before: Option<Cell>, cell: Cell) -> Result<(), AllocError>
-    ensures { OnOk result (text.new.items ≡ text.old.items ++ (if nat_eq (cell / 4096) (field_behind before) then [] else field_line cell)) }
+    ensures { OnOk result (text.new.items ≡ text.old.items
+        ++ (if nat_eq (cell / 0o10000) (field_behind before) then [] else field_line cell)) }
 {
     let field = cell.field();
     if field == field_behind(before) {
@@ -51,7 +53,8 @@ fn put_field(text: &mut Vec<u8>, before: Option<Cell>, cell: Cell) -> Result<(),
 
 /// Appends an origin where the cell isn't the next.
 fn put_origin(text: &mut Vec<u8>, before: Option<Cell>, cell: Cell) -> Result<(), AllocError>
-    ensures { OnOk result (text.new.items ≡ text.old.items ++ (if is_next before cell then [] else origin_line cell)) }
+    ensures { OnOk result (text.new.items ≡ text.old.items
+        ++ (if is_next before cell then [] else origin_line cell)) }
 {
     if is_next(before, cell) {
         return Ok(());
@@ -65,7 +68,7 @@ fn put_origin(text: &mut Vec<u8>, before: Option<Cell>, cell: Cell) -> Result<()
 /// Appends the line of a cell's word: its tag, if it has one, its statement, and a comment with the cell and the word in
 /// octal.
 fn put_word(text: &mut Vec<u8>, tags: &[bool], cell: Cell, word: Word) -> Result<(), AllocError>
-    requires { length tags.now ≡ 32768 }
+    requires { length tags.now ≡ 0o100000 }
     ensures { OnOk result (text.new.items ≡ text.old.items ++ word_line (tagged_in tags.now) cell word) }
 {
     put_tag(text, tags, cell)?;
@@ -76,7 +79,7 @@ fn put_word(text: &mut Vec<u8>, tags: &[bool], cell: Cell, word: Word) -> Result
 
 /// Appends a cell's tag and a comma, if it has one.
 fn put_tag(text: &mut Vec<u8>, tags: &[bool], cell: Cell) -> Result<(), AllocError>
-    requires { length tags.now ≡ 32768 }
+    requires { length tags.now ≡ 0o100000 }
     ensures { OnOk result (text.new.items ≡ text.old.items ++ tag_part (tagged_in tags.now) cell) }
 {
     if tags[cell.index()] {
@@ -88,7 +91,7 @@ fn put_tag(text: &mut Vec<u8>, tags: &[bool], cell: Cell) -> Result<(), AllocErr
 
 /// Appends a tab, the comment and the line's end.
 fn put_comment(text: &mut Vec<u8>, cell: Cell, word: Word) -> Result<(), AllocError>
-    ensures { OnOk result (text.new.items ≡ text.old.items ++ 9 ∷ comment cell word ++ line_end) }
+    ensures { OnOk result (text.new.items ≡ text.old.items ++ 0o11 ∷ comment cell word ++ line_end) }
 {
     let [a, b, c, d] = cell.address().octal4();
     let [e, f, g, h] = word.octal4();

@@ -16,9 +16,9 @@ pub fn is_reference(at: Word, word: Word) -> bool
 
 /// The name of a memory reference's operation.
 pub fn operation_name(word: Word) -> [u8; 3]
-    ensures { result ≡ operation_name (word / 512) }
+    ensures { result ≡ operation_name (word / 0o1000) }
 {
-    match word.get() / 512 {
+    match word.get() / 0o1000 {
         0 => *b"AND",
         1 => *b"TAD",
         2 => *b"ISZ",
@@ -31,7 +31,7 @@ pub fn operation_name(word: Word) -> [u8; 3]
 /// The address that a memory reference at an address has.
 pub fn referred(at: Word, word: Word) -> Word
     ensures value { result ≡ referred at word }
-    ensures range { result < 4096 }
+    ensures range { result < 0o10000 }
 {
     let offset = word.get() % PAGE;
     if word.get() / PAGE % 2 == 0 {
@@ -44,7 +44,7 @@ pub fn referred(at: Word, word: Word) -> Word
 /// The cell that a memory reference in a cell names.
 pub fn referred_cell(cell: Cell, word: Word) -> Cell
     ensures number { result ≡ referred_cell cell word }
-    ensures range { result < 32768 }
+    ensures range { result < 0o100000 }
 {
     Cell::at(cell.field(), referred(cell.address(), word))
 }

@@ -12,8 +12,8 @@ use bin_tape::{TapeFault, TapeReader};
 use std::alloc::{AllocError, Global};
 use word12::{Cell, Word};
 
-/// The words of core: eight fields of 4096.
-const CELLS: usize = 32768;
+/// The words of core: eight fields of 0o10000.
+const CELLS: usize = 0o100000;
 
 /// The PAL III source of a BIN tape: a line for each cell that the tape gives a word, by rising field and address, with
 /// `FIELD` where the field changes and an origin where a cell isn't the next; at last `$`. Lines end with CR and LF. A cell
@@ -37,7 +37,7 @@ pub fn source_of(alloc: Global, frames: &[u8]) -> Result<Vec<u8>, ListFault>
 
 /// The last word that a tape gives each cell.
 fn words_of(alloc: Global, frames: &[u8]) -> Result<Vec<Option<Word>>, ListFault>
-    ensures size { IfOk result (λ words. vec_len words ≡ 32768) }
+    ensures size { IfOk result (λ words. vec_len words ≡ 0o100000) }
     ensures words { IfOk result (λ words. IsHeld frames.now words.items) }
     ensures fault { IfErr result (λ fault. IsListFault frames.now fault) }
 {
@@ -60,7 +60,7 @@ fn no_words(alloc: Global, count: usize) -> Result<Vec<Option<Word>>, AllocError
 
 /// Puts the words that frames bring to a new reader into their cells.
 fn take_all(reader: &mut TapeReader, frames: &[u8], words: &mut [Option<Word>])
-    requires { length words.old ≡ 32768 }
+    requires { length words.old ≡ 0o100000 }
     ensures { HoldsRead reader.old [] words.old → HoldsRead reader.new frames.now words.new }
 {
     for frame in frames {
@@ -70,8 +70,9 @@ fn take_all(reader: &mut TapeReader, frames: &[u8], words: &mut [Option<Word>])
 
 /// Puts the word that one more frame brings into its cell.
 fn take(reader: &mut TapeReader, frame: u8, words: &mut [Option<Word>])
-    requires { length words.old ≡ 32768 }
-    ensures { (frames : List ℕ) → HoldsRead reader.old frames words.old → HoldsRead reader.new (frames ++ frame ∷ []) words.new }
+    requires { length words.old ≡ 0o100000 }
+    ensures { (frames : List ℕ) → HoldsRead reader.old frames words.old
+        → HoldsRead reader.new (frames ++ frame ∷ []) words.new }
 {
     match reader.push(frame) {
         Ok(tape) => {
@@ -85,9 +86,10 @@ fn take(reader: &mut TapeReader, frame: u8, words: &mut [Option<Word>])
 
 /// The lines of the cells that have a word, by rising cell, where these cells are tagged.
 fn lines_of(alloc: Global, words: &[Option<Word>], tags: &[bool]) -> Result<Vec<u8>, AllocError>
-    requires words { length words.now ≡ 32768 }
-    requires size { length tags.now ≡ 32768 }
-    ensures { IfOk result (λ text. (items : List Item) → HoldsMap items words.now → text.items ≡ lines_of (tagged_in tags.now) (words_of_tape items)) }
+    requires words { length words.now ≡ 0o100000 }
+    requires size { length tags.now ≡ 0o100000 }
+    ensures { IfOk result (λ text. (items : List Item) → HoldsMap items words.now
+        → text.items ≡ lines_of (tagged_in tags.now) (words_of_tape items)) }
 {
     let mut text = Vec::new(alloc);
     let mut before = None;
@@ -106,10 +108,11 @@ fn put_next(
     cell: Cell,
     word: Option<Word>,
 ) -> Result<Option<Cell>, AllocError>
-    requires { length tags.now ≡ 32768 }
+    requires { length tags.now ≡ 0o100000 }
     ensures text { (older : List (ℕ × ℕ)) → text.old.items ≡ lines_of (tagged_in tags.now) older → before ≡ newest_cell older
         → OnOk result (text.new.items ≡ lines_of (tagged_in tags.now) (with_word word cell older)) }
-    ensures cell { (older : List (ℕ × ℕ)) → before ≡ newest_cell older → IfOk result (λ next. next ≡ newest_cell (with_word word cell older)) }
+    ensures cell { (older : List (ℕ × ℕ)) → before ≡ newest_cell older
+        → IfOk result (λ next. next ≡ newest_cell (with_word word cell older)) }
 {
     match word {
         Some(word) => {

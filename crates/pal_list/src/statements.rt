@@ -19,8 +19,9 @@ pub fn put_statement(
     cell: Cell,
     word: Word,
 ) -> Result<(), AllocError>
-    requires { length tags.now ≡ 32768 }
-    ensures { OnOk result (text.new.items ≡ text.old.items ++ led 9 (statement (tagged_in tags.now) cell word)) }
+    requires { length tags.now ≡ 0o100000 }
+    ensures { OnOk result (text.new.items ≡ text.old.items
+        ++ led 9 (statement (tagged_in tags.now) cell word)) }
 {
     if is_reference(cell.address(), word) {
         return put_reference(text, tags, cell, word);
@@ -47,8 +48,9 @@ fn put_reference(
     cell: Cell,
     word: Word,
 ) -> Result<(), AllocError>
-    requires { length tags.now ≡ 32768 }
-    ensures { OnOk result (text.new.items ≡ text.old.items ++ led 9 (reference (tagged_in tags.now) cell word)) }
+    requires { length tags.now ≡ 0o100000 }
+    ensures { OnOk result (text.new.items ≡ text.old.items
+        ++ led 9 (reference (tagged_in tags.now) cell word)) }
 {
     put_piece(text, b'\t', &operation_name(word))?;
     put_indirection(text, word)?;
@@ -58,7 +60,8 @@ fn put_reference(
 
 /// Appends `I` where a word is indirect.
 fn put_indirection(text: &mut Vec<u8>, word: Word) -> Result<(), AllocError>
-    ensures { OnOk result (text.new.items ≡ text.old.items ++ led 32 (if nat_eq (word / 256 % 2) 1 then codes "I" ∷ [] else [])) }
+    ensures { OnOk result (text.new.items ≡ text.old.items
+        ++ led 0o40 (if nat_eq (word / 0o400 % 2) 1 then codes "I" ∷ [] else [])) }
 {
     if word.get() / INDIRECT % 2 == 1 {
         return put_piece(text, b' ', b"I");
@@ -68,8 +71,8 @@ fn put_indirection(text: &mut Vec<u8>, word: Word) -> Result<(), AllocError>
 
 /// Appends the cell that a memory reference in a cell names: its tag, where it is tagged, else its address.
 fn put_address(text: &mut Vec<u8>, tags: &[bool], cell: Cell, word: Word) -> Result<(), AllocError>
-    requires { length tags.now ≡ 32768 }
-    ensures { OnOk result (text.new.items ≡ text.old.items ++ 32 ∷ address (tagged_in tags.now) cell word) }
+    requires { length tags.now ≡ 0o100000 }
+    ensures { OnOk result (text.new.items ≡ text.old.items ++ 0o40 ∷ address (tagged_in tags.now) cell word) }
 {
     let named = referred_cell(cell, word);
     if tags[named.index()] {

@@ -17,9 +17,10 @@ pub fn tag(cell: Cell) -> [u8; 6]
 
 /// Which cells are tagged: those with a word that a memory reference among the words names.
 pub fn tags_of(alloc: Global, words: &[Option<Word>]) -> Result<Vec<bool>, AllocError>
-    requires { length words.now ≡ 32768 }
-    ensures size { IfOk result (λ tags. vec_len tags ≡ 32768) }
-    ensures tags { IfOk result (λ tags. (items : List Item) → HoldsMap items words.now → HoldsTags (tagged_below items 32768) tags.items) }
+    requires { length words.now ≡ 0o100000 }
+    ensures size { IfOk result (λ tags. vec_len tags ≡ 0o100000) }
+    ensures tags { IfOk result (λ tags. (items : List Item) → HoldsMap items words.now
+        → HoldsTags (tagged_below items 0o100000) tags.items) }
 {
     let mut tags = no_tags(alloc, words.len())?;
     mark_all(&mut tags, words);
@@ -35,9 +36,10 @@ fn no_tags(alloc: Global, count: usize) -> Result<Vec<bool>, AllocError>
 
 /// Marks the cells that memory references name, where none is marked before.
 fn mark_all(tags: &mut [bool], words: &[Option<Word>])
-    requires size { length tags.old ≡ 32768 }
-    requires words { length words.now ≡ 32768 }
-    ensures { (items : List Item) → HoldsMap items words.now → HoldsTags (tagged_below items 0) tags.old → HoldsTags (tagged_below items 32768) tags.new }
+    requires size { length tags.old ≡ 0o100000 }
+    requires words { length words.now ≡ 0o100000 }
+    ensures { (items : List Item) → HoldsMap items words.now → HoldsTags (tagged_below items 0) tags.old
+        → HoldsTags (tagged_below items 0o100000) tags.new }
 {
     for number in 0u32..32768 {
         mark(tags, words, Cell::of(number));
@@ -46,9 +48,10 @@ fn mark_all(tags: &mut [bool], words: &[Option<Word>])
 
 /// Marks the cell that a cell's word names, if the one is a memory reference and the other has a word.
 fn mark(tags: &mut [bool], words: &[Option<Word>], cell: Cell)
-    requires size { length tags.old ≡ 32768 }
-    requires words { length words.now ≡ 32768 }
-    ensures { (items : List Item) → HoldsMap items words.now → HoldsTags (tagged_below items cell) tags.old → HoldsTags (tagged_below items (suc cell)) tags.new }
+    requires size { length tags.old ≡ 0o100000 }
+    requires words { length words.now ≡ 0o100000 }
+    ensures { (items : List Item) → HoldsMap items words.now → HoldsTags (tagged_below items cell) tags.old
+        → HoldsTags (tagged_below items (suc cell)) tags.new }
 {
     let held = words[cell.index()];
     if let Some(word) = held {

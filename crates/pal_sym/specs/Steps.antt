@@ -35,7 +35,7 @@ Inserts name symbol old room new less (Err refused) = (new ≡ old) × (room ≡
 -- each value of a list is a word
 abbrev pub all_words : List (ℕ × ℕ) → Bool
 all_words [] = true
-all_words (entry ∷ others) = nat_lt entry.1 4096 && all_words others
+all_words (entry ∷ others) = nat_lt entry.1 0o10000 && all_words others
 
 -- ## Values
 

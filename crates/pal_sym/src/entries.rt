@@ -25,7 +25,7 @@ pub fn search(entries: &[(SymbolName, Symbol)], name: SymbolName) -> Result<usiz
 pub fn find(entries: &[(SymbolName, Symbol)], name: SymbolName) -> Option<Word>
     requires { Rise entries.now }
     ensures value { result ≡ defined_value (find nat_cmp name entries.now) }
-    ensures range { IfSome result (λ word. word < 4096) }
+    ensures range { IfSome result (λ word. word < 0o10000) }
 {
     match search(entries, name) {
         Ok(place) => {

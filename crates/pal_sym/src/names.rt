@@ -32,11 +32,11 @@ impl SymbolName {
         }
         let code = |place| code_at(text, place);
         Some(SymbolName {
-            number: 1073741824 * code(0)
-                + 16777216 * code(1)
-                + 262144 * code(2)
-                + 4096 * code(3)
-                + 64 * code(4)
+            number: 0o10000000000 * code(0)
+                + 0o100000000 * code(1)
+                + 0o1000000 * code(2)
+                + 0o10000 * code(3)
+                + 0o100 * code(4)
                 + code(5),
         })
     }
@@ -85,7 +85,7 @@ fn all_coded(text: &[u8]) -> bool
 /// The sixbit code of a character, 0 to 63, where 0 is that of a missing one.
 fn code_at(text: &[u8], place: usize) -> u64
     ensures code { result ≡ code_at text.now place }
-    ensures range { result < 64 }
+    ensures range { result < 0o100 }
 {
     match text.get(place) {
         Some(character) => u64::from(sixbit(*character).unwrap_or(0)),

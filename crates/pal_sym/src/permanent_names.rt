@@ -10,7 +10,7 @@ use word12::Word;
 /// The number of a name of three letters.
 macro_rules! name {
     ($a:literal $b:literal $c:literal) => {
-        1073741824 * ($a as u64 % 64) + 16777216 * ($b as u64 % 64) + 262144 * ($c as u64 % 64)
+        0o10000000000 * ($a as u64 % 0o100) + 0o100000000 * ($b as u64 % 0o100) + 0o1000000 * ($c as u64 % 0o100)
     };
 }
 
@@ -76,9 +76,9 @@ pub(crate) const PERMANENT: [(u64, u16); 53] = [
 #[tactic(auto, unfolding(crate::specs::Permanent::permanent))]
 pub(crate) fn permanent_value(name: SymbolName) -> Option<Word>
     ensures value { result ≡ permanent name }
-    ensures range { IfSome result (λ word. word < 4096) }
+    ensures range { IfSome result (λ word. word < 0o10000) }
 {
-    if name.number() % 262144 != 0 {
+    if name.number() % 0o1000000 != 0 {
         return None;
     }
     listed(&PERMANENT, name.number())
@@ -88,7 +88,7 @@ pub(crate) fn permanent_value(name: SymbolName) -> Option<Word>
 fn listed(list: &[(u64, u16)], name: u64) -> Option<Word>
     requires { IsTrue (all_words list.now) }
     ensures value { result ≡ find nat_cmp name list.now }
-    ensures range { IfSome result (λ word. word < 4096) }
+    ensures range { IfSome result (λ word. word < 0o10000) }
 {
     let mut rest = list;
     while let [entry, others @ ..] = rest {

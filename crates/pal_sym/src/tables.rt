@@ -49,7 +49,7 @@ impl Symbols {
     /// The permanent value of a name, if it has one (PAL III Symbolic Assembler manual).
     pub fn permanent(name: SymbolName) -> Option<Word>
         ensures value { result ≡ permanent name }
-        ensures range { IfSome result (λ word. word < 4096) }
+        ensures range { IfSome result (λ word. word < 0o10000) }
     {
         permanent_value(name)
     }
@@ -99,7 +99,7 @@ impl Symbols {
     /// The value of a name, permanent or defined, if it has one.
     pub fn value(&self, name: SymbolName) -> Option<Word>
         ensures value { result ≡ symbol_value self.now name }
-        ensures range { IfSome result (λ word. word < 4096) }
+        ensures range { IfSome result (λ word. word < 0o10000) }
     {
         match permanent_value(name) {
             Some(word) => Some(word),

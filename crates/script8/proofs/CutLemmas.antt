@@ -5,7 +5,7 @@ use Rattle.std.proofs.lemmas.Bool.Decides.{eqb_tells}
 use Rattle.std.proofs.lemmas.List.{drop_all, drop-drop, take-append-drop, length-drop, length-take-le}
 use Rattle.script8.specs.Lines.{onto_first}
 use Rattle.script8.specs.Items.{lines_of, onto_ended, ended_lines, text_of}
-use Rattle.script8.specs.Cuts.{ended_behind, ended, Cuts, TooFew}
+use Rattle.script8.specs.CutSteps.{ended_behind, ended, Cuts, TooFew}
 
 -- a byte before some bytes
 abbrev pub onto : ℕ → Option (List ℕ) → Option (List ℕ)

@@ -9,7 +9,7 @@ use Rattle.script8.specs.Items.{lines_of, ended_lines, text_of, items_of_line, l
 use Rattle.script8.proofs.CutLemmas.{ends_append}
 use Rattle.script8.specs.declared.items.Next.{Next}
 use Rattle.script8.specs.declared.items.Next.TheVariants as next
-use Rattle.script8.specs.Cuts.{ended, HasFront, Cuts, Opens, TooFew}
+use Rattle.script8.specs.CutSteps.{ended, HasFront, Cuts, Opens, TooFew}
 use Rattle.script8.specs.declared.entries.Entry.TheVariants as entry
 use Rattle.script8.specs.declared.faults.SessionFault.{SessionFault}
 use Rattle.script8.specs.declared.faults.SessionFault.TheVariants.{BadLine, Memory}

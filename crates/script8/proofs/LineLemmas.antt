@@ -6,7 +6,7 @@ use Rattle.std.proofs.lemmas.List.Recursion.{is_position_or_len}
 use Rattle.std.specs.Str.{bytes_eq}
 use Rattle.std.proofs.lemmas.Bool.Decides.{eqb_tells, leb_tells}
 use Rattle.script8.specs.Lines.{command_of, onto_first, parts_of, words_of, form_of, whole, name_bytes, named, store_of, is_name, listed, lists_names, assembled, assemble_of, bare_entry, entry_with_word, entry_with_words, command_says, says}
-use Rattle.script8.specs.Cuts.{part_of, is_mark}
+use Rattle.script8.specs.CutSteps.{part_of, is_mark}
 use Rattle.script8.specs.declared.entries.Entry.{Entry}
 use Rattle.script8.specs.declared.faults.SessionFault.{SessionFault}
 use Rattle.script8.specs.declared.faults.SessionFault.TheVariants.{BadLine}

@@ -57,7 +57,7 @@ code_text NW = codes "NW"
 
 -- the text of a fault of the assembler
 abbrev pub asm_fault_text : AsmFault → List ℕ
-asm_fault_text (At code line) = codes "? 5 " ++ code_text code ++ 32 ∷ decimal line
+asm_fault_text (At code line) = codes "? 5 " ++ code_text code ++ 0o40 ∷ decimal line
 asm_fault_text asm.Memory = codes "? 10 MEMORY"
 
 -- the text of a fault of a tape

@@ -14,7 +14,7 @@ use Rattle.script8.specs.declared.items.Next.TheVariants as next
 -- the lines of a text: each is ended by LF, but that the last may lack it, and then isn't empty
 abbrev pub lines_of : List ℕ → List (List ℕ)
 lines_of [] = []
-lines_of (b ∷ bs) = if b == 10 then [] ∷ lines_of bs else onto_first b (lines_of bs)
+lines_of (b ∷ bs) = if b == 0o12 then [] ∷ lines_of bs else onto_first b (lines_of bs)
 
 -- a byte before the first of some lines that are ended; where there are none, it belongs to none
 abbrev pub onto_ended : ℕ → List (List ℕ) → List (List ℕ)
@@ -24,12 +24,12 @@ onto_ended b (line ∷ lines) = (b ∷ line) ∷ lines
 -- the lines of a text that an LF ends
 abbrev pub ended_lines : List ℕ → List (List ℕ)
 ended_lines [] = []
-ended_lines (b ∷ bs) = if b == 10 then [] ∷ ended_lines bs else onto_ended b (ended_lines bs)
+ended_lines (b ∷ bs) = if b == 0o12 then [] ∷ ended_lines bs else onto_ended b (ended_lines bs)
 
 -- the text of lines, each followed by LF
 abbrev pub text_of : List (List ℕ) → List ℕ
 text_of [] = []
-text_of (line ∷ lines) = line ++ 10 ∷ text_of lines
+text_of (line ∷ lines) = line ++ 0o12 ∷ text_of lines
 
 -- the items that a line gives, with the lines behind it; a STORE whose lines are not all there gives `cut`
 abbrev pub items_of_line : List Item → Result Line SessionFault → List (List ℕ) → List Item

@@ -1,4 +1,4 @@
-pub mod Cuts
+pub mod CutSteps
 pub mod Faults
 pub mod Items
 pub mod Lines

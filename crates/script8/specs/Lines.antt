@@ -12,7 +12,7 @@ use Rattle.script8.specs.declared.lines.Line.TheVariants.{Empty, Finish, Store, 
 -- a line without the one CR that may stand at its end
 abbrev pub command_of : List ℕ → List ℕ
 command_of [] = []
-command_of (b ∷ []) = if b == 13 then [] else b ∷ []
+command_of (b ∷ []) = if b == 0o15 then [] else b ∷ []
 command_of (b ∷ c ∷ bs) = b ∷ command_of (c ∷ bs)
 
 -- a byte before the first of some words or lines
@@ -27,12 +27,12 @@ parts_of mark (b ∷ bs) = if b == mark then [] ∷ parts_of mark bs else onto_f
 
 -- the words of a command: what stands between its blanks
 abbrev pub words_of : List ℕ → List (List ℕ)
-words_of command = parts_of 32 command
+words_of command = parts_of 0o40 command
 
 -- the number that decimal digits go on to
 abbrev pub digits_from : ℕ → List ℕ → Option ℕ
 digits_from n [] = Some n
-digits_from n (b ∷ bs) = if nat_le 48 b && nat_lt b 58 then digits_from (10 * n + (b - 48)) bs else None
+digits_from n (b ∷ bs) = if nat_le 0o60 b && nat_lt b 0o72 then digits_from (10 * n + (b - 0o60)) bs else None
 
 -- a decimal number of 1 to 7 digits
 abbrev pub number_of : List ℕ → Option ℕ
@@ -59,7 +59,7 @@ are_steps n = nat_le 1 n && nat_le n step_limit
 -- the number that octal digits go on to
 abbrev pub octal_from : ℕ → List ℕ → Option ℕ
 octal_from n [] = Some n
-octal_from n (b ∷ bs) = if nat_le 48 b && nat_lt b 56 then octal_from (8 * n + (b - 48)) bs else None
+octal_from n (b ∷ bs) = if nat_le 0o60 b && nat_lt b 0o70 then octal_from (8 * n + (b - 0o60)) bs else None
 
 -- an octal number of just so many digits
 abbrev pub octal_of : ℕ → List ℕ → Option ℕ
@@ -144,7 +144,7 @@ is_name (b ∷ bs) = true
 
 -- what stands between the commas of a list
 abbrev pub listed : List ℕ → List (List ℕ)
-listed list = parts_of 44 list
+listed list = parts_of 0o54 list
 
 -- a list of names, of so many at most
 abbrev pub lists_names : ℕ → List ℕ → Bool

@@ -22,7 +22,7 @@ use Rattle.script8.specs.declared.replies.Why.TheVariants as why
 
 -- the line of a file with its blocks
 abbrev pub file_line : ℕ × ℕ → List ℕ
-file_line (name, blocks) = shown name ++ 32 ∷ decimal blocks ++ 10 ∷ []
+file_line (name, blocks) = shown name ++ 0o40 ∷ decimal blocks ++ 0o12 ∷ []
 
 -- the lines of some files
 abbrev pub file_lines : List (ℕ × ℕ) → List ℕ
@@ -30,15 +30,15 @@ file_lines files = flat_map file_line files
 
 -- the line of the free blocks
 abbrev pub free_line : ℕ → List ℕ
-free_line blocks = codes "FREE " ++ decimal blocks ++ 10 ∷ []
+free_line blocks = codes "FREE " ++ decimal blocks ++ 0o12 ∷ []
 
 -- the line of a fault
 abbrev pub fault_line : SessionFault → List ℕ
-fault_line fault = fault_text fault ++ 10 ∷ []
+fault_line fault = fault_text fault ++ 0o12 ∷ []
 
 -- a line of some text
 abbrev pub line_of : List ℕ → List ℕ
-line_of text = text ++ 10 ∷ []
+line_of text = text ++ 0o12 ∷ []
 
 -- a job and what is said of it
 abbrev pub job_text : ℕ → List ℕ → List ℕ
@@ -46,7 +46,7 @@ job_text job text = codes "JOB " ++ decimal job ++ text
 
 -- the five octal digits of a cell: its field, and its address
 abbrev pub cell_text : ℕ → List ℕ
-cell_text cell = octal_digit (cell / 4096) ∷ octal4 (cell % 4096)
+cell_text cell = octal_digit (cell / 0o10000) ∷ octal4 (cell % 0o10000)
 
 -- the three octal digits of a character
 abbrev pub character_text : ℕ → List ℕ
@@ -64,7 +64,7 @@ setting_text false = codes "OFF"
 
 -- the name of a file, and its blocks
 abbrev pub file_text : ℕ → ℕ → List ℕ
-file_text name blocks = shown name ++ 32 ∷ decimal blocks
+file_text name blocks = shown name ++ 0o40 ∷ decimal blocks
 
 -- the end of an assembling job
 abbrev pub assembled_text : ℕ → ℕ → ℕ → List ℕ
@@ -81,16 +81,16 @@ said_text (Loaded job name) = job_text job (codes " LOADED " ++ shown name)
 said_text (Squeezed job) = job_text job (codes " SQUEEZED")
 said_text Finished = codes "FINISHED"
 said_text (Started cell) = codes "STARTED " ++ cell_text cell
-said_text (Steps steps why cell) = codes "STEPS " ++ decimal steps ++ 32 ∷ why_text why ++ 32 ∷ cell_text cell
+said_text (Steps steps why cell) = codes "STEPS " ++ decimal steps ++ 0o40 ∷ why_text why ++ 0o40 ∷ cell_text cell
 said_text (Key character) = codes "KEY " ++ character_text character
 said_text Done = codes "DONE"
 said_text (Switches word) = codes "SWITCHES " ++ octal4 word
-said_text (Core cell word) = cell_text cell ++ 32 ∷ octal4 word
-said_text (Break cell is_on) = codes "BREAK " ++ cell_text cell ++ 32 ∷ setting_text is_on
+said_text (Core cell word) = cell_text cell ++ 0o40 ∷ octal4 word
+said_text (Break cell is_on) = codes "BREAK " ++ cell_text cell ++ 0o40 ∷ setting_text is_on
 
 -- a blank, and the octal digits of a character
 abbrev pub printed_character : ℕ → List ℕ
-printed_character character = 32 ∷ character_text character
+printed_character character = 0o40 ∷ character_text character
 
 -- the same of each character
 abbrev pub printed_text : List ℕ → List ℕ

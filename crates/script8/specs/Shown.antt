@@ -5,7 +5,7 @@ use Rattle.os8_dir.specs.Names.{words_of_name}
 -- the character of a sixbit code: code 0 is none, codes 01 to 37 are letters and signs, the others stand for themselves
 abbrev pub shown_code : ℕ → List ℕ
 shown_code zero = []
-shown_code (suc code) = (if nat_lt code 31 then code + 65 else code + 1) ∷ []
+shown_code (suc code) = (if nat_lt code 0o37 then code + 0o101 else code + 1) ∷ []
 
 -- the characters of some words
 abbrev pub shown_words : List ℕ → List ℕ
@@ -15,7 +15,7 @@ shown_words (word ∷ words) = shown_code (word / 64) ++ shown_code (word % 64) 
 -- a dot and the characters of an extension; of 0 nothing
 abbrev pub shown_extension : ℕ → List ℕ
 shown_extension zero = []
-shown_extension (suc word) = 46 ∷ shown_words (suc word ∷ [])
+shown_extension (suc word) = 0o56 ∷ shown_words (suc word ∷ [])
 
 -- the characters of a name's four words
 abbrev pub shown_name : List ℕ → List ℕ

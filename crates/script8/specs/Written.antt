@@ -7,7 +7,7 @@ use Rattle.script8.specs.declared.lines.Line.TheVariants.{Whole}
 -- no byte is a CR, a blank, a comma or a `<`
 abbrev pub IsPlain : List ℕ → Type 0
 IsPlain [] = Unit {0}
-IsPlain (b ∷ bs) = ((b == 13) ≡ false) × ((b == 32) ≡ false) × ((b == 44) ≡ false) × ((b == 60) ≡ false) × IsPlain bs
+IsPlain (b ∷ bs) = ((b == 0o15) ≡ false) × ((b == 0o40) ≡ false) × ((b == 0o54) ≡ false) × ((b == 0o74) ≡ false) × IsPlain bs
 
 -- names of such bytes, one or more in each
 abbrev pub ArePlain : List (List ℕ) → Type 0
@@ -17,10 +17,10 @@ ArePlain (name ∷ names) = (is_name name ≡ true) × IsPlain name × ArePlain 
 -- a name and further ones, with commas between
 abbrev pub joined : List ℕ → List (List ℕ) → List ℕ
 joined name [] = name
-joined name (other ∷ others) = name ++ 44 ∷ joined other others
+joined name (other ∷ others) = name ++ 0o54 ∷ joined other others
 
 -- A target and 1 to 8 sources are read as they are written.
 abbrev pub AssembleAsWritten : Type 0
 AssembleAsWritten =
     (to source : List ℕ) (others : List (List ℕ)) → ArePlain (to ∷ source ∷ others) → length others ≤ 7
-    → says (codes "ASSEMBLE " ++ (to ++ 60 ∷ joined source others)) ≡ Ok (Whole (entry.Assemble to (source ∷ others)))
+    → says (codes "ASSEMBLE " ++ (to ++ 0o74 ∷ joined source others)) ≡ Ok (Whole (entry.Assemble to (source ∷ others)))

@@ -1,6 +1,6 @@
 //! The items of a script, one after another.
 ghost use Rattle.std.specs.Prelude.{◌≡◌, if◌then◌else◌, ◌∷◌, ◌++◌, ◌-◌, ◌<◌, ◌≤◌, ℕ, List, [], length, drop, Ok, Err, IfOk, true, false};
-ghost use Rattle.script8.specs.Cuts.{Cuts, Cut, Opens, ended};
+ghost use Rattle.script8.specs.CutSteps.{Cuts, Cut, Opens, ended};
 ghost use Rattle.script8.specs.Items.{Begins, Waits, ended_lines};
 ghost use Rattle.script8.specs.declared.faults.SessionFault.TheVariants.{BadLine};
 ghost use Rattle.script8.specs.declared.items.Item.TheVariants.{Refused};
@@ -185,7 +185,7 @@ const BLOCK: usize = 64;
 /// A line without the LF that may stand at its end.
 fn without_end(line: &[u8]) -> &[u8]
     requires { 0 < length line.now }
-    ensures { ended line.now ≡ result.now ++ 10 ∷ [] }
+    ensures { ended line.now ≡ result.now ++ 0o12 ∷ [] }
 {
     match line.strip_suffix(b"\n".as_slice()) {
         Some(front) => front,
@@ -207,7 +207,7 @@ fn ended_text(alloc: Global, text: &[u8]) -> Result<Bytes, AllocError>
 
 /// Whether a text ends in the midst of a line.
 fn needs_end(text: &[u8]) -> bool
-    ensures { ended text.now ≡ text.now ++ (if result then 10 ∷ [] else []) }
+    ensures { ended text.now ≡ text.now ++ (if result then 0o12 ∷ [] else []) }
 {
     if text.is_empty() {
         return false;

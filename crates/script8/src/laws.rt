@@ -22,9 +22,10 @@ pub fn number_as_shown()
 /// A cell, a word and a character that are shown are read as they are.
 #[tactic(auto, using(crate::proofs::LawLemmas::cell_as_shown, crate::proofs::LawLemmas::word_as_shown, crate::proofs::LawLemmas::character_as_shown))]
 pub fn octal_as_shown()
-    ensures cell { (cell : ℕ) → cell < 32768 → cell_of (cell_text cell) ≡ Some cell }
-    ensures word { (word : ℕ) → word < 4096 → octal_of 4 (octal4 word) ≡ Some word }
-    ensures character { (character : ℕ) → character < 256 → character_of (character_text character) ≡ Some character }
+    ensures cell { (cell : ℕ) → cell < 0o100000 → cell_of (cell_text cell) ≡ Some cell }
+    ensures word { (word : ℕ) → word < 0o10000 → octal_of 4 (octal4 word) ≡ Some word }
+    ensures character { (character : ℕ) → character < 256
+        → character_of (character_text character) ≡ Some character }
 {}
 
 /// An `ASSEMBLE` is read as it is written, with `<` behind its target and commas between its sources.

@@ -1,12 +1,13 @@
 //! What stands between the marks of a text.
 ghost use Rattle.std.specs.Prelude.{◌≡◌, ◌≤◌, ◌<◌, IfSome, if◌then◌else◌, [], ◌∷◌, true, false, length};
 ghost use Rattle.std.specs.List.{position};
-ghost use Rattle.script8.specs.Cuts.{part_of, is_mark};
+ghost use Rattle.script8.specs.CutSteps.{part_of, is_mark};
 ghost use Rattle.script8.specs.Lines.{parts_of};
 
 /// The first part of a text, whether it is the last, and what stands behind its mark.
 pub(crate) fn first_part(text: &[u8], mark: u8) -> (&[u8], bool, &[u8])
-    ensures parts { parts_of mark text.now ≡ result.0.now ∷ (if result.1 then [] else parts_of mark result.2.now) }
+    ensures parts { parts_of mark text.now
+        ≡ result.0.now ∷ (if result.1 then [] else parts_of mark result.2.now) }
     ensures shorter { result.1 ≡ false → length result.2.now < length text.now }
 {
     let (part, rest) = text.split_at(part_length(text, mark));

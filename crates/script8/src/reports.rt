@@ -89,7 +89,8 @@ fn put_registers(text: &[u8], out: &mut Vec<u8>) -> Result<(), AllocError>
 
 /// Appends the line of the printed characters; where memory is refused, a part of it.
 fn put_printed(characters: &[u8], out: &mut Vec<u8>) -> Result<(), AllocError>
-    ensures ok { OnOk result (out.new.items ≡ out.old.items ++ line_of (codes "PRINTED" ++ printed_text characters.now)) }
+    ensures ok { OnOk result (out.new.items ≡ out.old.items
+        ++ line_of (codes "PRINTED" ++ printed_text characters.now)) }
     ensures err { OnErr result ((more : List ℕ) × out.new.items ≡ out.old.items ++ more) }
     ensures capacity { vec_capacity out.old ≤ vec_capacity out.new }
 {

@@ -101,7 +101,7 @@ fn put_file(line: &mut ArrayVec<u8, 80>, name: Name, blocks: usize)
 /// Puts why steps ended, between blanks.
 fn put_why(line: &mut ArrayVec<u8, 80>, why: Why)
     requires { array_vec_len line.old ≤ 40 }
-    ensures text { line.new.items ≡ line.old.items ++ 32 ∷ why_text why ++ 32 ∷ [] }
+    ensures text { line.new.items ≡ line.old.items ++ 0o40 ∷ why_text why ++ 0o40 ∷ [] }
     ensures short { array_vec_len line.new ≤ array_vec_len line.old + 12 }
 {
     match why {
@@ -115,7 +115,7 @@ fn put_why(line: &mut ArrayVec<u8, 80>, why: Why)
 /// Puts whether a break is set, behind a blank.
 fn put_setting(line: &mut ArrayVec<u8, 80>, is_on: bool)
     requires { array_vec_len line.old ≤ 40 }
-    ensures text { line.new.items ≡ line.old.items ++ 32 ∷ setting_text is_on }
+    ensures text { line.new.items ≡ line.old.items ++ 0o40 ∷ setting_text is_on }
     ensures short { array_vec_len line.new ≤ array_vec_len line.old + 4 }
 {
     if is_on {
@@ -141,7 +141,7 @@ fn put_cell(line: &mut ArrayVec<u8, 80>, cell: Cell)
     ensures text { line.new.items ≡ line.old.items ++ cell_text cell }
     ensures len { array_vec_len line.new ≡ array_vec_len line.old + 5 }
 {
-    put(line, &[48 + cell.field()]);
+    put(line, &[0o60 + cell.field()]);
     put(line, &cell.address().octal4());
 }
 
@@ -150,8 +150,8 @@ pub(crate) fn octal3(character: u8) -> [u8; 3]
     ensures { result ≡ character_text character }
 {
     [
-        48 + character / 64,
-        48 + character / 8 % 8,
-        48 + character % 8,
+        0o60 + character / 64,
+        0o60 + character / 8 % 8,
+        0o60 + character % 8,
     ]
 }

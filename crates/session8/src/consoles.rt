@@ -42,7 +42,7 @@ impl Model for Console {
 impl Console {
     /// A console with a stopped processor whose core is 0, no breaks, and nothing printed.
     pub(crate) fn new(alloc: Global) -> Result<Console, DebugFault>
-        ensures { IfOk result (λ c. c ≡ record { machine = stopped (zeros 32768); breaks = no_breaks 32768; printed = [] }) }
+        ensures { IfOk result (λ c. c ≡ record { machine = stopped (zeros 0o100000); breaks = no_breaks 0o100000; printed = [] }) }
     {
         let core = match Core::new(alloc) {
             Ok(core) => core,

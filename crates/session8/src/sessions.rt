@@ -68,10 +68,15 @@ impl<S: BlockStore> Session<S> {
     pub fn mount(alloc: Global, store: S) -> Result<Session<S>, (S, DirFault)>
         ensures blocks { IfOk result (λ s. s.volume.blocks ≡ S.contents store) }
         ensures sound { IfOk result (λ s. Sound (S.contents store)) }
-        ensures fresh { IfOk result (λ s. (s.volume.stopped ≡ false) × (s.volume.holds ≡ []) × (s.volume.tentative ≡ None) × (s.jobs ≡ no_jobs)) }
-        ensures console { IfOk result (λ s. s.console ≡ record { machine = stopped (zeros 32768); breaks = no_breaks 32768; printed = [] }) }
-        ensures reads { IfOk result (λ s. (s.volume.reads ≤ S.reads store + 12) × (s.volume.failed_reads ≡ S.failed_reads store) × (s.volume.failed_writes ≡ S.failed_writes store)) }
-        ensures handed_back { IfErr result (λ e. (S.contents e.0 ≡ S.contents store) × (S.reads e.0 ≤ S.reads store + 12) × (S.failed_writes e.0 ≡ S.failed_writes store)) }
+        ensures fresh { IfOk result (λ s. (s.volume.stopped ≡ false) × (s.volume.holds ≡ [])
+            × (s.volume.tentative ≡ None) × (s.jobs ≡ no_jobs)) }
+        ensures console { IfOk result (λ s. s.console
+            ≡ record { machine = stopped (zeros 0o100000); breaks = no_breaks 0o100000; printed = [] }) }
+        ensures reads { IfOk result (λ s. (s.volume.reads ≤ S.reads store + 12)
+            × (s.volume.failed_reads ≡ S.failed_reads store)
+            × (s.volume.failed_writes ≡ S.failed_writes store)) }
+        ensures handed_back { IfErr result (λ e. (S.contents e.0 ≡ S.contents store)
+            × (S.reads e.0 ≤ S.reads store + 12) × (S.failed_writes e.0 ≡ S.failed_writes store)) }
         ensures fault { IfErr result (λ e. Meets e.1 (directory_of (S.contents store))) }
         ensures device { IfErr result (λ e. (e.1 ≡ Device) ↔ (S.failed_reads store < S.failed_reads e.0)) }
     {
@@ -93,7 +98,9 @@ impl<S: BlockStore> Session<S> {
     /// The store, whose blocks hold the files.
     pub fn into_store(self) -> S
         ensures blocks { S.contents result ≡ self.volume.blocks }
-        ensures counts { (S.reads result ≡ self.volume.reads) × (S.failed_reads result ≡ self.volume.failed_reads) × (S.failed_writes result ≡ self.volume.failed_writes) }
+        ensures counts { (S.reads result ≡ self.volume.reads)
+            × (S.failed_reads result ≡ self.volume.failed_reads)
+            × (S.failed_writes result ≡ self.volume.failed_writes) }
     {
         let Session {
             mut files,
@@ -114,13 +121,17 @@ impl<S: BlockStore> Session<S> {
     pub fn enter(&mut self, alloc: Global, entry: Entry) -> Result<Reply, SessionFault>
         ensures step { IsQuiet self.old self.new → Step (state_of self.old) entry result (state_of self.new) }
         ensures later { IsLater self.old self.new }
-        ensures files { self.old.volume.stopped ≡ false → self.old.volume.failed_writes < self.new.volume.failed_writes → Outlives self.old.volume.blocks self.new.volume.blocks }
+        ensures files { self.old.volume.stopped ≡ false
+            → self.old.volume.failed_writes < self.new.volume.failed_writes
+            → Outlives self.old.volume.blocks self.new.volume.blocks }
         ensures running { IsQuiet self.old self.new → self.new.volume.stopped ≡ false }
         ensures memory { IsErrOf result Memory → IsSame self.old self.new }
         ensures reply { IsReply result }
-        ensures done { OnOk result (Step (state_of self.old) entry result (state_of self.new) × IsSteadied entry self.old self.new) }
+        ensures done { OnOk result (Step (state_of self.old) entry result (state_of self.new)
+            × IsSteadied entry self.old self.new) }
         ensures tells { self.old.volume.stopped ≡ false → Tells entry self.old result self.new }
-        ensures stopped { self.old.volume.stopped ≡ true → StepsStopped (is_console entry) (state_of self.old) entry result (state_of self.new) }
+        ensures stopped { self.old.volume.stopped ≡ true
+            → StepsStopped (is_console entry) (state_of self.old) entry result (state_of self.new) }
         ensures reads { EntryReads entry self.old self.new }
         ensures places { EntryPlaces entry self.old self.new }
         ensures room { EntryTellsRoom entry self.old result }
@@ -131,7 +142,8 @@ impl<S: BlockStore> Session<S> {
     /// Does entries in order: a run of the system machine, where no block call fails. Want of memory ends it; where no entry
     /// was done by then, it is answered.
     pub fn run(&mut self, alloc: Global, entries: &[Entry]) -> Result<Ran, SessionFault>
-        ensures run { IsQuiet self.old self.new → IfOk result (λ ran. Run (state_of self.old) entries.now ran.replies.items ran.stopped (state_of self.new)) }
+        ensures run { IsQuiet self.old self.new
+            → IfOk result (λ ran. Run (state_of self.old) entries.now ran.replies.items ran.stopped (state_of self.new)) }
         ensures later { IsLater self.old self.new }
         ensures running { IsQuiet self.old self.new → self.new.volume.stopped ≡ false }
         ensures stopped { IfOk result (λ ran. ran.stopped ≡ true → 0 < vec_len ran.replies) }
@@ -207,7 +219,8 @@ impl<S: BlockStore> Session<S> {
 /// What a session has beside its files: a line with room for 80 bytes, and a console.
 fn parts(alloc: Global) -> Result<(Vec<u8>, Console), DebugFault>
     ensures line { IfOk result (λ parts. 80 ≤ vec_capacity parts.0) }
-    ensures console { IfOk result (λ parts. parts.1 ≡ record { machine = stopped (zeros 32768); breaks = no_breaks 32768; printed = [] }) }
+    ensures console { IfOk result (λ parts. parts.1
+        ≡ record { machine = stopped (zeros 0o100000); breaks = no_breaks 0o100000; printed = [] }) }
 {
     let line = Vec::with_capacity(alloc, LINE)?;
     let console = Console::new(alloc)?;

@@ -7,7 +7,8 @@ ghost use Rattle.tty8.specs.Teletype.{TeletypeState, keyboard_ac, keyboard_pulse
 /// statically (6034).
 pub fn dynamic_read()
     ensures state { (t : TeletypeState) → keyboard_pulsed t 6 ≡ keyboard_pulsed (keyboard_pulsed t 2) 4 }
-    ensures ac { (t : TeletypeState) (ac : ℕ) → keyboard_ac t 6 ac ≡ keyboard_ac (keyboard_pulsed t 2) 4 (keyboard_ac t 2 ac) }
+    ensures ac { (t : TeletypeState) (ac : ℕ) → keyboard_ac t 6 ac
+        ≡ keyboard_ac (keyboard_pulsed t 2) 4 (keyboard_ac t 2 ac) }
 {}
 
 /// Loading the printer's sequence (6046) is clearing its flag (6042), and then printing (6044).

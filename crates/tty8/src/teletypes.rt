@@ -98,7 +98,7 @@ impl Teletype {
         ensures state { self.new ≡ keyboard_pulsed self.old pulses }
         ensures ac { result.ac ≡ keyboard_ac self.old pulses ac }
         ensures skips { result.skips ≡ keyboard_skips self.old pulses }
-        ensures range { result.ac < 4096 }
+        ensures range { result.ac < 0o10000 }
     {
         let skips = pulses % 2 == 1 && self.keyboard_flag;
         let clears = pulses / 2 % 2 == 1;

@@ -20,8 +20,8 @@ block_word blocks n k = slice_index (slice_index_or blocks n []) k
 -- the first word that has more than twelve bits
 pub record IsFirstBadWord (bytes : List ℕ) (number : ℕ) : Type 0 where
   pub within : 2 * number < length bytes
-  pub bad : 4096 ≤ image_word bytes number
-  pub before : (k : ℕ) → k < number → image_word bytes k < 4096
+  pub bad : 0o10000 ≤ image_word bytes number
+  pub before : (k : ℕ) → k < number → image_word bytes k < 0o10000
 
 -- whole blocks, 8 to 4095 of them
 pub record HasImageSize (bytes : List ℕ) : Type 0 where
@@ -32,13 +32,13 @@ pub record HasImageSize (bytes : List ℕ) : Type 0 where
 -- an image of that size whose words have twelve bits
 pub record IsImage (bytes : List ℕ) : Type 0 where
   pub size : HasImageSize bytes
-  pub range : (k : ℕ) → image_word bytes k < 4096
+  pub range : (k : ℕ) → image_word bytes k < 0o10000
 
 -- the image of these blocks: word k of block n is word 256 n + k of the image
 pub record IsImageOf (bytes : List ℕ) (blocks : List (List ℕ)) : Type 0 where
   pub volume : IsVolume blocks
   pub size : length bytes ≡ 512 * length blocks
-  pub range : (k : ℕ) → image_word bytes k < 4096
+  pub range : (k : ℕ) → image_word bytes k < 0o10000
   pub words : (n k : ℕ) → n < length blocks → k < 256 → block_word blocks n k ≡ image_word bytes (256 * n + k)
 
 -- what is answered where bytes are to be read as an image: want of memory is told of an image only
@@ -52,7 +52,7 @@ ReadsImage bytes (Err Memory) = IsImage bytes
 
 -- minus a number, as a word
 abbrev pub minus : ℕ → ℕ
-minus n = (4096 - n) % 4096
+minus n = (0o10000 - n) % 0o10000
 
 -- block 1 of an empty volume begins with these words (OS/8 Software Support Manual): minus the number of entries, the
 -- first block of files, no next segment, no flag word, minus the number of information words, and one entry, which is

@@ -13,7 +13,7 @@ pub record IsVolume (blocks : List (List ℕ)) : Type 0 where
 
 -- each word of each block has twelve bits (Small Computer Handbook)
 abbrev pub AreWords : List (List ℕ) → Type 0
-AreWords blocks = (n k : ℕ) → slice_index (slice_index_or blocks n []) k < 4096
+AreWords blocks = (n k : ℕ) → slice_index (slice_index_or blocks n []) k < 0o10000
 
 -- one block has any words, and the others are as before
 pub record IsDamaged (old new : List (List ℕ)) (number : ℕ) : Type 0 where

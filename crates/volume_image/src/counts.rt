@@ -93,7 +93,8 @@ impl<S: BlockStore> BlockStore for CountVolume<S> {
 
     fn write(&mut self, number: usize, words: &Block) -> Result<(), DeviceFault>
         requires { number < length (S.contents self.old.store) }
-        ensures ok { OnOk result (S.contents self.new.store ≡ slice_set (S.contents self.old.store) number words.now) }
+        ensures ok { OnOk result (S.contents self.new.store
+            ≡ slice_set (S.contents self.old.store) number words.now) }
         ensures err { OnErr result (IsDamaged (S.contents self.old.store) (S.contents self.new.store) number) }
         ensures reads { S.reads self.new.store ≡ S.reads self.old.store }
         ensures passed_on { S.writes self.new.store ≡ counted (S.writes self.old.store) }

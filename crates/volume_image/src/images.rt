@@ -8,7 +8,7 @@ use word12::Word;
 
 // Takes each word as a number, by which it is known to have twelve bits; a compiler leaves this out.
 pub(crate) fn know_words(words: &[Word])
-    ensures { (k : ℕ) → slice_index words.now k < 4096 }
+    ensures { (k : ℕ) → slice_index words.now k < 0o10000 }
 {
     for word in words {
         let _number = word.get();
@@ -18,7 +18,7 @@ pub(crate) fn know_words(words: &[Word])
 // The index of the first word that has more than twelve bits.
 pub(crate) fn first_bad_word(bytes: &[u8]) -> Option<usize>
     requires { length bytes.now % 2 ≡ 0 }
-    ensures { MatchOption result ((k : ℕ) → image_word bytes.now k < 4096) (IsFirstBadWord bytes.now) }
+    ensures { MatchOption result ((k : ℕ) → image_word bytes.now k < 0o10000) (IsFirstBadWord bytes.now) }
 {
     for number in 0..bytes.len() / 2 {
         if bytes[2 * number + 1] >= 16 {
@@ -31,7 +31,8 @@ pub(crate) fn first_bad_word(bytes: &[u8]) -> Option<usize>
 // Fills a slice with the words of an image, from one of them on; of each just the low twelve bits.
 fn lay_words(bytes: &[u8], first: usize, words: &mut [Word])
     requires { 2 * (first + length words.old) ≤ length bytes.now }
-    ensures { (k : ℕ) → k < length words.new → slice_index words.new k ≡ image_word bytes.now (first + k) % 4096 }
+    ensures { (k : ℕ) → k < length words.new → slice_index words.new k
+        ≡ image_word bytes.now (first + k) % 0o10000 }
 {
     for k in 0..words.len() {
         let low = u16::from(bytes[2 * (first + k)]);
@@ -43,7 +44,7 @@ fn lay_words(bytes: &[u8], first: usize, words: &mut [Word])
 // A block of an image; of each word just the low twelve bits.
 fn block_at(bytes: &[u8], number: usize) -> Block
     requires { 512 * number + 512 ≤ length bytes.now }
-    ensures { (k : ℕ) → k < 256 → slice_index result k ≡ image_word bytes.now (256 * number + k) % 4096 }
+    ensures { (k : ℕ) → k < 256 → slice_index result k ≡ image_word bytes.now (256 * number + k) % 0o10000 }
 {
     let mut words = [Word::ZERO; 256];
     lay_words(bytes, 256 * number, &mut words);
@@ -56,7 +57,7 @@ pub(crate) fn blocks_of(alloc: Global, bytes: &[u8], count: usize) -> Result<Vec
     ensures count { IfOk result (λ blocks. length blocks.items ≡ count) }
     ensures each { IfOk result (λ blocks. All IsBlock blocks.items) }
     ensures words { IfOk result (λ blocks. (n k : ℕ) → n < count → k < 256 →
-        block_word blocks.items n k ≡ image_word bytes.now (256 * n + k) % 4096) }
+        block_word blocks.items n k ≡ image_word bytes.now (256 * n + k) % 0o10000) }
 {
     let mut blocks = Vec::with_capacity(alloc, count)?;
     for number in 0..count {
@@ -68,8 +69,9 @@ pub(crate) fn blocks_of(alloc: Global, bytes: &[u8], count: usize) -> Result<Vec
 // Puts words into an image, from one of its words on.
 fn put_words(words: &[Word], first: usize, bytes: &mut [u8])
     requires { 2 * (first + length words.now) ≤ length bytes.old }
-    ensures words { (k : ℕ) → k < length words.now → image_word bytes.new (first + k) ≡ slice_index words.now k }
-    ensures range { (k : ℕ) → k < length words.now → image_word bytes.new (first + k) < 4096 }
+    ensures words { (k : ℕ) → k < length words.now → image_word bytes.new (first + k)
+        ≡ slice_index words.now k }
+    ensures range { (k : ℕ) → k < length words.now → image_word bytes.new (first + k) < 0o10000 }
     ensures before { (k : ℕ) → k < first → image_word bytes.new k ≡ image_word bytes.old k }
 {
     for k in 0..words.len() {
@@ -83,7 +85,7 @@ fn put_words(words: &[Word], first: usize, bytes: &mut [u8])
 fn put_blocks(blocks: &[Block], bytes: &mut [u8])
     requires size { length bytes.old ≡ 512 * length blocks.now }
     requires each { All IsBlock blocks.now }
-    ensures range { (k : ℕ) → k < 256 * length blocks.now → image_word bytes.new k < 4096 }
+    ensures range { (k : ℕ) → k < 256 * length blocks.now → image_word bytes.new k < 0o10000 }
     ensures words { (n k : ℕ) → n < length blocks.now → k < 256 →
         block_word blocks.now n k ≡ image_word bytes.new (256 * n + k) }
 {

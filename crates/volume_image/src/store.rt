@@ -43,7 +43,8 @@ pub trait BlockStore {
         ensures same { contents self.new ≡ contents self.old }
         ensures reads { reads self.new ≡ counted (reads self.old) }
         ensures writes { writes self.new ≡ writes self.old }
-        ensures failed_reads { failed_reads self.new ≡ (if is_ok result then failed_reads self.old else failed_reads self.old + 1) }
+        ensures failed_reads { failed_reads self.new
+            ≡ (if is_ok result then failed_reads self.old else failed_reads self.old + 1) }
         ensures failed_writes { failed_writes self.new ≡ failed_writes self.old };
 
     /// Writes a block. Where that fails, the block has any words.

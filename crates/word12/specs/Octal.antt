@@ -7,7 +7,7 @@ octal_digit n = 48 + n % 8
 
 -- the four octal digits of a word, the first of them the most significant
 abbrev pub octal4 : ℕ → List ℕ
-octal4 word = octal_digit (word / 512) ∷ octal_digit (word / 64) ∷ octal_digit (word / 8) ∷ octal_digit word ∷ []
+octal4 word = octal_digit (word / 0o1000) ∷ octal_digit (word / 0o100) ∷ octal_digit (word / 8) ∷ octal_digit word ∷ []
 
 -- the number that octal digits spell behind a number that was spelled before them
 abbrev pub octal_number_after : ℕ → List ℕ → ℕ

@@ -11,7 +11,7 @@ is_digit character = nat_le 48 character && nat_le character 57
 
 -- a letter's code is its ASCII code without 0100, a digit's its ASCII code; other characters have none in a name
 abbrev pub sixbit_code : ℕ → Option ℕ
-sixbit_code character = if is_letter character then Some (character - 64) else if is_digit character then Some character else None
+sixbit_code character = if is_letter character then Some (character - 0o100) else if is_digit character then Some character else None
 
 -- the sixbit code of a character of a text, or 0 past its end
 abbrev pub code_at : List ℕ → ℕ → ℕ
@@ -20,5 +20,5 @@ code_at text place = unwrap_or (sixbit_code (slice_index text place)) 0
 -- a name's first six characters, as the digits of a number to the base 64
 abbrev pub name_number : List ℕ → ℕ
 name_number text =
-    1073741824 * code_at text 0 + 16777216 * code_at text 1 + 262144 * code_at text 2 + 4096 * code_at text 3
-    + 64 * code_at text 4 + code_at text 5
+    0o10000000000 * code_at text 0 + 0o100000000 * code_at text 1 + 0o1000000 * code_at text 2 + 0o10000 * code_at text 3
+    + 0o100 * code_at text 4 + code_at text 5

@@ -3,9 +3,9 @@ ghost use Rattle.std.specs.Prelude.{◌≡◌, ℕ, ◌+◌, ◌*◌, ◌/◌, �
 use crate::Word;
 use std::marker::Model;
 
-/// A cell of core: a field, 0 to 7, and an address in it, 0 to 4095 (Small Computer Handbook, MC8 extended memory).
+/// A cell of core: a field, 0 to 7, and an address in it, 0 to 0o7777 (Small Computer Handbook, MC8 extended memory).
 ///
-/// A contract sees the number of the cell, which is 4096 times its field plus its address.
+/// A contract sees the number of the cell, which is 0o10000 times its field plus its address.
 #[derive(Clone, Copy, PartialEq, Eq, PartialOrd, Ord, Hash, Debug)]
 pub struct Cell {
     number: u32,
@@ -16,21 +16,21 @@ impl Model for Cell {
 
     ghost view = { λ cell. cell.number };
 
-    ghost invariant = { λ cell. cell.number < 32768 };
+    ghost invariant = { λ cell. cell.number < 0o100000 };
 
     ghost inverse = { λ number. record { number = number } };
 }
 
 impl Cell {
-    /// The cell of a field below 8 and an address below 4096, else nothing.
+    /// The cell of a field below 8 and an address below 0o10000, else nothing.
     #[inline]
     pub fn new(field: u8, address: u16) -> Option<Cell>
-        ensures fits { IsSome result ↔ ((field < 8) × (address < 4096)) }
-        ensures number { IfSome result (λ cell. cell ≡ 4096 * field + address) }
+        ensures fits { IsSome result ↔ ((field < 8) × (address < 0o10000)) }
+        ensures number { IfSome result (λ cell. cell ≡ 0o10000 * field + address) }
     {
-        if field < 8 && address < 4096 {
+        if field < 8 && address < 0o10000 {
             Some(Cell {
-                number: 4096 * u32::from(field) + u32::from(address),
+                number: 0o10000 * u32::from(field) + u32::from(address),
             })
         } else {
             None
@@ -41,20 +41,20 @@ impl Cell {
     #[inline]
     pub fn at(field: u8, address: Word) -> Cell
         requires { field < 8 }
-        ensures number { result ≡ 4096 * field + address }
-        ensures range { result < 32768 }
+        ensures number { result ≡ 0o10000 * field + address }
+        ensures range { result < 0o100000 }
     {
         Cell {
-            number: 4096 * u32::from(field) + u32::from(address.get()),
+            number: 0o10000 * u32::from(field) + u32::from(address.get()),
         }
     }
 
     /// The cell of this number among all cells of core.
     #[inline]
     pub fn of(number: u32) -> Cell
-        requires { number < 32768 }
+        requires { number < 0o100000 }
         ensures number { result ≡ number }
-        ensures range { result < 32768 }
+        ensures range { result < 0o100000 }
     {
         Cell { number }
     }
@@ -62,26 +62,26 @@ impl Cell {
     /// The field, 0 to 7.
     #[inline]
     pub fn field(self) -> u8
-        ensures value { result ≡ self / 4096 }
+        ensures value { result ≡ self / 0o10000 }
         ensures range { result < 8 }
     {
-        (self.number / 4096) as u8
+        (self.number / 0o10000) as u8
     }
 
     /// The address in the field.
     #[inline]
     pub fn address(self) -> Word
-        ensures value { result ≡ self % 4096 }
-        ensures range { result < 4096 }
+        ensures value { result ≡ self % 0o10000 }
+        ensures range { result < 0o10000 }
     {
-        Word::low((self.number % 4096) as u16)
+        Word::low((self.number % 0o10000) as u16)
     }
 
-    /// The number of the cell among all cells of core: 4096 times the field, plus the address.
+    /// The number of the cell among all cells of core: 0o10000 times the field, plus the address.
     #[inline]
     pub fn index(self) -> usize
         ensures value { result ≡ self }
-        ensures range { result < 32768 }
+        ensures range { result < 0o100000 }
     {
         self.number as usize
     }

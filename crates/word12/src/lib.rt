@@ -1,7 +1,7 @@
 //! Words and cells of the PDP-8: numbers of twelve bits, and places in core; and the sixbit codes of names.
 //!
-//! In each contract a [`Word`] is a number below 4096, and a [`Cell`] is the number of its place in core, below
-//! 32768. Nothing here takes memory.
+//! In each contract a [`Word`] is a number below 0o10000, and a [`Cell`] is the number of its place in core, below
+//! 0o100000. Nothing here takes memory.
 #![tactic(auto)]
 
 mod cells;

@@ -6,7 +6,7 @@ use std::marker::Model;
 
 /// A word of twelve bits, of which bit 0 is the most significant (Small Computer Handbook).
 ///
-/// Sums and differences are modulo 4096.
+/// Sums and differences are modulo 0o10000.
 #[derive(Clone, Copy, PartialEq, Eq, PartialOrd, Ord, Hash, Debug)]
 pub struct Word {
     bits: u16,
@@ -17,7 +17,7 @@ impl Model for Word {
 
     ghost view = { λ word. word.bits };
 
-    ghost invariant = { λ word. word.bits < 4096 };
+    ghost invariant = { λ word. word.bits < 0o10000 };
 
     ghost inverse = { λ number. record { bits = number } };
 }
@@ -27,13 +27,13 @@ impl Word {
 
     pub const ONE: Word = Word { bits: 1 };
 
-    /// The word of a number below 4096, else nothing.
+    /// The word of a number below 0o10000, else nothing.
     #[inline]
     pub fn new(number: u16) -> Option<Word>
-        ensures fits { IsSome result ↔ (number < 4096) }
+        ensures fits { IsSome result ↔ (number < 0o10000) }
         ensures value { IfSome result (λ word. word ≡ number) }
     {
-        if number < 4096 {
+        if number < 0o10000 {
             Some(Word { bits: number })
         } else {
             None
@@ -43,39 +43,39 @@ impl Word {
     /// The low twelve bits of a number.
     #[inline]
     pub fn low(number: u16) -> Word
-        ensures value { result ≡ number % 4096 }
-        ensures range { result < 4096 }
+        ensures value { result ≡ number % 0o10000 }
+        ensures range { result < 0o10000 }
     {
         Word {
-            bits: number % 4096,
+            bits: number % 0o10000,
         }
     }
 
-    /// The word as a number, 0 to 4095.
+    /// The word as a number, 0 to 0o7777.
     #[inline]
     pub fn get(self) -> u16
         ensures value { result ≡ self }
-        ensures range { result < 4096 }
+        ensures range { result < 0o10000 }
     {
         self.bits
     }
 
-    /// The sum modulo 4096.
+    /// The sum modulo 0o10000.
     #[inline]
     pub fn plus(self, other: Word) -> Word
-        ensures value { result ≡ (self + other) % 4096 }
-        ensures range { result < 4096 }
+        ensures value { result ≡ (self + other) % 0o10000 }
+        ensures range { result < 0o10000 }
     {
         Word::low(self.bits + other.bits)
     }
 
-    /// The difference modulo 4096.
+    /// The difference modulo 0o10000.
     #[inline]
     pub fn minus(self, other: Word) -> Word
-        ensures value { result ≡ (self + 4096 - other) % 4096 }
-        ensures range { result < 4096 }
+        ensures value { result ≡ (self + 0o10000 - other) % 0o10000 }
+        ensures range { result < 0o10000 }
     {
-        Word::low(self.bits + 4096 - other.bits)
+        Word::low(self.bits + 0o10000 - other.bits)
     }
 
     /// Inclusive or, bit by bit.
@@ -83,7 +83,7 @@ impl Word {
     #[tactic(auto, using(crate::proofs::TwelveBits::or_of_12))]
     pub fn or(self, other: Word) -> Word
         ensures value { result ≡ bit_or self other }
-        ensures range { result < 4096 }
+        ensures range { result < 0o10000 }
     {
         Word {
             bits: self.bits | other.bits,
@@ -94,7 +94,7 @@ impl Word {
     #[inline]
     pub fn and(self, other: Word) -> Word
         ensures value { result ≡ bit_and self other }
-        ensures range { result < 4096 }
+        ensures range { result < 0o10000 }
     {
         Word {
             bits: self.bits & other.bits,
@@ -104,12 +104,12 @@ impl Word {
     /// The complement: each of the twelve bits is the other one.
     #[inline]
     pub fn not(self) -> Word
-        ensures bits { result ≡ bit_xor self 4095 }
-        ensures value { result ≡ 4095 - self }
-        ensures range { result < 4096 }
+        ensures bits { result ≡ bit_xor self 0o7777 }
+        ensures value { result ≡ 0o7777 - self }
+        ensures range { result < 0o10000 }
     {
         Word {
-            bits: 4095 - self.bits,
+            bits: 0o7777 - self.bits,
         }
     }
 
@@ -119,7 +119,7 @@ impl Word {
         ensures number { octal_number result ≡ self }
     {
         let digit = |place: u16| (48 + self.bits / place % 8) as u8;
-        [digit(512), digit(64), digit(8), digit(1)]
+        [digit(0o1000), digit(0o100), digit(8), digit(1)]
     }
 }
 

@@ -36,7 +36,7 @@ impl Machine {
     #[inline]
     pub fn next_cell(&self) -> Cell
         ensures value { result ≡ next_cell self.now }
-        ensures range { result < 32768 }
+        ensures range { result < 0o100000 }
     {
         self.processor.next_cell()
     }
@@ -72,7 +72,7 @@ impl Machine {
     #[inline]
     pub fn save_field(&self) -> u8
         ensures value { result ≡ self.now.save_field }
-        ensures range { result < 64 }
+        ensures range { result < 0o100 }
     {
         self.processor.save_field
     }

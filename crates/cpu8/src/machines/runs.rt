@@ -1,7 +1,7 @@
 //! Runs of several steps.
 
 ghost use Rattle.std.specs.Prelude.{◌≡◌, ◌+◌, ◌≤◌, ◌++◌, [], true, length, vec_len, vec_capacity};
-ghost use Rattle.cpu8.specs.Quiet.{AreQuiet, AreUnbroken, IsUnbroken, is_quiet, is_settled};
+ghost use Rattle.cpu8.specs.QuietSteps.{AreQuiet, AreUnbroken, IsUnbroken, is_quiet, is_settled};
 ghost use Rattle.cpu8.specs.Go.{IsGo, after, break_ahead, character_of, printed_by, reason, turn};
 
 use super::Machine;
@@ -98,7 +98,7 @@ impl Machine {
     fn run_with_breaks(&mut self, n: usize, quick: bool, breaks: &[bool]) -> usize
         requires quiet { is_quiet quick self.old ≡ true }
         requires settled { is_settled self.old ≡ true }
-        requires breaks { 32768 ≤ length breaks.now }
+        requires breaks { 0o100000 ≤ length breaks.now }
         ensures within { result ≤ n }
         ensures state { self.new ≡ after quick result self.old }
         ensures quiet { AreQuiet quick breaks.now self.old result }

@@ -59,7 +59,7 @@ impl Processor {
     {
         self.advance();
         let number = group1_number(word, self.l, self.ac);
-        self.l = (number / 4096) as u8;
+        self.l = (number / 0o10000) as u8;
         self.ac = Word::low(number);
     }
 
@@ -105,7 +105,7 @@ pub(super) fn is_group1_unassigned(word: Word) -> bool
 fn group1_number(word: Word, l: u8, ac: Word) -> u16
     requires { l < 2 }
     ensures number { result ≡ group1_number word l ac }
-    ensures range { result < 8192 }
+    ensures range { result < 0o20000 }
 {
     rotate(word, group1_sum(word, l, ac))
 }
@@ -115,18 +115,18 @@ fn group1_number(word: Word, l: u8, ac: Word) -> u16
 fn group1_sum(word: Word, l: u8, ac: Word) -> u16
     requires { l < 2 }
     ensures number { result ≡ group1_sum word l ac }
-    ensures range { result < 8192 }
+    ensures range { result < 0o20000 }
 {
     let (l, ac) = cleared(word, u16::from(l), ac.get());
     let (l, ac) = complemented(word, l, ac);
-    (4096 * l + ac + iac_of(word)) % 8192
+    (0o10000 * l + ac + iac_of(word)) % 0o20000
 }
 
 /// L and AC after CLL and CLA.
 #[inline(always)]
 fn cleared(word: Word, l: u16, ac: u16) -> (u16, u16)
     requires l { l < 2 }
-    requires ac { ac < 4096 }
+    requires ac { ac < 0o10000 }
     ensures l { result.0 ≡ (if has_cll word then 0 else l) }
     ensures ac { result.1 ≡ (if has_cla word then 0 else ac) }
 {
@@ -139,12 +139,12 @@ fn cleared(word: Word, l: u16, ac: u16) -> (u16, u16)
 #[inline(always)]
 fn complemented(word: Word, l: u16, ac: u16) -> (u16, u16)
     requires l { l < 2 }
-    requires ac { ac < 4096 }
+    requires ac { ac < 0o10000 }
     ensures l { result.0 ≡ (if has_cml word then 1 - l else l) }
-    ensures ac { result.1 ≡ (if has_cma word then 4095 - ac else ac) }
+    ensures ac { result.1 ≡ (if has_cma word then 0o7777 - ac else ac) }
 {
     let complemented_l = if has(word, CML) { 1 - l } else { l };
-    let complemented_ac = if has(word, CMA) { 4095 - ac } else { ac };
+    let complemented_ac = if has(word, CMA) { 0o7777 - ac } else { ac };
     (complemented_l, complemented_ac)
 }
 

@@ -7,7 +7,7 @@ ghost use Rattle.std.specs.Prelude.{◌≡◌, ◌<◌, ◌≤◌, ◌/◌, true
 ghost use Rattle.cpu8.specs.State.{next_cell, with_core};
 ghost use Rattle.cpu8.specs.Step.{fetched};
 ghost use Rattle.cpu8.specs.Go.{after, is_break};
-ghost use Rattle.cpu8.specs.Quiet.{AreMinded, AreQuiet, Does, DoesOrNot, is_quiet, is_settled, operates_on};
+ghost use Rattle.cpu8.specs.QuietSteps.{AreMinded, AreQuiet, Does, DoesOrNot, is_quiet, is_settled, operates_on};
 
 use super::Processor;
 use crate::decoding::{
@@ -94,7 +94,7 @@ impl Processor {
         ensures { DoesOrNot (with_core self.old core.old) (fetched (with_core self.old core.old)) result (with_core self.new core.new) }
     {
         let word = core.get(self.next_cell());
-        match word.get() / 128 {
+        match word.get() / 0o200 {
             0 => self.refer(core, leading(0, word)),
             1 => self.refer(core, leading(1, word)),
             2 => self.refer(core, leading(2, word)),
@@ -103,26 +103,26 @@ impl Processor {
             5 => self.refer(core, leading(5, word)),
             6 => self.refer(core, leading(6, word)),
             7 => self.refer(core, leading(7, word)),
-            8 => self.refer(core, leading(8, word)),
-            9 => self.refer(core, leading(9, word)),
-            10 => self.refer(core, leading(10, word)),
-            11 => self.refer(core, leading(11, word)),
-            12 => self.refer(core, leading(12, word)),
-            13 => self.refer(core, leading(13, word)),
-            14 => self.refer(core, leading(14, word)),
-            15 => self.refer(core, leading(15, word)),
-            16 => self.refer(core, leading(16, word)),
-            17 => self.refer(core, leading(17, word)),
-            18 => self.refer(core, leading(18, word)),
-            19 => self.refer(core, leading(19, word)),
-            20 => self.refer(core, leading(20, word)),
-            21 => self.refer(core, leading(21, word)),
-            22 => self.refer(core, leading(22, word)),
-            23 => self.refer(core, leading(23, word)),
-            24 => return self.transfer_quietly(core, leading(24, word)),
-            25 => return self.transfer_quietly(core, leading(25, word)),
-            26 => return self.transfer_quietly(core, leading(26, word)),
-            27 => return self.transfer_quietly(core, leading(27, word)),
+            0o10 => self.refer(core, leading(0o10, word)),
+            0o11 => self.refer(core, leading(0o11, word)),
+            0o12 => self.refer(core, leading(0o12, word)),
+            0o13 => self.refer(core, leading(0o13, word)),
+            0o14 => self.refer(core, leading(0o14, word)),
+            0o15 => self.refer(core, leading(0o15, word)),
+            0o16 => self.refer(core, leading(0o16, word)),
+            0o17 => self.refer(core, leading(0o17, word)),
+            0o20 => self.refer(core, leading(0o20, word)),
+            0o21 => self.refer(core, leading(0o21, word)),
+            0o22 => self.refer(core, leading(0o22, word)),
+            0o23 => self.refer(core, leading(0o23, word)),
+            0o24 => self.refer(core, leading(0o24, word)),
+            0o25 => self.refer(core, leading(0o25, word)),
+            0o26 => self.refer(core, leading(0o26, word)),
+            0o27 => self.refer(core, leading(0o27, word)),
+            0o30 => return self.transfer_quietly(core, leading(0o30, word)),
+            0o31 => return self.transfer_quietly(core, leading(0o31, word)),
+            0o32 => return self.transfer_quietly(core, leading(0o32, word)),
+            0o33 => return self.transfer_quietly(core, leading(0o33, word)),
             _ => return self.operate_quietly::<MINDS>(core, word),
         }
         true
@@ -132,7 +132,7 @@ impl Processor {
     #[tactic(auto, unfolding(crate::specs::Step::executed))]
     #[inline(always)]
     fn refer(&mut self, core: &mut Core, word: Word)
-        requires { word < 3072 }
+        requires { word < 0o6000 }
         ensures { Does (with_core self.old core.old) word (with_core self.new core.new) }
     {
         match operation_of(word) {
@@ -151,7 +151,7 @@ impl Processor {
     #[tactic(auto, unfolding(crate::specs::Step::executed))]
     #[inline(always)]
     fn transfer_quietly(&mut self, core: &Core, word: Word) -> bool
-        requires { word / 512 ≡ 6 }
+        requires { word / 0o1000 ≡ 6 }
         ensures { DoesOrNot (with_core self.old core.now) word result (with_core self.new core.now) }
     {
         if pulses_of(word) != 1 {
@@ -172,7 +172,7 @@ impl Processor {
     /// An operate instruction that goes on. The words of everyday use are each compiled for themselves.
     #[inline(always)]
     fn operate_quietly<const MINDS: bool>(&mut self, core: &Core, word: Word) -> bool
-        requires { 7 ≤ word / 512 }
+        requires { 7 ≤ word / 0o1000 }
         ensures { DoesOrNot (with_core self.old core.now) word result (with_core self.new core.now) }
     {
         match word.get() {
@@ -217,7 +217,7 @@ impl Processor {
     #[tactic(auto, unfolding(crate::specs::Step::executed))]
     #[inline(always)]
     fn operate_on(&mut self, core: &Core, word: Word)
-        requires operates { 7 ≤ word / 512 }
+        requires operates { 7 ≤ word / 0o1000 }
         requires goes_on { operates_on word ≡ true }
         ensures { Does (with_core self.old core.now) word (with_core self.new core.now) }
     {
@@ -232,10 +232,10 @@ impl Processor {
 /// The word, of which the five leading bits are these.
 #[inline(always)]
 fn leading(bits: u16, word: Word) -> Word
-    requires { word / 128 ≡ bits }
+    requires { word / 0o200 ≡ bits }
     ensures { result ≡ word }
 {
-    Word::low(128 * bits + word.get() % 128)
+    Word::low(0o200 * bits + word.get() % 0o200)
 }
 
 /// Whether a cell has a break.
@@ -250,4 +250,4 @@ pub(crate) fn is_break(breaks: &[bool], cell: Cell) -> bool
 }
 
 /// The cells of a field.
-pub(crate) const FIELD: usize = 4096;
+pub(crate) const FIELD: usize = 0o10000;

@@ -14,7 +14,7 @@ impl Processor {
     #[inline(always)]
     fn direct_address(&self, word: Word) -> Word
         ensures value { result ≡ direct_address self.now word }
-        ensures range { result < 4096 }
+        ensures range { result < 0o10000 }
     {
         let offset = offset_of(word);
         if has(word, CURRENT_PAGE) {
@@ -29,7 +29,7 @@ impl Processor {
     fn effective_address(&self, core: &mut Core, word: Word) -> Word
         ensures value { result ≡ effective_address (with_core self.now core.old) word }
         ensures core { core.new ≡ indexed (with_core self.now core.old) word }
-        ensures range { result < 4096 }
+        ensures range { result < 0o10000 }
     {
         let address = self.direct_address(word);
         if !has(word, INDIRECT) {
@@ -51,7 +51,7 @@ impl Processor {
     fn operand_cell(&self, core: &mut Core, word: Word) -> Cell
         ensures value { result ≡ operand_place (with_core self.now core.old) word }
         ensures core { core.new ≡ indexed (with_core self.now core.old) word }
-        ensures range { result < 32768 }
+        ensures range { result < 0o100000 }
     {
         let address = self.effective_address(core, word);
         let field = if has(word, INDIRECT) {
@@ -87,7 +87,7 @@ impl Processor {
         let cell = self.operand_cell(core, word);
         self.advance();
         let sum = self.ac.get() + core.get(cell).get();
-        self.l = (self.l + (sum / 4096) as u8) % 2;
+        self.l = (self.l + (sum / 0o10000) as u8) % 2;
         self.ac = Word::low(sum);
     }
 

@@ -2,7 +2,7 @@
 ghost use Rattle.std.specs.Prelude.{◌≡◌, ◌≤◌, false, None, length};
 ghost use Rattle.os8_dir.specs.Found.{IsDirectory, limit};
 ghost use Rattle.os8_files.specs.Calls.{Deletes};
-ghost use Rattle.os8_files.specs.Written.{Rewrites};
+ghost use Rattle.os8_files.specs.WriteSteps.{Rewrites};
 
 use crate::segments::write_segments;
 use crate::{FileFault, FileService};

@@ -2,7 +2,7 @@
 ghost use Rattle.std.specs.Prelude.{◌≡◌, ◌+◌, ◌<◌, ◌≤◌, false, None, Some, length};
 ghost use Rattle.os8_files.specs.Calls.{Squeezes, IsReady};
 ghost use Rattle.os8_files.specs.Failed.{lowest_or};
-ghost use Rattle.os8_files.specs.Written.{Copies};
+ghost use Rattle.os8_files.specs.WriteSteps.{Copies};
 ghost use Rattle.os8_dir.specs.Reading.{directory_of};
 
 use crate::copying::{blank_run, read_run, write_run};

@@ -41,8 +41,10 @@ impl<S: BlockStore> Session<S> {
     /// Makes a file of a text under a name.
     fn store_named(&mut self, alloc: Global, name: Name, text: &[u8]) -> Result<Reply, SessionFault>
         requires { IsNamed name }
-        ensures does { (bytes : List ℕ) → parsed_name bytes ≡ Some name → Does (entry.Store bytes text.now) self.old result self.new }
-        ensures leaves { (bytes : List ℕ) → parsed_name bytes ≡ Some name → Leaves (entry.Store bytes text.now) self.old self.new }
+        ensures does { (bytes : List ℕ) → parsed_name bytes ≡ Some name
+            → Does (entry.Store bytes text.now) self.old result self.new }
+        ensures leaves { (bytes : List ℕ) → parsed_name bytes ≡ Some name
+            → Leaves (entry.Store bytes text.now) self.old self.new }
         ensures room { IfFile (TellsRoom self.old.volume.blocks name (spec.stored text.now)) result }
     {
         block_reads();

@@ -116,7 +116,8 @@ impl<S: BlockStore> Session<S> {
         requires { Waits pending.old.bytes.items pending.old.lines }
         ensures told { IsQuiet self.old self.new → RunsGiven pending.old.bytes.items pending.new.bytes.items
             (state_of self.old) (state_of self.new) (W.contents writer.old) (W.contents writer.new) result }
-        ensures waits { OnOk result ((0 < pending.new.lines) × Waits pending.new.bytes.items pending.new.lines) }
+        ensures waits { OnOk result ((0 < pending.new.lines)
+            × Waits pending.new.bytes.items pending.new.lines) }
         ensures count { pending.new.count ≡ pending.old.count }
         ensures later { IsLater self.old self.new }
         ensures running { IsQuiet self.old self.new → self.new.volume.stopped ≡ false }
@@ -137,7 +138,8 @@ impl<S: BlockStore> Session<S> {
         writer: &mut W,
         watcher: &mut K,
     ) -> Result<(), Ending>
-        ensures told { IsQuiet self.old self.new → RunsItems (script_of text.now) (state_of self.old) (state_of self.new) (W.contents writer.old) (W.contents writer.new) result }
+        ensures told { IsQuiet self.old self.new
+            → RunsItems (script_of text.now) (state_of self.old) (state_of self.new) (W.contents writer.old) (W.contents writer.new) result }
         ensures later { IsLater self.old self.new }
         ensures running { IsQuiet self.old self.new → self.new.volume.stopped ≡ false }
     {
@@ -155,8 +157,10 @@ impl<S: BlockStore> Session<S> {
         writer: &mut W,
         watcher: &mut K,
     ) -> Result<(usize, u32), Ending>
-        ensures told { IsQuiet self.old self.new → RunsFront text.now is_end (state_of self.old) (state_of self.new) (W.contents writer.old) (W.contents writer.new) result }
-        ensures rest { IfOk result (λ done. (done.0 ≤ length text.now) × IsOut (drop done.0 text.now) is_end done.1) }
+        ensures told { IsQuiet self.old self.new
+            → RunsFront text.now is_end (state_of self.old) (state_of self.new) (W.contents writer.old) (W.contents writer.new) result }
+        ensures rest { IfOk result (λ done. (done.0 ≤ length text.now)
+            × IsOut (drop done.0 text.now) is_end done.1) }
         ensures later { IsLater self.old self.new }
         ensures running { IsQuiet self.old self.new → self.new.volume.stopped ≡ false }
     {
@@ -179,7 +183,8 @@ impl<S: BlockStore> Session<S> {
         writer: &mut W,
         watcher: &mut K,
     ) -> Result<Begun, Ending>
-        ensures told { IsQuiet self.old self.new → RunsNext text.now is_end (state_of self.old) (state_of self.new) (W.contents writer.old) (W.contents writer.new) result }
+        ensures told { IsQuiet self.old self.new
+            → RunsNext text.now is_end (state_of self.old) (state_of self.new) (W.contents writer.old) (W.contents writer.new) result }
         ensures begun { IfOk result (IsBegun text.now is_end) }
         ensures later { IsLater self.old self.new }
         ensures running { IsQuiet self.old self.new → self.new.volume.stopped ≡ false }
@@ -205,7 +210,8 @@ impl<S: BlockStore> Session<S> {
         writer: &mut W,
         watcher: &mut K,
     ) -> Result<(), Ending>
-        ensures told { IsQuiet self.old self.new → RunsItems (item.now ∷ []) (state_of self.old) (state_of self.new) (W.contents writer.old) (W.contents writer.new) result }
+        ensures told { IsQuiet self.old self.new
+            → RunsItems (item.now ∷ []) (state_of self.old) (state_of self.new) (W.contents writer.old) (W.contents writer.new) result }
         ensures later { IsLater self.old self.new }
         ensures running { IsQuiet self.old self.new → self.new.volume.stopped ≡ false }
     {
@@ -224,7 +230,8 @@ impl<S: BlockStore> Session<S> {
         writer: &mut W,
         watcher: &mut K,
     ) -> Result<(), Ending>
-        ensures told { IsQuiet self.old self.new → RunsItems (Do entry.now ∷ []) (state_of self.old) (state_of self.new) (W.contents writer.old) (W.contents writer.new) result }
+        ensures told { IsQuiet self.old self.new
+            → RunsItems (Do entry.now ∷ []) (state_of self.old) (state_of self.new) (W.contents writer.old) (W.contents writer.new) result }
         ensures later { IsLater self.old self.new }
         ensures running { IsQuiet self.old self.new → self.new.volume.stopped ≡ false }
     {
@@ -242,7 +249,8 @@ impl<S: BlockStore> Session<S> {
         writer: &mut W,
         watcher: &mut K,
     ) -> Result<(), Ending>
-        ensures told { IsQuiet self.old self.new → RunsItems (Finish ∷ []) (state_of self.old) (state_of self.new) (W.contents writer.old) (W.contents writer.new) result }
+        ensures told { IsQuiet self.old self.new
+            → RunsItems (Finish ∷ []) (state_of self.old) (state_of self.new) (W.contents writer.old) (W.contents writer.new) result }
         ensures later { IsLater self.old self.new }
         ensures running { IsQuiet self.old self.new → self.new.volume.stopped ≡ false }
     {
@@ -261,7 +269,8 @@ impl<S: BlockStore> Session<S> {
         watcher: &mut K,
     ) -> Result<(), Ending>
         requires { lowest_job self.old.jobs ≡ Some number }
-        ensures told { IsQuiet self.old self.new → RunsTurn number (state_of self.old) (state_of self.new) (W.contents writer.old) (W.contents writer.new) result }
+        ensures told { IsQuiet self.old self.new
+            → RunsTurn number (state_of self.old) (state_of self.new) (W.contents writer.old) (W.contents writer.new) result }
         ensures fewer { OnOk result (turns_left self.new.jobs < turns_left self.old.jobs) }
         ensures later { IsLater self.old self.new }
         ensures running { IsQuiet self.old self.new → self.new.volume.stopped ≡ false }
@@ -285,7 +294,9 @@ impl<S: BlockStore> Session<S> {
         watcher: &mut K,
     ) -> Result<(), Ending>
         ensures ok { OnOk result (Appends (W.contents writer.old) (W.contents writer.new) (answer_lines (lent entry.entry) answer.now)) }
-        ensures err { IfErr result (λ e. (e ≡ ending.Writer) ⊎ ((e ≡ ending.Memory) × Appends (W.contents writer.old) (W.contents writer.new) [] × (IsShort answer.now → ⊥))) }
+        ensures err { IfErr result (λ e. (e ≡ ending.Writer)
+            ⊎ ((e ≡ ending.Memory) × Appends (W.contents writer.old) (W.contents writer.new) []
+            × (IsShort answer.now → ⊥))) }
         ensures same { self.new ≡ self.old }
     {
         if !watcher.goes_on(self.files.store(), answer) {
@@ -338,7 +349,8 @@ impl<S: BlockStore> Session<S> {
         writer: &mut W,
         watcher: &mut K,
     ) -> Result<(), Ending>
-        ensures ok { OnOk result ((why ≢ ending.Writer) × Appends (W.contents writer.old) (W.contents writer.new) (fault_line (fault_of why))) }
+        ensures ok { OnOk result ((why ≢ ending.Writer)
+            × Appends (W.contents writer.old) (W.contents writer.new) (fault_line (fault_of why))) }
         ensures err { IfErr result (λ e. e ≡ ending.Writer) }
         ensures same { self.new ≡ self.old }
     {
@@ -361,7 +373,9 @@ fn write_lines<W: Write>(
 ) -> Result<(), Ending>
     requires { 80 ≤ vec_capacity line.old }
     ensures ok { OnOk result (Appends (W.contents writer.old) (W.contents writer.new) (answer_lines (lent entry.entry) answer.now)) }
-    ensures err { IfErr result (λ e. (e ≡ ending.Writer) ⊎ ((e ≡ ending.Memory) × Appends (W.contents writer.old) (W.contents writer.new) [] × (IsShort answer.now → ⊥))) }
+    ensures err { IfErr result (λ e. (e ≡ ending.Writer)
+        ⊎ ((e ≡ ending.Memory) × Appends (W.contents writer.old) (W.contents writer.new) []
+        × (IsShort answer.now → ⊥))) }
     ensures room { 80 ≤ vec_capacity line.new }
 {
     line.clear();

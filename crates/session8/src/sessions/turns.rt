@@ -77,7 +77,8 @@ impl<S: BlockStore> Session<S> {
         ensures does { Does (entry.Turn number) self.old result self.new }
         ensures leaves { Leaves (entry.Turn number) self.old self.new }
         ensures room { EntryTellsRoom (entry.Turn number) self.old result }
-        ensures fewer { (IsErrOf result Memory → ⊥) → lowest_job self.old.jobs ≡ Some number → turns_left self.new.jobs < turns_left self.old.jobs }
+        ensures fewer { (IsErrOf result Memory → ⊥) → lowest_job self.old.jobs ≡ Some number
+            → turns_left self.new.jobs < turns_left self.old.jobs }
     {
         job_calls();
         job_numbers();

@@ -1,5 +1,5 @@
 use Rattle.std.proofs.Common.{◌≡◌, ◌≤◌, ◌++◌, true, length}
-use Rattle.char_pack.specs.Storing.{packed_text}
+use Rattle.char_pack.specs.StoreSteps.{packed_text}
 use Rattle.char_pack.specs.Texts.{is_storable}
 use Rattle.char_pack.specs.declared.storing.Held.TheVariants.{Nothing}
 use Rattle.char_pack.proofs.storing.push_groups.Given as goal

@@ -2,7 +2,7 @@ use Rattle.std.proofs.Common.{◌≡◌, suc, ◌+◌, List, ℕ, length, take, 
 use Rattle.std.proofs.lemmas.List.{get_or_default}
 use Rattle.volume_image.specs.Volume.{counted}
 use Rattle.os8_files.specs.Calls.{counted_more}
-use Rattle.os8_files.specs.Written.{with_run}
+use Rattle.os8_files.specs.WriteSteps.{with_run}
 use Rattle.os8_files.proofs.RunLemmas.{length-with_run, write-more, broken-off}
 use Rattle.os8_files.proofs.copying.write_run.Goals as goal
 

@@ -1,7 +1,7 @@
 use Rattle.std.proofs.Common.{◌≡◌, take}
 use Rattle.volume_image.specs.Volume.{IsVolume}
 use Rattle.os8_files.specs.Calls.{counted_more}
-use Rattle.os8_files.specs.Written.{with_run}
+use Rattle.os8_files.specs.WriteSteps.{with_run}
 use Rattle.os8_files.proofs.copying.write_run.Given as goal
 
 abbrev pub invariant-loop-k : goal.invariant-loop-k

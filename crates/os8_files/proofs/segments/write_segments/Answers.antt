@@ -1,6 +1,6 @@
 use Rattle.std.proofs.Common.{◌+◌, arith, ap, sym, ◌∙◌, slice_set}
 use Rattle.volume_image.specs.Volume.{counted}
-use Rattle.os8_files.specs.Written.{with_segments}
+use Rattle.os8_files.specs.WriteSteps.{with_segments}
 use Rattle.os8_files.proofs.WrittenLemmas.{keeps-high, segments-next}
 use Rattle.os8_files.proofs.CountLemmas.{stops-in-part, count-next}
 use Rattle.os8_files.proofs.segments.write_segments.Goals as goal

@@ -2,7 +2,7 @@ use Rattle.std.proofs.Common.{◌≡◌}
 use Rattle.volume_image.specs.Volume.{IsVolume}
 use Rattle.os8_files.specs.Mounted.{AreSegments}
 use Rattle.os8_files.specs.Calls.{counted_more}
-use Rattle.os8_files.specs.Written.{changed, with_segments}
+use Rattle.os8_files.specs.WriteSteps.{changed, with_segments}
 use Rattle.os8_files.proofs.segments.write_segments.Given as goal
 
 abbrev pub invariant-loop-number : goal.invariant-loop-number

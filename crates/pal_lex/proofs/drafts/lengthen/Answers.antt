@@ -1,5 +1,5 @@
 use Rattle.pal_lex.specs.Runs.{base}
-use Rattle.pal_lex.specs.Growth.{grown}
+use Rattle.pal_lex.specs.GrowthSteps.{grown}
 use Rattle.pal_lex.proofs.DraftLemmas.{lengthened}
 use Rattle.pal_lex.proofs.drafts.lengthen.Goals as goal
 

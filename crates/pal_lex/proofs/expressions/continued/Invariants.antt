@@ -1,6 +1,6 @@
 use Rattle.std.proofs.Common.{◌≡◌, length}
 use Rattle.pal_lex.specs.Grammar.{parts}
-use Rattle.pal_lex.specs.Behind.{behind}
+use Rattle.pal_lex.specs.BehindSteps.{behind}
 use Rattle.pal_lex.proofs.expressions.continued.Given as goal
 
 abbrev pub invariant-loop-rest : goal.invariant-loop-rest

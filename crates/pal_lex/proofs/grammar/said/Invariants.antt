@@ -1,6 +1,6 @@
 use Rattle.std.proofs.Common.{◌≡◌, length}
 use Rattle.pal_lex.specs.Grammar.{said}
-use Rattle.pal_lex.specs.Behind.{tagged}
+use Rattle.pal_lex.specs.BehindSteps.{tagged}
 use Rattle.pal_lex.proofs.grammar.said.Given as goal
 
 abbrev pub invariant-loop-rest : goal.invariant-loop-rest

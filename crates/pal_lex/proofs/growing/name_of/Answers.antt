@@ -1,6 +1,6 @@
 use Rattle.std.proofs.Common.{ap, ◌∙◌, arith}
 use Rattle.pal_lex.specs.Runs.{base}
-use Rattle.pal_lex.specs.Growth.{longer_name}
+use Rattle.pal_lex.specs.GrowthSteps.{longer_name}
 use Rattle.pal_lex.specs.declared.pieces.Kind.TheVariants.{Term}
 use Rattle.pal_lex.specs.declared.pieces.Term.TheVariants.{Name}
 use Rattle.pal_lex.proofs.DraftLemmas.{base_least}

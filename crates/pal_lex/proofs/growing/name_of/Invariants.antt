@@ -1,7 +1,7 @@
 use Rattle.std.proofs.Common.{◌≡◌, ℕ, ◌-◌, ◌≤◌, length}
 use Rattle.pal_lex.specs.Text.{limit}
 use Rattle.pal_lex.specs.Runs.{base}
-use Rattle.pal_lex.specs.Growth.{IsRun}
+use Rattle.pal_lex.specs.GrowthSteps.{IsRun}
 use Rattle.pal_lex.specs.declared.pieces.Kind.TheVariants.{Term}
 use Rattle.pal_lex.specs.declared.pieces.Term.TheVariants.{Name}
 use Rattle.pal_lex.specs.declared.runs.Radix.{Radix}

@@ -1,7 +1,7 @@
 use Rattle.std.proofs.Common.{◌≡◌, ℕ, ◌-◌, ◌≤◌, length}
 use Rattle.pal_lex.specs.Text.{limit}
 use Rattle.pal_lex.specs.Runs.{base}
-use Rattle.pal_lex.specs.Growth.{IsRun}
+use Rattle.pal_lex.specs.GrowthSteps.{IsRun}
 use Rattle.pal_lex.proofs.growing.run_of.Given as goal
 
 abbrev pub invariant-loop-more : goal.invariant-loop-more

@@ -1,5 +1,5 @@
 use Rattle.std.proofs.Common.{◌≡◌, length}
-use Rattle.cpu8.specs.Quiet.{AreUnbroken}
+use Rattle.cpu8.specs.QuietSteps.{AreUnbroken}
 use Rattle.cpu8.proofs.machines.runs.unbroken_fields.Given as goal
 
 abbrev pub invariant-loop-field : goal.invariant-loop-field

@@ -2,7 +2,7 @@ use Rattle.std.proofs.Common.{◌≡◌, arith, refl, sym, subst, ◌∙◌}
 use Rattle.cpu8.specs.State.{with_core}
 use Rattle.cpu8.proofs.GoLemmas.{after-none}
 use Rattle.cpu8.proofs.QuietLemmas.{none-quiet, after-quiet, quiet-next, stays-quiet, fields-same}
-use Rattle.cpu8.specs.Quiet.{AreMinded}
+use Rattle.cpu8.specs.QuietSteps.{AreMinded}
 use Rattle.cpu8.proofs.processors.Processor.run_quietly.Goals as goal
 
 pub loop-made-init : goal.loop-made-init

@@ -1,7 +1,7 @@
 use Rattle.std.proofs.Common.{◌≡◌, ◌<◌, true, false}
 use Rattle.cpu8.specs.State.{with_core, next_cell}
 use Rattle.cpu8.specs.Go.{after, is_break}
-use Rattle.cpu8.specs.Quiet.{AreQuiet, is_quiet}
+use Rattle.cpu8.specs.QuietSteps.{AreQuiet, is_quiet}
 use Rattle.cpu8.proofs.processors.Processor.run_quietly.Given as goal
 
 abbrev pub invariant-loop-made : goal.invariant-loop-made

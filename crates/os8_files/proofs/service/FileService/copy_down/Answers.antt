@@ -2,7 +2,7 @@ use Rattle.std.proofs.Common.{◌≡◌, ◌-◌, ap, sym, subst, ◌∙◌, ari
 use Rattle.os8_dir.specs.Reading.{directory_of}
 use Rattle.os8_files.specs.Mounted.{Mounted, AreSegments}
 use Rattle.os8_files.proofs.SegmentLemmas.{segments-run}
-use Rattle.os8_files.specs.Written.{with_run}
+use Rattle.os8_files.specs.WriteSteps.{with_run}
 use Rattle.os8_files.proofs.SqueezeLemmas.{run-directory}
 use Rattle.os8_files.proofs.service.FileService.copy_down.Goals as goal
 

@@ -9,7 +9,7 @@ use Rattle.os8_dir.specs.Changes.{removed}
 use Rattle.os8_dir.specs.declared.entries.DirEntry.{DirEntry}
 use Rattle.os8_dir.specs.Entries.{Listed}
 use Rattle.os8_dir.specs.Reading.{directory_of}
-use Rattle.os8_files.specs.Written.{HasDirectory}
+use Rattle.os8_files.specs.WriteSteps.{HasDirectory}
 use Rattle.os8_files.specs.Calls.{IsReady, StopsInPart, Deletes}
 use Rattle.os8_files.proofs.CallLemmas.{some-of, none-of, held-none, found-some, by-rewrite}
 use Rattle.os8_files.proofs.BoundLemmas.{is-over, removed-made}

@@ -2,7 +2,7 @@ use Rattle.std.proofs.Common.{◌≡◌, false, ap, sym, subst, ◌∙◌}
 use Rattle.os8_dir.specs.Files.{files_of}
 use Rattle.os8_files.specs.Mounted.{Mounted}
 use Rattle.os8_files.specs.Service.{lengths_of}
-use Rattle.os8_files.specs.Lengths.{lengths_in}
+use Rattle.os8_files.specs.LengthSteps.{lengths_in}
 use Rattle.os8_files.proofs.ListingLemmas.{lengths_of-read}
 use Rattle.os8_files.proofs.service.FileService.listing.Goals as goal
 

@@ -10,7 +10,7 @@ use Rattle.os8_dir.specs.Changes.{lowest_above, moved_down}
 use Rattle.os8_files.specs.Mounted.{Mounted}
 use Rattle.os8_files.specs.Calls.{StopsInPart, entries_moved, counted_more}
 use Rattle.os8_files.specs.Failed.{extent_or, lowest_or}
-use Rattle.os8_files.specs.Written.{HasDirectory, HasBrokenOff, with_run}
+use Rattle.os8_files.specs.WriteSteps.{HasDirectory, HasBrokenOff, with_run}
 use Rattle.os8_files.proofs.LookupLemmas.{find_within}
 use Rattle.os8_files.proofs.BoundLemmas.{is-over}
 use Rattle.os8_files.proofs.CallLemmas.{extent-at}

@@ -10,7 +10,7 @@ use Rattle.os8_dir.specs.Changes.{placed, relisted, new_file}
 use Rattle.os8_files.specs.Mounted.{Mounted, Begun, IsBegun}
 use Rattle.os8_files.specs.Calls.{IsFree, StopsInPart, entries_with, new_held}
 use Rattle.os8_files.specs.Steps.{Places}
-use Rattle.os8_files.specs.Written.{HasDirectory}
+use Rattle.os8_files.specs.WriteSteps.{HasDirectory}
 use Rattle.os8_files.proofs.CallLemmas.{by-rewrite}
 use Rattle.os8_files.proofs.BoundLemmas.{IsMade, is-over, placed-made}
 use Rattle.os8_files.proofs.PlaceLemmas.{ok-same, placed-file}

@@ -1,6 +1,6 @@
 use Rattle.std.proofs.Common.{◌≡◌, Bool, true, false, ◌&&◌, not, Ok, Err, ap, sym, subst, ◌∙◌}
 use Rattle.pal_lex.specs.Joins.{is_lone_pause}
-use Rattle.pal_lex.specs.Judging.{Judges}
+use Rattle.pal_lex.specs.JudgeSteps.{Judges}
 use Rattle.pal_lex.specs.Progress.{Progress}
 use Rattle.pal_lex.proofs.FinishLemmas.{here, pause_finished, said_finished, fault_finished}
 use Rattle.pal_lex.proofs.lexing.Lexer.finish.Goals as goal

@@ -1,6 +1,6 @@
 use Rattle.std.proofs.Common.{◌∙◌, ap}
 use Rattle.pal_lex.specs.Progress.{Progress}
-use Rattle.pal_lex.specs.Judging.{passed, ended}
+use Rattle.pal_lex.specs.JudgeSteps.{passed, ended}
 use Rattle.pal_lex.specs.declared.lexing.State.TheVariants.{Over}
 use Rattle.pal_lex.specs.declared.runs.Radix.TheVariants.{Octal}
 use Rattle.pal_lex.proofs.ReadingLemmas.{begun_anew, is_dollar, is_no_dollar}

@@ -1,6 +1,6 @@
 use Rattle.std.proofs.Common.{ap, ◌∙◌}
 use Rattle.pal_lex.specs.Drafting.{Cut}
-use Rattle.pal_lex.specs.Judging.{paused}
+use Rattle.pal_lex.specs.JudgeSteps.{paused}
 use Rattle.pal_lex.specs.declared.lexing.State.TheVariants.{Paused}
 use Rattle.pal_lex.specs.declared.runs.Radix.TheVariants.{Octal}
 use Rattle.pal_lex.proofs.lexing.Lexer.pause.Goals as goal

@@ -17,8 +17,8 @@ longer_name name weight c = limit (name + weight * unwrap_or (sixbit_code c) 0)
 
 abbrev pub longer_number : ℕ → ℕ → ℕ → Kind
 longer_number base n c =
-    if nat_lt c 48 || nat_le (48 + base) c then BadNumber
-    else (if nat_lt (base * n + (c - 48)) 4096 then Term (Number (base * n + (c - 48))) else BadNumber)
+    if nat_lt c 0o60 || nat_le (0o60 + base) c then BadNumber
+    else (if nat_lt (base * n + (c - 0o60)) 0o10000 then Term (Number (base * n + (c - 0o60))) else BadNumber)
 
 abbrev pub grown_term : ℕ → ℕ → ℕ → term.Term → Kind
 grown_term base weight c (Name n) = Term (Name (longer_name n weight c))
@@ -44,4 +44,4 @@ pub record IsRun (base first : ℕ) (others : List ℕ) (at : ℕ) (run : Grown)
 
 -- what a first character makes
 abbrev pub begun : ℕ → ℕ → Kind
-begun base c = if is_letter c then Term (Name (longer_name 0 1073741824 c)) else longer_number base 0 c
+begun base c = if is_letter c then Term (Name (longer_name 0 0o10000000000 c)) else longer_number base 0 c

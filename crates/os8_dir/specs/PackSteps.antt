@@ -6,7 +6,7 @@ use Rattle.os8_dir.specs.Names.{padded, extension_codes}
 -- codes as digits to the base 64
 abbrev pub digits : List ℕ → ℕ
 digits [] = 0
-digits (code ∷ codes) = code * 64 ^ length codes + digits codes
+digits (code ∷ codes) = code * 0o100 ^ length codes + digits codes
 
 -- codes with zeros behind them up to a size, as one number
 abbrev pub packed : ℕ → Option (List ℕ) → Option ℕ
@@ -20,7 +20,7 @@ extension_from (dot ∷ text) = extension_codes (Some text)
 
 -- a code before so many that are a number
 abbrev pub with_digit : ℕ → Option ℕ → Option ℕ → Option ℕ
-with_digit size (Some code) (Some number) = Some (code * 64 ^ size + number)
+with_digit size (Some code) (Some number) = Some (code * 0o100 ^ size + number)
 with_digit size (Some code) None = None
 with_digit size None number = None
 
@@ -32,6 +32,6 @@ packed_codes (suc size) (c ∷ cs) = with_digit size (sixbit_code c) (packed_cod
 
 -- the name of a stem and an extension
 abbrev pub joined_name : Option ℕ → Option ℕ → Option ℕ
-joined_name (Some stem) (Some extension) = Some (stem * 4096 + extension)
+joined_name (Some stem) (Some extension) = Some (stem * 0o10000 + extension)
 joined_name (Some stem) None = None
 joined_name None extension = None

@@ -37,7 +37,7 @@ DoesOrNot old w false new = new ≡ old
 
 -- no cell of this field has a break
 abbrev pub IsUnbroken : List Bool → ℕ → Type 0
-IsUnbroken breaks field = (address : ℕ) → address < 4096 → is_break breaks (place field address) ≡ false
+IsUnbroken breaks field = (address : ℕ) → address < 0o10000 → is_break breaks (place field address) ≡ false
 
 -- fields that are told to have no break have none
 abbrev pub AreUnbroken : List Bool → List Bool → Type 0
@@ -45,7 +45,7 @@ AreUnbroken breaks fields = (field : ℕ) → slice_index_or fields field false 
 
 -- breaks tell of each cell where they are minded, and else of none in this field
 abbrev pub AreMinded : List Bool → ℕ → Bool → Type 0
-AreMinded breaks field true = 32768 ≤ length breaks
+AreMinded breaks field true = 0o100000 ≤ length breaks
 AreMinded breaks field false = IsUnbroken breaks field
 
 -- whether an operate instruction goes on

@@ -16,7 +16,7 @@ use Rattle.pal_lex.specs.declared.phrases.Statement.{Statement}
 use Rattle.pal_lex.specs.declared.runs.Radix.TheVariants.{Octal}
 
 abbrev pub comment_after : Bool → ℕ → Bool
-comment_after comment b = if nat_eq b 13 then false else (if nat_eq b 47 then true else comment)
+comment_after comment b = if nat_eq b 0o15 then false else (if nat_eq b 0o57 then true else comment)
 
 -- what a stretch with these tokens is answered, or that memory ran out
 abbrev pub Judges : ℕ → Bool → List Token → Result Said LexFault → Type 0
@@ -39,7 +39,7 @@ passed b l = record {
   may_pause = l.may_pause;
   comment = comment_after l.comment b;
   place = limit (l.place + 1);
-  line = if nat_eq b 13 then limit (l.line + 1) else l.line;
+  line = if nat_eq b 0o15 then limit (l.line + 1) else l.line;
   radix = l.radix;
   keeps_tokens = l.keeps_tokens;
   draft = l.draft;
@@ -48,7 +48,7 @@ passed b l = record {
 -- a byte ended a statement with this body
 abbrev pub ended : ℕ → Body → Progress → Progress
 ended b body l = passed b (record {
-  state = if nat_eq b 36 then Over else l.state;
+  state = if nat_eq b 0o44 then Over else l.state;
   source = l.source;
   may_pause = l.may_pause;
   comment = l.comment;
@@ -61,7 +61,7 @@ ended b body l = passed b (record {
 
 -- the statement that a byte ended
 abbrev pub ended_statement : ℕ → Said → Progress → Statement
-ended_statement b s l = record { line = l.line; tags = s.tags; body = s.body; last = nat_eq b 36; source = l.source; tokens = if l.keeps_tokens then l.draft.tokens else [] }
+ended_statement b s l = record { line = l.line; tags = s.tags; body = s.body; last = nat_eq b 0o44; source = l.source; tokens = if l.keeps_tokens then l.draft.tokens else [] }
 
 -- PAUSE ended the source
 abbrev pub paused : Progress → Progress

@@ -16,8 +16,8 @@ part_of mark (b ∷ bs) = if b == mark then [] else b ∷ part_of mark bs
 
 -- a text behind bytes of a line, or behind none, with an LF at its end
 abbrev pub ended_behind : Bool → List ℕ → List ℕ
-ended_behind begun [] = if begun then 10 ∷ [] else []
-ended_behind begun (b ∷ bs) = if b == 10 then b ∷ ended_behind false bs else b ∷ ended_behind true bs
+ended_behind begun [] = if begun then 0o12 ∷ [] else []
+ended_behind begun (b ∷ bs) = if b == 0o12 then b ∷ ended_behind false bs else b ∷ ended_behind true bs
 
 -- a text with an LF at its end
 abbrev pub ended : List ℕ → List ℕ

@@ -17,4 +17,4 @@ packed_text held host = packed (held_bytes held ++ text_frames (host_text host))
 
 -- neither CR nor LF
 abbrev pub is_plain : ℕ → Bool
-is_plain byte = not (nat_eq byte 13) && not (nat_eq byte 10)
+is_plain byte = not (nat_eq byte 0o15) && not (nat_eq byte 0o12)
