@@ -1,11 +1,11 @@
 //! Files in and out of the image file of a volume. Only `put` writes one, and only once the whole new image stands in memory.
 
-use super::hints::refused_image;
+use super::hints::{refused_image, tell_bad_text};
 use super::images::{Image, seen};
 use super::{Ended, print_line};
 use crate::ProgramLine;
 use archive8::{ArchiveFault, GetForm, PutForm, check, get, list, put};
-use script8::{Reply, Said, put_reply};
+use script8::{Reply, Said, SessionFault, put_reply};
 use session8::read_all;
 use std::fs::{File, Files};
 use std::io::Input;
@@ -50,7 +50,12 @@ pub fn put_file<R: Files<File = File> + Input + Print + Eprint + AllocGlobal>(
     };
     let new = match put(rt.alloc(), held.bytes(), name.as_bytes(), &given, form) {
         Ok(new) => new,
-        Err(fault) => return Err(ended(rt, held.bytes().len(), fault)),
+        Err(fault) => {
+            if is_bad_text(&fault) {
+                tell_bad_text(rt, &given);
+            }
+            return Err(ended(rt, held.bytes().len(), fault));
+        }
     };
     let stored = Reply::Line(Said::Stored {
         name: new.name,
@@ -75,6 +80,13 @@ pub fn check_volume<R: Files + Print + Eprint + AllocGlobal>(
     match check(rt.alloc(), &bytes) {
         Ok(text) => print_line(rt, &text),
         Err(fault) => Err(ended(rt, bytes.len(), fault)),
+    }
+}
+
+fn is_bad_text(fault: &ArchiveFault) -> bool {
+    match fault {
+        ArchiveFault::Refused(SessionFault::BadText) => true,
+        _ => false,
     }
 }
 

@@ -2,6 +2,7 @@
 
 use super::Ended;
 use crate::ProgramLine;
+use archive8::bad_text_at;
 use command8::SCRIPT_LINES;
 use os8_dir::DirFault;
 
@@ -39,6 +40,16 @@ fn image_hint(size: usize, line: ProgramLine) -> Option<&'static str> {
             "note: the file ends before the blocks that its directory covers: if the disk's end was never written, pad it with zeros\n",
         ),
         _ => None,
+    }
+}
+
+/// Says where a text that can't be put has the first byte that may not stand in one.
+pub fn tell_bad_text<R: Eprint>(rt: &R, text: &[u8]) {
+    if let Some(place) = bad_text_at(text) {
+        let _ = eprintln!(rt;
+            "note: line {}, byte {}: a text has no byte above 0177, and no control Z",
+            place.line, place.byte
+        );
     }
 }
 
