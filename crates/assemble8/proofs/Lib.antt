@@ -1,0 +1,6 @@
+pub mod ShapeLemmas
+pub mod PauseLemmas
+pub mod LocateLemmas
+pub mod StartLemmas
+pub mod PlaceLemmas
+pub mod JoinLemmas

@@ -1,0 +1,20 @@
+use Rattle.std.proofs.Common.{Ok, Err, sym, subst}
+use Rattle.pal_lex.specs.Reading.{Answers}
+use Rattle.assemble8.specs.Steps.{Meets}
+use Rattle.assemble8.proofs.PauseLemmas.{met_nothing, met_statement, met_fault}
+use Rattle.assemble8.proofs.pauses.meet.Goals as goal
+
+pub returns-in-Ok-None-clause-meets : goal.returns-in-Ok-None-clause-meets
+returns-in-Ok-None-clause-meets c = λ text read may fine.
+    met_nothing text c.args.byte c.args.lexer.now c.push.new.self
+    (subst (λ a. Answers 0 text c.args.byte (Ok a) c.args.lexer.now c.push.new.self) c.in-Ok-None.field-0-is (c.in-Ok-None.ensures.answers 0 text read))
+
+pub returns-in-Ok-Some-clause-meets : goal.returns-in-Ok-Some-clause-meets
+returns-in-Ok-Some-clause-meets c = λ text read may fine.
+    subst (λ m. Meets text c.args.byte m c.push.new.self) (sym c.ended.ensures)
+    (met_statement text c.args.byte c.in-Ok-Some.statement c.args.lexer.now c.push.new.self c.pause_is_bad.ensures fine
+    (subst (λ a. Answers 0 text c.args.byte (Ok a) c.args.lexer.now c.push.new.self) c.in-Ok-Some.field-0-is (c.in-Ok-Some.ensures.answers 0 text read)))
+
+pub returns-in-Ok-clause-meets : goal.returns-in-Ok-clause-meets
+returns-in-Ok-clause-meets c = λ text read may fine.
+    met_fault text c.args.byte c.in-Err.fault c.args.lexer.now c.push.new.self fine may c.in-Ok.ensures.other (c.in-Err.ensures.answers 0 text read)

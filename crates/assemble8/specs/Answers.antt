@@ -1,0 +1,20 @@
+-- What the sources of the host are answered.
+use Rattle.std.specs.Prelude.{◌≡◌, ℕ, Some, None, List}
+use Rattle.std.specs.Borrow.{Bor}
+use Rattle.bin_tape.specs.Writing.{tape_of}
+use Rattle.pal_asm.specs.Words.{pairs_of}
+use Rattle.pal_asm.specs.Faults.{fault_of}
+use Rattle.pal_asm.specs.declared.faults.AsmFault.TheVariants as asm
+use Rattle.assemble8.specs.declared.faults.SourceFault.{SourceFault}
+use Rattle.assemble8.specs.declared.faults.SourceFault.TheVariants.{At, Memory}
+use Rattle.assemble8.specs.Sources.{newest_first}
+use Rattle.assemble8.specs.Places.{place_of}
+
+-- the sources have no fault, and these are the frames of their tape
+abbrev pub IsAssembled : List (Bor (List ℕ)) → List ℕ → Type 0
+IsAssembled sources frames = (fault_of (newest_first sources) ≡ None) × (frames ≡ tape_of (pairs_of (newest_first sources)))
+
+-- the fault of the sources, with its place; or memory ran out
+abbrev pub IsTold : List (Bor (List ℕ)) → SourceFault → Type 0
+IsTold sources (At code place) = ((line : ℕ) × (fault_of (newest_first sources) ≡ Some (asm.At code line))) × (place ≡ place_of sources)
+IsTold sources Memory = Unit {0}

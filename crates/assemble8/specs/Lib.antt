@@ -1,0 +1,4 @@
+pub mod Sources
+pub mod Places
+pub mod Answers
+pub mod Steps

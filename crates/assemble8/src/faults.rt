@@ -1,0 +1,50 @@
+ghost use Rattle.std.specs.Prelude.{◌≡◌, false, IfErr, OnOk};
+ghost use Rattle.assemble8.specs.Steps.{is_memory};
+ghost use Rattle.assemble8.specs.declared.faults.SourceFault.TheVariants.{Memory};
+
+use pal_asm::Code;
+use pal_lex::LexFault;
+use std::alloc::AllocError;
+use thiserror::Error;
+
+/// A place in one of several sources.
+#[derive(Clone, Copy, PartialEq, Eq, Debug)]
+pub struct Place {
+    /// The source, from 0.
+    pub source: usize,
+    /// Its line, from 1. LF ends a line, with a CR before it or not.
+    pub line: usize,
+    /// The byte of the line, from 1. A CR counts for nothing.
+    pub column: usize,
+}
+
+/// Why sources are not assembled.
+#[derive(Clone, Copy, PartialEq, Eq, Debug, Error)]
+pub enum SourceFault {
+    /// The first fault of the sources, with the place of the statement that has it: of the `$` where there is no word, and
+    /// behind the last source where there is no `$`. The text leaves the source to who knows its name.
+    #[error("{0} in line {line}, column {column}", line = .1.line, column = .1.column)]
+    At(Code, Place),
+
+    #[error("out of memory")]
+    Memory,
+}
+
+impl From<AllocError> for SourceFault {
+    ghost from_gives = { λ _ fault. fault ≡ Memory };
+
+    fn from(_error: AllocError) -> SourceFault {
+        SourceFault::Memory
+    }
+}
+
+/// Answers want of memory, if a fault of the lexer is that.
+pub(crate) fn unless_memory(fault: LexFault) -> Result<(), SourceFault>
+    ensures other { OnOk result (is_memory fault ≡ false) }
+    ensures fault { IfErr result (λ fault. fault ≡ Memory) }
+{
+    match fault {
+        LexFault::Memory => Err(SourceFault::Memory),
+        LexFault::IC(_) | LexFault::SY(_) | LexFault::NU(_) | LexFault::NE(_) => Ok(()),
+    }
+}

@@ -1,0 +1,19 @@
+//! Sources of the host to a BIN tape: the frames of the tape that they are assembled to, or their first fault with its
+//! place, as a compiler tells it.
+//!
+//! A source is taken as a volume takes a host text that is put there, and several are joined as `ASSEMBLE` joins those of a
+//! volume (PAL III Symbolic Assembler manual, and this project's profile of it). In each contract a text has its newest byte
+//! first.
+#![tactic(auto)]
+
+mod assembling;
+mod faults;
+mod joins;
+mod locating;
+mod pauses;
+mod places;
+mod starts;
+mod texts;
+
+pub use assembling::assemble_sources;
+pub use faults::{Place, SourceFault};

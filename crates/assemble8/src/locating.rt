@@ -1,0 +1,166 @@
+//! Where a text has its fault.
+ghost use Rattle.std.specs.Prelude.{◌≡◌, ◌<◌, ℕ, true, false, List, [], ◌∷◌, ◌++◌, IfOk, IfErr};
+ghost use Rattle.pal_lex.specs.Text.{text_of, is_over};
+ghost use Rattle.pal_lex.specs.Statements.{statements};
+ghost use Rattle.pal_lex.specs.Reading.{HasRead};
+ghost use Rattle.pal_asm.specs.Places.{Source};
+ghost use Rattle.pal_asm.specs.Passes.{IsFirst, IsSecond};
+ghost use Rattle.assemble8.specs.Places.{fault_place};
+ghost use Rattle.assemble8.specs.Steps.{step_behind, Passes, PassesByte, PassesStatement, MakesByte, IsSettledAt};
+ghost use Rattle.assemble8.specs.declared.faults.SourceFault.TheVariants.{Memory};
+
+use crate::SourceFault;
+use crate::faults::unless_memory;
+use crate::starts::statement_place;
+use pal_asm::laws::{lexical_fault_is_told, no_fault_before, no_lexical_fault, statements_stay};
+use pal_asm::{AsmFault, Assembler};
+use pal_lex::laws::dollar_ends_source;
+use pal_lex::{Lexer, Statement};
+use std::alloc::Global;
+
+/// What the first pass comes to, with the place of the byte that shows it.
+#[derive(Clone, Copy)]
+enum Passed {
+    /// A fault of a statement.
+    Refused(usize),
+    /// The `$`.
+    Over(usize),
+    /// The end of the text.
+    Open,
+}
+
+/// Whether a pass goes on behind a byte.
+#[derive(Clone, Copy)]
+enum Step {
+    GoesOn,
+    Over,
+    Refused,
+}
+
+/// The place of the fault of a text: of the statement that has it, of the `$` where there is no word, and behind the text
+/// where there is no `$`. The only fault of the call is `Memory`.
+pub(crate) fn fault_place(alloc: Global, text: &[u8]) -> Result<usize, SourceFault>
+    ensures place { IfOk result (λ place. place ≡ fault_place (text_of text.now)) }
+    ensures fault { IfErr result (λ fault. fault ≡ Memory) }
+{
+    dollar_ends_source();
+    no_fault_before();
+    let mut assembler = Assembler::new(alloc);
+    match first_pass(alloc, text, &mut assembler) {
+        Ok(Passed::Refused(end)) => Ok(statement_place(text, end)),
+        Ok(Passed::Open) => Ok(text.len()),
+        Ok(Passed::Over(end)) => match assembler.turn_over() {
+            Ok(()) => match second_pass(alloc, text, &mut assembler) {
+                Ok(end) => Ok(statement_place(text, end)),
+                Err(fault) => Err(fault),
+            },
+            Err(_) => Ok(statement_place(text, end)),
+        },
+        Err(fault) => Err(fault),
+    }
+}
+
+/// Takes a text up to its `$` in the first pass.
+fn first_pass(alloc: Global, text: &[u8], assembler: &mut Assembler) -> Result<Passed, SourceFault>
+    requires { IsFirst assembler.old [] }
+    ensures passes { IfOk result (λ passed. Passes text.now passed assembler.new) }
+    ensures fault { IfErr result (λ fault. fault ≡ Memory) }
+{
+    let mut lexer = Lexer::without_tokens(alloc);
+    let mut taken = 0;
+    while taken < text.len() {
+        match pass(&mut lexer, assembler, text[taken]) {
+            Ok(Step::GoesOn) => {}
+            Ok(Step::Over) => return Ok(Passed::Over(taken)),
+            Ok(Step::Refused) => return Ok(Passed::Refused(taken)),
+            Err(fault) => return Err(fault),
+        }
+        taken += 1;
+    }
+    Ok(Passed::Open)
+}
+
+/// Takes a byte in the first pass.
+fn pass(lexer: &mut Lexer, assembler: &mut Assembler, byte: u8) -> Result<Step, SourceFault>
+    ensures passes { (text : List ℕ) → HasRead lexer.old 0 text → lexer.old.may_pause ≡ false → is_over text ≡ false → IsFirst assembler.old (statements text) → IfOk result (λ step. PassesByte text byte step lexer.new assembler.new) }
+    ensures setting { lexer.new.may_pause ≡ lexer.old.may_pause }
+    ensures fault { IfErr result (λ fault. fault ≡ Memory) }
+{
+    lexical_fault_is_told();
+    match lexer.push(byte) {
+        Ok(None) => Ok(Step::GoesOn),
+        Ok(Some(statement)) => match pass_statement(assembler, &statement) {
+            Ok(false) => Ok(Step::Refused),
+            Ok(true) => Ok(step_behind(byte)),
+            Err(fault) => Err(fault),
+        },
+        Err(fault) => match unless_memory(fault) {
+            Ok(()) => Ok(Step::Refused),
+            Err(memory) => Err(memory),
+        },
+    }
+}
+
+/// Takes a statement in the first pass, and answers whether it has no fault.
+fn pass_statement(assembler: &mut Assembler, statement: &Statement) -> Result<bool, SourceFault>
+    ensures passes { (older : Source) → IsFirst assembler.old older → IfOk result (λ fine. PassesStatement statement.now older fine assembler.new) }
+    ensures fault { IfErr result (λ fault. fault ≡ Memory) }
+{
+    match assembler.first(statement) {
+        Ok(()) => Ok(true),
+        Err(AsmFault::Memory) => Err(SourceFault::Memory),
+        Err(AsmFault::At(_, _)) => Ok(false),
+    }
+}
+
+/// Whether a text goes on behind a byte that ends a statement without fault.
+fn step_behind(byte: u8) -> Step
+    ensures { result ≡ step_behind byte }
+{
+    if byte == b'$' {
+        return Step::Over;
+    }
+    Step::GoesOn
+}
+
+/// Takes a text that has its `$`, a word and no fault of the first pass in the second one, and answers the place of the byte
+/// that ends the first word with a fault, or that of the `$`.
+fn second_pass(alloc: Global, text: &[u8], assembler: &mut Assembler) -> Result<usize, SourceFault>
+    requires second { IsSecond assembler.old (statements (text_of text.now)) [] }
+    requires over { is_over (text_of text.now) ≡ true }
+    ensures settled { IfOk result (λ end. IsSettledAt text.now end) }
+    ensures fault { IfErr result (λ fault. fault ≡ Memory) }
+{
+    let mut lexer = Lexer::without_tokens(alloc);
+    let mut taken = 0;
+    while taken < text.len() {
+        match make(&mut lexer, assembler, text[taken]) {
+            Ok(true) => taken += 1,
+            Ok(false) => return Ok(taken),
+            Err(fault) => return Err(fault),
+        }
+    }
+    Ok(taken)
+}
+
+/// Takes a byte in the second pass, and answers whether it goes on.
+fn make(lexer: &mut Lexer, assembler: &mut Assembler, byte: u8) -> Result<bool, SourceFault>
+    ensures makes { (text later : List ℕ) → HasRead lexer.old 0 text → lexer.old.may_pause ≡ false → is_over text ≡ false → IsSecond assembler.old (statements (later ++ byte ∷ text)) (statements text) → IfOk result (λ goes_on. MakesByte (statements (later ++ byte ∷ text)) text byte goes_on lexer.new assembler.new) }
+    ensures setting { lexer.new.may_pause ≡ lexer.old.may_pause }
+    ensures fault { IfErr result (λ fault. fault ≡ Memory) }
+{
+    statements_stay();
+    no_fault_before();
+    no_lexical_fault();
+    match lexer.push(byte) {
+        Ok(None) => Ok(true),
+        Ok(Some(statement)) => match assembler.second(&statement) {
+            Ok(_) => Ok(byte != b'$'),
+            Err(_) => Ok(false),
+        },
+        Err(fault) => match unless_memory(fault) {
+            Ok(()) => Ok(false),
+            Err(memory) => Err(memory),
+        },
+    }
+}

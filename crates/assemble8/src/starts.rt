@@ -1,0 +1,61 @@
+//! Where a statement begins.
+ghost use Rattle.std.specs.Prelude.{◌≡◌, ◌<◌, ◌||◌, Option, length, take};
+ghost use Rattle.pal_lex.specs.Text as spec;
+ghost use Rattle.pal_lex.specs.Text.{text_of};
+ghost use Rattle.assemble8.specs.Places.{start_of};
+ghost use Rattle.assemble8.specs.Steps.{comment_by, start_by};
+
+/// The place of the statement that a byte of a text ends; that of this byte, where the statement is empty.
+pub(crate) fn statement_place(text: &[u8], end: usize) -> usize
+    requires { end < length text.now }
+    ensures { result ≡ start_of (text_of (take end text.now)) }
+{
+    let mut comment = false;
+    let mut start = None;
+    let mut taken = 0;
+    while taken < end {
+        let byte = text[taken];
+        comment = comment_behind(comment, byte);
+        start = start_behind(start, comment, byte, taken);
+        taken += 1;
+    }
+    match start {
+        Some(place) => place,
+        None => end,
+    }
+}
+
+/// Whether a comment goes on behind a byte.
+fn comment_behind(comment: bool, byte: u8) -> bool
+    ensures { result ≡ comment_by byte comment }
+{
+    match byte {
+        b'\r' => false,
+        b'/' => true,
+        _ => comment,
+    }
+}
+
+/// The place of the first byte of a statement so far that is no blank, with one byte more, behind which a comment goes on
+/// or not.
+fn start_behind(start: Option<usize>, comment: bool, byte: u8, place: usize) -> Option<usize>
+    ensures { result ≡ start_by start (spec.is_ignored byte || comment) byte place }
+{
+    if is_ignored(byte) || comment {
+        return start;
+    }
+    if matches!(byte, b';' | b'\r' | b'$') {
+        return None;
+    }
+    if start.is_some() || matches!(byte, b' ' | b'\t') {
+        return start;
+    }
+    Some(place)
+}
+
+/// Whether a byte is as if it weren't there.
+fn is_ignored(byte: u8) -> bool
+    ensures { result ≡ spec.is_ignored byte }
+{
+    matches!(byte, 0 | b'\n' | 0o014 | 0o177)
+}
