@@ -85,18 +85,24 @@ fn begun<S: BlockStore>(files: &mut FileService<S>, name: Name) -> usize {
     }
 }
 
-/// What a second file, a delete and a squeeze are refused as while the file 1 is written.
+/// What a second file, a delete and a squeeze are refused as.
+fn three_refused<S: BlockStore>(alloc: Global, files: &mut FileService<S>) -> [usize; 3] {
+    let second = begun(files, numbered(2));
+    let deleted = told(files.delete(alloc, &numbered(1)));
+    let turned = match files.squeeze_turn(alloc) {
+        Ok(_) => 0,
+        Err(fault) => told(Err(fault)),
+    };
+    [second, deleted, turned]
+}
+
+/// The same while the file 1 is written.
 fn while_writing<S: BlockStore>(alloc: Global, files: &mut FileService<S>) -> [usize; 3] {
     match files.enter(numbered(1), 13) {
         Ok(tentative) => {
-            let second = begun(files, numbered(2));
-            let deleted = told(files.delete(alloc, &numbered(1)));
-            let turned = match files.squeeze_turn(alloc) {
-                Ok(_) => 0,
-                Err(fault) => told(Err(fault)),
-            };
+            let answers = three_refused(alloc, files);
             files.give_up(tentative);
-            [second, deleted, turned]
+            answers
         }
         Err(_) => [0; 3],
     }

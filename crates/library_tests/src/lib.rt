@@ -14,5 +14,3 @@ mod packing;
 mod segments;
 #[cfg(test)]
 mod spans;
-#[cfg(test)]
-mod stores;

@@ -1,19 +1,27 @@
 //! Which blocks of the directory a change writes, and in which order.
 use crate::files::{mounted, numbered, stored};
+use os8_files::FileService;
 use std::alloc::Global;
 use std::process::Abort;
 use volume_image::{BlockStore, CountVolume, FuseVolume, MemoryVolume};
 use word12::Word;
 
+/// Makes 100 files of one block; whether each was made.
+fn fill<S: BlockStore>(alloc: Global, files: &mut FileService<S>) -> bool {
+    let mut all = true;
+    for number in 1u16..101 {
+        all = stored(alloc, files, number, 1) == 0 && all;
+    }
+    all
+}
+
 /// A volume of 300 blocks with 100 files of one block, whose directory has three segments.
 fn hundred(alloc: Global) -> Option<MemoryVolume> {
     let mut files = mounted(alloc, MemoryVolume::create(alloc, 300).ok()?)?;
-    for number in 1u16..101 {
-        if stored(alloc, &mut files, number, 1) > 0 {
-            return None;
-        }
+    if fill(alloc, &mut files) {
+        return Some(files.into_store());
     }
-    Some(files.into_store())
+    None
 }
 
 /// Puts a word at a place of a block.

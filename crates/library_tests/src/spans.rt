@@ -5,16 +5,16 @@ use std::alloc::Global;
 use std::slice;
 
 /// Sources, in which a bar stands for CR and LF, `^` for LF, and `~` stands between several sources that are one. Each of their
-/// statements has its line, its source, and its tokens: the places of their first byte and behind their last one, with an `x`
-/// for a name, a number or `.`. A fault has no statement.
+/// statements has its line, its source, and of each token the places of its first byte and behind its last one, with an `x` for a
+/// name, a number or `.`, and a point for another. A fault has no statement.
 const ROWS: &str = "\
-1;^ T^AD \t I 17/;| -> 1/0 x0-1; 1/0 x4-8 8-9 x11-12 12-13 x13-15;
-A, B = 1 - 2 + 3$ -> 1/0 x0-1 1-2 x3-4 5-6 x7-8 9-10 x11-12 13-14 x15-16;
-/ABC|* .\t+ABCDEFGH$ -> 1/0; 2/0 6-7 x8-9 10-11 x11-19;
-1;8;$ -> 1/0 x0-1;
-A=1|PAUSE|8!~A|~$ -> 1/0 x0-1 1-2 x2-3; 2/0 x5-10; 2/1 x0-1;
- A;/|B; PAUSE;8~ C ,|TAD\t1;PAUSE$8~$ -> 1/0 x1-2; 1/0; 2/0 x6-7; 2/0 x9-14; 2/1 x1-2 3-4; 3/1 x6-9 9-10 x10-11; 3/1 x12-17; 3/2;
-1$|2~8!$~ -> 1/0 x0-1;
+1;^ T^AD \t I 17/;| -> ;01/00x00-01;01/00x04-08.08-09x11-12.12-13x13-15
+A, B = 1 - 2 + 3$ -> ;01/00x00-01.01-02x03-04.05-06x07-08.09-10x11-12.13-14x15-16
+/ABC|* .\t+ABCDEFGH$ -> ;01/00;02/00.06-07x08-09.10-11x11-19
+1;8;$ -> ;01/00x00-01
+A=1|PAUSE|8!~A|~$ -> ;01/00x00-01.01-02x02-03;02/00x05-10;02/01x00-01
+ A;/|B; PAUSE;8~ C ,|TAD\t1;PAUSE$8~$ -> ;01/00x01-02;01/00;02/00x06-07;02/00x09-14;02/01x01-02.03-04;03/01x06-09.09-10x10-11;03/01x12-17;03/02
+1$|2~8!$~ -> ;01/00x00-01
 ";
 
 /// The two halves of a line, which ` -> ` separates.
@@ -41,25 +41,30 @@ fn put_source(bytes: &mut Vec<u8>, source: &str) {
     }
 }
 
+/// Puts down a mark and a number of two digits.
+fn put_number(text: &mut Vec<u8>, mark: u8, number: u64) {
+    let tens = b'0' + (number / 10 % 10) as u8;
+    let ones = b'0' + (number % 10) as u8;
+    let _ = text.extend_from_slice(&[mark, tens, ones]);
+}
+
 /// Puts down a statement's line, its source and its tokens.
-fn put_statement(text: &mut String, statement: &Statement) {
-    let between = if text.is_empty() { "" } else { " " };
-    let (line, source) = (statement.line, statement.source);
-    let _ = write!(text, "{between}{line}/{source}");
+fn put_statement(text: &mut Vec<u8>, statement: &Statement) {
+    put_number(text, b';', statement.line);
+    put_number(text, b'/', statement.source as u64);
     for token in statement.tokens.as_slice() {
-        let sign = if matches!(token.kind, Kind::Term(_)) {
-            "x"
+        let mark = if matches!(token.kind, Kind::Term(_)) {
+            b'x'
         } else {
-            ""
+            b'.'
         };
-        let (start, end) = (token.start, token.end);
-        let _ = write!(text, " {sign}{start}-{end}");
+        put_number(text, mark, token.start as u64);
+        put_number(text, b'-', token.end as u64);
     }
-    let _ = text.push(';');
 }
 
 /// Puts down the statements of sources.
-fn put_all(text: &mut String, lexer: &mut Lexer, bytes: &[u8]) {
+fn put_all(text: &mut Vec<u8>, lexer: &mut Lexer, bytes: &[u8]) {
     for (place, byte) in bytes.iter().enumerate() {
         if *byte == b'~' {
             let (_, others) = bytes.split_at(place.wrapping_add(1).min(bytes.len()));
@@ -75,9 +80,9 @@ fn is_so(alloc: Global, line: &str) -> bool {
     let (source, wanted) = halves(line);
     let mut bytes = Vec::new(alloc);
     put_source(&mut bytes, source);
-    let mut text = String::new(alloc);
+    let mut text = Vec::new(alloc);
     put_all(&mut text, &mut Lexer::several(alloc), &bytes);
-    text.as_str() == wanted
+    text.as_slice() == wanted.as_bytes()
 }
 
 #[test]
