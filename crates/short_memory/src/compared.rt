@@ -61,11 +61,18 @@ fn questions(alloc: Global) -> Result<Vec<u8>, AllocError> {
     let mut text = Vec::new(alloc);
     text.extend_from_slice(b"DIRECT\nREGISTERS\nPRINTED\n")?;
     for cell in 0u16..32768 {
-        let [a, b, c, d] = Word::low(cell).octal4();
-        text.extend_from_slice(b"EXAMINE ")?;
-        text.extend_from_slice(&[b'0' + (cell / 4096) as u8, a, b, c, d, b'\n'])?;
+        text.extend_from_slice(&question(cell))?;
     }
     Ok(text)
+}
+
+/// The line that asks for a cell.
+fn question(cell: u16) -> [u8; 14] {
+    let [a, b, c, d] = Word::low(cell).octal4();
+    let field = b'0' + (cell / 4096) as u8;
+    [
+        b'E', b'X', b'A', b'M', b'I', b'N', b'E', b' ', field, a, b, c, d, b'\n',
+    ]
 }
 
 /// Whether a volume has the same files as that of a session that did this script, with the same words.
@@ -107,9 +114,12 @@ fn equal_files(alloc: Global, one: MemoryVolume, two: MemoryVolume) -> Option<bo
 fn file_in<'a>(directory: &Directory, image: &'a [u8], name: &Name) -> &'a [u8] {
     match directory.find(name) {
         None => &[],
-        Some((place, size)) => {
-            let (_, rest) = image.split_at(place.saturating_mul(512).min(image.len()));
-            rest.split_at(size.saturating_mul(512).min(rest.len())).0
-        }
+        Some((place, size)) => blocks_of(image, place, size),
     }
+}
+
+/// The bytes of an image from a block on, so many blocks.
+fn blocks_of(image: &[u8], place: usize, size: usize) -> &[u8] {
+    let (_, rest) = image.split_at(place.saturating_mul(512).min(image.len()));
+    rest.split_at(size.saturating_mul(512).min(rest.len())).0
 }

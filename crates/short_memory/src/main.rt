@@ -99,28 +99,48 @@ fn run(
     out: &mut Vec<u8>,
 ) -> u8 {
     let mut own = session;
-    let mut rest = script;
     let mut status = 0;
+    let mut start = 0;
     for _ in 0..script.len() {
-        let Some(bytes) = next_bytes(alloc, rest) else {
-            break;
-        };
-        let front = script.split_at(script.len().saturating_sub(rest.len())).0;
-        let (item, others) = rest.split_at(bytes);
-        if run_item(alloc, &mut own, item, out) == Done::Refused {
-            if behind.spoils {
-                let mut told = Vec::new(alloc);
-                let _ = run_item(alloc, &mut own, SPOILING, &mut told);
+        match refused(alloc, &mut own, script, start, out) {
+            None => break,
+            Some((place, bytes)) => {
+                let (front, rest) = script.split_at(place.min(script.len()));
+                if behind.spoils {
+                    let mut told = Vec::new(alloc);
+                    let _ = run_item(alloc, &mut own, SPOILING, &mut told);
+                }
+                if behind.stops {
+                    return same_files(alloc, own.into_store(), front).status();
+                }
+                let item = rest.split_at(bytes.min(rest.len())).0;
+                status = status.max(again(alloc, &mut own, front, item, out));
+                start = place.saturating_add(bytes);
             }
-            if behind.stops {
-                return same_files(alloc, own.into_store(), front).status();
-            }
-            status = status.max(again(alloc, &mut own, front, item, out));
         }
-        rest = others;
     }
     drop(own.into_store());
     status
+}
+
+/// Runs the items of a script from a place on until one is refused: the place of that, and how many bytes it has.
+fn refused(
+    alloc: Global,
+    session: &mut Session<MemoryVolume>,
+    script: &[u8],
+    start: usize,
+    out: &mut Vec<u8>,
+) -> Option<(usize, usize)> {
+    let mut place = start;
+    for _ in 0..script.len() {
+        let rest = script.split_at(place.min(script.len())).1;
+        let bytes = next_bytes(alloc, rest)?;
+        if run_item(alloc, session, rest.split_at(bytes).0, out) == Done::Refused {
+            return Some((place, bytes));
+        }
+        place = place.saturating_add(bytes);
+    }
+    None
 }
 
 /// Does an item again that was refused behind a front of the script; the status.
