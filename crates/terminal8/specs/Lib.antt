@@ -1,2 +1,4 @@
 pub mod Keys
 pub mod KeySteps
+pub mod Asks
+pub mod Laws
