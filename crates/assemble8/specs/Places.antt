@@ -69,12 +69,12 @@ bytes_of (source ∷ others) (suc number) = bytes_of others number
 -- the line behind a text, from 1: LF ends a line
 abbrev pub line_behind : List ℕ → ℕ
 line_behind [] = 1
-line_behind (b ∷ older) = (if nat_eq b 10 then 1 else 0) + line_behind older
+line_behind (b ∷ older) = (if nat_eq b 0o12 then 1 else 0) + line_behind older
 
 -- the column behind a text, from 1: the bytes of the line so far and one more
 abbrev pub column_behind : List ℕ → ℕ
 column_behind [] = 1
-column_behind (b ∷ older) = if nat_eq b 10 then 1 else column_behind older + 1
+column_behind (b ∷ older) = if nat_eq b 0o12 then 1 else column_behind older + 1
 
 -- what stands before a place of a source, with its newest byte first
 abbrev pub before_place : List (Bor (List ℕ)) → ℕ × ℕ → List ℕ

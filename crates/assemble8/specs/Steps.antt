@@ -51,7 +51,7 @@ is_pause_met Pause = true
 -- behind this byte the text is over
 abbrev pub ends_text : Met → ℕ → Bool
 ends_text Nothing b = false
-ends_text End b = nat_eq b 36
+ends_text End b = nat_eq b 0o44
 ends_text Pause b = false
 
 -- The end of the last statement behind a byte, and what reads on: a lexer of no byte behind an end.
@@ -78,7 +78,7 @@ Puts last bytes false old new counts counts_then =
 -- ## The passes of one text
 
 abbrev pub step_behind : ℕ → Step
-step_behind b = if nat_eq b 36 then step.Over else step.GoesOn
+step_behind b = if nat_eq b 0o44 then step.Over else step.GoesOn
 
 -- what the first pass answers for a statement behind others: that it has no fault, or has one
 abbrev pub PassesStatement : Statement → Source → Bool → asm.Progress → Type 0
@@ -115,7 +115,7 @@ IsSettledAt bytes end =
 -- ## Where a statement begins
 
 abbrev pub comment_by : ℕ → Bool → Bool
-comment_by b comment = if nat_eq b 13 then false else (if nat_eq b 47 then true else comment)
+comment_by b comment = if nat_eq b 0o15 then false else (if nat_eq b 0o57 then true else comment)
 
 -- the first byte of a statement that is no blank, with one byte more, which is dead or not
 abbrev pub start_by : Option ℕ → Bool → ℕ → ℕ → Option ℕ

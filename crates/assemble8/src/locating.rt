@@ -82,7 +82,9 @@ fn first_pass(alloc: Global, text: &[u8], assembler: &mut Assembler) -> Result<P
 
 /// Takes a byte in the first pass.
 fn pass(lexer: &mut Lexer, assembler: &mut Assembler, byte: u8) -> Result<Step, SourceFault>
-    ensures passes { (text : List ℕ) → HasRead lexer.old 0 text → lexer.old.may_pause ≡ false → is_over text ≡ false → IsFirst assembler.old (statements text) → IfOk result (λ step. PassesByte text byte step lexer.new assembler.new) }
+    ensures passes { (text : List ℕ) → HasRead lexer.old 0 text → lexer.old.may_pause ≡ false
+        → is_over text ≡ false → IsFirst assembler.old (statements text)
+        → IfOk result (λ step. PassesByte text byte step lexer.new assembler.new) }
     ensures setting { lexer.new.may_pause ≡ lexer.old.may_pause }
     ensures fault { IfErr result (λ fault. fault ≡ Memory) }
 {
@@ -103,7 +105,8 @@ fn pass(lexer: &mut Lexer, assembler: &mut Assembler, byte: u8) -> Result<Step, 
 
 /// Takes a statement in the first pass, and answers whether it has no fault.
 fn pass_statement(assembler: &mut Assembler, statement: &Statement) -> Result<bool, SourceFault>
-    ensures passes { (older : Source) → IsFirst assembler.old older → IfOk result (λ fine. PassesStatement statement.now older fine assembler.new) }
+    ensures passes { (older : Source) → IsFirst assembler.old older
+        → IfOk result (λ fine. PassesStatement statement.now older fine assembler.new) }
     ensures fault { IfErr result (λ fault. fault ≡ Memory) }
 {
     match assembler.first(statement) {
@@ -145,7 +148,10 @@ fn second_pass(alloc: Global, text: &[u8], assembler: &mut Assembler) -> Result<
 
 /// Takes a byte in the second pass, and answers whether it goes on.
 fn make(lexer: &mut Lexer, assembler: &mut Assembler, byte: u8) -> Result<bool, SourceFault>
-    ensures makes { (text later : List ℕ) → HasRead lexer.old 0 text → lexer.old.may_pause ≡ false → is_over text ≡ false → IsSecond assembler.old (statements (later ++ byte ∷ text)) (statements text) → IfOk result (λ goes_on. MakesByte (statements (later ++ byte ∷ text)) text byte goes_on lexer.new assembler.new) }
+    ensures makes { (text later : List ℕ) → HasRead lexer.old 0 text → lexer.old.may_pause ≡ false
+        → is_over text ≡ false → IsSecond assembler.old (statements (later ++ byte ∷ text)) (statements text)
+        → IfOk result (λ goes_on. MakesByte (statements (later
+        ++ byte ∷ text)) text byte goes_on lexer.new assembler.new) }
     ensures setting { lexer.new.may_pause ≡ lexer.old.may_pause }
     ensures fault { IfErr result (λ fault. fault ≡ Memory) }
 {

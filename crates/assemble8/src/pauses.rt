@@ -80,7 +80,8 @@ fn renew(alloc: Global, lexer: &mut Lexer, met: Met, end: usize, behind: usize) 
 
 /// Takes a byte of a source that may pause.
 fn meet(lexer: &mut Lexer, byte: u8) -> Result<Met, SourceFault>
-    ensures meets { (text : List ℕ) → HasRead lexer.old 0 text → lexer.old.may_pause ≡ true → first_fault (statements text) ≡ None → IfOk result (λ met. Meets text byte met lexer.new) }
+    ensures meets { (text : List ℕ) → HasRead lexer.old 0 text → lexer.old.may_pause ≡ true
+        → first_fault (statements text) ≡ None → IfOk result (λ met. Meets text byte met lexer.new) }
     ensures setting { lexer.new.may_pause ≡ lexer.old.may_pause }
     ensures fault { IfErr result (λ fault. fault ≡ Memory) }
 {

@@ -83,7 +83,7 @@ fn line_behind(text: &[u8]) -> usize
 /// The line behind one more byte.
 fn line_after(line: usize, byte: u8) -> usize
     requires { line < 18446744073709551615 }
-    ensures { result ≡ (if nat_eq byte 10 then 1 else 0) + line }
+    ensures { result ≡ (if nat_eq byte 0o12 then 1 else 0) + line }
 {
     match byte {
         b'\n' => line + 1,
@@ -105,7 +105,7 @@ fn column_behind(text: &[u8]) -> usize
 /// The column behind one more byte.
 fn column_after(column: usize, byte: u8) -> usize
     requires { column < 18446744073709551615 }
-    ensures { result ≡ (if nat_eq byte 10 then 1 else column + 1) }
+    ensures { result ≡ (if nat_eq byte 0o12 then 1 else column + 1) }
 {
     match byte {
         b'\n' => 1,

@@ -31,7 +31,7 @@ is_direct_jmp word = nat_eq (word / 0o400) 0o12
 
 -- the word behind that of the next instruction
 abbrev pub word_behind : State → ℕ
-word_behind s = slice_index s.core (place s.instruction_field ((s.pc + 1) % 4096))
+word_behind s = slice_index s.core (place s.instruction_field ((s.pc + 1) % 0o10000))
 
 -- there is a JMP back to the next instruction
 abbrev pub jumps_back : State → Bool

@@ -37,7 +37,7 @@ fn tests_keyboard(machine: &Machine) -> bool
 /// The word of the next instruction.
 fn fetched(machine: &Machine) -> Word
     ensures value { result ≡ fetched machine.now }
-    ensures range { result < 4096 }
+    ensures range { result < 0o10000 }
 {
     machine.core().get(machine.next_cell())
 }
