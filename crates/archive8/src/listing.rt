@@ -2,6 +2,7 @@ ghost use Rattle.archive8.specs.Getting.{Lists};
 
 use crate::ArchiveFault;
 use crate::opening::mounted;
+use os8_files::FileFault;
 use script8::{FileLengths, Reply, Report, SessionFault, put_reply};
 use std::alloc::Global;
 
@@ -12,7 +13,8 @@ pub fn list(alloc: Global, image: &[u8]) -> Result<Vec<u8>, ArchiveFault>
 {
     let files = mounted(alloc, image)?;
     match files.listing(alloc) {
-        Err(_) => Err(ArchiveFault::Refused(SessionFault::Memory)),
+        Err(FileFault::Memory) => Err(ArchiveFault::Refused(SessionFault::Memory)),
+        Err(_) => unreachable!(),
         Ok(lengths) => {
             let reply = Reply::Report(Report::Direct {
                 files: FileLengths::new(lengths),

@@ -13,7 +13,7 @@ use os8_dir::Name;
 use os8_files::{FileFault, FileService};
 use script8::SessionFault;
 use std::alloc::Global;
-use volume_image::MemoryVolume;
+use volume_image::{ImageFault, MemoryVolume};
 use word12::Word;
 
 /// An image with a file that was put into it.
@@ -102,7 +102,8 @@ fn put_words(
     match put {
         Err(fault) => Err(SessionFault::from(fault)),
         Ok(()) => match volume.to_bytes(alloc) {
-            Err(_) => Err(SessionFault::Memory),
+            Err(ImageFault::Memory) => Err(SessionFault::Memory),
+            Err(_) => unreachable!(),
             Ok(bytes) => Ok(NewImage {
                 bytes,
                 name,
