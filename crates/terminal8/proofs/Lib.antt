@@ -1,3 +1,7 @@
 pub mod KeyLemmas
+pub mod ByteLemmas
+pub mod TerminalLemmas
 pub mod WaitLemmas
 pub mod LoopLemmas
+pub mod LookLemmas
+pub mod RunLemmas

@@ -1,4 +1,7 @@
 pub mod Keys
 pub mod KeySteps
 pub mod Asks
+pub mod Terminal
+pub mod Run
+pub mod RunSteps
 pub mod Laws

@@ -1,4 +1,5 @@
-//! A machine at a terminal: the bytes of the host are struck as keys, each where the program asks for one.
+//! A machine at a terminal: the bytes of a reader are struck as keys, each where the program asks for one, and a writer gets what
+//! is printed.
 //!
 //! Nothing here takes memory but lists of keys.
 #![tactic(auto)]
@@ -6,6 +7,12 @@
 mod asking;
 mod keyboards;
 pub mod laws;
+mod outcomes;
+mod readings;
+mod runs;
+mod writing;
 
 pub use asking::{asks_for_key, waits_for_key};
 pub use keyboards::{Form, Keyboard, keys_of};
+pub use outcomes::{Ended, TerminalFault, Why};
+pub use runs::run;

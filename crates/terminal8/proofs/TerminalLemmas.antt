@@ -1,0 +1,43 @@
+-- A run at a terminal, step by step.
+use Rattle.std.proofs.Common.{◌≡◌, ℕ, ◌+◌, ◌<◌, ◌%◌, Bool, true, false, true≢false, ◌&&◌, ◌||◌, not, nat_eq, nat_le, if◌then◌else◌, List, [], ◌∷◌, ◌++◌, None, add-one, append_assoc, refl, ap, sym, ◌∙◌}
+use Rattle.cpu8.specs.State.{State, printer_done, grants_interrupt}
+use Rattle.cpu8.specs.Go.{turn, character_of}
+use Rattle.cpu8.specs.declared.outcomes.Stepped.{Stepped}
+use Rattle.cpu8.specs.declared.outcomes.Stepped.TheVariants.{Stopped, Ran}
+use Rattle.terminal8.specs.Asks.{asks_for_key, tests_keyboard, waits_for_key}
+use Rattle.terminal8.specs.Terminal.{Terminal, attended, stepped, next, later, last_did, printed_by, shown, is_none_left, starves}
+
+pub later-none : (t : Terminal) → later 0 t ≡ t
+unfolding later
+later-none t = refl
+
+pub later-next : (k : ℕ) (t : Terminal) → later (k + 1) t ≡ next (later k t)
+unfolding later
+later-next k t = rw add-one refl
+
+pub did-none : (t : Terminal) → last_did 0 t ≡ (if t.machine.running then Ran None else Stopped)
+unfolding last_did
+did-none t = refl
+
+pub did-next : (k : ℕ) (t : Terminal) → last_did (k + 1) t ≡ (stepped (later k t)).1
+unfolding last_did
+did-next k t = rw add-one refl
+
+pub printed-none : (t : Terminal) → printed_by 0 t ≡ []
+unfolding printed_by
+printed-none t = refl
+
+pub printed-next : (k : ℕ) (t : Terminal) → printed_by (k + 1) t ≡ printed_by k t ++ character_of (stepped (later k t)).1
+unfolding printed_by
+printed-next k t = rw add-one refl
+
+-- what is shown of characters behind others
+shown-if : (b : Bool) (c : ℕ) (xs ys : List ℕ) → (if b then xs ++ ys else c ∷ (xs ++ ys)) ≡ (if b then xs else c ∷ xs) ++ ys
+shown-if true c xs ys = refl
+shown-if false c xs ys = refl
+
+pub shown-more : (xs ys : List ℕ) → shown (xs ++ ys) ≡ shown xs ++ shown ys
+shown-more [] ys = refl
+shown-more (x ∷ xs) ys =
+    ap (λ rest. if nat_eq (x % 128) 0 then rest else x % 128 ∷ rest) (shown-more xs ys)
+    ∙ shown-if (nat_eq (x % 128) 0) (x % 128) (shown xs) (shown ys)

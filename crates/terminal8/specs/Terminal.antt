@@ -1,0 +1,96 @@
+-- A machine at a terminal (this project's profile): an operator strikes a key only where the program asks for one, and a quick
+-- printer ends its character before each step.
+use Rattle.std.specs.Prelude.{◌≡◌, ℕ, zero, suc, ◌+◌, ◌<◌, ◌≤◌, ◌%◌, Bool, true, false, ◌&&◌, nat_eq, if◌then◌else◌, List, [], ◌∷◌, ◌++◌, None}
+use Rattle.cpu8.specs.State.{State, key_struck}
+use Rattle.cpu8.specs.Go.{turn, character_of}
+use Rattle.cpu8.specs.Laws.{runs_on}
+use Rattle.cpu8.specs.declared.outcomes.Stepped.{Stepped}
+use Rattle.cpu8.specs.declared.outcomes.Stepped.TheVariants.{Stopped, Interrupted, Ran, Halted, Unassigned}
+use Rattle.terminal8.specs.Asks.{asks_for_key, waits_for_key}
+use Rattle.terminal8.specs.declared.outcomes.Why.{Why}
+use Rattle.terminal8.specs.declared.outcomes.Why.TheVariants as why
+
+-- A machine, the keys that are still to be struck, and the steps since the program last asked for one.
+pub record Terminal : Type 0 where
+  pub machine : State
+  pub keys : List ℕ
+  pub since : ℕ
+
+-- an operator sits down at a machine, with these keys to strike
+abbrev pub seated : State → List ℕ → Terminal
+seated s keys = record { machine = s; keys = keys; since = 0 }
+
+-- the operator strikes the next key, if there is one
+abbrev pub strikes_next : State → List ℕ → Terminal
+strikes_next s [] = seated s []
+strikes_next s (key ∷ keys) = seated (key_struck s key) keys
+
+-- and does so where the program asks for one
+abbrev pub attended : Terminal → Terminal
+attended t = if asks_for_key t.since t.machine then strikes_next t.machine t.keys else t
+
+-- then the machine makes a step
+abbrev pub stepped : Terminal → State × Stepped
+stepped t = turn true (attended t).machine
+
+-- what stands behind that step
+abbrev pub next : Terminal → Terminal
+next t = record (attended t) { machine = (stepped t).0; since = (attended t).since + 1 }
+
+-- the terminal after so many steps
+unfoldable pub later : ℕ → Terminal → Terminal
+later zero t = t
+later (suc k) t = next (later k t)
+
+-- what the last of so many steps did; before the first, what a machine that runs or stands stopped is said to have done
+unfoldable pub last_did : ℕ → Terminal → Stepped
+last_did zero t = if t.machine.running then Ran None else Stopped
+last_did (suc k) t = (stepped (later k t)).1
+
+-- the characters that so many steps print
+unfoldable pub printed_by : ℕ → Terminal → List ℕ
+printed_by zero t = []
+printed_by (suc k) t = printed_by k t ++ character_of (stepped (later k t)).1
+
+abbrev pub is_none_left : List ℕ → Bool
+is_none_left [] = true
+is_none_left (key ∷ keys) = false
+
+-- no key is left, and the machine waits for one
+abbrev pub starves : Terminal → Bool
+starves t = is_none_left t.keys && waits_for_key t.machine
+
+-- after so many steps the run goes on
+pub record GoesOn (t : Terminal) (k : ℕ) : Type 0 where
+  pub runs : runs_on (last_did k t) ≡ true
+  pub fed : starves (later k t) ≡ false
+
+-- a HLT was done, or the machine stands stopped
+abbrev pub has_halted : Stepped → Bool
+has_halted Halted = true
+has_halted Stopped = true
+has_halted (Unassigned word) = false
+has_halted Interrupted = false
+has_halted (Ran printed) = false
+
+-- Why a run of at most n steps ends after so many of them: the last one was a HLT, or the machine stands stopped; it met an
+-- unassigned word; no key is left and the machine waits for one; or all n are made.
+abbrev pub Ends : Terminal → ℕ → ℕ → Why → Type 0
+Ends t n steps why.Halt = has_halted (last_did steps t) ≡ true
+Ends t n steps why.Unassigned = (word : ℕ) × (last_did steps t ≡ Unassigned word)
+Ends t n steps why.Keys = (steps < n) × (runs_on (last_did steps t) ≡ true) × (starves (later steps t) ≡ true)
+Ends t n steps why.Limit = (steps ≡ n) × (runs_on (last_did steps t) ≡ true)
+
+-- A run of at most n steps ends at the first end that comes.
+pub record IsRun (t : Terminal) (n steps : ℕ) (why : Why) : Type 0 where
+  pub within : steps ≤ n
+  pub goes_on : (k : ℕ) → k < steps → GoesOn t k
+  pub ends : Ends t n steps why
+
+-- ## What is shown of what is printed
+
+-- a character loses its top bit, and NUL is left out
+abbrev pub shown : List ℕ → List ℕ
+shown [] = []
+shown (character ∷ characters) =
+    if nat_eq (character % 0o200) 0 then shown characters else character % 0o200 ∷ shown characters
