@@ -148,7 +148,8 @@ impl Operator {
 /// A step, before which the printer ends its character; and what it prints is written.
 fn step<W: Write>(machine: &mut Machine, writer: &mut W) -> Result<Stepped, TerminalFault>
     ensures state { machine.new ≡ (turn true machine.old).0 }
-    ensures ok { IfOk result (λ did. (did ≡ (turn true machine.old).1) × Appends (W.contents writer.old) (W.contents writer.new) (shown (character_of did))) }
+    ensures ok { IfOk result (λ did. (did ≡ (turn true machine.old).1)
+        × Appends (W.contents writer.old) (W.contents writer.new) (shown (character_of did))) }
     ensures err { IfErr result (λ e. e ≡ fault.Writer) }
 {
     let did = take_turn(machine);
