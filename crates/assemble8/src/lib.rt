@@ -1,8 +1,8 @@
 //! Sources of the host to a BIN tape: the frames of the tape that they are assembled to, or their first fault with its
 //! place, as a compiler tells it.
 //!
-//! A source is taken as a volume takes a host text that is put there, and several are joined as `ASSEMBLE` joins those of a
-//! volume (PAL III Symbolic Assembler manual, and this project's profile of it). In each contract a text has its newest byte
+//! A source is taken as `STORE` takes its lines, LF ending a line and each CR dropped, and several are joined as `ASSEMBLE` joins
+//! those of a volume (PAL III Symbolic Assembler manual, and this project's profile of it). In each contract a text has its newest byte
 //! first.
 #![tactic(auto)]
 
