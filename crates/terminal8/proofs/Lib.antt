@@ -5,3 +5,4 @@ pub mod WaitLemmas
 pub mod LoopLemmas
 pub mod LookLemmas
 pub mod RunLemmas
+pub mod ReadLemmas

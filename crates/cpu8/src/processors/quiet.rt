@@ -3,7 +3,7 @@
 //! parameters MINDS, whether breaks are minded, and ASKS, whether the loop stops where the program asks for a key, so that
 //! each stands in the program once for each of the three loops, and not once for all, which would not be inlined.
 
-ghost use Rattle.std.specs.Prelude.{◌≡◌, ◌<◌, ◌≤◌, ◌/◌, true};
+ghost use Rattle.std.specs.Prelude.{◌≡◌, ◌<◌, ◌≤◌, ◌/◌, true, false};
 ghost use Rattle.cpu8.specs.State.{next_cell, with_core};
 ghost use Rattle.cpu8.specs.Step.{fetched};
 ghost use Rattle.cpu8.specs.Go.{after, is_break};
@@ -89,7 +89,7 @@ impl Processor {
         ensures unasked { AreUnasked (with_core self.old core.old) result }
     {
         for made in 0..n {
-            if self.finds_no_key(core) || !self.step_quietly::<false, true>(core) {
+            if !self.step_quietly::<false, true>(core) {
                 return made;
             }
         }
@@ -114,10 +114,11 @@ impl Processor {
         if MINDS { breaks[cell] } else { false }
     }
 
-    /// The next instruction, if it is one that is done here.
+    /// The next instruction, if it is one that is done here. With ASKS a KSF that finds the keyboard flag clear is none.
     #[inline(always)]
     fn step_quietly<const MINDS: bool, const ASKS: bool>(&mut self, core: &mut Core) -> bool
-        ensures { DoesOrNot (with_core self.old core.old) (fetched (with_core self.old core.old)) result (with_core self.new core.new) }
+        ensures does { DoesOrNot (with_core self.old core.old) (fetched (with_core self.old core.old)) result (with_core self.new core.new) }
+        ensures asks { ASKS ≡ true → result ≡ true → finds_no_key (with_core self.old core.old) ≡ false }
     {
         let word = core.get(self.next_cell());
         match word.get() / 0o200 {
@@ -145,7 +146,12 @@ impl Processor {
             0o25 => self.refer(core, leading(0o25, word)),
             0o26 => self.refer(core, leading(0o26, word)),
             0o27 => self.refer(core, leading(0o27, word)),
-            0o30 => return self.transfer_quietly(core, leading(0o30, word)),
+            0o30 => {
+                if ASKS && self.finds_no_key(core) {
+                    return false;
+                }
+                return self.transfer_quietly(core, leading(0o30, word));
+            }
             0o31 => return self.transfer_quietly(core, leading(0o31, word)),
             0o32 => return self.transfer_quietly(core, leading(0o32, word)),
             0o33 => return self.transfer_quietly(core, leading(0o33, word)),

@@ -16,10 +16,10 @@ loop-made-preserved c =
     let old = with_core c.loop-made.self c.loop-made.core in
     let new = with_core c.step_quietly.new.self c.step_quietly.new.core in
     let i = c.loop-made.invariant in
-    let does = c.if-not-step_quietly.ensures in
+    let does = c.if-not-step_quietly.ensures.does in
     record {
       state = after-quiet true c.loop-made.made s old new i.state i.quiet does;
-      unasked = unasked-next c.loop-made.made s old new i.state i.quiet (sym c.finds_no_key.ensures ∙ c.if-finds_no_key.false) i.interrupts does i.unasked;
+      unasked = unasked-next c.loop-made.made s old new i.state i.quiet (c.if-not-step_quietly.ensures.asks refl refl) i.interrupts does i.unasked;
       quiet = stays-quiet true old new i.quiet does.stays;
       interrupts = does.stays.interrupts_on ∙ i.interrupts;
     }
