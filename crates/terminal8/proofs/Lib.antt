@@ -6,3 +6,4 @@ pub mod LoopLemmas
 pub mod LookLemmas
 pub mod RunLemmas
 pub mod ReadLemmas
+pub mod EndLemmas

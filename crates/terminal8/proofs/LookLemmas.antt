@@ -1,8 +1,8 @@
 -- Bytes that are struck up to a key, and the operator who looks for it.
-use Rattle.std.proofs.Common.{◌≡◌, ℕ, ◌+◌, ◌≤◌, Bool, true, false, true≢false, ◌&&◌, if◌then◌else◌, List, [], ◌∷◌, ◌++◌, map, Option, Some, None, option_to_list, append-nil, append_assoc, refl, ap, sym, subst, ◌∙◌, arith}
+use Rattle.std.proofs.Common.{◌≡◌, ℕ, Bool, true, false, true≢false, ◌&&◌, if◌then◌else◌, List, [], ◌∷◌, ◌++◌, map, Option, Some, None, option_to_list, append-nil, append_assoc, refl, ap, sym, subst, ◌∙◌, arith}
 use Rattle.std.proofs.lemmas.List.{map-append}
 use Rattle.cpu8.specs.State.{State, key_struck}
-use Rattle.terminal8.specs.Keys.{Keyboard, key_of_byte, behind_byte, keys_from}
+use Rattle.terminal8.specs.Keys.{Keyboard, key_of_byte, behind_byte}
 use Rattle.terminal8.specs.KeySteps.{behind}
 use Rattle.terminal8.specs.Asks.{asks_for_key, waits_for_key}
 use Rattle.terminal8.specs.Terminal.{Terminal, seated, looked, is_none_left}
@@ -61,6 +61,14 @@ finds-more Ending a b x y f g =
     ap (λ l. l ++ b) f ∙ ap (λ l. map (λ (key : ℕ). Some key) x ++ l) g ∙ sym (map-append (λ (key : ℕ). Some key) x y)
 finds-more Live a b x y f g = found-append a b ∙ ap (λ l. l ++ keys_found b) f ∙ ap (λ l. x ++ l) g
 
+found-each : (keys : List ℕ) → keys_found (map (λ (key : ℕ). Some key) keys) ≡ keys
+found-each [] = refl
+found-each (key ∷ keys) = ap (λ ks. key ∷ ks) (found-each keys)
+
+pub finds-found : (input : Input) (looks : List (Option ℕ)) (keys : List ℕ) → Finds input looks keys → keys_found looks ≡ keys
+finds-found Ending looks keys f = ap (λ l. keys_found l) f ∙ found-each keys
+finds-found Live looks keys f = f
+
 -- ## Looking
 
 pub looks-over : (input : Input) (k : Keyboard) (a : List ℕ) (over : Bool) (s : State) (r : Option (List ℕ)) → over ≡ true → Looks input k k a a over over s s r r
@@ -69,6 +77,7 @@ looks-over input k a over s r is = record {
   keys = [];
   strikes = keys-none k a r;
   finds = finds-none input;
+  none_only = tt;
   over = λ h. h;
   at_end = λ h. h;
   looks = λ more may. ap (λ m. looked s m) (may is) ∙ ap (λ m. seated s m) (sym (may is));
@@ -83,6 +92,7 @@ looks-false input k k' a a' s r r' key t = record {
   keys = key ∷ [];
   strikes = t;
   finds = finds-key input key;
+  none_only = refl;
   over = λ h. h;
   at_end = λ _ h. absurd (true≢false (sym h));
   looks = λ more _. refl;
@@ -102,6 +112,7 @@ looks-dry Ending k k' a a' s r r' t dry = record {
   keys = [];
   strikes = t;
   finds = refl;
+  none_only = tt;
   over = λ _. refl;
   at_end = λ _ _. (refl, dry.0, dry.1);
   looks = λ more may. ap (λ m. looked s m) (may refl) ∙ ap (λ m. seated s m) (sym (may refl));
@@ -113,6 +124,7 @@ looks-dry Live k k' a a' s r r' t dry = record {
   keys = [];
   strikes = t;
   finds = refl;
+  none_only = (refl, refl, dry);
   over = λ h. h;
   at_end = λ _ h. absurd (true≢false (sym h));
   looks = λ more _. refl;
@@ -147,6 +159,7 @@ attends-not input k a over s since r asks = record {
   keys = [];
   strikes = keys-none k a r;
   finds = finds-none input;
+  none_only = tt;
   stays = λ _. refl;
   over = λ h. h;
   at_end = λ h. h;
@@ -189,6 +202,7 @@ attends-looks input k k' a a' over over' s s' since since' r r' starved asks loo
   keys = look.keys;
   strikes = look.strikes;
   finds = look.finds;
+  none_only = look.none_only;
   stays = λ h. none-left look.found (sym look.left ∙ look.over h);
   over = look.over;
   at_end = look.at_end;

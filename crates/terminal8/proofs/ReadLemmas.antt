@@ -1,15 +1,15 @@
 -- A program that reads a key.
-use Rattle.std.proofs.Common.{◌≡◌, ℕ, zero, suc, ◌+◌, ◌*◌, ◌/◌, ◌%◌, ◌<◌, Bool, true, false, true≢false, ◌&&◌, ◌||◌, not, nat_eq, nat_le, if◌then◌else◌, List, [], ◌∷◌, ◌++◌, Option, Some, None, append-nil, append_assoc, refl, ap, sym, subst, ◌∙◌, arith}
+use Rattle.std.proofs.Common.{◌≡◌, ℕ, zero, suc, ◌+◌, ◌*◌, ◌/◌, ◌%◌, ◌<◌, Bool, true, false, ◌&&◌, not, nat_eq, if◌then◌else◌, List, [], ◌∷◌, ◌++◌, Option, Some, None, append-nil, append_assoc, refl, ap, sym, subst, ◌∙◌, arith}
 use Rattle.std.specs.Int.Bits.{bit_or, or_zero_l}
 use Rattle.std.proofs.lemmas.Bool.{eqb-true}
-use Rattle.cpu8.specs.State.{State, key_struck, grants_interrupt}
+use Rattle.cpu8.specs.State.{State, key_struck}
 use Rattle.cpu8.specs.Reference.{advanced}
-use Rattle.cpu8.specs.Step.{fetched, executed, step}
+use Rattle.cpu8.specs.Step.{executed, step}
 use Rattle.cpu8.specs.Go.{turn, character_of}
 use Rattle.cpu8.specs.Laws.{runs_on}
 use Rattle.cpu8.specs.declared.outcomes.Stepped.{Stepped}
 use Rattle.cpu8.specs.declared.outcomes.Stepped.TheVariants.{Ran, Stopped}
-use Rattle.terminal8.specs.Asks.{asks_for_key, waits_for_key, word_behind, is_ksf}
+use Rattle.terminal8.specs.Asks.{asks_for_key, word_behind}
 use Rattle.terminal8.specs.Terminal.{Terminal, seated, looked, attended, stepped, next, later, last_did, printed_by, starves, GoesOn}
 use Rattle.terminal8.specs.Laws.{ReadsNext, none_yet, waiting_for, key_read}
 use Rattle.terminal8.proofs.WaitLemmas.{Waits, waits, waits-asks, turn-idle, turn-ksf, turn-jmp}

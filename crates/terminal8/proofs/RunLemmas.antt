@@ -1,6 +1,6 @@
 -- A run, as far as it has come.
-use Rattle.std.proofs.Common.{◌≡◌, ℕ, zero, suc, ◌+◌, ◌<◌, ◌≤◌, Bool, true, false, true≢false, ◌&&◌, if◌then◌else◌, List, [], ◌∷◌, ◌++◌, Option, Some, None, Result, Ok, Err, append-nil, append_assoc, unwrap_or, refl, ap, sym, subst, ◌∙◌, arith, below_more}
-use Rattle.std.specs.Io.KnownBytes.{Consumes, Appends, IsAtEnd}
+use Rattle.std.proofs.Common.{◌≡◌, ◌⊎◌, inl, inr, ℕ, zero, suc, ◌+◌, ◌<◌, ◌≤◌, Bool, true, false, true≢false, if◌then◌else◌, List, [], ◌∷◌, ◌++◌, Option, Some, None, Result, Ok, Err, append-nil, append_assoc, unwrap_or, refl, ap, sym, subst, ◌∙◌, arith, below_more}
+use Rattle.std.specs.Io.KnownBytes.{Consumes}
 use Rattle.cpu8.specs.State.{State}
 use Rattle.cpu8.specs.Go.{turn, after, answer, character_of}
 use Rattle.cpu8.specs.Laws.{runs_on}
@@ -9,9 +9,9 @@ use Rattle.cpu8.specs.declared.outcomes.Stepped.TheVariants.{Stopped, Interrupte
 use Rattle.terminal8.specs.Keys.{Keyboard, fresh, keys_from, keys_of}
 use Rattle.terminal8.specs.KeySteps.{behind}
 use Rattle.terminal8.specs.Asks.{asks_for_key}
-use Rattle.terminal8.specs.Terminal.{Terminal, seated, looked, attended, stepped, next, later, last_did, printed_by, shown, starves, has_halted, GoesOn, Ends}
-use Rattle.terminal8.specs.Run.{MayFollow, Finds, HaveEnded, HasMade, IsRunOf, IsCut, Writes, Runs}
-use Rattle.terminal8.specs.RunSteps.{Strikes, StrikesKeys, Passes, Holds, Attends, Misses, Prints, RunsInto, stop_of}
+use Rattle.terminal8.specs.Terminal.{Terminal, seated, looked, stepped, next, later, last_did, printed_by, shown, starves, has_halted, GoesOn, Ends}
+use Rattle.terminal8.specs.Run.{MayFollow, Finds, FindsNone, HaveEnded, HasMade, IsRunOf, IsCut, Writes, Runs}
+use Rattle.terminal8.specs.RunSteps.{StrikesKeys, IsDry, IsNoneOnly, Passes, Holds, Attends, Misses, Prints, RunsInto, stop_of}
 use Rattle.terminal8.specs.declared.inputs.Input.{Input}
 use Rattle.terminal8.specs.declared.outcomes.TerminalFault.{TerminalFault}
 use Rattle.terminal8.specs.declared.outcomes.TerminalFault.TheVariants.{Reader, Writer}
@@ -21,7 +21,7 @@ use Rattle.terminal8.specs.declared.outcomes.Why.{Why}
 use Rattle.terminal8.specs.declared.outcomes.Why.TheVariants as why
 use Rattle.terminal8.proofs.ByteLemmas.{consumes_more, consumes_none, passes-none, passes-more, passed}
 use Rattle.terminal8.proofs.KeyLemmas.{keys_more, behind_more}
-use Rattle.terminal8.proofs.LookLemmas.{finds-none, finds-more, starves-not}
+use Rattle.terminal8.proofs.LookLemmas.{finds-none, finds-more, finds-found, starves-not}
 use Rattle.terminal8.proofs.TerminalLemmas.{later-none, later-next, did-none, did-next, printed-none, printed-next, shown-more}
 
 -- ## How far a run has come
@@ -41,6 +41,7 @@ pub record IsTaken (form : Form) (input : Input) (k : Keyboard) (ahead : List �
   pub taken : Consumes r r' (bytes ++ ahead)
   pub keyboard : k ≡ behind (fresh form) bytes
   pub finds : Finds input looks (keys_of form bytes)
+  pub none_only : (before after : List (Option ℕ)) → before ++ None ∷ after ≡ looks → FindsNone form r before
   pub at_end : over ≡ true → HaveEnded input ahead r'
 
 -- All that: the run goes on behind so many steps.
@@ -51,6 +52,28 @@ pub record IsRunning (form : Form) (input : Input) (old new : State) (k : Keyboa
   pub runs : RunsOn old looks over steps
   pub taken : IsTaken form input k ahead over r r' looks
   pub prints : Prints old looks over w w' paper steps
+
+abbrev is-some : {T : Type 0} → Option T → Bool
+is-some None = false
+is-some (Some x) = true
+
+none-empty : (before after : List (Option ℕ)) → before ++ None ∷ after ≡ [] → ⊥
+none-empty [] after is = cc
+none-empty (look ∷ before) after is = cc
+
+-- a look that found none is the last one, or one before that
+none-split : (looks before after : List (Option ℕ)) (look : Option ℕ) → before ++ None ∷ after ≡ looks ++ look ∷ []
+    → ((before ≡ looks) × (look ≡ None)) ⊎ ((rest : List (Option ℕ)) × (before ++ None ∷ rest ≡ looks))
+none-split [] [] after look is = let e : look ≡ None = cc in inl (refl, e)
+none-split [] (b ∷ before) after look is = let e : before ++ None ∷ after ≡ [] = cc in absurd (none-empty before after e)
+none-split (l ∷ looks) [] after look is = let e : l ≡ None = cc in inr (looks, ap (λ x. x ∷ looks) (sym e))
+none-split (l ∷ looks) (b ∷ before) after look is =
+    let e : before ++ None ∷ after ≡ looks ++ look ∷ [] = cc in
+    let f : b ≡ l = cc in
+    elim (none-split looks before after look e) [
+      | inl h ↦ inl (ap (λ x. b ∷ x) h.0 ∙ ap (λ x. x ∷ looks) f, h.1)
+      | inr h ↦ inr (h.0, ap (λ x. b ∷ x) h.1 ∙ ap (λ x. x ∷ looks) f)
+    ]
 
 pub begun : (form : Form) (input : Input) (s : State) (r w : Option (List ℕ)) → s.running ≡ true
     → IsRunning form input s s (fresh form) [] false 0 r r w w [] 0
@@ -66,6 +89,7 @@ begun form input s r w running = record {
     taken = consumes_none r;
     keyboard = refl;
     finds = finds-none input;
+    none_only = λ before after is. absurd (none-empty before after is);
     at_end = λ h. absurd (true≢false (sym h));
   };
   prints = λ more _. subst (λ cs. Passes w w [] [] (shown cs)) (sym (printed-none (seated s more))) (passes-none w []);
@@ -81,29 +105,74 @@ may-join : (over over' : Bool) (found more : List (Option ℕ)) → (over ≡ tr
     → MayFollow over (found ++ more)
 may-join over over' found more stays goes may is = ap (λ l. l ++ more) (stays is) ∙ may (goes is)
 
+-- the keys of more bytes
+keys-sum : (form : Form) (input : Input) (k k' : Keyboard) (a a' : List ℕ) (over : Bool) (r r' r'' : Option (List ℕ)) (looks : List (Option ℕ)) (keys : List ℕ)
+    → (i : IsTaken form input k a over r r' looks) → (s : StrikesKeys k k' a a' r' r'' keys) → keys_of form i.bytes ++ keys ≡ keys_of form (i.bytes ++ s.bytes)
+keys-sum form input k k' a a' over r r' r'' looks keys i s =
+    ap (λ ks. keys_of form i.bytes ++ ks) (sym s.keys_are ∙ ap (λ k. keys_from k s.bytes) i.keyboard) ∙ sym (keys_more (fresh form) i.bytes s.bytes)
+
+taken-all : (form : Form) (input : Input) (k k' : Keyboard) (a a' : List ℕ) (over : Bool) (r r' r'' : Option (List ℕ)) (looks : List (Option ℕ)) (keys : List ℕ)
+    → (i : IsTaken form input k a over r r' looks) → (s : StrikesKeys k k' a a' r' r'' keys) → Consumes r r'' ((i.bytes ++ s.bytes) ++ a')
+taken-all form input k k' a a' over r r' r'' looks keys i s =
+    subst (λ bs. Consumes r r'' bs)
+    (append_assoc i.bytes a s.strikes.read ∙ ap (λ l. i.bytes ++ l) s.strikes.in_order ∙ sym (append_assoc i.bytes s.bytes a'))
+    (consumes_more r r' r'' (i.bytes ++ a) s.strikes.read i.taken s.strikes.taken)
+
+-- a look behind these found none
+finds-here : (form : Form) (input : Input) (k k' : Keyboard) (a a' : List ℕ) (over : Bool) (r r' r'' : Option (List ℕ)) (looks : List (Option ℕ)) (keys : List ℕ)
+    → IsTaken form input k a over r r' looks → StrikesKeys k k' a a' r' r'' keys → keys ≡ [] → IsDry a' r'' → FindsNone form r looks
+finds-here form input k k' a a' over r r' r'' looks keys i s none dry = record {
+  bytes = i.bytes ++ s.bytes;
+  left = r'';
+  taken =
+      subst (λ bs. Consumes r r'' bs) (ap (λ l. (i.bytes ++ s.bytes) ++ l) dry.0 ∙ append-nil (i.bytes ++ s.bytes))
+      (taken-all form input k k' a a' over r r' r'' looks keys i s);
+  struck =
+      finds-found input looks (keys_of form i.bytes) i.finds
+      ∙ sym (append-nil (keys_of form i.bytes))
+      ∙ ap (λ ks. keys_of form i.bytes ++ ks) (sym none)
+      ∙ keys-sum form input k k' a a' over r r' r'' looks keys i s;
+  at_end = dry.1;
+}
+
+key-not : (key : ℕ) → Some key ≡ None → ⊥
+key-not key is = true≢false (ap (λ o. is-some o) is)
+
+none-next : (form : Form) (input : Input) (k k' : Keyboard) (a a' : List ℕ) (over : Bool) (r r' r'' : Option (List ℕ)) (looks found : List (Option ℕ)) (keys : List ℕ)
+    → IsTaken form input k a over r r' looks → StrikesKeys k k' a a' r' r'' keys → IsNoneOnly found keys a' r''
+    → (before after : List (Option ℕ)) → before ++ None ∷ after ≡ looks ++ found → FindsNone form r before
+none-next form input k k' a a' over r r' r'' looks [] keys i s n before after is = i.none_only before after (is ∙ append-nil looks)
+none-next form input k k' a a' over r r' r'' looks (Some key ∷ more) keys i s n before after is =
+    elim (none-split looks before after (Some key) (is ∙ ap (λ l. looks ++ Some key ∷ l) n)) [
+      | inl h ↦ absurd (key-not key h.1)
+      | inr h ↦ i.none_only before h.0 h.1
+    ]
+none-next form input k k' a a' over r r' r'' looks (None ∷ more) keys i s n before after is =
+    elim (none-split looks before after None (is ∙ ap (λ l. looks ++ None ∷ l) n.0)) [
+      | inl h ↦ subst (λ l. FindsNone form r l) (sym h.0) (finds-here form input k k' a a' over r r' r'' looks keys i s n.1 n.2)
+      | inr h ↦ i.none_only before h.0 h.1
+    ]
+
 -- bytes were struck that give these keys, which looks found
 taken-more : (form : Form) (input : Input) (k k' : Keyboard) (a a' : List ℕ) (over over' : Bool) (r r' r'' : Option (List ℕ)) (looks found : List (Option ℕ)) (keys : List ℕ)
-    → IsTaken form input k a over r r' looks → StrikesKeys k k' a a' r' r'' keys → Finds input found keys → (over' ≡ true → HaveEnded input a' r'')
-    → IsTaken form input k' a' over' r r'' (looks ++ found)
-taken-more form input k k' a a' over over' r r' r'' looks found keys i s finds end =
-    let more : i.bytes ++ a ++ s.strikes.read ≡ (i.bytes ++ s.bytes) ++ a' =
-    append_assoc i.bytes a s.strikes.read ∙ ap (λ l. i.bytes ++ l) s.strikes.in_order ∙ sym (append_assoc i.bytes s.bytes a') in
-    record {
-      bytes = i.bytes ++ s.bytes;
-      taken = subst (λ bs. Consumes r r'' bs) more (consumes_more r r' r'' (i.bytes ++ a) s.strikes.read i.taken s.strikes.taken);
-      keyboard = s.keyboard ∙ ap (λ k. behind k s.bytes) i.keyboard ∙ sym (behind_more (fresh form) i.bytes s.bytes);
-      finds =
-          subst (λ ks. Finds input (looks ++ found) ks)
-          (ap (λ ks. keys_of form i.bytes ++ ks) (sym s.keys_are ∙ ap (λ k. keys_from k s.bytes) i.keyboard) ∙ sym (keys_more (fresh form) i.bytes s.bytes))
-          (finds-more input looks found (keys_of form i.bytes) keys i.finds finds);
-      at_end = end;
-    }
+    → IsTaken form input k a over r r' looks → StrikesKeys k k' a a' r' r'' keys → Finds input found keys → IsNoneOnly found keys a' r''
+    → (over' ≡ true → HaveEnded input a' r'') → IsTaken form input k' a' over' r r'' (looks ++ found)
+taken-more form input k k' a a' over over' r r' r'' looks found keys i s finds none end = record {
+  bytes = i.bytes ++ s.bytes;
+  taken = taken-all form input k k' a a' over r r' r'' looks keys i s;
+  keyboard = s.keyboard ∙ ap (λ k. behind k s.bytes) i.keyboard ∙ sym (behind_more (fresh form) i.bytes s.bytes);
+  finds =
+      subst (λ ks. Finds input (looks ++ found) ks) (keys-sum form input k k' a a' over r r' r'' looks keys i s)
+      (finds-more input looks found (keys_of form i.bytes) keys i.finds finds);
+  none_only = none-next form input k k' a a' over r r' r'' looks found keys i s none;
+  at_end = end;
+}
 
 taken-next : (form : Form) (input : Input) (k k' : Keyboard) (a a' : List ℕ) (over over' : Bool) (s s' : State) (since since' : ℕ) (r r' r'' : Option (List ℕ)) (looks : List (Option ℕ)) (starved : Bool)
     → IsTaken form input k a over r r' looks → (at : Attends input k k' a a' over over' s s' since since' r' r'' starved)
     → IsTaken form input k' a' over' r r'' (looks ++ at.found)
 taken-next form input k k' a a' over over' s s' since since' r r' r'' looks starved i at =
-    taken-more form input k k' a a' over over' r r' r'' looks at.found at.keys i at.strikes at.finds (at.at_end i.at_end)
+    taken-more form input k k' a a' over over' r r' r'' looks at.found at.keys i at.strikes at.finds at.none_only (at.at_end i.at_end)
 
 -- the step behind that
 step-at : (input : Input) (old s s' new : State) (k k' : Keyboard) (a a' : List ℕ) (over over' : Bool) (since since' : ℕ) (r r' : Option (List ℕ)) (looks : List (Option ℕ)) (steps : ℕ) (starved : Bool)
@@ -164,10 +233,6 @@ step-prints input old s s' k k' a a' over over' since since' r r' w w' w'' w''' 
     (passes-more w' w'' w''' p p' p'' [] (shown (character_of did)) none some))
 
 -- ## Whether it was an end
-
-abbrev is-some : {T : Type 0} → Option T → Bool
-is-some None = false
-is-some (Some x) = true
 
 none-some : (why : Why) → Some why ≡ None → ⊥
 none-some w h = true≢false (ap (λ o. is-some o) h)
@@ -324,6 +389,7 @@ has-made form input old new k a over since r r' looks steps i t = record {
   ahead = a;
   taken = t.taken;
   finds = t.finds;
+  none_only = t.none_only;
   at_end = t.at_end;
   machine = λ more may. ap (λ x. x.machine) (i.at more may);
   looks_left = λ more may. ap (λ x. x.looks) (i.at more may);
@@ -358,7 +424,7 @@ pub stopped-run : (form : Form) (input : Input) (n : ℕ) (s : State) (r w : Opt
 stopped-run form input n s r w p none stopped = (
   has-run form input n s s (fresh form) [] false 0 r r [] 0 why.Halt
       (record { at = λ more _. later-none (seated s more); goes_on = λ more _ m below. absurd (omega (arith, below)) })
-      (record { bytes = []; taken = consumes_none r; keyboard = refl; finds = finds-none input; at_end = λ h. absurd (true≢false (sym h)) })
+      (record { bytes = []; taken = consumes_none r; keyboard = refl; finds = finds-none input; none_only = λ before after is. absurd (none-empty before after is); at_end = λ h. absurd (true≢false (sym h)) })
       (omega arith)
       (λ more may.
       ap (λ did. has_halted did) (did-none (seated s more))
@@ -455,7 +521,7 @@ abbrev missed-cut : (form : Form) (input : Input) (n : ℕ) (old s : State) (k k
 missed-cut form input n old s k k' a a' over since r r' r'' w w' p steps i within m =
     is-cut form input n old s k' a' over since r r'' (i.looks ++ []) steps
     (moved-at old s over over since i.looks [] steps i.is_at refl (λ h. h))
-    (taken-more form input k k' a a' over over r r' r'' i.looks [] [] i.taken m.1 (finds-none input) (λ h. absurd (true≢false (sym h ∙ m.0))))
+    (taken-more form input k k' a a' over over r r' r'' i.looks [] [] i.taken m.1 (finds-none input) tt (λ h. absurd (true≢false (sym h ∙ m.0))))
     within
 
 missed-runs : (form : Form) (input : Input) (n : ℕ) (old s : State) (k k' : Keyboard) (a a' : List ℕ) (over : Bool) (since : ℕ) (r r' r'' w w' w'' : Option (List ℕ)) (p p' : List ℕ) (steps : ℕ)

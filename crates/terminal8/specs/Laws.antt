@@ -1,13 +1,29 @@
 -- What the laws of a terminal say.
-use Rattle.std.specs.Prelude.{◌≡◌, ◌⊎◌, ℕ, zero, suc, ◌+◌, ◌%◌, true, false, List, ◌∷◌, Option, Some, None, slice_index}
+use Rattle.std.specs.Prelude.{◌≡◌, ◌⊎◌, ℕ, zero, suc, ◌+◌, ◌%◌, true, false, List, ◌∷◌, map, Option, Some, None, slice_index}
+use Rattle.std.specs.Io.KnownBytes.{Appends}
 use Rattle.cpu8.specs.State.{State, place}
 use Rattle.cpu8.specs.Reference.{advanced}
 use Rattle.terminal8.specs.Asks.{waits_for_key}
-use Rattle.terminal8.specs.Terminal.{Terminal}
+use Rattle.terminal8.specs.Keys.{keys_of}
+use Rattle.terminal8.specs.Terminal.{Terminal, seated, later, printed_by, shown, IsRun}
+use Rattle.terminal8.specs.declared.keyboards.Form.{Form}
+use Rattle.terminal8.specs.declared.outcomes.Ended.{Ended}
 
 -- a machine is as before, or has gone on by one instruction that changed nothing but PC
 abbrev pub IsInLoop : State → State → Type 0
 IsInLoop s now = (now ≡ s) ⊎ (now ≡ advanced s)
+
+-- ## Whole runs
+
+-- a terminal at which the keys of these bytes are struck, one at each look
+abbrev pub terminal_of : Form → State → List ℕ → Terminal
+terminal_of form s bytes = seated s (map (λ key. Some key) (keys_of form bytes))
+
+-- A run of at most n steps of a terminal, the machine that it leaves, and what a writer got.
+pub record IsWholeRun (t : Terminal) (n : ℕ) (new : State) (writer writer' : Option (List ℕ)) (ended : Ended) : Type 0 where
+  pub run : IsRun t n ended.steps ended.why
+  pub machine : (later ended.steps t).machine ≡ new
+  pub printed : Appends writer writer' (shown (printed_by ended.steps t))
 
 -- ## Reading a key
 

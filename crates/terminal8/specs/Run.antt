@@ -3,7 +3,7 @@ use Rattle.std.specs.Prelude.{◌≡◌, ℕ, ◌<◌, ◌≤◌, Bool, true, Li
 use Rattle.std.specs.Io.KnownBytes.{Consumes, Appends, IsAtEnd}
 use Rattle.cpu8.specs.State.{State}
 use Rattle.terminal8.specs.Keys.{keys_of}
-use Rattle.terminal8.specs.Terminal.{Terminal, seated, later, printed_by, shown, GoesOn, IsRun}
+use Rattle.terminal8.specs.Terminal.{seated, later, printed_by, shown, GoesOn, IsRun}
 use Rattle.terminal8.specs.declared.inputs.Input.{Input}
 use Rattle.terminal8.specs.declared.inputs.Input.TheVariants.{Ending, Live}
 use Rattle.terminal8.specs.declared.keyboards.Form.{Form}
@@ -28,6 +28,14 @@ Finds Live looks keys = keys_found looks ≡ keys
 abbrev pub HaveEnded : Input → List ℕ → Option (List ℕ) → Type 0
 HaveEnded input ahead reader = (input ≡ Ending) × (ahead ≡ []) × IsAtEnd reader
 
+-- A look behind these found none where the reader had given all its bytes, and each was struck.
+pub record FindsNone (form : Form) (reader : Option (List ℕ)) (before : List (Option ℕ)) : Type 0 where
+  pub bytes : List ℕ
+  pub left : Option (List ℕ)
+  pub taken : Consumes reader left bytes
+  pub struck : keys_found before ≡ keys_of form bytes
+  pub at_end : IsAtEnd left
+
 -- any looks may follow, but none where the keys have ended
 abbrev pub MayFollow : Bool → List (Option ℕ) → Type 0
 MayFollow is_over more = is_over ≡ true → more ≡ []
@@ -41,6 +49,7 @@ pub record HasMade (form : Form) (input : Input) (old new : State) (reader reade
   pub ahead : List ℕ
   pub taken : Consumes reader reader' (bytes ++ ahead)
   pub finds : Finds input looks (keys_of form bytes)
+  pub none_only : (before after : List (Option ℕ)) → before ++ None ∷ after ≡ looks → FindsNone form reader before
   pub at_end : is_over ≡ true → HaveEnded input ahead reader'
   pub machine : (more : List (Option ℕ)) → MayFollow is_over more → (later steps (seated old (looks ++ more))).machine ≡ new
   pub looks_left : (more : List (Option ℕ)) → MayFollow is_over more → (later steps (seated old (looks ++ more))).looks ≡ more

@@ -7,7 +7,7 @@ use Rattle.cpu8.specs.declared.outcomes.Stepped.TheVariants.{Stopped, Interrupte
 use Rattle.terminal8.specs.Keys.{Keyboard, keys_from}
 use Rattle.terminal8.specs.KeySteps.{behind}
 use Rattle.terminal8.specs.Terminal.{seated, looked, attended, is_none_left, printed_by, shown, starves}
-use Rattle.terminal8.specs.Run.{MayFollow, Finds, HaveEnded, HasMade, IsCut, IsRunOf}
+use Rattle.terminal8.specs.Run.{MayFollow, Finds, HaveEnded, IsCut, IsRunOf}
 use Rattle.terminal8.specs.declared.inputs.Input.{Input}
 use Rattle.terminal8.specs.declared.inputs.Input.TheVariants.{Ending, Live}
 use Rattle.terminal8.specs.declared.keyboards.Form.{Form}
@@ -84,12 +84,19 @@ abbrev pub is_ending : Input → Bool
 is_ending Ending = true
 is_ending Live = false
 
+-- one look or none was made; it found none only where no byte is left
+abbrev pub IsNoneOnly : List (Option ℕ) → List ℕ → List ℕ → Option (List ℕ) → Type 0
+IsNoneOnly [] keys ahead reader = Unit {0}
+IsNoneOnly (Some key ∷ looks) keys ahead reader = looks ≡ []
+IsNoneOnly (None ∷ looks) keys ahead reader = (looks ≡ []) × (keys ≡ []) × IsDry ahead reader
+
 -- The operator looks for a key, and strikes it if there is one.
 pub record Looks (input : Input) (k k' : Keyboard) (ahead ahead' : List ℕ) (is_over is_over' : Bool) (s s' : State) (reader reader' : Option (List ℕ)) : Type 0 where
   pub found : List (Option ℕ)
   pub keys : List ℕ
   pub strikes : StrikesKeys k k' ahead ahead' reader reader' keys
   pub finds : Finds input found keys
+  pub none_only : IsNoneOnly found keys ahead' reader'
   pub over : is_over ≡ true → is_over' ≡ true
   pub at_end : (is_over ≡ true → HaveEnded input ahead reader) → is_over' ≡ true → HaveEnded input ahead' reader'
   pub looks : (more : List (Option ℕ)) → MayFollow is_over' more → looked s (found ++ more) ≡ seated s' more
@@ -103,6 +110,7 @@ pub record Attends (input : Input) (k k' : Keyboard) (ahead ahead' : List ℕ) (
   pub keys : List ℕ
   pub strikes : StrikesKeys k k' ahead ahead' reader reader' keys
   pub finds : Finds input found keys
+  pub none_only : IsNoneOnly found keys ahead' reader'
   pub stays : is_over ≡ true → found ≡ []
   pub over : is_over ≡ true → is_over' ≡ true
   pub at_end : (is_over ≡ true → HaveEnded input ahead reader) → is_over' ≡ true → HaveEnded input ahead' reader'

@@ -42,7 +42,8 @@ impl Operator {
         }
     }
 
-    /// Looks for a key where the program asks for one. Answers whether the keys have ended and the machine waits for one.
+    /// Looks for a key where the program asks for one. Answers whether the keys have ended and the machine waits
+    /// for one.
     #[inline(always)]
     pub(crate) fn attend<R: Read, W: Write>(
         &mut self,
@@ -51,11 +52,12 @@ impl Operator {
         reader: &mut R,
         writer: &mut W,
     ) -> Result<bool, TerminalFault>
-        ensures ok { IfOk result (Attends self.old.input self.old.keyboard self.new.keyboard self.old.ahead self.new.ahead
-            self.old.is_over self.new.is_over machine.old machine.new self.old.since self.new.since
-            (R.remaining reader.old) (R.remaining reader.new)) }
+        ensures ok { IfOk result (Attends self.old.input self.old.keyboard self.new.keyboard
+            self.old.ahead self.new.ahead self.old.is_over self.new.is_over machine.old machine.new
+            self.old.since self.new.since (R.remaining reader.old) (R.remaining reader.new)) }
         ensures paper { Holds (W.contents writer.old) (W.contents writer.new) paper.old paper.new result }
-        ensures err { IfErr result (λ _. Misses self.old.keyboard self.new.keyboard self.old.ahead self.new.ahead self.old.is_over (R.remaining reader.old) (R.remaining reader.new)) }
+        ensures err { IfErr result (λ _. Misses self.old.keyboard self.new.keyboard self.old.ahead self.new.ahead
+            self.old.is_over (R.remaining reader.old) (R.remaining reader.new)) }
         ensures input { self.new.input ≡ self.old.input }
         ensures same { IfErr result (λ _. machine.new ≡ machine.old) }
     {
@@ -74,12 +76,14 @@ impl Operator {
         reader: &mut R,
         writer: &mut W,
     ) -> Result<(), TerminalFault>
-        ensures ok { OnOk result (Looks self.old.input self.old.keyboard self.new.keyboard self.old.ahead self.new.ahead
-            self.old.is_over self.new.is_over machine.old machine.new (R.remaining reader.old) (R.remaining reader.new)) }
+        ensures ok { OnOk result (Looks self.old.input self.old.keyboard self.new.keyboard
+            self.old.ahead self.new.ahead self.old.is_over self.new.is_over machine.old machine.new
+            (R.remaining reader.old) (R.remaining reader.new)) }
         ensures paper { Holds (W.contents writer.old) (W.contents writer.new) paper.old paper.new result }
         ensures since { OnOk result (self.new.since ≡ 0) }
         ensures input { self.new.input ≡ self.old.input }
-        ensures err { IfErr result (λ _. Misses self.old.keyboard self.new.keyboard self.old.ahead self.new.ahead self.old.is_over (R.remaining reader.old) (R.remaining reader.new)) }
+        ensures err { IfErr result (λ _. Misses self.old.keyboard self.new.keyboard self.old.ahead self.new.ahead
+            self.old.is_over (R.remaining reader.old) (R.remaining reader.new)) }
         ensures same { IfErr result (λ _. machine.new ≡ machine.old) }
     {
         self.since = 0;

@@ -26,7 +26,7 @@ impl Model for ReadAhead {
 
     ghost view = { λ a. slice_range a.bytes a.next a.end };
 
-    ghost invariant = { λ a. (a.next ≤ a.end) × (a.end ≤ 4096) };
+    ghost invariant = { λ a. (a.next ≤ a.end) × (a.end ≤ 0o10000) };
 }
 
 impl ReadAhead {
@@ -92,7 +92,8 @@ pub(crate) fn next_key<R: Read, W: Write>(
     reader: &mut R,
     writer: &mut W,
 ) -> Result<Option<u8>, TerminalFault>
-    ensures key { ReadsKey keyboard.old keyboard.new ahead.old ahead.new (R.remaining reader.old) (R.remaining reader.new) result }
+    ensures key { ReadsKey keyboard.old keyboard.new ahead.old ahead.new
+        (R.remaining reader.old) (R.remaining reader.new) result }
     ensures paper { Holds (W.contents writer.old) (W.contents writer.new) paper.old paper.new result }
 {
     for _ in 0..u64::MAX {
@@ -106,7 +107,8 @@ pub(crate) fn next_key<R: Read, W: Write>(
     Err(TerminalFault::Reader)
 }
 
-/// The next byte, of those read ahead or else of a reader, which may keep us waiting: what was printed is handed on before.
+/// The next byte, of those read ahead or else of a reader, which may keep us waiting: what was printed is handed on
+/// before.
 #[inline(always)]
 fn next_byte<R: Read, W: Write>(
     ahead: &mut ReadAhead,
@@ -137,4 +139,4 @@ fn is_interrupted(error: &io::Error) -> bool
 }
 
 /// The bytes that are read ahead at most.
-const READ_AT_ONCE: usize = 4096;
+const READ_AT_ONCE: usize = 0o10000;

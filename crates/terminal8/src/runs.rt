@@ -18,14 +18,14 @@ use crate::writing::Paper;
 use cpu8::{Machine, Stepped};
 use std::io::{Read, Write};
 
-/// Runs a machine, at most n steps of it, each an instruction or an interrupt, with a printer that ends its character before the
-/// next step. A key is looked for only where the program asks for one, and is struck there. What is printed goes to the writer
-/// without its top bit, and NUL is left out. Bytes are read some ahead: those that are not struck are no part of the run. Before
-/// the reader is asked for bytes, what was printed so far is handed on, and the writer flushed.
+/// Runs a machine, at most n steps of it, each an instruction or an interrupt, with a printer that ends its character
+/// before the next step. A key is looked for only where the program asks for one, and is struck there. What is printed
+/// goes to the writer without its top bit, and NUL is left out. Bytes are read some ahead: those that are not struck are
+/// no part of the run. Before the reader is asked for bytes, what was printed so far is handed on, and the writer flushed.
 ///
-/// It ends at a HLT, or where the machine stands stopped; at an unassigned word; where the keys have ended and the machine waits
-/// for one for ever; or behind n steps. Keys that are live never end: a look that finds none is made again where the program
-/// next asks. The answer is `Reader` or `Writer` where one of these fails. It takes no memory.
+/// It ends at a HLT, or where the machine stands stopped; at an unassigned word; where the keys have ended and the
+/// machine waits for one for ever; or behind n steps. Live keys never end: a look that finds none is made again where the
+/// program next asks for one. The answer is `Reader` or `Writer` where one of these fails. It takes no memory.
 pub fn run<R: Read, W: Write>(
     machine: &mut Machine,
     n: u64,
@@ -34,7 +34,8 @@ pub fn run<R: Read, W: Write>(
     reader: &mut R,
     writer: &mut W,
 ) -> Result<Ended, TerminalFault>
-    ensures { Runs form input n machine.old machine.new (R.remaining reader.old) (R.remaining reader.new) (W.contents writer.old) (W.contents writer.new) result }
+    ensures { Runs form input n machine.old machine.new (R.remaining reader.old) (R.remaining reader.new)
+        (W.contents writer.old) (W.contents writer.new) result }
 {
     let mut paper = Paper::new();
     let ran = run_steps(machine, n, form, input, &mut paper, reader, writer);
@@ -47,7 +48,8 @@ pub fn run<R: Read, W: Write>(
     }
 }
 
-/// The same, but what was printed last may not be handed on yet. Each step may be watched: `go_on` only makes several at once.
+/// The same, but what was printed last may still be on the paper. Each turn of the loop is one step, and then, for speed
+/// alone, several at once: without `go_on` each step is a turn.
 fn run_steps<R: Read, W: Write>(
     machine: &mut Machine,
     n: u64,
@@ -58,7 +60,8 @@ fn run_steps<R: Read, W: Write>(
     writer: &mut W,
 ) -> Result<Ended, TerminalFault>
     requires { paper.old ≡ [] }
-    ensures { RunsInto form input n machine.old machine.new (R.remaining reader.old) (R.remaining reader.new) (W.contents writer.old) (W.contents writer.new) paper.new result }
+    ensures { RunsInto form input n machine.old machine.new (R.remaining reader.old) (R.remaining reader.new)
+        (W.contents writer.old) (W.contents writer.new) paper.new result }
 {
     if !machine.is_running() {
         return Ok(Ended {
@@ -100,7 +103,8 @@ fn step<W: Write>(
 ) -> Result<Stepped, TerminalFault>
     ensures state { machine.new ≡ (turn true machine.old).0 }
     ensures ok { IfOk result (λ did. (did ≡ (turn true machine.old).1)
-        × Passes (W.contents writer.old) (W.contents writer.new) paper.old paper.new (shown (character_of did))) }
+        × Passes (W.contents writer.old) (W.contents writer.new) paper.old paper.new
+        (shown (character_of did))) }
     ensures err { IfErr result (λ e. e ≡ fault.Writer) }
 {
     let did = take_turn(machine);
@@ -120,8 +124,8 @@ fn take_turn(machine: &mut Machine) -> Stepped
     machine.step()
 }
 
-/// Makes up to n steps that print nothing, go on, and in which the program asks for no key, so many steps after it last asked, and
-/// tells how many.
+/// Makes up to n steps that print nothing, go on, and in which the program asks for no key, so many steps after it last
+/// asked for one, and tells how many.
 #[inline(always)]
 fn go_on(machine: &mut Machine, n: u64, since: u64) -> u64
     ensures within { result ≤ n }

@@ -44,7 +44,8 @@ impl Paper {
         writer: &mut W,
         did: &Stepped,
     ) -> Result<(), TerminalFault>
-        ensures ok { OnOk result (Passes (W.contents writer.old) (W.contents writer.new) self.old self.new (shown (character_of did.now))) }
+        ensures ok { OnOk result (Passes (W.contents writer.old) (W.contents writer.new) self.old self.new
+            (shown (character_of did.now))) }
         ensures err { IfErr result (λ e. e ≡ fault.Writer) }
     {
         match did {
@@ -57,7 +58,8 @@ impl Paper {
 
     /// Prints a character without its top bit, but not NUL.
     fn put<W: Write>(&mut self, writer: &mut W, character: u8) -> Result<(), TerminalFault>
-        ensures ok { OnOk result (Passes (W.contents writer.old) (W.contents writer.new) self.old self.new (shown (character ∷ []))) }
+        ensures ok { OnOk result (Passes (W.contents writer.old) (W.contents writer.new) self.old self.new
+            (shown (character ∷ []))) }
         ensures err { IfErr result (λ e. e ≡ fault.Writer) }
     {
         let byte = character % 0o200;
@@ -99,4 +101,4 @@ impl Paper {
 }
 
 /// The bytes that are kept at most.
-const HANDED_ON_AT_ONCE: usize = 4096;
+const HANDED_ON_AT_ONCE: usize = 0o10000;

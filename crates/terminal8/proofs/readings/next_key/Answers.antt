@@ -1,4 +1,4 @@
-use Rattle.std.proofs.Common.{ℕ, Option, Some, None, Ok, List, [], subst}
+use Rattle.std.proofs.Common.{ℕ, Option, Some, None, Ok, [], subst}
 use Rattle.std.proofs.lemmas.Result.{err_from_is_err_and}
 use Rattle.terminal8.specs.RunSteps.{ReadsByte}
 use Rattle.terminal8.proofs.ByteLemmas.{passes-more, holds-err}

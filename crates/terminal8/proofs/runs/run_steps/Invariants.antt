@@ -1,4 +1,4 @@
-use Rattle.std.proofs.Common.{◌≡◌, ℕ, ◌-◌, ◌≤◌}
+use Rattle.std.proofs.Common.{◌≡◌, ◌-◌, ◌≤◌}
 use Rattle.terminal8.proofs.RunLemmas.{IsRunning}
 use Rattle.terminal8.proofs.runs.run_steps.Given as goal
 

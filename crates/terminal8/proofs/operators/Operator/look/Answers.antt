@@ -1,4 +1,4 @@
-use Rattle.std.proofs.Common.{ℕ, Option, Some, None, Ok, List, subst}
+use Rattle.std.proofs.Common.{ℕ, Option, Ok, subst}
 use Rattle.terminal8.specs.RunSteps.{ReadsKey}
 use Rattle.terminal8.proofs.LookLemmas.{looks-over, looks-key, looks-none}
 use Rattle.terminal8.proofs.operators.Operator.look.Goals as goal
