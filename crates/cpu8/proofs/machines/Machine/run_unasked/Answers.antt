@@ -1,6 +1,5 @@
 use Rattle.std.proofs.Common.{true, sym}
 use Rattle.cpu8.proofs.GoLemmas.{after-none}
-use Rattle.cpu8.proofs.UnaskedLemmas.{none-unasked}
 use Rattle.cpu8.proofs.machines.Machine.run_unasked.Goals as goal
 
 pub returns-then-not-is_quiet-clause-state : goal.returns-then-not-is_quiet-clause-state
