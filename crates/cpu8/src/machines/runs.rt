@@ -61,6 +61,9 @@ impl Machine {
         if !self.processor.is_quiet(true) || !self.processor.is_settled() {
             return 0;
         }
+        if self.processor.finds_transfer(&self.core) {
+            return 0;
+        }
         self.run_settled(n)
     }
 

@@ -3,7 +3,7 @@
 //! parameters MINDS, whether breaks are minded, and ASKS, whether the loop stops where the program asks for a key, so that
 //! each stands in the program once for each of the three loops, and not once for all, which would not be inlined.
 
-ghost use Rattle.std.specs.Prelude.{◌≡◌, ◌<◌, ◌≤◌, ◌/◌, true, false};
+ghost use Rattle.std.specs.Prelude.{◌≡◌, ◌<◌, ◌≤◌, ◌/◌, true, false, nat_eq};
 ghost use Rattle.cpu8.specs.State.{next_cell, with_core};
 ghost use Rattle.cpu8.specs.Step.{fetched};
 ghost use Rattle.cpu8.specs.Go.{after, is_break};
@@ -94,6 +94,14 @@ impl Processor {
             }
         }
         n
+    }
+
+    /// Whether the next instruction is an IOT: a step makes it sooner than a run that may end before it or behind it.
+    #[inline(always)]
+    pub(crate) fn finds_transfer(&self, core: &Core) -> bool
+        ensures { result ≡ nat_eq (fetched (with_core self.now core.now) / 0o1000) 6 }
+    {
+        core.get(self.next_cell()).get() / 0o1000 == 6
     }
 
     /// Whether the next instruction is a KSF, and the keyboard flag is clear.
