@@ -1,12 +1,10 @@
 -- What TAD, CIA, the skips of group 2, and TSF behind TLS come to.
-use Rattle.std.proofs.Common.{◌≡◌, ℕ, ◌+◌, ◌-◌, ◌*◌, ◌/◌, ◌%◌, ◌<◌, Bool, true, false, not, nat_eq, if◌then◌else◌, refl, ap, sym, ◌∙◌, arith}
+use Rattle.std.proofs.Common.{◌≡◌, ℕ, ◌+◌, ◌-◌, ◌*◌, ◌/◌, ◌%◌, ◌<◌, Bool, true, false, not, if◌then◌else◌, refl, ap, sym, ◌∙◌, arith}
 use Rattle.std.proofs.lemmas.Bool.Decides.{nat_tests}
-use Rattle.tty8.specs.Bits.{has}
 use Rattle.cpu8.specs.State.{State, printer_done}
 use Rattle.cpu8.specs.Decoding.{operation_of, is_group_1, is_group_2, is_reversed}
 use Rattle.cpu8.specs.Operate.{group1_number, group1_row, is_met, group2_skips, group2_row, unassigned_row}
 use Rattle.cpu8.specs.Reference.{operand}
-use Rattle.cpu8.specs.Rotation.{thirteen_bits, number_of}
 use Rattle.cpu8.specs.Step.{row, executed, fetched, step}
 use Rattle.cpu8.specs.Laws.{cia, tsf, tls, after, link_and_ac, HasLinkAndAc, IsNext, IsNextWord, Skips, SkipsNot, IsTest}
 use Rattle.cpu8.specs.declared.decoding.Operation.{Operation}

@@ -8,5 +8,6 @@ pub mod InterruptLemmas
 pub mod AutoIndexLemmas
 pub mod GoLemmas
 pub mod QuietLemmas
+pub mod UnaskedLemmas
 pub mod UnbrokenLemmas
 pub mod UnsetLemmas

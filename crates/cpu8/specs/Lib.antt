@@ -8,4 +8,5 @@ pub mod Transfer
 pub mod Step
 pub mod Go
 pub mod QuietSteps
+pub mod Unasked
 pub mod Laws

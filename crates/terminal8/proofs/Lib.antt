@@ -5,3 +5,5 @@ pub mod WaitLemmas
 pub mod LoopLemmas
 pub mod LookLemmas
 pub mod RunLemmas
+pub mod ReadLemmas
+pub mod EndLemmas

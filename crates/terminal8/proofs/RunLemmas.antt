@@ -1,167 +1,238 @@
 -- A run, as far as it has come.
-use Rattle.std.proofs.Common.{◌≡◌, ℕ, ◌+◌, ◌<◌, ◌≤◌, Bool, true, false, true≢false, ◌&&◌, if◌then◌else◌, List, [], ◌∷◌, ◌++◌, Option, Some, None, Err, append-nil, append_assoc, unwrap_or, refl, ap, sym, subst, ◌∙◌, arith, below_more}
-use Rattle.std.specs.Io.KnownBytes.{Consumes, Appends, IsAtEnd}
+use Rattle.std.proofs.Common.{◌≡◌, ◌⊎◌, inl, inr, ℕ, zero, suc, ◌+◌, ◌<◌, ◌≤◌, Bool, true, false, true≢false, if◌then◌else◌, List, [], ◌∷◌, ◌++◌, Option, Some, None, Result, Ok, Err, append-nil, append_assoc, unwrap_or, refl, ap, sym, subst, ◌∙◌, arith, below_more}
+use Rattle.std.specs.Io.KnownBytes.{Consumes}
 use Rattle.cpu8.specs.State.{State}
-use Rattle.cpu8.specs.Go.{turn, character_of}
+use Rattle.cpu8.specs.Go.{turn, after, answer, character_of}
 use Rattle.cpu8.specs.Laws.{runs_on}
 use Rattle.cpu8.specs.declared.outcomes.Stepped.{Stepped}
 use Rattle.cpu8.specs.declared.outcomes.Stepped.TheVariants.{Stopped, Interrupted, Ran, Halted, Unassigned}
 use Rattle.terminal8.specs.Keys.{Keyboard, fresh, keys_from, keys_of}
 use Rattle.terminal8.specs.KeySteps.{behind}
-use Rattle.terminal8.specs.Terminal.{Terminal, attended, stepped, next, later, last_did, printed_by, shown, starves, has_halted, GoesOn, Ends}
-use Rattle.terminal8.specs.Run.{MayFollow, terminal_of, HasMade, HasRun, IsCut, Runs}
-use Rattle.terminal8.specs.RunSteps.{Takes, Attends, Misses, stop_of}
+use Rattle.terminal8.specs.Asks.{asks_for_key}
+use Rattle.terminal8.specs.Terminal.{Terminal, seated, looked, stepped, next, later, last_did, printed_by, shown, starves, has_halted, GoesOn, Ends}
+use Rattle.terminal8.specs.Run.{MayFollow, Finds, FindsNone, HaveEnded, HasMade, IsRunOf, IsCut, Writes, Runs}
+use Rattle.terminal8.specs.RunSteps.{StrikesKeys, IsDry, IsNoneOnly, Passes, Holds, Attends, Misses, Prints, RunsInto, stop_of}
+use Rattle.terminal8.specs.declared.inputs.Input.{Input}
 use Rattle.terminal8.specs.declared.outcomes.TerminalFault.{TerminalFault}
 use Rattle.terminal8.specs.declared.outcomes.TerminalFault.TheVariants.{Reader, Writer}
 use Rattle.terminal8.specs.declared.keyboards.Form.{Form}
 use Rattle.terminal8.specs.declared.outcomes.Ended.{Ended}
 use Rattle.terminal8.specs.declared.outcomes.Why.{Why}
 use Rattle.terminal8.specs.declared.outcomes.Why.TheVariants as why
-use Rattle.terminal8.proofs.ByteLemmas.{consumes_more, consumes_none, appends_more, appends_none}
+use Rattle.terminal8.proofs.ByteLemmas.{consumes_more, consumes_none, passes-none, passes-more, passed}
 use Rattle.terminal8.proofs.KeyLemmas.{keys_more, behind_more}
+use Rattle.terminal8.proofs.LookLemmas.{finds-none, finds-more, finds-found, starves-not}
 use Rattle.terminal8.proofs.TerminalLemmas.{later-none, later-next, did-none, did-next, printed-none, printed-next, shown-more}
 
--- So many steps are made with the keys of these bytes, and no end came before.
-pub record IsAt (form : Form) (old new : State) (k : Keyboard) (over : Bool) (since : ℕ) (r r' : Option (List ℕ)) (bytes : List ℕ) (steps : ℕ) : Type 0 where
-  pub taken : Consumes r r' bytes
-  pub keyboard : k ≡ behind (fresh form) bytes
-  pub at_end : over ≡ true → IsAtEnd r'
-  pub at : (more : List ℕ) → MayFollow over more
-      → later steps (terminal_of form old (bytes ++ more)) ≡ record { machine = new; keys = keys_from k more; since = since }
-  pub goes_on : (more : List ℕ) → MayFollow over more → (m : ℕ) → m < steps → GoesOn (terminal_of form old (bytes ++ more)) m
+-- ## How far a run has come
+
+-- So many steps are made, in which these looks were made, and no end came before.
+pub record IsAt (old : State) (looks : List (Option ℕ)) (over : Bool) (steps : ℕ) (new : State) (since : ℕ) : Type 0 where
+  pub at : (more : List (Option ℕ)) → MayFollow over more → later steps (seated old (looks ++ more)) ≡ record { machine = new; looks = more; since = since }
+  pub goes_on : (more : List (Option ℕ)) → MayFollow over more → (m : ℕ) → m < steps → GoesOn (seated old (looks ++ more)) m
 
 -- the last of them is no end
-abbrev pub RunsOn : Form → State → Bool → List ℕ → ℕ → Type 0
-RunsOn form old over bytes steps = (more : List ℕ) → MayFollow over more → runs_on (last_did steps (terminal_of form old (bytes ++ more))) ≡ true
+abbrev pub RunsOn : State → List (Option ℕ) → Bool → ℕ → Type 0
+RunsOn old looks over steps = (more : List (Option ℕ)) → MayFollow over more → runs_on (last_did steps (seated old (looks ++ more))) ≡ true
 
--- what they printed is written
-abbrev pub Wrote : Form → State → Bool → Option (List ℕ) → Option (List ℕ) → List ℕ → ℕ → Type 0
-Wrote form old over w w' bytes steps = (more : List ℕ) → MayFollow over more
-    → Appends w w' (shown (printed_by steps (terminal_of form old (bytes ++ more))))
+-- These looks found the keys of bytes that the reader gave.
+pub record IsTaken (form : Form) (input : Input) (k : Keyboard) (ahead : List ℕ) (over : Bool) (r r' : Option (List ℕ)) (looks : List (Option ℕ)) : Type 0 where
+  pub bytes : List ℕ
+  pub taken : Consumes r r' (bytes ++ ahead)
+  pub keyboard : k ≡ behind (fresh form) bytes
+  pub finds : Finds input looks (keys_of form bytes)
+  pub none_only : (before after : List (Option ℕ)) → before ++ None ∷ after ≡ looks → FindsNone form r before
+  pub at_end : over ≡ true → HaveEnded input ahead r'
 
--- ## The beginning
-
-pub begun : (form : Form) (s : State) (r : Option (List ℕ)) → IsAt form s s (fresh form) false 0 r r [] 0
-begun form s r = record {
-  taken = consumes_none r;
-  keyboard = refl;
-  at_end = λ h. absurd (true≢false (sym h));
-  at = λ more _. later-none (terminal_of form s more);
-  goes_on = λ more _ m below. absurd (omega (arith, below));
-}
-
-pub begun-runs : (form : Form) (s : State) → s.running ≡ true → RunsOn form s false [] 0
-begun-runs form s running more _ =
-    ap (λ did. runs_on did) (did-none (terminal_of form s more))
-    ∙ ap (λ (b : Bool). runs_on (if b then Ran None else Stopped)) running
-
-pub begun-wrote : (form : Form) (s : State) (w : Option (List ℕ)) → Wrote form s false w w [] 0
-begun-wrote form s w more _ = subst (λ cs. Appends w w (shown cs)) (sym (printed-none (terminal_of form s more))) (appends_none w)
-
--- ## The operator attends
-
--- more bytes were taken
-pub joined : (form : Form) (old : State) (bytes taken more : List ℕ) → terminal_of form old ((bytes ++ taken) ++ more) ≡ terminal_of form old (bytes ++ (taken ++ more))
-joined form old bytes taken more = ap (λ bs. terminal_of form old bs) (append_assoc bytes taken more)
-
-pub may-join : (over over' : Bool) (taken more : List ℕ) → (over ≡ true → taken ≡ []) → (over ≡ true → over' ≡ true) → MayFollow over' more
-    → MayFollow over (taken ++ more)
-may-join over over' taken more stays goes may is = ap (λ bs. bs ++ more) (stays is) ∙ may (goes is)
-
-pub step-at : (form : Form) (old s s' new : State) (k k' : Keyboard) (over over' : Bool) (since since' : ℕ) (r r' r'' : Option (List ℕ)) (bytes : List ℕ) (steps : ℕ) (starved : Bool)
-    → IsAt form old s k over since r r' bytes steps → RunsOn form old over bytes steps
-    → (a : Attends k k' over over' s s' since since' r' r'' starved) → starved ≡ false → new ≡ (turn true s').0
-    → IsAt form old new k' over' (since' + 1) r r'' (bytes ++ a.bytes) (steps + 1)
-step-at form old s s' new k k' over over' since since' r r' r'' bytes steps starved i runs a fed_is new_is = record {
-  taken = consumes_more r r' r'' bytes a.bytes i.taken a.taken;
-  keyboard = a.keyboard ∙ ap (λ k. behind k a.bytes) i.keyboard ∙ sym (behind_more (fresh form) bytes a.bytes);
-  at_end = a.at_end i.at_end;
-  at = λ more may.
-      let may' = may-join over over' a.bytes more a.stays a.over may in
-      later-next steps (terminal_of form old ((bytes ++ a.bytes) ++ more))
-      ∙ ap (λ t. next (later steps t)) (joined form old bytes a.bytes more)
-      ∙ ap (λ t. next t) (i.at (a.bytes ++ more) may')
-      ∙ ap (λ (x : Terminal). let y : Terminal = record x { machine = (turn true x.machine).0; since = x.since + 1 } in y) (a.attended_is more may)
-      ∙ ap (λ (m : State). let y : Terminal = record { machine = m; keys = keys_from k' more; since = since' + 1 } in y) (sym new_is);
-  goes_on = λ more may.
-      let may' = may-join over over' a.bytes more a.stays a.over may in
-      subst (λ t. (m : ℕ) → m < steps + 1 → GoesOn t m) (sym (joined form old bytes a.bytes more))
-      (below_more _ _ (i.goes_on (a.bytes ++ more) may') (record {
-        runs = runs (a.bytes ++ more) may';
-        fed = ap (λ t. starves t) (i.at (a.bytes ++ more) may') ∙ a.starves_is more may ∙ fed_is;
-      }));
-}
-
--- what that step did
-pub step-did : (form : Form) (old s s' : State) (k k' : Keyboard) (over over' : Bool) (since since' : ℕ) (r r' r'' : Option (List ℕ)) (bytes : List ℕ) (steps : ℕ) (starved : Bool)
-    → IsAt form old s k over since r r' bytes steps
-    → (a : Attends k k' over over' s s' since since' r' r'' starved)
-    → (more : List ℕ) → MayFollow over' more → (stepped (later steps (terminal_of form old ((bytes ++ a.bytes) ++ more)))).1 ≡ (turn true s').1
-step-did form old s s' k k' over over' since since' r r' r'' bytes steps starved i a more may =
-    let may' = may-join over over' a.bytes more a.stays a.over may in
-    ap (λ t. (stepped (later steps t)).1) (joined form old bytes a.bytes more)
-    ∙ ap (λ t. (stepped t).1) (i.at (a.bytes ++ more) may')
-    ∙ ap (λ (x : Terminal). (turn true x.machine).1) (a.attended_is more may)
-
--- what is written behind it
-pub step-wrote : (form : Form) (old s s' : State) (k k' : Keyboard) (over over' : Bool) (since since' : ℕ) (r r' r'' w w' w'' w''' : Option (List ℕ)) (bytes : List ℕ) (steps : ℕ) (starved : Bool)
-    (did : Stepped) → IsAt form old s k over since r r' bytes steps → Wrote form old over w w' bytes steps
-    → (a : Attends k k' over over' s s' since since' r' r'' starved)
-    → Appends w' w'' [] → did ≡ (turn true s').1 → Appends w'' w''' (shown (character_of did))
-    → Wrote form old over' w w''' (bytes ++ a.bytes) (steps + 1)
-step-wrote form old s s' k k' over over' since since' r r' r'' w w' w'' w''' bytes steps starved did i wrote a none did_is more_written more may =
-    let may' = may-join over over' a.bytes more a.stays a.over may in
-    let t = terminal_of form old ((bytes ++ a.bytes) ++ more) in
-    let before : Appends w w' (shown (printed_by steps t)) =
-    subst (λ t. Appends w w' (shown (printed_by steps t))) (sym (joined form old bytes a.bytes more)) (wrote (a.bytes ++ more) may') in
-    let handed : Appends w w'' (shown (printed_by steps t)) =
-    subst (λ cs. Appends w w'' cs) (append-nil (shown (printed_by steps t))) (appends_more w w' w'' (shown (printed_by steps t)) [] before none) in
-    let did_all = did_is ∙ sym (step-did form old s s' k k' over over' since since' r r' r'' bytes steps starved i a more may) in
-    subst (λ cs. Appends w w''' cs)
-    (ap (λ d. shown (printed_by steps t) ++ shown (character_of d)) did_all
-    ∙ sym (shown-more (printed_by steps t) (character_of (stepped (later steps t)).1))
-    ∙ ap (λ cs. shown cs) (sym (printed-next steps t)))
-    (appends_more w w'' w''' (shown (printed_by steps t)) (shown (character_of did)) handed more_written)
-
--- bytes were taken that are no key
-pub moved-at : (form : Form) (old s : State) (k k' : Keyboard) (over over' : Bool) (since : ℕ) (r r' r'' : Option (List ℕ)) (bytes taken : List ℕ) (steps : ℕ)
-    → IsAt form old s k over since r r' bytes steps → Consumes r' r'' taken → k' ≡ behind k taken → (over ≡ true → taken ≡ [])
-    → (over ≡ true → over' ≡ true) → (over' ≡ true → IsAtEnd r'') → keys_from k taken ≡ []
-    → ((more : List ℕ) → MayFollow over' more → (m : ℕ) → m < steps → GoesOn (terminal_of form old ((bytes ++ taken) ++ more)) m)
-    → IsAt form old s k' over' since r r'' (bytes ++ taken) steps
-moved-at form old s k k' over over' since r r' r'' bytes taken steps i consumed k'_is stays goes end none before = record {
-  taken = consumes_more r r' r'' bytes taken i.taken consumed;
-  keyboard = k'_is ∙ ap (λ k. behind k taken) i.keyboard ∙ sym (behind_more (fresh form) bytes taken);
-  at_end = end;
-  at = λ more may.
-      ap (λ t. later steps t) (joined form old bytes taken more)
-      ∙ i.at (taken ++ more) (may-join over over' taken more stays goes may)
-      ∙ ap (λ (keys : List ℕ). let x : Terminal = record { machine = s; keys = keys; since = since } in x)
-      (keys_more k taken more ∙ ap (λ keys. keys ++ keys_from (behind k taken) more) none ∙ ap (λ k. keys_from k more) (sym k'_is));
-  goes_on = before;
-}
-
-pub moved-goes : (form : Form) (old s : State) (k : Keyboard) (over over' : Bool) (since : ℕ) (r r' : Option (List ℕ)) (bytes taken : List ℕ) (steps : ℕ)
-    → IsAt form old s k over since r r' bytes steps → (over ≡ true → taken ≡ []) → (over ≡ true → over' ≡ true)
-    → (more : List ℕ) → MayFollow over' more → (m : ℕ) → m < steps → GoesOn (terminal_of form old ((bytes ++ taken) ++ more)) m
-moved-goes form old s k over over' since r r' bytes taken steps i stays goes more may =
-    subst (λ t. (m : ℕ) → m < steps → GoesOn t m) (sym (joined form old bytes taken more))
-    (i.goes_on (taken ++ more) (may-join over over' taken more stays goes may))
-
-pub moved-wrote : (form : Form) (old : State) (over over' : Bool) (w w' w'' : Option (List ℕ)) (bytes taken : List ℕ) (steps : ℕ)
-    → Wrote form old over w w' bytes steps → (over ≡ true → taken ≡ []) → (over ≡ true → over' ≡ true) → Appends w' w'' []
-    → Wrote form old over' w w'' (bytes ++ taken) steps
-moved-wrote form old over over' w w' w'' bytes taken steps wrote stays goes none more may =
-    let t = terminal_of form old ((bytes ++ taken) ++ more) in
-    let before : Appends w w' (shown (printed_by steps t)) =
-    subst (λ t. Appends w w' (shown (printed_by steps t))) (sym (joined form old bytes taken more)) (wrote (taken ++ more) (may-join over over' taken more stays goes may)) in
-    subst (λ cs. Appends w w'' cs) (append-nil (shown (printed_by steps t))) (appends_more w w' w'' (shown (printed_by steps t)) [] before none)
-
--- ## Ends
+-- All that: the run goes on behind so many steps.
+pub record IsRunning (form : Form) (input : Input) (old new : State) (k : Keyboard) (ahead : List ℕ) (over : Bool) (since : ℕ)
+    (r r' w w' : Option (List ℕ)) (paper : List ℕ) (steps : ℕ) : Type 0 where
+  pub looks : List (Option ℕ)
+  pub is_at : IsAt old looks over steps new since
+  pub runs : RunsOn old looks over steps
+  pub taken : IsTaken form input k ahead over r r' looks
+  pub prints : Prints old looks over w w' paper steps
 
 abbrev is-some : {T : Type 0} → Option T → Bool
 is-some None = false
 is-some (Some x) = true
+
+none-empty : (before after : List (Option ℕ)) → before ++ None ∷ after ≡ [] → ⊥
+none-empty [] after is = cc
+none-empty (look ∷ before) after is = cc
+
+-- a look that found none is the last one, or one before that
+none-split : (looks before after : List (Option ℕ)) (look : Option ℕ) → before ++ None ∷ after ≡ looks ++ look ∷ []
+    → ((before ≡ looks) × (look ≡ None)) ⊎ ((rest : List (Option ℕ)) × (before ++ None ∷ rest ≡ looks))
+none-split [] [] after look is = let e : look ≡ None = cc in inl (refl, e)
+none-split [] (b ∷ before) after look is = let e : before ++ None ∷ after ≡ [] = cc in absurd (none-empty before after e)
+none-split (l ∷ looks) [] after look is = let e : l ≡ None = cc in inr (looks, ap (λ x. x ∷ looks) (sym e))
+none-split (l ∷ looks) (b ∷ before) after look is =
+    let e : before ++ None ∷ after ≡ looks ++ look ∷ [] = cc in
+    let f : b ≡ l = cc in
+    elim (none-split looks before after look e) [
+      | inl h ↦ inl (ap (λ x. b ∷ x) h.0 ∙ ap (λ x. x ∷ looks) f, h.1)
+      | inr h ↦ inr (h.0, ap (λ x. b ∷ x) h.1 ∙ ap (λ x. x ∷ looks) f)
+    ]
+
+pub begun : (form : Form) (input : Input) (s : State) (r w : Option (List ℕ)) → s.running ≡ true
+    → IsRunning form input s s (fresh form) [] false 0 r r w w [] 0
+begun form input s r w running = record {
+  looks = [];
+  is_at = record {
+    at = λ more _. later-none (seated s more);
+    goes_on = λ more _ m below. absurd (omega (arith, below));
+  };
+  runs = λ more _. ap (λ did. runs_on did) (did-none (seated s more)) ∙ ap (λ (b : Bool). runs_on (if b then Ran None else Stopped)) running;
+  taken = record {
+    bytes = [];
+    taken = consumes_none r;
+    keyboard = refl;
+    finds = finds-none input;
+    none_only = λ before after is. absurd (none-empty before after is);
+    at_end = λ h. absurd (true≢false (sym h));
+  };
+  prints = λ more _. subst (λ cs. Passes w w [] [] (shown cs)) (sym (printed-none (seated s more))) (passes-none w []);
+}
+
+-- ## The operator attends
+
+-- more looks were made
+joined : (old : State) (looks found more : List (Option ℕ)) → seated old ((looks ++ found) ++ more) ≡ seated old (looks ++ (found ++ more))
+joined old looks found more = ap (λ l. seated old l) (append_assoc looks found more)
+
+may-join : (over over' : Bool) (found more : List (Option ℕ)) → (over ≡ true → found ≡ []) → (over ≡ true → over' ≡ true) → MayFollow over' more
+    → MayFollow over (found ++ more)
+may-join over over' found more stays goes may is = ap (λ l. l ++ more) (stays is) ∙ may (goes is)
+
+-- the keys of more bytes
+keys-sum : (form : Form) (input : Input) (k k' : Keyboard) (a a' : List ℕ) (over : Bool) (r r' r'' : Option (List ℕ)) (looks : List (Option ℕ)) (keys : List ℕ)
+    → (i : IsTaken form input k a over r r' looks) → (s : StrikesKeys k k' a a' r' r'' keys) → keys_of form i.bytes ++ keys ≡ keys_of form (i.bytes ++ s.bytes)
+keys-sum form input k k' a a' over r r' r'' looks keys i s =
+    ap (λ ks. keys_of form i.bytes ++ ks) (sym s.keys_are ∙ ap (λ k. keys_from k s.bytes) i.keyboard) ∙ sym (keys_more (fresh form) i.bytes s.bytes)
+
+taken-all : (form : Form) (input : Input) (k k' : Keyboard) (a a' : List ℕ) (over : Bool) (r r' r'' : Option (List ℕ)) (looks : List (Option ℕ)) (keys : List ℕ)
+    → (i : IsTaken form input k a over r r' looks) → (s : StrikesKeys k k' a a' r' r'' keys) → Consumes r r'' ((i.bytes ++ s.bytes) ++ a')
+taken-all form input k k' a a' over r r' r'' looks keys i s =
+    subst (λ bs. Consumes r r'' bs)
+    (append_assoc i.bytes a s.strikes.read ∙ ap (λ l. i.bytes ++ l) s.strikes.in_order ∙ sym (append_assoc i.bytes s.bytes a'))
+    (consumes_more r r' r'' (i.bytes ++ a) s.strikes.read i.taken s.strikes.taken)
+
+-- a look behind these found none
+finds-here : (form : Form) (input : Input) (k k' : Keyboard) (a a' : List ℕ) (over : Bool) (r r' r'' : Option (List ℕ)) (looks : List (Option ℕ)) (keys : List ℕ)
+    → IsTaken form input k a over r r' looks → StrikesKeys k k' a a' r' r'' keys → keys ≡ [] → IsDry a' r'' → FindsNone form r looks
+finds-here form input k k' a a' over r r' r'' looks keys i s none dry = record {
+  bytes = i.bytes ++ s.bytes;
+  left = r'';
+  taken =
+      subst (λ bs. Consumes r r'' bs) (ap (λ l. (i.bytes ++ s.bytes) ++ l) dry.0 ∙ append-nil (i.bytes ++ s.bytes))
+      (taken-all form input k k' a a' over r r' r'' looks keys i s);
+  struck =
+      finds-found input looks (keys_of form i.bytes) i.finds
+      ∙ sym (append-nil (keys_of form i.bytes))
+      ∙ ap (λ ks. keys_of form i.bytes ++ ks) (sym none)
+      ∙ keys-sum form input k k' a a' over r r' r'' looks keys i s;
+  at_end = dry.1;
+}
+
+key-not : (key : ℕ) → Some key ≡ None → ⊥
+key-not key is = true≢false (ap (λ o. is-some o) is)
+
+none-next : (form : Form) (input : Input) (k k' : Keyboard) (a a' : List ℕ) (over : Bool) (r r' r'' : Option (List ℕ)) (looks found : List (Option ℕ)) (keys : List ℕ)
+    → IsTaken form input k a over r r' looks → StrikesKeys k k' a a' r' r'' keys → IsNoneOnly found keys a' r''
+    → (before after : List (Option ℕ)) → before ++ None ∷ after ≡ looks ++ found → FindsNone form r before
+none-next form input k k' a a' over r r' r'' looks [] keys i s n before after is = i.none_only before after (is ∙ append-nil looks)
+none-next form input k k' a a' over r r' r'' looks (Some key ∷ more) keys i s n before after is =
+    elim (none-split looks before after (Some key) (is ∙ ap (λ l. looks ++ Some key ∷ l) n)) [
+      | inl h ↦ absurd (key-not key h.1)
+      | inr h ↦ i.none_only before h.0 h.1
+    ]
+none-next form input k k' a a' over r r' r'' looks (None ∷ more) keys i s n before after is =
+    elim (none-split looks before after None (is ∙ ap (λ l. looks ++ None ∷ l) n.0)) [
+      | inl h ↦ subst (λ l. FindsNone form r l) (sym h.0) (finds-here form input k k' a a' over r r' r'' looks keys i s n.1 n.2)
+      | inr h ↦ i.none_only before h.0 h.1
+    ]
+
+-- bytes were struck that give these keys, which looks found
+taken-more : (form : Form) (input : Input) (k k' : Keyboard) (a a' : List ℕ) (over over' : Bool) (r r' r'' : Option (List ℕ)) (looks found : List (Option ℕ)) (keys : List ℕ)
+    → IsTaken form input k a over r r' looks → StrikesKeys k k' a a' r' r'' keys → Finds input found keys → IsNoneOnly found keys a' r''
+    → (over' ≡ true → HaveEnded input a' r'') → IsTaken form input k' a' over' r r'' (looks ++ found)
+taken-more form input k k' a a' over over' r r' r'' looks found keys i s finds none end = record {
+  bytes = i.bytes ++ s.bytes;
+  taken = taken-all form input k k' a a' over r r' r'' looks keys i s;
+  keyboard = s.keyboard ∙ ap (λ k. behind k s.bytes) i.keyboard ∙ sym (behind_more (fresh form) i.bytes s.bytes);
+  finds =
+      subst (λ ks. Finds input (looks ++ found) ks) (keys-sum form input k k' a a' over r r' r'' looks keys i s)
+      (finds-more input looks found (keys_of form i.bytes) keys i.finds finds);
+  none_only = none-next form input k k' a a' over r r' r'' looks found keys i s none;
+  at_end = end;
+}
+
+taken-next : (form : Form) (input : Input) (k k' : Keyboard) (a a' : List ℕ) (over over' : Bool) (s s' : State) (since since' : ℕ) (r r' r'' : Option (List ℕ)) (looks : List (Option ℕ)) (starved : Bool)
+    → IsTaken form input k a over r r' looks → (at : Attends input k k' a a' over over' s s' since since' r' r'' starved)
+    → IsTaken form input k' a' over' r r'' (looks ++ at.found)
+taken-next form input k k' a a' over over' s s' since since' r r' r'' looks starved i at =
+    taken-more form input k k' a a' over over' r r' r'' looks at.found at.keys i at.strikes at.finds at.none_only (at.at_end i.at_end)
+
+-- the step behind that
+step-at : (input : Input) (old s s' new : State) (k k' : Keyboard) (a a' : List ℕ) (over over' : Bool) (since since' : ℕ) (r r' : Option (List ℕ)) (looks : List (Option ℕ)) (steps : ℕ) (starved : Bool)
+    → IsAt old looks over steps s since → RunsOn old looks over steps → (at : Attends input k k' a a' over over' s s' since since' r r' starved) → starved ≡ false
+    → new ≡ (turn true s').0 → IsAt old (looks ++ at.found) over' (steps + 1) new (since' + 1)
+step-at input old s s' new k k' a a' over over' since since' r r' looks steps starved i runs at fed new_is = record {
+  at = λ more may.
+      let may' = may-join over over' at.found more at.stays at.over may in
+      later-next steps (seated old ((looks ++ at.found) ++ more))
+      ∙ ap (λ t. next (later steps t)) (joined old looks at.found more)
+      ∙ ap (λ t. next t) (i.at (at.found ++ more) may')
+      ∙ ap (λ (x : Terminal). let y : Terminal = record x { machine = (turn true x.machine).0; since = x.since + 1 } in y) (at.attends more may)
+      ∙ ap (λ (m : State). let y : Terminal = record { machine = m; looks = more; since = since' + 1 } in y) (sym new_is);
+  goes_on = λ more may.
+      let may' = may-join over over' at.found more at.stays at.over may in
+      subst (λ t. (m : ℕ) → m < steps + 1 → GoesOn t m) (sym (joined old looks at.found more))
+      (below_more _ _ (i.goes_on (at.found ++ more) may') (record {
+        runs = runs (at.found ++ more) may';
+        fed = ap (λ t. starves t) (i.at (at.found ++ more) may') ∙ at.starves_is more may ∙ fed;
+      }));
+}
+
+-- what it did
+step-did : (input : Input) (old s s' : State) (k k' : Keyboard) (a a' : List ℕ) (over over' : Bool) (since since' : ℕ) (r r' : Option (List ℕ)) (looks : List (Option ℕ)) (steps : ℕ) (starved : Bool)
+    → IsAt old looks over steps s since → (at : Attends input k k' a a' over over' s s' since since' r r' starved)
+    → (more : List (Option ℕ)) → MayFollow over' more → (stepped (later steps (seated old ((looks ++ at.found) ++ more)))).1 ≡ (turn true s').1
+step-did input old s s' k k' a a' over over' since since' r r' looks steps starved i at more may =
+    let may' = may-join over over' at.found more at.stays at.over may in
+    ap (λ t. (stepped (later steps t)).1) (joined old looks at.found more)
+    ∙ ap (λ t. (stepped t).1) (i.at (at.found ++ more) may')
+    ∙ ap (λ (x : Terminal). (turn true x.machine).1) (at.attends more may)
+
+step-last : (input : Input) (old s s' : State) (k k' : Keyboard) (a a' : List ℕ) (over over' : Bool) (since since' : ℕ) (r r' : Option (List ℕ)) (looks : List (Option ℕ)) (steps : ℕ) (starved : Bool)
+    (did : Stepped) → IsAt old looks over steps s since → (at : Attends input k k' a a' over over' s s' since since' r r' starved) → did ≡ (turn true s').1
+    → (more : List (Option ℕ)) → MayFollow over' more → last_did (steps + 1) (seated old ((looks ++ at.found) ++ more)) ≡ did
+step-last input old s s' k k' a a' over over' since since' r r' looks steps starved did i at did_is more may =
+    did-next steps (seated old ((looks ++ at.found) ++ more))
+    ∙ step-did input old s s' k k' a a' over over' since since' r r' looks steps starved i at more may
+    ∙ sym did_is
+
+-- what it printed
+step-prints : (input : Input) (old s s' : State) (k k' : Keyboard) (a a' : List ℕ) (over over' : Bool) (since since' : ℕ) (r r' w w' w'' w''' : Option (List ℕ)) (p p' p'' : List ℕ)
+    (looks : List (Option ℕ)) (steps : ℕ) (starved : Bool) (did : Stepped)
+    → IsAt old looks over steps s since → Prints old looks over w w' p steps → (at : Attends input k k' a a' over over' s s' since since' r r' starved)
+    → Passes w' w'' p p' [] → did ≡ (turn true s').1 → Passes w'' w''' p' p'' (shown (character_of did))
+    → Prints old (looks ++ at.found) over' w w''' p'' (steps + 1)
+step-prints input old s s' k k' a a' over over' since since' r r' w w' w'' w''' p p' p'' looks steps starved did i prints at none did_is some more may =
+    let t = seated old ((looks ++ at.found) ++ more) in
+    let did_all = did_is ∙ sym (step-did input old s s' k k' a a' over over' since since' r r' looks steps starved i at more may) in
+    let before : Passes w w' [] p (shown (printed_by steps t)) =
+    subst (λ t. Passes w w' [] p (shown (printed_by steps t))) (sym (joined old looks at.found more))
+    (prints (at.found ++ more) (may-join over over' at.found more at.stays at.over may)) in
+    subst (λ cs. Passes w w''' [] p'' cs)
+    (ap (λ d. shown (printed_by steps t) ++ shown (character_of d)) did_all
+    ∙ sym (shown-more (printed_by steps t) (character_of (stepped (later steps t)).1))
+    ∙ ap (λ cs. shown cs) (sym (printed-next steps t)))
+    (passes-more w w' w''' [] p p'' (shown (printed_by steps t)) (shown (character_of did)) before
+    (passes-more w' w'' w''' p p' p'' [] (shown (character_of did)) none some))
+
+-- ## Whether it was an end
 
 none-some : (why : Why) → Some why ≡ None → ⊥
 none-some w h = true≢false (ap (λ o. is-some o) h)
@@ -182,45 +253,6 @@ ends-by t n steps Stopped w last is = subst (λ x. Ends t n steps x) (why-is why
 ends-by t n steps (Unassigned word) w last is = subst (λ x. Ends t n steps x) (why-is why.Unassigned w is) (word, last)
 ends-by t n steps Interrupted w last is = absurd (none-some w (sym is))
 ends-by t n steps (Ran printed) w last is = absurd (none-some w (sym is))
-
-pub has-made : (form : Form) (old new : State) (k : Keyboard) (over : Bool) (since : ℕ) (r r' : Option (List ℕ)) (bytes : List ℕ) (steps : ℕ)
-    → IsAt form old new k over since r r' bytes steps → HasMade form old new r r' bytes over steps
-has-made form old new k over since r r' bytes steps i = record {
-  taken = i.taken;
-  at_end = i.at_end;
-  machine = λ more may. ap (λ t. t.machine) (i.at more may);
-  keys = λ more may.
-      keys_more (fresh form) bytes more
-      ∙ ap (λ k. keys_of form bytes ++ keys_from k more) (sym i.keyboard)
-      ∙ ap (λ t. keys_of form bytes ++ t.keys) (sym (i.at more may));
-}
-
--- a run that ends
-pub has-run : (form : Form) (n : ℕ) (old new : State) (k : Keyboard) (over : Bool) (since : ℕ) (r r' w w' : Option (List ℕ)) (bytes : List ℕ) (steps : ℕ) (y : Why)
-    → IsAt form old new k over since r r' bytes steps → Wrote form old over w w' bytes steps → steps ≤ n
-    → ((more : List ℕ) → MayFollow over more → Ends (terminal_of form old (bytes ++ more)) n steps y) → (y ≡ why.Keys → over ≡ true)
-    → HasRun form n old new r r' w w' (record { steps = steps; why = y })
-has-run form n old new k over since r r' w w' bytes steps y i wrote within ends none = record {
-  bytes = bytes;
-  is_over = over;
-  made = has-made form old new k over since r r' bytes steps i;
-  run = λ more may. record { within = within; goes_on = i.goes_on more may; ends = ends more may };
-  printed = wrote;
-  none_left = none;
-}
-
-abbrev pub is-cut : (form : Form) (n : ℕ) (old new : State) (k : Keyboard) (over : Bool) (since : ℕ) (r r' : Option (List ℕ)) (bytes : List ℕ) (steps : ℕ)
-    → IsAt form old new k over since r r' bytes steps → steps ≤ n → IsCut form n old new r r'
-is-cut form n old new k over since r r' bytes steps i within = record {
-  bytes = bytes;
-  is_over = over;
-  steps = steps;
-  made = has-made form old new k over since r r' bytes steps i;
-  within = within;
-  goes_on = i.goes_on;
-}
-
--- ## The ends of a run
 
 is-keys : Why → Bool
 is-keys why.Halt = false
@@ -248,123 +280,292 @@ limit-keys : is-keys why.Limit ≡ false
 unfolding is-keys
 limit-keys = refl
 
+-- ## A run that goes on
+
+-- behind a step
+pub running-next : (form : Form) (input : Input) (old s s' new : State) (k k' : Keyboard) (a a' : List ℕ) (over over' : Bool) (since since' : ℕ)
+    (r r' r'' w w' w'' w''' : Option (List ℕ)) (p p' p'' : List ℕ) (steps : ℕ) (did : Stepped)
+    → IsRunning form input old s k a over since r r' w w' p steps → Attends input k k' a a' over over' s s' since since' r' r'' false
+    → Passes w' w'' p p' [] → new ≡ (turn true s').0 → did ≡ (turn true s').1 → Passes w'' w''' p' p'' (shown (character_of did)) → stop_of did ≡ None
+    → IsRunning form input old new k' a' over' (since' + 1) r r'' w w''' p'' (steps + 1)
+running-next form input old s s' new k k' a a' over over' since since' r r' r'' w w' w'' w''' p p' p'' steps did i at none new_is did_is some goes = record {
+  looks = i.looks ++ at.found;
+  is_at = step-at input old s s' new k k' a a' over over' since since' r' r'' i.looks steps false i.is_at i.runs at refl new_is;
+  runs = λ more may.
+      ap (λ d. runs_on d) (step-last input old s s' k k' a a' over over' since since' r' r'' i.looks steps false did i.is_at at did_is more may)
+      ∙ goes-by did goes;
+  taken = taken-next form input k k' a a' over over' s s' since since' r r' r'' i.looks false i.taken at;
+  prints = step-prints input old s s' k k' a a' over over' since since' r' r'' w w' w'' w''' p p' p'' i.looks steps false did i.is_at i.prints at none did_is some;
+}
+
+-- behind a step in which the program asks for no key and that prints nothing
+quiet-at : (old s : State) (looks : List (Option ℕ)) (over : Bool) (steps since : ℕ) → IsAt old looks over steps s since → RunsOn old looks over steps
+    → asks_for_key since s ≡ false → IsAt old looks over (steps + 1) (turn true s).0 (since + 1)
+quiet-at old s looks over steps since i runs asks = record {
+  at = λ more may.
+      later-next steps (seated old (looks ++ more))
+      ∙ ap (λ t. next t) (i.at more may)
+      ∙ ap (λ (b : Bool). let x : Terminal = if b then looked s more else record { machine = s; looks = more; since = since } in
+      let y : Terminal = record x { machine = (turn true x.machine).0; since = x.since + 1 } in y) asks;
+  goes_on = λ more may. below_more _ _ (i.goes_on more may) (record {
+    runs = runs more may;
+    fed = ap (λ t. starves t) (i.at more may) ∙ starves-not s more since asks;
+  });
+}
+
+quiet-did : (old s : State) (looks : List (Option ℕ)) (over : Bool) (steps since : ℕ) → IsAt old looks over steps s since → asks_for_key since s ≡ false
+    → (more : List (Option ℕ)) → MayFollow over more → (stepped (later steps (seated old (looks ++ more)))).1 ≡ (turn true s).1
+quiet-did old s looks over steps since i asks more may =
+    ap (λ t. (stepped t).1) (i.at more may)
+    ∙ ap (λ (b : Bool). let x : Terminal = if b then looked s more else record { machine = s; looks = more; since = since } in (turn true x.machine).1) asks
+
+quiet-prints : (old s : State) (looks : List (Option ℕ)) (over : Bool) (steps since : ℕ) (w w' : Option (List ℕ)) (p : List ℕ) → IsAt old looks over steps s since
+    → asks_for_key since s ≡ false → (turn true s).1 ≡ Ran None → Prints old looks over w w' p steps → Prints old looks over w w' p (steps + 1)
+quiet-prints old s looks over steps since w w' p i asks ran prints more may =
+    let t = seated old (looks ++ more) in
+    subst (λ cs. Passes w w' [] p (shown cs))
+    (sym (append-nil (printed_by steps t))
+    ∙ ap (λ d. printed_by steps t ++ character_of d) (sym (quiet-did old s looks over steps since i asks more may ∙ ran))
+    ∙ sym (printed-next steps t))
+    (prints more may)
+
+quiet-next : (form : Form) (input : Input) (old s : State) (k : Keyboard) (a : List ℕ) (over : Bool) (since : ℕ) (r r' w w' : Option (List ℕ)) (p : List ℕ) (steps : ℕ)
+    → IsRunning form input old s k a over since r r' w w' p steps → asks_for_key since s ≡ false → (turn true s).1 ≡ Ran None
+    → IsRunning form input old (turn true s).0 k a over (since + 1) r r' w w' p (steps + 1)
+quiet-next form input old s k a over since r r' w w' p steps i asks ran = record {
+  looks = i.looks;
+  is_at = quiet-at old s i.looks over steps since i.is_at i.runs asks;
+  runs = λ more may.
+      ap (λ d. runs_on d) (did-next steps (seated old (i.looks ++ more)) ∙ quiet-did old s i.looks over steps since i.is_at asks more may ∙ ran);
+  taken = i.taken;
+  prints = quiet-prints old s i.looks over steps since w w' p i.is_at asks ran i.prints;
+}
+
+after-zero : (s : State) → after true 0 s ≡ s
+unfolding after
+after-zero s = refl
+
+after-suc : (k : ℕ) (s : State) → (turn true (after true k s)).0 ≡ after true (suc k) s
+unfolding after
+after-suc k s = refl
+
+-- behind several such steps
+quiet-more : (form : Form) (input : Input) (old s : State) (k : Keyboard) (a : List ℕ) (over : Bool) (since : ℕ) (r r' w w' : Option (List ℕ)) (p : List ℕ) (steps count : ℕ)
+    → IsRunning form input old s k a over since r r' w w' p steps
+    → ((m : ℕ) → m < count → answer true m s ≡ Ran None)
+    → ((m : ℕ) → m < count → asks_for_key (since + m) (after true m s) ≡ false)
+    → IsRunning form input old (after true count s) k a over (since + count) r r' w w' p (steps + count)
+quiet-more form input old s k a over since r r' w w' p steps zero i answers asks =
+    let e : steps ≡ steps + 0 = omega arith in
+    let f : since ≡ since + 0 = omega arith in
+    subst (λ x. IsRunning form input old x k a over (since + 0) r r' w w' p (steps + 0)) (sym (after-zero s))
+    (subst (λ (m : ℕ). IsRunning form input old s k a over m r r' w w' p (steps + 0)) f
+    (subst (λ (m : ℕ). IsRunning form input old s k a over since r r' w w' p m) e i))
+quiet-more form input old s k a over since r r' w w' p steps (suc count) i answers asks =
+    let e : steps + count + 1 ≡ steps + suc count = omega arith in
+    let f : since + count + 1 ≡ since + suc count = omega arith in
+    let before = quiet-more form input old s k a over since r r' w w' p steps count i (λ m below. answers m (omega (arith, below))) (λ m below. asks m (omega (arith, below))) in
+    let behind_it : IsRunning form input old (turn true (after true count s)).0 k a over (since + count + 1) r r' w w' p (steps + count + 1) =
+    quiet-next form input old (after true count s) k a over (since + count) r r' w w' p (steps + count) before (asks count (omega arith)) (answers count (omega arith)) in
+    subst (λ x. IsRunning form input old x k a over (since + suc count) r r' w w' p (steps + suc count)) (after-suc count s)
+    (subst (λ (m : ℕ). IsRunning form input old (turn true (after true count s)).0 k a over m r r' w w' p (steps + suc count)) f
+    (subst (λ (m : ℕ). IsRunning form input old (turn true (after true count s)).0 k a over (since + count + 1) r r' w w' p m) e behind_it))
+
+pub running-more : (form : Form) (input : Input) (old s new : State) (k : Keyboard) (a : List ℕ) (over : Bool) (since : ℕ) (r r' w w' : Option (List ℕ)) (p : List ℕ) (steps count : ℕ)
+    → IsRunning form input old s k a over since r r' w w' p steps → new ≡ after true count s
+    → ((m : ℕ) → m < count → answer true m s ≡ Ran None)
+    → ((m : ℕ) → m < count → asks_for_key (since + m) (after true m s) ≡ false)
+    → IsRunning form input old new k a over (since + count) r r' w w' p (steps + count)
+running-more form input old s new k a over since r r' w w' p steps count i is answers asks =
+    subst (λ x. IsRunning form input old x k a over (since + count) r r' w w' p (steps + count)) (sym is)
+    (quiet-more form input old s k a over since r r' w w' p steps count i answers asks)
+
+-- ## The ends of a run
+
+has-made : (form : Form) (input : Input) (old new : State) (k : Keyboard) (a : List ℕ) (over : Bool) (since : ℕ) (r r' : Option (List ℕ)) (looks : List (Option ℕ)) (steps : ℕ)
+    → IsAt old looks over steps new since → IsTaken form input k a over r r' looks → HasMade form input old new r r' looks over steps
+has-made form input old new k a over since r r' looks steps i t = record {
+  bytes = t.bytes;
+  ahead = a;
+  taken = t.taken;
+  finds = t.finds;
+  none_only = t.none_only;
+  at_end = t.at_end;
+  machine = λ more may. ap (λ x. x.machine) (i.at more may);
+  looks_left = λ more may. ap (λ x. x.looks) (i.at more may);
+}
+
+abbrev has-run : (form : Form) (input : Input) (n : ℕ) (old new : State) (k : Keyboard) (a : List ℕ) (over : Bool) (since : ℕ) (r r' : Option (List ℕ)) (looks : List (Option ℕ)) (steps : ℕ) (y : Why)
+    → IsAt old looks over steps new since → IsTaken form input k a over r r' looks → steps ≤ n
+    → ((more : List (Option ℕ)) → MayFollow over more → Ends (seated old (looks ++ more)) n steps y) → (y ≡ why.Keys → over ≡ true)
+    → IsRunOf form input n old new r r' (record { steps = steps; why = y })
+has-run form input n old new k a over since r r' looks steps y i t within ends none = record {
+  looks = looks;
+  is_over = over;
+  made = has-made form input old new k a over since r r' looks steps i t;
+  run = λ more may. record { within = within; goes_on = i.goes_on more may; ends = ends more may };
+  none_left = none;
+}
+
+abbrev is-cut : (form : Form) (input : Input) (n : ℕ) (old new : State) (k : Keyboard) (a : List ℕ) (over : Bool) (since : ℕ) (r r' : Option (List ℕ)) (looks : List (Option ℕ)) (steps : ℕ)
+    → IsAt old looks over steps new since → IsTaken form input k a over r r' looks → steps ≤ n → IsCut form input n old new r r'
+is-cut form input n old new k a over since r r' looks steps i t within = record {
+  looks = looks;
+  is_over = over;
+  steps = steps;
+  made = has-made form input old new k a over since r r' looks steps i t;
+  within = within;
+  goes_on = i.goes_on;
+}
+
 -- the machine stands stopped at first
-pub stopped-run : (form : Form) (n : ℕ) (s : State) (r w : Option (List ℕ)) → s.running ≡ false
-    → HasRun form n s s r r w w (record { steps = 0; why = why.Halt })
-stopped-run form n s r w stopped =
-    has-run form n s s (fresh form) false 0 r r w w [] 0 why.Halt (begun form s r) (begun-wrote form s w) (omega arith)
-    (λ more may.
-    ap (λ did. has_halted did) (did-none (terminal_of form s more))
-    ∙ ap (λ (b : Bool). has_halted (if b then Ran None else Stopped)) stopped)
-    (λ is. absurd (no-keys why.Halt halt-keys is))
+pub stopped-run : (form : Form) (input : Input) (n : ℕ) (s : State) (r w : Option (List ℕ)) (p : List ℕ) → p ≡ [] → s.running ≡ false
+    → RunsInto form input n s s r r w w p (Ok (record { steps = 0; why = why.Halt }))
+stopped-run form input n s r w p none stopped = (
+  has-run form input n s s (fresh form) [] false 0 r r [] 0 why.Halt
+      (record { at = λ more _. later-none (seated s more); goes_on = λ more _ m below. absurd (omega (arith, below)) })
+      (record { bytes = []; taken = consumes_none r; keyboard = refl; finds = finds-none input; none_only = λ before after is. absurd (none-empty before after is); at_end = λ h. absurd (true≢false (sym h)) })
+      (omega arith)
+      (λ more may.
+      ap (λ did. has_halted did) (did-none (seated s more))
+      ∙ ap (λ (b : Bool). has_halted (if b then Ran None else Stopped)) stopped)
+      (λ is. absurd (no-keys why.Halt halt-keys is)),
+  λ more _.
+      subst (λ (q : List ℕ). Passes w w [] q (shown (printed_by 0 (seated s more)))) (sym none)
+      (subst (λ cs. Passes w w [] [] (shown cs)) (sym (printed-none (seated s more))) (passes-none w [])),
+)
 
 -- all steps are made
-pub limit-run : (form : Form) (n : ℕ) (old new : State) (k : Keyboard) (over : Bool) (since : ℕ) (r r' w w' : Option (List ℕ)) (bytes : List ℕ) (steps : ℕ)
-    → IsAt form old new k over since r r' bytes steps → RunsOn form old over bytes steps → Wrote form old over w w' bytes steps → steps ≡ n
-    → HasRun form n old new r r' w w' (record { steps = n; why = why.Limit })
-limit-run form n old new k over since r r' w w' bytes steps i runs wrote e =
-    subst (λ (m : ℕ). HasRun form n old new r r' w w' (record { steps = m; why = why.Limit })) e
-    (has-run form n old new k over since r r' w w' bytes steps why.Limit i wrote (omega (arith, e)) (λ more may. (e, runs more may))
-    (λ is. absurd (no-keys why.Limit limit-keys is)))
+pub limit-run : (form : Form) (input : Input) (n : ℕ) (old new : State) (k : Keyboard) (a : List ℕ) (over : Bool) (since : ℕ) (r r' w w' : Option (List ℕ)) (p : List ℕ) (steps : ℕ)
+    → IsRunning form input old new k a over since r r' w w' p steps → steps ≡ n
+    → RunsInto form input n old new r r' w w' p (Ok (record { steps = n; why = why.Limit }))
+limit-run form input n old new k a over since r r' w w' p steps i e =
+    subst (λ (m : ℕ). RunsInto form input n old new r r' w w' p (Ok (record { steps = m; why = why.Limit }))) e (
+      has-run form input n old new k a over since r r' i.looks steps why.Limit i.is_at i.taken (omega (arith, e)) (λ more may. (e, i.runs more may))
+          (λ is. absurd (no-keys why.Limit limit-keys is)),
+      i.prints,
+    )
 
--- no key is left for a machine that waits for one
-pub starved-run : (form : Form) (n : ℕ) (old s s' : State) (k k' : Keyboard) (over over' : Bool) (since since' : ℕ) (r r' r'' w w' w'' : Option (List ℕ)) (bytes : List ℕ) (steps : ℕ) (starved : Bool)
-    → IsAt form old s k over since r r' bytes steps → RunsOn form old over bytes steps → Wrote form old over w w' bytes steps → steps < n
-    → (a : Attends k k' over over' s s' since since' r' r'' starved) → Appends w' w'' [] → starved ≡ true
-    → HasRun form n old s' r r'' w w'' (record { steps = steps; why = why.Keys })
-starved-run form n old s s' k k' over over' since since' r r' r'' w w' w'' bytes steps starved i runs wrote below a none is =
-    subst (λ (x : State). HasRun form n old x r r'' w w'' (record { steps = steps; why = why.Keys })) (sym (a.idle is).0)
-    (has-run form n old s k' over' since r r'' w w'' (bytes ++ a.bytes) steps why.Keys
-    (moved-at form old s k k' over over' since r r' r'' bytes a.bytes steps i a.taken a.keyboard a.stays a.over (a.at_end i.at_end) (a.idle is).1
-    (moved-goes form old s k over over' since r r' bytes a.bytes steps i a.stays a.over))
-    (moved-wrote form old over over' w w' w'' bytes a.bytes steps wrote a.stays a.over none)
-    (omega (arith, below))
+-- looks were made that found no key: the machine is where it was
+moved-at : (old s : State) (over over' : Bool) (since : ℕ) (looks found : List (Option ℕ)) (steps : ℕ) → IsAt old looks over steps s since → found ≡ []
+    → (over ≡ true → over' ≡ true) → IsAt old (looks ++ found) over' steps s since
+moved-at old s over over' since looks found steps i none goes =
+    subst (λ (l : List (Option ℕ)). IsAt old l over' steps s since) (sym (append-nil looks) ∙ ap (λ l. looks ++ l) (sym none)) (record {
+      at = λ more may. i.at more (λ h. may (goes h));
+      goes_on = λ more may. i.goes_on more (λ h. may (goes h));
+    })
+
+moved-prints : (old : State) (over over' : Bool) (looks found : List (Option ℕ)) (w w' w'' : Option (List ℕ)) (p p' : List ℕ) (steps : ℕ)
+    → Prints old looks over w w' p steps → found ≡ [] → (over ≡ true → over' ≡ true) → Passes w' w'' p p' [] → Prints old (looks ++ found) over' w w'' p' steps
+moved-prints old over over' looks found w w' w'' p p' steps prints none goes held =
+    subst (λ (l : List (Option ℕ)). Prints old l over' w w'' p' steps) (sym (append-nil looks) ∙ ap (λ l. looks ++ l) (sym none))
     (λ more may.
-    let may' = may-join over over' a.bytes more a.stays a.over may in (
-      below,
-      ap (λ t. runs_on (last_did steps t)) (joined form old bytes a.bytes more) ∙ runs (a.bytes ++ more) may',
-      ap (λ t. starves (later steps t)) (joined form old bytes a.bytes more)
-          ∙ ap (λ t. starves t) (i.at (a.bytes ++ more) may') ∙ a.starves_is more may ∙ is,
-    ))
-    (λ _. a.none_left is))
+    let printed = shown (printed_by steps (seated old (looks ++ more))) in
+    subst (λ cs. Passes w w'' [] p' cs) (append-nil printed) (passes-more w w' w'' [] p p' printed [] (prints more (λ h. may (goes h))) held))
 
-pub step-last : (form : Form) (old s s' : State) (k k' : Keyboard) (over over' : Bool) (since since' : ℕ) (r r' r'' : Option (List ℕ)) (bytes : List ℕ) (steps : ℕ) (starved : Bool)
-    (did : Stepped) → IsAt form old s k over since r r' bytes steps
-    → (a : Attends k k' over over' s s' since since' r' r'' starved) → did ≡ (turn true s').1
-    → (more : List ℕ) → MayFollow over' more → last_did (steps + 1) (terminal_of form old ((bytes ++ a.bytes) ++ more)) ≡ did
-step-last form old s s' k k' over over' since since' r r' r'' bytes steps starved did i a did_is more may =
-    did-next steps (terminal_of form old ((bytes ++ a.bytes) ++ more))
-    ∙ step-did form old s s' k k' over over' since since' r r' r'' bytes steps starved i a more may
-    ∙ sym did_is
-
-pub step-runs : (form : Form) (old s s' : State) (k k' : Keyboard) (over over' : Bool) (since since' : ℕ) (r r' r'' : Option (List ℕ)) (bytes : List ℕ) (steps : ℕ) (starved : Bool)
-    (did : Stepped) → IsAt form old s k over since r r' bytes steps
-    → (a : Attends k k' over over' s s' since since' r' r'' starved) → did ≡ (turn true s').1 → stop_of did ≡ None
-    → RunsOn form old over' (bytes ++ a.bytes) (steps + 1)
-step-runs form old s s' k k' over over' since since' r r' r'' bytes steps starved did i a did_is none more may =
-    ap (λ d. runs_on d) (step-last form old s s' k k' over over' since since' r r' r'' bytes steps starved did i a did_is more may)
-    ∙ goes-by did none
+-- the keys have ended for a machine that waits for one
+pub starved-run : (form : Form) (input : Input) (n : ℕ) (old s s' : State) (k k' : Keyboard) (a a' : List ℕ) (over over' : Bool) (since since' : ℕ)
+    (r r' r'' w w' w'' : Option (List ℕ)) (p p' : List ℕ) (steps : ℕ)
+    → IsRunning form input old s k a over since r r' w w' p steps → steps < n → Attends input k k' a a' over over' s s' since since' r' r'' true
+    → Passes w' w'' p p' [] → RunsInto form input n old s' r r'' w w'' p' (Ok (record { steps = steps; why = why.Keys }))
+starved-run form input n old s s' k k' a a' over over' since since' r r' r'' w w' w'' p p' steps i below at held =
+    let none = (at.idle refl).1 in
+    subst (λ (x : State). RunsInto form input n old x r r'' w w'' p' (Ok (record { steps = steps; why = why.Keys }))) (sym (at.idle refl).0) (
+      has-run form input n old s k' a' over' since r r'' (i.looks ++ at.found) steps why.Keys
+          (moved-at old s over over' since i.looks at.found steps i.is_at none at.over)
+          (taken-next form input k k' a a' over over' s s' since since' r r' r'' i.looks true i.taken at)
+          (omega (arith, below))
+          (λ more may.
+          let may' = may-join over over' at.found more at.stays at.over may in (
+            below,
+            ap (λ t. runs_on (last_did steps t)) (joined old i.looks at.found more) ∙ i.runs (at.found ++ more) may',
+            ap (λ t. starves (later steps t)) (joined old i.looks at.found more)
+                ∙ ap (λ t. starves t) (i.is_at.at (at.found ++ more) may') ∙ at.starves_is more may,
+          ))
+          (λ _. at.none_left refl),
+      moved-prints old over over' i.looks at.found w w' w'' p p' steps i.prints none at.over held,
+    )
 
 -- a step ends the run
-pub ended-run : (form : Form) (n : ℕ) (old s s' new : State) (k k' : Keyboard) (over over' : Bool) (since since' : ℕ) (r r' r'' w w' w'' w''' : Option (List ℕ)) (bytes : List ℕ) (steps : ℕ) (starved : Bool)
-    (did : Stepped) (y : Why) → IsAt form old s k over since r r' bytes steps → RunsOn form old over bytes steps → Wrote form old over w w' bytes steps → steps < n
-    → (a : Attends k k' over over' s s' since since' r' r'' starved) → Appends w' w'' [] → starved ≡ false → new ≡ (turn true s').0
-    → did ≡ (turn true s').1 → Appends w'' w''' (shown (character_of did)) → stop_of did ≡ Some y
-    → HasRun form n old new r r'' w w''' (record { steps = steps + 1; why = y })
-ended-run form n old s s' new k k' over over' since since' r r' r'' w w' w'' w''' bytes steps starved did y i runs wrote below a none fed new_is did_is written is =
-    has-run form n old new k' over' (since' + 1) r r'' w w''' (bytes ++ a.bytes) (steps + 1) y
-    (step-at form old s s' new k k' over over' since since' r r' r'' bytes steps starved i runs a fed new_is)
-    (step-wrote form old s s' k k' over over' since since' r r' r'' w w' w'' w''' bytes steps starved did i wrote a none did_is written)
+pub ended-run : (form : Form) (input : Input) (n : ℕ) (old s s' new : State) (k k' : Keyboard) (a a' : List ℕ) (over over' : Bool) (since since' : ℕ)
+    (r r' r'' w w' w'' w''' : Option (List ℕ)) (p p' p'' : List ℕ) (steps : ℕ) (did : Stepped) (y : Why)
+    → IsRunning form input old s k a over since r r' w w' p steps → steps < n → Attends input k k' a a' over over' s s' since since' r' r'' false
+    → Passes w' w'' p p' [] → new ≡ (turn true s').0 → did ≡ (turn true s').1 → Passes w'' w''' p' p'' (shown (character_of did)) → stop_of did ≡ Some y
+    → RunsInto form input n old new r r'' w w''' p'' (Ok (record { steps = steps + 1; why = y }))
+ended-run form input n old s s' new k k' a a' over over' since since' r r' r'' w w' w'' w''' p p' p'' steps did y i below at none new_is did_is some is = (
+  has-run form input n old new k' a' over' (since' + 1) r r'' (i.looks ++ at.found) (steps + 1) y
+      (step-at input old s s' new k k' a a' over over' since since' r' r'' i.looks steps false i.is_at i.runs at refl new_is)
+      (taken-next form input k k' a a' over over' s s' since since' r r' r'' i.looks false i.taken at)
+      (omega (arith, below))
+      (λ more may.
+      ends-by (seated old ((i.looks ++ at.found) ++ more)) n (steps + 1) did y
+      (step-last input old s s' k k' a a' over over' since since' r' r'' i.looks steps false did i.is_at at did_is more may) is)
+      (λ keys. absurd (no-keys y (stop-keys did y is) keys)),
+  step-prints input old s s' k k' a a' over over' since since' r' r'' w w' w'' w''' p p' p'' i.looks steps false did i.is_at i.prints at none did_is some,
+)
+
+-- the writer fails at what a step printed
+pub unwritten-run : (form : Form) (input : Input) (n : ℕ) (old s s' new : State) (k k' : Keyboard) (a a' : List ℕ) (over over' : Bool) (since since' : ℕ)
+    (r r' r'' w w' : Option (List ℕ)) (p : List ℕ) (steps : ℕ)
+    → IsRunning form input old s k a over since r r' w w' p steps → steps < n → Attends input k k' a a' over over' s s' since since' r' r'' false
+    → new ≡ (turn true s').0 → IsCut form input n old new r r''
+unwritten-run form input n old s s' new k k' a a' over over' since since' r r' r'' w w' p steps i below at new_is =
+    is-cut form input n old new k' a' over' (since' + 1) r r'' (i.looks ++ at.found) (steps + 1)
+    (step-at input old s s' new k k' a a' over over' since since' r' r'' i.looks steps false i.is_at i.runs at refl new_is)
+    (taken-next form input k k' a a' over over' s s' since since' r r' r'' i.looks false i.taken at)
     (omega (arith, below))
-    (λ more may.
-    ends-by (terminal_of form old ((bytes ++ a.bytes) ++ more)) n (steps + 1) did y
-    (step-last form old s s' k k' over over' since since' r r' r'' bytes steps starved did i a did_is more may) is)
-    (λ keys. absurd (no-keys y (stop-keys did y is) keys))
 
 -- the operator met a fault
-pub missed-runs : (form : Form) (n : ℕ) (old s : State) (k : Keyboard) (over : Bool) (since : ℕ) (r r' r'' w w' w'' : Option (List ℕ)) (bytes : List ℕ) (steps : ℕ) (e : TerminalFault)
-    → IsAt form old s k over since r r' bytes steps → Wrote form old over w w' bytes steps → steps ≤ n
-    → Misses k over r' r'' w' w'' e → Runs form n old s r r'' w w'' (Err e)
-missed-runs form n old s k over since r r' r'' w w' w'' bytes steps Reader i wrote within m =
-    let t = m.1.1 in
-    let stays : over ≡ true → t.bytes ≡ [] = λ h. absurd (true≢false (sym h ∙ m.0)) in
-    let end : over ≡ true → IsAtEnd r'' = λ h. absurd (true≢false (sym h ∙ m.0)) in (
-      is-cut form n old s m.1.0 over since r r'' (bytes ++ t.bytes) steps
-          (moved-at form old s k m.1.0 over over since r r' r'' bytes t.bytes steps i t.taken t.keyboard stays (λ h. h) end t.keys_are
-          (moved-goes form old s k over over since r r' bytes t.bytes steps i stays (λ h. h))) within,
-      moved-wrote form old over over w w' w'' bytes t.bytes steps wrote stays (λ h. h) m.2,
-    )
-missed-runs form n old s k over since r r' r'' w w' w'' bytes steps Writer i wrote within m =
-    subst (λ x. IsCut form n old s r x) (sym m) (is-cut form n old s k over since r r' bytes steps i within)
+abbrev missed-cut : (form : Form) (input : Input) (n : ℕ) (old s : State) (k k' : Keyboard) (a a' : List ℕ) (over : Bool) (since : ℕ) (r r' r'' w w' : Option (List ℕ)) (p : List ℕ) (steps : ℕ)
+    → (i : IsRunning form input old s k a over since r r' w w' p steps) → steps ≤ n → Misses k k' a a' over r' r'' → IsCut form input n old s r r''
+missed-cut form input n old s k k' a a' over since r r' r'' w w' p steps i within m =
+    is-cut form input n old s k' a' over since r r'' (i.looks ++ []) steps
+    (moved-at old s over over since i.looks [] steps i.is_at refl (λ h. h))
+    (taken-more form input k k' a a' over over r r' r'' i.looks [] [] i.taken m.1 (finds-none input) tt (λ h. absurd (true≢false (sym h ∙ m.0))))
+    within
 
--- ## Handing on what was written last
+missed-runs : (form : Form) (input : Input) (n : ℕ) (old s : State) (k k' : Keyboard) (a a' : List ℕ) (over : Bool) (since : ℕ) (r r' r'' w w' w'' : Option (List ℕ)) (p p' : List ℕ) (steps : ℕ)
+    (fault : TerminalFault) → IsRunning form input old s k a over since r r' w w' p steps → steps ≤ n → Misses k k' a a' over r' r''
+    → Holds {A = Bool} w' w'' p p' (Err fault) → RunsInto form input n old s r r'' w w'' p' (Err fault)
+missed-runs form input n old s k k' a a' over since r r' r'' w w' w'' p p' steps Reader i within m held = (
+  missed-cut form input n old s k k' a a' over since r r' r'' w w' p steps i within m,
+  moved-prints old over over i.looks [] w w' w'' p p' steps i.prints refl (λ h. h) held,
+)
+missed-runs form input n old s k k' a a' over since r r' r'' w w' w'' p p' steps Writer i within m held =
+    missed-cut form input n old s k k' a a' over since r r' r'' w w' p steps i within m
 
-pub cut-run : (form : Form) (n : ℕ) (old new : State) (r r' w w' : Option (List ℕ)) (ended : Ended) → HasRun form n old new r r' w w' ended → IsCut form n old new r r'
-cut-run form n old new r r' w w' ended h = record {
-  bytes = h.bytes;
-  is_over = h.is_over;
+pub missed-run : (form : Form) (input : Input) (n : ℕ) (old s new : State) (k k' : Keyboard) (a a' : List ℕ) (over : Bool) (since : ℕ) (r r' r'' w w' w'' : Option (List ℕ)) (p p' : List ℕ) (steps : ℕ)
+    (fault : TerminalFault) → IsRunning form input old s k a over since r r' w w' p steps → steps ≤ n → Misses k k' a a' over r' r''
+    → Holds {A = Bool} w' w'' p p' (Err fault) → new ≡ s → RunsInto form input n old new r r'' w w'' p' (Err fault)
+missed-run form input n old s new k k' a a' over since r r' r'' w w' w'' p p' steps fault i within m held is =
+    subst (λ (x : State). RunsInto form input n old x r r'' w w'' p' (Err fault)) (sym is)
+    (missed-runs form input n old s k k' a a' over since r r' r'' w w' w'' p p' steps fault i within m held)
+
+-- ## Handing on what is on the paper at last
+
+flushed-prints : (old : State) (looks : List (Option ℕ)) (over : Bool) (w w' w'' : Option (List ℕ)) (p p' : List ℕ) (steps : ℕ) → Prints old looks over w w' p steps
+    → Passes w' w'' p p' [] → p' ≡ [] → Writes old looks over w w'' steps
+flushed-prints old looks over w w' w'' p p' steps prints held none more may =
+    let printed = shown (printed_by steps (seated old (looks ++ more))) in
+    passed w w'' p' printed (subst (λ cs. Passes w w'' [] p' cs) (append-nil printed) (passes-more w w' w'' [] p p' printed [] (prints more may) held)) none
+
+pub flushed-run : (form : Form) (input : Input) (n : ℕ) (old new : State) (r r' w w' w'' : Option (List ℕ)) (p p' : List ℕ) (ran : Result Ended TerminalFault)
+    → RunsInto form input n old new r r' w w' p ran → Passes w' w'' p p' [] → p' ≡ [] → Runs form input n old new r r' w w'' ran
+flushed-run form input n old new r r' w w' w'' p p' (Ok ended) h held none =
+    (h.0, flushed-prints old h.0.looks h.0.is_over w w' w'' p p' ended.steps h.1 held none)
+flushed-run form input n old new r r' w w' w'' p p' (Err Reader) h held none =
+    (h.0, flushed-prints old h.0.looks h.0.is_over w w' w'' p p' h.0.steps h.1 held none)
+flushed-run form input n old new r r' w w' w'' p p' (Err Writer) h held none = h
+
+pub cut-run : (form : Form) (input : Input) (n : ℕ) (old new : State) (r r' w w' : Option (List ℕ)) (p : List ℕ) (ran : Result Ended TerminalFault)
+    → RunsInto form input n old new r r' w w' p ran → IsCut form input n old new r r'
+cut-run form input n old new r r' w w' p (Ok ended) h = record {
+  looks = h.0.looks;
+  is_over = h.0.is_over;
   steps = ended.steps;
-  made = h.made;
-  within = (h.run [] (λ _. refl)).within;
-  goes_on = λ more may. (h.run more may).goes_on;
+  made = h.0.made;
+  within = (h.0.run [] (λ _. refl)).within;
+  goes_on = λ more may. (h.0.run more may).goes_on;
 }
-
-pub flushed-run : (form : Form) (n : ℕ) (old new : State) (r r' w w' w'' : Option (List ℕ)) (ended : Ended) → HasRun form n old new r r' w w' ended → Appends w' w'' []
-    → HasRun form n old new r r' w w'' ended
-flushed-run form n old new r r' w w' w'' ended h none = record {
-  bytes = h.bytes;
-  is_over = h.is_over;
-  made = h.made;
-  run = h.run;
-  printed = λ more may.
-      let printed = shown (printed_by ended.steps (terminal_of form old (h.bytes ++ more))) in
-      subst (λ cs. Appends w w'' cs) (append-nil printed) (appends_more w w' w'' printed [] (h.printed more may) none);
-  none_left = h.none_left;
-}
-
-pub missed-run : (form : Form) (n : ℕ) (old s new : State) (k : Keyboard) (over : Bool) (since : ℕ) (r r' r'' w w' w'' : Option (List ℕ)) (bytes : List ℕ) (steps : ℕ) (e : TerminalFault)
-    → IsAt form old s k over since r r' bytes steps → Wrote form old over w w' bytes steps → steps ≤ n
-    → Misses k over r' r'' w' w'' e → new ≡ s → Runs form n old new r r'' w w'' (Err e)
-missed-run form n old s new k over since r r' r'' w w' w'' bytes steps e i wrote within m is =
-    subst (λ (x : State). Runs form n old x r r'' w w'' (Err e)) (sym is)
-    (missed-runs form n old s k over since r r' r'' w w' w'' bytes steps e i wrote within m)
+cut-run form input n old new r r' w w' p (Err Reader) h = h.0
+cut-run form input n old new r r' w w' p (Err Writer) h = h

@@ -1,11 +1,8 @@
 -- A run at a terminal, step by step.
-use Rattle.std.proofs.Common.{◌≡◌, ℕ, ◌+◌, ◌<◌, ◌%◌, Bool, true, false, true≢false, ◌&&◌, ◌||◌, not, nat_eq, nat_le, if◌then◌else◌, List, [], ◌∷◌, ◌++◌, None, add-one, append_assoc, refl, ap, sym, ◌∙◌}
-use Rattle.cpu8.specs.State.{State, printer_done, grants_interrupt}
-use Rattle.cpu8.specs.Go.{turn, character_of}
-use Rattle.cpu8.specs.declared.outcomes.Stepped.{Stepped}
+use Rattle.std.proofs.Common.{◌≡◌, ℕ, ◌+◌, ◌%◌, Bool, true, false, nat_eq, if◌then◌else◌, List, [], ◌∷◌, ◌++◌, None, add-one, refl, ap, ◌∙◌}
+use Rattle.cpu8.specs.Go.{character_of}
 use Rattle.cpu8.specs.declared.outcomes.Stepped.TheVariants.{Stopped, Ran}
-use Rattle.terminal8.specs.Asks.{asks_for_key, tests_keyboard, waits_for_key}
-use Rattle.terminal8.specs.Terminal.{Terminal, attended, stepped, next, later, last_did, printed_by, shown, is_none_left, starves}
+use Rattle.terminal8.specs.Terminal.{Terminal, stepped, next, later, last_did, printed_by, shown}
 
 pub later-none : (t : Terminal) → later 0 t ≡ t
 unfolding later

@@ -72,7 +72,7 @@ waits-asks s since h =
 
 -- ## The loop
 
-turn-idle : (s : State) → s.teletype.busy ≡ false → turn true s ≡ step s
+pub turn-idle : (s : State) → s.teletype.busy ≡ false → turn true s ≡ step s
 turn-idle s idle = rw idle refl
 
 ksf-step : (s : State) → Waits s → step s ≡ (advanced s, Ran None)

@@ -1,14 +1,10 @@
 -- When a program asks for a key (Small Computer Handbook; how long it may wait with interrupts on is this project's profile).
 -- The printer is quick: it ends its character before the next step.
 use Rattle.std.specs.Prelude.{ℕ, ◌+◌, ◌/◌, ◌%◌, Bool, ◌&&◌, ◌||◌, not, nat_eq, nat_le, slice_index}
-use Rattle.tty8.specs.Bits.{has}
 use Rattle.cpu8.specs.State.{State, place, printer_done, grants_interrupt}
 use Rattle.cpu8.specs.Reference.{advanced, direct_address}
 use Rattle.cpu8.specs.Step.{fetched}
-
--- pulse 1 of a keyboard instruction: KSF (6031), or KSF with others (6033, 6035, 6037)
-abbrev pub is_ksf : ℕ → Bool
-is_ksf word = nat_eq (word / 0o10) 0o603 && has word 1
+pub use Rattle.cpu8.specs.Unasked.{is_ksf}
 
 -- the next step is this instruction, and no interrupt
 abbrev pub is_undisturbed : State → Bool

@@ -1,55 +1,85 @@
 -- A run of a machine whose keys a reader gives, and whose printed characters a writer gets (this project's profile).
-use Rattle.std.specs.Prelude.{◌≡◌, ℕ, ◌<◌, ◌≤◌, Bool, true, List, [], ◌++◌, Option, Result, Ok, Err}
+use Rattle.std.specs.Prelude.{◌≡◌, ℕ, ◌<◌, ◌≤◌, Bool, true, List, [], ◌∷◌, ◌++◌, map, Option, Some, None, option_to_list, Result, Ok, Err}
 use Rattle.std.specs.Io.KnownBytes.{Consumes, Appends, IsAtEnd}
 use Rattle.cpu8.specs.State.{State}
 use Rattle.terminal8.specs.Keys.{keys_of}
-use Rattle.terminal8.specs.Terminal.{Terminal, seated, later, printed_by, shown, GoesOn, IsRun}
+use Rattle.terminal8.specs.Terminal.{seated, later, printed_by, shown, GoesOn, IsRun}
+use Rattle.terminal8.specs.declared.inputs.Input.{Input}
+use Rattle.terminal8.specs.declared.inputs.Input.TheVariants.{Ending, Live}
 use Rattle.terminal8.specs.declared.keyboards.Form.{Form}
 use Rattle.terminal8.specs.declared.outcomes.Ended.{Ended}
 use Rattle.terminal8.specs.declared.outcomes.TerminalFault.{TerminalFault}
 use Rattle.terminal8.specs.declared.outcomes.TerminalFault.TheVariants.{Reader, Writer}
 use Rattle.terminal8.specs.declared.outcomes.Why.TheVariants as why
 
--- any bytes may follow, but none where the reader's end was met
-abbrev pub MayFollow : Bool → List ℕ → Type 0
+-- ## Keys and looks
+
+-- the keys that looks find
+abbrev pub keys_found : List (Option ℕ) → List ℕ
+keys_found [] = []
+keys_found (look ∷ looks) = option_to_list look ++ keys_found looks
+
+-- Looks find these keys, in their order. Of keys that end each look finds the next; of live ones some looks find none.
+abbrev pub Finds : Input → List (Option ℕ) → List ℕ → Type 0
+Finds Ending looks keys = looks ≡ map (λ key. Some key) keys
+Finds Live looks keys = keys_found looks ≡ keys
+
+-- the keys have ended: they are such as end, no byte was read ahead, and the reader has no more
+abbrev pub HaveEnded : Input → List ℕ → Option (List ℕ) → Type 0
+HaveEnded input ahead reader = (input ≡ Ending) × (ahead ≡ []) × IsAtEnd reader
+
+-- A look behind these found none where the reader had given all its bytes, and each was struck.
+pub record FindsNone (form : Form) (reader : Option (List ℕ)) (before : List (Option ℕ)) : Type 0 where
+  pub bytes : List ℕ
+  pub left : Option (List ℕ)
+  pub taken : Consumes reader left bytes
+  pub struck : keys_found before ≡ keys_of form bytes
+  pub at_end : IsAtEnd left
+
+-- any looks may follow, but none where the keys have ended
+abbrev pub MayFollow : Bool → List (Option ℕ) → Type 0
 MayFollow is_over more = is_over ≡ true → more ≡ []
 
--- a machine, at which the keys of these bytes are struck
-abbrev pub terminal_of : Form → State → List ℕ → Terminal
-terminal_of form s bytes = seated s (keys_of form bytes)
+-- ## Runs
 
--- A machine made so many steps. The keys were those of the bytes that a reader gave, whatever bytes would have followed, and each
--- of them was struck.
-pub record HasMade (form : Form) (old new : State) (reader reader' : Option (List ℕ)) (bytes : List ℕ) (is_over : Bool) (steps : ℕ) : Type 0 where
-  pub taken : Consumes reader reader' bytes
-  pub at_end : is_over ≡ true → IsAtEnd reader'
-  pub machine : (more : List ℕ) → MayFollow is_over more → (later steps (terminal_of form old (bytes ++ more))).machine ≡ new
-  pub keys : (more : List ℕ) → MayFollow is_over more
-      → keys_of form (bytes ++ more) ≡ keys_of form bytes ++ (later steps (terminal_of form old (bytes ++ more))).keys
-
--- A run of at most n steps: it ends at the first end that comes, and the writer got what was printed.
-pub record HasRun (form : Form) (n : ℕ) (old new : State) (reader reader' writer writer' : Option (List ℕ)) (ended : Ended) : Type 0 where
+-- A machine made so many steps, in which these looks were made, whatever later ones would have found. They found the keys of
+-- bytes that the reader gave; bytes behind those that were read ahead are no part of the run.
+pub record HasMade (form : Form) (input : Input) (old new : State) (reader reader' : Option (List ℕ)) (looks : List (Option ℕ)) (is_over : Bool) (steps : ℕ) : Type 0 where
   pub bytes : List ℕ
+  pub ahead : List ℕ
+  pub taken : Consumes reader reader' (bytes ++ ahead)
+  pub finds : Finds input looks (keys_of form bytes)
+  pub none_only : (before after : List (Option ℕ)) → before ++ None ∷ after ≡ looks → FindsNone form reader before
+  pub at_end : is_over ≡ true → HaveEnded input ahead reader'
+  pub machine : (more : List (Option ℕ)) → MayFollow is_over more → (later steps (seated old (looks ++ more))).machine ≡ new
+  pub looks_left : (more : List (Option ℕ)) → MayFollow is_over more → (later steps (seated old (looks ++ more))).looks ≡ more
+
+-- a run of at most n steps: it ends at the first end that comes
+pub record IsRunOf (form : Form) (input : Input) (n : ℕ) (old new : State) (reader reader' : Option (List ℕ)) (ended : Ended) : Type 0 where
+  pub looks : List (Option ℕ)
   pub is_over : Bool
-  pub made : HasMade form old new reader reader' bytes is_over ended.steps
-  pub run : (more : List ℕ) → MayFollow is_over more → IsRun (terminal_of form old (bytes ++ more)) n ended.steps ended.why
-  pub printed : (more : List ℕ) → MayFollow is_over more
-      → Appends writer writer' (shown (printed_by ended.steps (terminal_of form old (bytes ++ more))))
+  pub made : HasMade form input old new reader reader' looks is_over ended.steps
+  pub run : (more : List (Option ℕ)) → MayFollow is_over more → IsRun (seated old (looks ++ more)) n ended.steps ended.why
   pub none_left : ended.why ≡ why.Keys → is_over ≡ true
 
 -- A run that a fault cuts short behind so many steps.
-pub record IsCut (form : Form) (n : ℕ) (old new : State) (reader reader' : Option (List ℕ)) : Type 0 where
-  pub bytes : List ℕ
+pub record IsCut (form : Form) (input : Input) (n : ℕ) (old new : State) (reader reader' : Option (List ℕ)) : Type 0 where
+  pub looks : List (Option ℕ)
   pub is_over : Bool
   pub steps : ℕ
-  pub made : HasMade form old new reader reader' bytes is_over steps
+  pub made : HasMade form input old new reader reader' looks is_over steps
   pub within : steps ≤ n
-  pub goes_on : (more : List ℕ) → MayFollow is_over more → (k : ℕ) → k < steps → GoesOn (terminal_of form old (bytes ++ more)) k
+  pub goes_on : (more : List (Option ℕ)) → MayFollow is_over more → (k : ℕ) → k < steps → GoesOn (seated old (looks ++ more)) k
+
+-- the writer got what so many steps print
+abbrev pub Writes : State → List (Option ℕ) → Bool → Option (List ℕ) → Option (List ℕ) → ℕ → Type 0
+Writes s looks is_over writer writer' steps =
+    (more : List (Option ℕ)) → MayFollow is_over more → Appends writer writer' (shown (printed_by steps (seated s (looks ++ more))))
 
 -- What a run of at most n steps comes to. Where the reader fails the writer got what was printed so far.
-abbrev pub Runs : Form → ℕ → State → State → Option (List ℕ) → Option (List ℕ) → Option (List ℕ) → Option (List ℕ) → Result Ended TerminalFault → Type 0
-Runs form n old new reader reader' writer writer' (Ok ended) = HasRun form n old new reader reader' writer writer' ended
-Runs form n old new reader reader' writer writer' (Err Reader) =
-    (cut : IsCut form n old new reader reader')
-    × ((more : List ℕ) → MayFollow cut.is_over more → Appends writer writer' (shown (printed_by cut.steps (terminal_of form old (cut.bytes ++ more)))))
-Runs form n old new reader reader' writer writer' (Err Writer) = IsCut form n old new reader reader'
+abbrev pub Runs : Form → Input → ℕ → State → State → Option (List ℕ) → Option (List ℕ) → Option (List ℕ) → Option (List ℕ) → Result Ended TerminalFault → Type 0
+Runs form input n old new reader reader' writer writer' (Ok ended) =
+    (ran : IsRunOf form input n old new reader reader' ended) × Writes old ran.looks ran.is_over writer writer' ended.steps
+Runs form input n old new reader reader' writer writer' (Err Reader) =
+    (cut : IsCut form input n old new reader reader') × Writes old cut.looks cut.is_over writer writer' cut.steps
+Runs form input n old new reader reader' writer writer' (Err Writer) = IsCut form input n old new reader reader'

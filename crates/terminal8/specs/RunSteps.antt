@@ -1,74 +1,131 @@
 -- What a run comes to on the way, for private clauses.
-use Rattle.std.specs.Prelude.{◌≡◌, ℕ, ◌≤◌, Bool, true, false, List, [], ◌∷◌, ◌++◌, Option, Some, None, option_to_list, Result, Ok, Err}
+use Rattle.std.specs.Prelude.{◌≡◌, ℕ, ◌≤◌, Bool, true, false, List, [], ◌∷◌, ◌++◌, length, take, Option, Some, None, Result, Ok, Err}
 use Rattle.std.specs.Io.KnownBytes.{Consumes, Appends, IsAtEnd}
 use Rattle.cpu8.specs.State.{State}
 use Rattle.cpu8.specs.declared.outcomes.Stepped.{Stepped}
 use Rattle.cpu8.specs.declared.outcomes.Stepped.TheVariants.{Stopped, Interrupted, Ran, Halted, Unassigned}
 use Rattle.terminal8.specs.Keys.{Keyboard, keys_from}
 use Rattle.terminal8.specs.KeySteps.{behind}
-use Rattle.terminal8.specs.Terminal.{strikes_next, attended, is_none_left, starves}
-use Rattle.terminal8.specs.Run.{MayFollow}
+use Rattle.terminal8.specs.Terminal.{seated, looked, attended, is_none_left, printed_by, shown, starves}
+use Rattle.terminal8.specs.Run.{MayFollow, Finds, HaveEnded, IsCut, IsRunOf}
+use Rattle.terminal8.specs.declared.inputs.Input.{Input}
+use Rattle.terminal8.specs.declared.inputs.Input.TheVariants.{Ending, Live}
+use Rattle.terminal8.specs.declared.keyboards.Form.{Form}
+use Rattle.terminal8.specs.declared.outcomes.Ended.{Ended}
 use Rattle.terminal8.specs.declared.outcomes.TerminalFault.{TerminalFault}
 use Rattle.terminal8.specs.declared.outcomes.TerminalFault.TheVariants.{Reader, Writer}
 use Rattle.terminal8.specs.declared.outcomes.Why.{Why}
 use Rattle.terminal8.specs.declared.outcomes.Why.TheVariants as why
 
--- what reading a byte comes to: the byte, or the reader's end, or its fault
-abbrev pub ReadsByte : Option (List ℕ) → Option (List ℕ) → Result (Option ℕ) TerminalFault → Type 0
-ReadsByte old new (Ok (Some byte)) = Consumes old new (byte ∷ [])
-ReadsByte old new (Ok None) = Consumes old new [] × IsAtEnd new
-ReadsByte old new (Err Reader) = Consumes old new []
-ReadsByte old new (Err Writer) = ⊥
+-- ## Bytes that are read ahead
 
--- bytes were taken that give these keys
-pub record Takes (k k' : Keyboard) (reader reader' : Option (List ℕ)) (keys : List ℕ) : Type 0 where
+-- what a read into a buffer comes to: so many bytes at its front, none only at the reader's end
+abbrev pub Reads : List ℕ → Option (List ℕ) → Option (List ℕ) → Result ℕ TerminalFault → Type 0
+Reads buffer reader reader' (Ok count) = (count ≤ length buffer) × Consumes reader reader' (take count buffer) × (count ≡ 0 → IsAtEnd reader')
+Reads buffer reader reader' (Err fault) = (fault ≡ Reader) × Consumes reader reader' []
+
+-- what filling comes to, where no byte was ahead
+abbrev pub Fills : List ℕ → Option (List ℕ) → Option (List ℕ) → Result Unit TerminalFault → Type 0
+Fills ahead reader reader' (Ok done) = Consumes reader reader' ahead × (ahead ≡ [] → IsAtEnd reader')
+Fills ahead reader reader' (Err fault) = (fault ≡ Reader) × (ahead ≡ []) × Consumes reader reader' []
+
+-- the next of the bytes ahead is taken, if there is one
+abbrev pub Gives : List ℕ → List ℕ → Option ℕ → Type 0
+Gives old new (Some byte) = old ≡ byte ∷ new
+Gives old new None = (old ≡ []) × (new ≡ [])
+
+-- These bytes were struck, of those ahead and then of the reader's.
+pub record Strikes (ahead ahead' : List ℕ) (reader reader' : Option (List ℕ)) (bytes : List ℕ) : Type 0 where
+  pub read : List ℕ
+  pub taken : Consumes reader reader' read
+  pub in_order : ahead ++ read ≡ bytes ++ ahead'
+
+-- no byte is ahead, and the reader gave none
+abbrev pub IsDry : List ℕ → Option (List ℕ) → Type 0
+IsDry ahead reader = (ahead ≡ []) × IsAtEnd reader
+
+-- what taking the next byte comes to
+abbrev pub ReadsByte : List ℕ → List ℕ → Option (List ℕ) → Option (List ℕ) → Result (Option ℕ) TerminalFault → Type 0
+ReadsByte ahead ahead' reader reader' (Ok (Some byte)) = Strikes ahead ahead' reader reader' (byte ∷ [])
+ReadsByte ahead ahead' reader reader' (Ok None) = Strikes ahead ahead' reader reader' [] × IsDry ahead' reader'
+ReadsByte ahead ahead' reader reader' (Err fault) = Strikes ahead ahead' reader reader' []
+
+-- bytes were struck that give these keys
+pub record StrikesKeys (k k' : Keyboard) (ahead ahead' : List ℕ) (reader reader' : Option (List ℕ)) (keys : List ℕ) : Type 0 where
   pub bytes : List ℕ
-  pub taken : Consumes reader reader' bytes
+  pub strikes : Strikes ahead ahead' reader reader' bytes
   pub keyboard : k' ≡ behind k bytes
   pub keys_are : keys_from k bytes ≡ keys
 
--- what reading up to the next key comes to
-abbrev pub ReadsKey : Keyboard → Keyboard → Option (List ℕ) → Option (List ℕ) → Result (Option ℕ) TerminalFault → Type 0
-ReadsKey k k' reader reader' (Ok (Some key)) = Takes k k' reader reader' (key ∷ [])
-ReadsKey k k' reader reader' (Ok None) = Takes k k' reader reader' [] × IsAtEnd reader'
-ReadsKey k k' reader reader' (Err Reader) = Takes k k' reader reader' []
-ReadsKey k k' reader reader' (Err Writer) = ⊥
+-- what striking bytes up to the next key comes to
+abbrev pub ReadsKey : Keyboard → Keyboard → List ℕ → List ℕ → Option (List ℕ) → Option (List ℕ) → Result (Option ℕ) TerminalFault → Type 0
+ReadsKey k k' ahead ahead' reader reader' (Ok (Some key)) = StrikesKeys k k' ahead ahead' reader reader' (key ∷ [])
+ReadsKey k k' ahead ahead' reader reader' (Ok None) = StrikesKeys k k' ahead ahead' reader reader' [] × IsDry ahead' reader'
+ReadsKey k k' ahead ahead' reader reader' (Err fault) = StrikesKeys k k' ahead ahead' reader reader' []
 
--- The operator looks whether there is one more key, and strikes it.
-pub record Looks (k k' : Keyboard) (is_over is_over' : Bool) (s s' : State) (reader reader' : Option (List ℕ)) : Type 0 where
-  pub bytes : List ℕ
-  pub taken : Consumes reader reader' bytes
-  pub keyboard : k' ≡ behind k bytes
-  pub stays : is_over ≡ true → bytes ≡ []
+-- ## Paper
+
+-- These bytes were printed more: some of all went to the writer, and the others are on the paper.
+pub record Passes (writer writer' : Option (List ℕ)) (paper paper' printed : List ℕ) : Type 0 where
+  pub handed : List ℕ
+  pub written : Appends writer writer' handed
+  pub in_order : handed ++ paper' ≡ paper ++ printed
+
+-- nothing more was printed, where the writer did not fail
+abbrev pub Holds : {A : Type 0} → Option (List ℕ) → Option (List ℕ) → List ℕ → List ℕ → Result A TerminalFault → Type 0
+Holds writer writer' paper paper' (Ok value) = Passes writer writer' paper paper' []
+Holds writer writer' paper paper' (Err Reader) = Passes writer writer' paper paper' []
+Holds writer writer' paper paper' (Err Writer) = Unit {0}
+
+-- ## The operator
+
+-- whether keys end where a read gives no byte
+abbrev pub is_ending : Input → Bool
+is_ending Ending = true
+is_ending Live = false
+
+-- one look or none was made; it found none only where no byte is left
+abbrev pub IsNoneOnly : List (Option ℕ) → List ℕ → List ℕ → Option (List ℕ) → Type 0
+IsNoneOnly [] keys ahead reader = Unit {0}
+IsNoneOnly (Some key ∷ looks) keys ahead reader = looks ≡ []
+IsNoneOnly (None ∷ looks) keys ahead reader = (looks ≡ []) × (keys ≡ []) × IsDry ahead reader
+
+-- The operator looks for a key, and strikes it if there is one.
+pub record Looks (input : Input) (k k' : Keyboard) (ahead ahead' : List ℕ) (is_over is_over' : Bool) (s s' : State) (reader reader' : Option (List ℕ)) : Type 0 where
+  pub found : List (Option ℕ)
+  pub keys : List ℕ
+  pub strikes : StrikesKeys k k' ahead ahead' reader reader' keys
+  pub finds : Finds input found keys
+  pub none_only : IsNoneOnly found keys ahead' reader'
   pub over : is_over ≡ true → is_over' ≡ true
-  pub at_end : (is_over ≡ true → IsAtEnd reader) → is_over' ≡ true → IsAtEnd reader'
-  pub strikes : (more : List ℕ) → MayFollow is_over' more
-      → strikes_next s (keys_from k (bytes ++ more)) ≡ record { machine = s'; keys = keys_from k' more; since = 0 }
-  pub left : is_over' ≡ is_none_left (keys_from k bytes)
+  pub at_end : (is_over ≡ true → HaveEnded input ahead reader) → is_over' ≡ true → HaveEnded input ahead' reader'
+  pub looks : (more : List (Option ℕ)) → MayFollow is_over' more → looked s (found ++ more) ≡ seated s' more
+  pub left : is_over' ≡ is_none_left found
   pub same : is_over' ≡ true → s' ≡ s
 
--- The operator attends to a machine, so many steps behind the last time; starved tells whether no key is left for a machine that
--- waits for one.
-pub record Attends (k k' : Keyboard) (is_over is_over' : Bool) (s s' : State) (since since' : ℕ) (reader reader' : Option (List ℕ)) (starved : Bool) : Type 0 where
-  pub bytes : List ℕ
-  pub taken : Consumes reader reader' bytes
-  pub keyboard : k' ≡ behind k bytes
-  pub stays : is_over ≡ true → bytes ≡ []
+-- The operator attends to a machine, so many steps behind the last time; starved tells whether the keys have ended for a machine
+-- that waits for one.
+pub record Attends (input : Input) (k k' : Keyboard) (ahead ahead' : List ℕ) (is_over is_over' : Bool) (s s' : State) (since since' : ℕ) (reader reader' : Option (List ℕ)) (starved : Bool) : Type 0 where
+  pub found : List (Option ℕ)
+  pub keys : List ℕ
+  pub strikes : StrikesKeys k k' ahead ahead' reader reader' keys
+  pub finds : Finds input found keys
+  pub none_only : IsNoneOnly found keys ahead' reader'
+  pub stays : is_over ≡ true → found ≡ []
   pub over : is_over ≡ true → is_over' ≡ true
-  pub at_end : (is_over ≡ true → IsAtEnd reader) → is_over' ≡ true → IsAtEnd reader'
+  pub at_end : (is_over ≡ true → HaveEnded input ahead reader) → is_over' ≡ true → HaveEnded input ahead' reader'
   pub sooner : since' ≤ since
-  pub attended_is : (more : List ℕ) → MayFollow is_over' more
-      → attended (record { machine = s; keys = keys_from k (bytes ++ more); since = since }) ≡ record { machine = s'; keys = keys_from k' more; since = since' }
-  pub starves_is : (more : List ℕ) → MayFollow is_over' more
-      → starves (record { machine = s; keys = keys_from k (bytes ++ more); since = since }) ≡ starved
+  pub attends : (more : List (Option ℕ)) → MayFollow is_over' more
+      → attended (record { machine = s; looks = found ++ more; since = since }) ≡ record { machine = s'; looks = more; since = since' }
+  pub starves_is : (more : List (Option ℕ)) → MayFollow is_over' more → starves (record { machine = s; looks = found ++ more; since = since }) ≡ starved
   pub none_left : starved ≡ true → is_over' ≡ true
-  pub idle : starved ≡ true → (s' ≡ s) × (keys_from k bytes ≡ [])
+  pub idle : starved ≡ true → (s' ≡ s) × (found ≡ [])
 
--- A fault met by the operator: the writer's comes before the reader is asked, and the reader's behind bytes that are no key.
-abbrev pub Misses : Keyboard → Bool → Option (List ℕ) → Option (List ℕ) → Option (List ℕ) → Option (List ℕ) → TerminalFault → Type 0
-Misses k is_over reader reader' writer writer' Reader =
-    (is_over ≡ false) × ((k' : Keyboard) × Takes k k' reader reader' []) × Appends writer writer' []
-Misses k is_over reader reader' writer writer' Writer = reader' ≡ reader
+-- a fault met by the operator, behind bytes that are no key
+abbrev pub Misses : Keyboard → Keyboard → List ℕ → List ℕ → Bool → Option (List ℕ) → Option (List ℕ) → Type 0
+Misses k k' ahead ahead' is_over reader reader' = (is_over ≡ false) × StrikesKeys k k' ahead ahead' reader reader' []
+
+-- ## The run
 
 -- why a run ends behind a step, if it does
 abbrev pub stop_of : Stepped → Option Why
@@ -77,3 +134,16 @@ stop_of (Unassigned word) = Some why.Unassigned
 stop_of Stopped = Some why.Halt
 stop_of Interrupted = None
 stop_of (Ran printed) = None
+
+-- what so many steps printed went to the writer, and the rest is on the paper
+abbrev pub Prints : State → List (Option ℕ) → Bool → Option (List ℕ) → Option (List ℕ) → List ℕ → ℕ → Type 0
+Prints s looks is_over writer writer' paper steps =
+    (more : List (Option ℕ)) → MayFollow is_over more → Passes writer writer' [] paper (shown (printed_by steps (seated s (looks ++ more))))
+
+-- what a run comes to whose last printed characters may still be on the paper
+abbrev pub RunsInto : Form → Input → ℕ → State → State → Option (List ℕ) → Option (List ℕ) → Option (List ℕ) → Option (List ℕ) → List ℕ → Result Ended TerminalFault → Type 0
+RunsInto form input n old new reader reader' writer writer' paper (Ok ended) =
+    (ran : IsRunOf form input n old new reader reader' ended) × Prints old ran.looks ran.is_over writer writer' paper ended.steps
+RunsInto form input n old new reader reader' writer writer' paper (Err Reader) =
+    (cut : IsCut form input n old new reader reader') × Prints old cut.looks cut.is_over writer writer' paper cut.steps
+RunsInto form input n old new reader reader' writer writer' paper (Err Writer) = IsCut form input n old new reader reader'

@@ -1,6 +1,6 @@
 -- A machine at a terminal (this project's profile): an operator strikes a key only where the program asks for one, and a quick
 -- printer ends its character before each step.
-use Rattle.std.specs.Prelude.{◌≡◌, ℕ, zero, suc, ◌+◌, ◌<◌, ◌≤◌, ◌%◌, Bool, true, false, ◌&&◌, nat_eq, if◌then◌else◌, List, [], ◌∷◌, ◌++◌, None}
+use Rattle.std.specs.Prelude.{◌≡◌, ℕ, zero, suc, ◌+◌, ◌<◌, ◌≤◌, ◌%◌, Bool, true, false, ◌&&◌, nat_eq, if◌then◌else◌, List, [], ◌∷◌, ◌++◌, Option, Some, None}
 use Rattle.cpu8.specs.State.{State, key_struck}
 use Rattle.cpu8.specs.Go.{turn, character_of}
 use Rattle.cpu8.specs.Laws.{runs_on}
@@ -10,24 +10,26 @@ use Rattle.terminal8.specs.Asks.{asks_for_key, waits_for_key}
 use Rattle.terminal8.specs.declared.outcomes.Why.{Why}
 use Rattle.terminal8.specs.declared.outcomes.Why.TheVariants as why
 
--- A machine, the keys that are still to be struck, and the steps since the program last asked for one.
+-- A machine, what the operator's next looks at the keys find, each a key or none yet, and the steps since the program last asked
+-- for one. Behind the last look the keys have ended.
 pub record Terminal : Type 0 where
   pub machine : State
-  pub keys : List ℕ
+  pub looks : List (Option ℕ)
   pub since : ℕ
 
--- an operator sits down at a machine, with these keys to strike
-abbrev pub seated : State → List ℕ → Terminal
-seated s keys = record { machine = s; keys = keys; since = 0 }
+-- an operator sits down at a machine, whose looks will find this
+abbrev pub seated : State → List (Option ℕ) → Terminal
+seated s looks = record { machine = s; looks = looks; since = 0 }
 
--- the operator strikes the next key, if there is one
-abbrev pub strikes_next : State → List ℕ → Terminal
-strikes_next s [] = seated s []
-strikes_next s (key ∷ keys) = seated (key_struck s key) keys
+-- the operator looks for the next key, and strikes it if there is one
+abbrev pub looked : State → List (Option ℕ) → Terminal
+looked s [] = seated s []
+looked s (None ∷ looks) = seated s looks
+looked s (Some key ∷ looks) = seated (key_struck s key) looks
 
 -- and does so where the program asks for one
 abbrev pub attended : Terminal → Terminal
-attended t = if asks_for_key t.since t.machine then strikes_next t.machine t.keys else t
+attended t = if asks_for_key t.since t.machine then looked t.machine t.looks else t
 
 -- then the machine makes a step
 abbrev pub stepped : Terminal → State × Stepped
@@ -52,13 +54,13 @@ unfoldable pub printed_by : ℕ → Terminal → List ℕ
 printed_by zero t = []
 printed_by (suc k) t = printed_by k t ++ character_of (stepped (later k t)).1
 
-abbrev pub is_none_left : List ℕ → Bool
+abbrev pub is_none_left : List (Option ℕ) → Bool
 is_none_left [] = true
-is_none_left (key ∷ keys) = false
+is_none_left (look ∷ looks) = false
 
--- no key is left, and the machine waits for one
+-- the keys have ended, and the machine waits for one
 abbrev pub starves : Terminal → Bool
-starves t = is_none_left t.keys && waits_for_key t.machine
+starves t = is_none_left t.looks && waits_for_key t.machine
 
 -- after so many steps the run goes on
 pub record GoesOn (t : Terminal) (k : ℕ) : Type 0 where
@@ -74,7 +76,7 @@ has_halted Interrupted = false
 has_halted (Ran printed) = false
 
 -- Why a run of at most n steps ends after so many of them: the last one was a HLT, or the machine stands stopped; it met an
--- unassigned word; no key is left and the machine waits for one; or all n are made.
+-- unassigned word; the keys have ended and the machine waits for one; or all n are made.
 abbrev pub Ends : Terminal → ℕ → ℕ → Why → Type 0
 Ends t n steps why.Halt = has_halted (last_did steps t) ≡ true
 Ends t n steps why.Unassigned = (word : ℕ) × (last_did steps t ≡ Unassigned word)

@@ -89,7 +89,8 @@ fn is_at_rest(machine: &Machine) -> bool
         && !(machine.interrupts_on() && machine.printer_flag())
 }
 
-const TENTH_OF_A_SECOND: u64 = 30_000;
+/// So many steps take a tenth of a second.
+pub(crate) const TENTH_OF_A_SECOND: u64 = 30_000;
 
 /// The keyboard's instructions without their pulses, 6030 to 6037.
 const KEYBOARD: u16 = 0o603;

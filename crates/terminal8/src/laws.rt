@@ -1,10 +1,17 @@
 //! Laws of a machine at a terminal.
 
-ghost use Rattle.std.specs.Prelude.{◌≡◌, ℕ, true, []};
+ghost use Rattle.std.specs.Prelude.{◌≡◌, ℕ, ◌+◌, ◌*◌, ◌<◌, true, List, [], ◌++◌, Option, Some, Ok};
 ghost use Rattle.cpu8.specs.State.{State};
 ghost use Rattle.cpu8.specs.Go.{after, printed_by};
 ghost use Rattle.terminal8.specs.Asks.{asks_for_key, waits_for_key};
-ghost use Rattle.terminal8.specs.Laws.{IsInLoop};
+ghost use Rattle.terminal8.specs.Terminal as terminal;
+ghost use Rattle.terminal8.specs.Terminal.{Terminal, GoesOn, IsRun, later};
+ghost use Rattle.terminal8.specs.Laws.{IsInLoop, IsWholeRun, ReadsNext, key_read, terminal_of, waiting_for};
+ghost use Rattle.terminal8.specs.Run.{Runs};
+ghost use Rattle.terminal8.specs.declared.inputs.Input.TheVariants.{Ending};
+ghost use Rattle.terminal8.specs.declared.keyboards.Form.{Form};
+ghost use Rattle.terminal8.specs.declared.outcomes.Ended.{Ended};
+ghost use Rattle.terminal8.specs.declared.outcomes.Why.{Why};
 
 /// A machine that waits for a key does so for ever where none comes: after any number of steps it stands at its KSF or at the JMP
 /// behind it, else as before, and has printed nothing. At its KSF it asks for a key.
@@ -12,4 +19,38 @@ pub fn waiting()
     ensures state { (s : State) (k : ℕ) → waits_for_key s ≡ true → IsInLoop s (after true k s) }
     ensures printed { (s : State) (k : ℕ) → waits_for_key s ≡ true → printed_by true k s ≡ [] }
     ensures asks { (s : State) (since : ℕ) → waits_for_key s ≡ true → asks_for_key since s ≡ true }
+{}
+
+/// A program that reads with `KSF; JMP .-1; KRB` gets the next key: behind the looks that find none yet, two steps each,
+/// and two more steps it stands behind its KRB with the key in AC. Nothing was printed, and the looks behind that one are
+/// still to come: so it gets every key once and in order, whenever it reads. No end comes on the way.
+pub fn reading()
+    ensures read { (s : State) (count key : ℕ) (looks : List (Option ℕ)) (since : ℕ) → ReadsNext s
+        → later (2 * count + 2) (waiting_for s count key looks since)
+        ≡ record { machine = key_read s key; looks = looks; since = 2 } }
+    ensures printed { (s : State) (count key : ℕ) (looks : List (Option ℕ)) (since : ℕ) → ReadsNext s
+        → terminal.printed_by (2 * count + 2) (waiting_for s count key looks since) ≡ [] }
+    ensures goes_on { (s : State) (count key : ℕ) (looks : List (Option ℕ)) (since k : ℕ) → ReadsNext s
+        → k < 2 * count + 2 → GoesOn (waiting_for s count key looks since) k }
+{}
+
+/// Steps behind others are steps of the terminal that those left.
+pub fn later_steps()
+    ensures terminal { (a b : ℕ) (t : Terminal) → later (a + b) t ≡ later b (later a t) }
+    ensures printed { (a b : ℕ) (t : Terminal) → terminal.printed_by (a + b) t
+        ≡ terminal.printed_by a t ++ terminal.printed_by b (later a t) }
+{}
+
+/// A run has one end: a terminal and a greatest number of steps determine how many are made, and why no more.
+pub fn one_end()
+    ensures steps { (t : Terminal) (n a b : ℕ) (why other : Why) → IsRun t n a why → IsRun t n b other → a ≡ b }
+    ensures why { (t : Terminal) (n a b : ℕ) (why other : Why) → IsRun t n a why → IsRun t n b other → why ≡ other }
+{}
+
+/// Where keys end, and the bytes of the reader are known, a run is that of a terminal at which the keys of all of them are
+/// struck, however far the reader was read.
+pub fn known_bytes()
+    ensures { (form : Form) (n : ℕ) (old new : State) (bytes left : List ℕ) (writer written : Option (List ℕ)) (ended : Ended)
+        → Runs form Ending n old new (Some bytes) (Some left) writer written (Ok ended)
+        → IsWholeRun (terminal_of form old bytes) n new writer written ended }
 {}

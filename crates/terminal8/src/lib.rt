@@ -5,14 +5,17 @@
 #![tactic(auto)]
 
 mod asking;
+mod inputs;
 mod keyboards;
 pub mod laws;
+mod operators;
 mod outcomes;
 mod readings;
 mod runs;
 mod writing;
 
 pub use asking::{asks_for_key, waits_for_key};
+pub use inputs::Input;
 pub use keyboards::{Form, Keyboard, keys_of};
 pub use outcomes::{Ended, TerminalFault, Why};
 pub use runs::run;

@@ -1,23 +1,103 @@
 //! The bytes of a reader, up to the next key.
 
-ghost use Rattle.std.specs.Prelude.{◌≡◌, true};
+ghost use Rattle.std.specs.Prelude.{◌≡◌, ◌<◌, ◌≤◌, [], true, length};
 ghost use Rattle.std.specs.IoError.{error_kind};
 ghost use Rattle.std.specs.declared.io.ErrorKind.TheVariants.{Interrupted};
-ghost use Rattle.terminal8.specs.RunSteps.{ReadsByte, ReadsKey};
+ghost use Rattle.terminal8.specs.RunSteps.{Fills, Gives, Holds, Reads, ReadsByte, ReadsKey};
 
 use crate::keyboards::Keyboard;
 use crate::outcomes::TerminalFault;
-use std::io::{self, ErrorKind, Read};
+use crate::writing::Paper;
+use std::io::{self, ErrorKind, Read, Write};
+use std::marker::Model;
 
-/// Strikes the bytes of a reader up to the first that is a key, and answers it; none where the reader ends before.
-pub(crate) fn next_key<R: Read>(
-    keyboard: &mut Keyboard,
-    reader: &mut R,
-) -> Result<Option<u8>, TerminalFault>
-    ensures { ReadsKey keyboard.old keyboard.new (R.remaining reader.old) (R.remaining reader.new) result }
+/// Bytes that were read ahead: those from the place of the next to an end. A contract sees these.
+#[derive(Drop)]
+pub(crate) struct ReadAhead {
+    bytes: [u8; READ_AT_ONCE],
+    next: usize,
+    end: usize,
+}
+
+impl Model for ReadAhead {
+    ghost use Rattle.std.specs.Prelude.{ℕ, ◌≤◌, List, slice_range};
+
+    ghost Value = { List ℕ };
+
+    ghost view = { λ a. slice_range a.bytes a.next a.end };
+
+    ghost invariant = { λ a. (a.next ≤ a.end) × (a.end ≤ 0o10000) };
+}
+
+impl ReadAhead {
+    /// None are read ahead.
+    pub(crate) fn new() -> ReadAhead
+        ensures { result ≡ [] }
+    {
+        ReadAhead {
+            bytes: [0; READ_AT_ONCE],
+            next: 0,
+            end: 0,
+        }
+    }
+
+    /// Takes the next byte, if there is one.
+    #[inline(always)]
+    fn take_next(&mut self) -> Option<u8>
+        ensures { Gives self.old self.new result }
+    {
+        if self.next == self.end {
+            return None;
+        }
+        let byte = self.bytes[self.next];
+        self.next += 1;
+        Some(byte)
+    }
+
+    /// Reads bytes where none are left, one at least if the reader gives any.
+    fn fill<R: Read>(&mut self, reader: &mut R) -> Result<(), TerminalFault>
+        requires { self.old ≡ [] }
+        ensures { Fills self.new (R.remaining reader.old) (R.remaining reader.new) result }
+    {
+        self.next = 0;
+        self.end = 0;
+        self.end = read(&mut self.bytes, reader)?;
+        Ok(())
+    }
+}
+
+/// Reads bytes to the front of a buffer that has room, and tells how many.
+fn read<R: Read>(bytes: &mut [u8], reader: &mut R) -> Result<usize, TerminalFault>
+    requires { 0 < length bytes.old }
+    ensures { Reads bytes.new (R.remaining reader.old) (R.remaining reader.new) result }
 {
     for _ in 0..u64::MAX {
-        let Some(byte) = next_byte(reader)? else {
+        match reader.read(bytes) {
+            Ok(count) => return Ok(count),
+            Err(error) => {
+                if !is_interrupted(&error) {
+                    return Err(TerminalFault::Reader);
+                }
+            }
+        }
+    }
+    Err(TerminalFault::Reader)
+}
+
+/// Strikes bytes up to the first that is a key, and answers it; none where the reader gives no byte before.
+pub(crate) fn next_key<R: Read, W: Write>(
+    keyboard: &mut Keyboard,
+    ahead: &mut ReadAhead,
+    paper: &mut Paper,
+    reader: &mut R,
+    writer: &mut W,
+) -> Result<Option<u8>, TerminalFault>
+    ensures key { ReadsKey keyboard.old keyboard.new ahead.old ahead.new
+        (R.remaining reader.old) (R.remaining reader.new) result }
+    ensures paper { Holds (W.contents writer.old) (W.contents writer.new) paper.old paper.new result }
+{
+    for _ in 0..u64::MAX {
+        let Some(byte) = next_byte(ahead, paper, reader, writer)? else {
             return Ok(None);
         };
         if let Some(key) = keyboard.strike(byte) {
@@ -27,23 +107,24 @@ pub(crate) fn next_key<R: Read>(
     Err(TerminalFault::Reader)
 }
 
-/// The next byte of a reader; none where it ends.
-fn next_byte<R: Read>(reader: &mut R) -> Result<Option<u8>, TerminalFault>
-    ensures { ReadsByte (R.remaining reader.old) (R.remaining reader.new) result }
+/// The next byte, of those read ahead or else of a reader, which may keep us waiting: what was printed is handed on
+/// before.
+#[inline(always)]
+fn next_byte<R: Read, W: Write>(
+    ahead: &mut ReadAhead,
+    paper: &mut Paper,
+    reader: &mut R,
+    writer: &mut W,
+) -> Result<Option<u8>, TerminalFault>
+    ensures byte { ReadsByte ahead.old ahead.new (R.remaining reader.old) (R.remaining reader.new) result }
+    ensures paper { Holds (W.contents writer.old) (W.contents writer.new) paper.old paper.new result }
 {
-    for _ in 0..u64::MAX {
-        let mut bytes = [0u8];
-        match reader.read(&mut bytes) {
-            Ok(0) => return Ok(None),
-            Ok(_) => return Ok(Some(bytes[0])),
-            Err(error) => {
-                if !is_interrupted(&error) {
-                    return Err(TerminalFault::Reader);
-                }
-            }
-        }
+    if let Some(byte) = ahead.take_next() {
+        return Ok(Some(byte));
     }
-    Err(TerminalFault::Reader)
+    paper.flush(writer)?;
+    ahead.fill(reader)?;
+    Ok(ahead.take_next())
 }
 
 /// Whether a reader only says that it was interrupted.
@@ -56,3 +137,6 @@ fn is_interrupted(error: &io::Error) -> bool
         _ => false,
     }
 }
+
+/// The bytes that are read ahead at most.
+const READ_AT_ONCE: usize = 0o10000;

@@ -1,51 +1,67 @@
 //! A run at a terminal: the keys come from a reader, and a writer gets what is printed.
 
-ghost use Rattle.std.specs.Prelude.{◌≡◌, [], true, false, IfOk, OnOk, IfErr};
-ghost use Rattle.std.specs.Io.KnownBytes.{Appends};
-ghost use Rattle.cpu8.specs.Go.{turn, character_of};
+ghost use Rattle.std.specs.Prelude.{◌≡◌, ℕ, ◌+◌, ◌<◌, ◌≤◌, [], true, false, None, IfOk, OnOk, IfErr};
+ghost use Rattle.cpu8.specs.Go.{after, answer, turn, character_of};
+ghost use Rattle.cpu8.specs.declared.outcomes.Stepped.TheVariants.{Ran};
+ghost use Rattle.terminal8.specs.Asks.{asks_for_key};
 ghost use Rattle.terminal8.specs.Terminal.{shown};
 ghost use Rattle.terminal8.specs.Run.{Runs};
-ghost use Rattle.terminal8.specs.Keys.{fresh};
-ghost use Rattle.terminal8.specs.RunSteps.{Attends, Looks, Misses, Takes, stop_of};
+ghost use Rattle.terminal8.specs.RunSteps.{Passes, RunsInto, stop_of};
 ghost use Rattle.terminal8.specs.declared.outcomes.TerminalFault.TheVariants as fault;
 
-use crate::asking::{asks_for_key, waits_for_key};
-use crate::keyboards::{Form, Keyboard};
+use crate::asking::TENTH_OF_A_SECOND;
+use crate::inputs::Input;
+use crate::keyboards::Form;
+use crate::operators::Operator;
 use crate::outcomes::{Ended, TerminalFault, Why};
-use crate::readings::next_key;
-use crate::writing::{flush, print};
+use crate::writing::Paper;
 use cpu8::{Machine, Stepped};
 use std::io::{Read, Write};
 
-/// Runs a machine, at most n steps of it, each an instruction or an interrupt, with a printer that ends its character before the
-/// next step. A key is struck only where the program asks for one, and the reader is asked for bytes only there: what was
-/// printed so far is handed on before. What is printed goes to the writer without its top bit, and NUL is left out.
+/// Runs a machine, at most n steps of it, each an instruction or an interrupt, with a printer that ends its character
+/// before the next step. A key is looked for only where the program asks for one, and is struck there. What is printed
+/// goes to the writer without its top bit, and NUL is left out. Bytes are read some ahead: those that are not struck are
+/// no part of the run. Before the reader is asked for bytes, what was printed so far is handed on, and the writer flushed.
 ///
-/// It ends at a HLT, or where the machine stands stopped; at an unassigned word; where the reader has ended and the machine waits
-/// for a key for ever; or behind n steps. The answer is `Reader` or `Writer` where one of these fails. It takes no memory.
+/// It ends at a HLT, or where the machine stands stopped; at an unassigned word; where the keys have ended and the
+/// machine waits for one for ever; or behind n steps. Live keys never end: a look that finds none is made again where the
+/// program next asks for one. The answer is `Reader` or `Writer` where one of these fails. It takes no memory.
 pub fn run<R: Read, W: Write>(
     machine: &mut Machine,
     n: u64,
     form: Form,
+    input: Input,
     reader: &mut R,
     writer: &mut W,
 ) -> Result<Ended, TerminalFault>
-    ensures { Runs form n machine.old machine.new (R.remaining reader.old) (R.remaining reader.new) (W.contents writer.old) (W.contents writer.new) result }
+    ensures { Runs form input n machine.old machine.new (R.remaining reader.old) (R.remaining reader.new)
+        (W.contents writer.old) (W.contents writer.new) result }
 {
-    let ended = run_steps(machine, n, form, reader, writer)?;
-    flush(writer)?;
-    Ok(ended)
+    let mut paper = Paper::new();
+    let ran = run_steps(machine, n, form, input, &mut paper, reader, writer);
+    match ran {
+        Err(TerminalFault::Writer) => Err(TerminalFault::Writer),
+        _ => {
+            paper.flush(writer)?;
+            ran
+        }
+    }
 }
 
-/// The same, but what was printed last may not be handed on yet.
+/// The same, but what was printed last may still be on the paper. Each turn of the loop is one step, and then, for speed
+/// alone, several at once: without `go_on` each step is a turn.
 fn run_steps<R: Read, W: Write>(
     machine: &mut Machine,
     n: u64,
     form: Form,
+    input: Input,
+    paper: &mut Paper,
     reader: &mut R,
     writer: &mut W,
 ) -> Result<Ended, TerminalFault>
-    ensures { Runs form n machine.old machine.new (R.remaining reader.old) (R.remaining reader.new) (W.contents writer.old) (W.contents writer.new) result }
+    requires { paper.old ≡ [] }
+    ensures { RunsInto form input n machine.old machine.new (R.remaining reader.old) (R.remaining reader.new)
+        (W.contents writer.old) (W.contents writer.new) paper.new result }
 {
     if !machine.is_running() {
         return Ok(Ended {
@@ -53,21 +69,24 @@ fn run_steps<R: Read, W: Write>(
             why: Why::Halt,
         });
     }
-    let mut operator = Operator::new(form);
+    let mut operator = Operator::new(form, input);
     let mut made = 0;
     while made < n {
-        if operator.attend(machine, reader, writer)? {
+        if operator.attend(machine, paper, reader, writer)? {
             return Ok(Ended {
                 steps: made,
                 why: Why::Keys,
             });
         }
-        let did = step(machine, writer)?;
+        let did = step(machine, paper, writer)?;
         operator.since += 1;
         made += 1;
         if let Some(why) = stop_of(did) {
             return Ok(Ended { steps: made, why });
         }
+        let more = go_on(machine, n - made, operator.since);
+        operator.since += more;
+        made += more;
     }
     Ok(Ended {
         steps: n,
@@ -75,89 +94,26 @@ fn run_steps<R: Read, W: Write>(
     })
 }
 
-/// Who strikes the keys.
-#[derive(Drop)]
-struct Operator {
-    keyboard: Keyboard,
-    /// How many steps were made since the program last asked for a key.
-    since: u64,
-    /// Whether the reader's end was met.
-    is_over: bool,
-}
-
-impl Operator {
-    fn new(form: Form) -> Operator
-        ensures keyboard { result.keyboard ≡ fresh form }
-        ensures since { result.since ≡ 0 }
-        ensures is_over { result.is_over ≡ false }
-    {
-        Operator {
-            keyboard: Keyboard::new(form),
-            since: 0,
-            is_over: false,
-        }
-    }
-
-    /// Strikes a key where the program asks for one. Answers whether none is left and the machine waits for one.
-    fn attend<R: Read, W: Write>(
-        &mut self,
-        machine: &mut Machine,
-        reader: &mut R,
-        writer: &mut W,
-    ) -> Result<bool, TerminalFault>
-        ensures ok { IfOk result (Attends self.old.keyboard self.new.keyboard self.old.is_over self.new.is_over machine.old machine.new
-            self.old.since self.new.since (R.remaining reader.old) (R.remaining reader.new)) }
-        ensures writer { OnOk result (Appends (W.contents writer.old) (W.contents writer.new) []) }
-        ensures err { IfErr result (Misses self.old.keyboard self.old.is_over (R.remaining reader.old) (R.remaining reader.new)
-            (W.contents writer.old) (W.contents writer.new)) }
-        ensures same { IfErr result (λ _. machine.new ≡ machine.old) }
-    {
-        if !asks_for_key(self.since, machine) {
-            return Ok(false);
-        }
-        flush(writer)?;
-        self.look(machine, reader)?;
-        Ok(self.is_over && waits_for_key(machine))
-    }
-
-    /// Strikes the reader's next key, if it has one.
-    fn look<R: Read>(&mut self, machine: &mut Machine, reader: &mut R) -> Result<(), TerminalFault>
-        ensures ok { OnOk result (Looks self.old.keyboard self.new.keyboard self.old.is_over self.new.is_over machine.old machine.new
-            (R.remaining reader.old) (R.remaining reader.new)) }
-        ensures since { OnOk result (self.new.since ≡ 0) }
-        ensures err { IfErr result (λ e. (e ≡ fault.Reader) × (self.old.is_over ≡ false) × (machine.new ≡ machine.old)
-            × Takes self.old.keyboard self.new.keyboard (R.remaining reader.old) (R.remaining reader.new) []) }
-    {
-        self.since = 0;
-        if self.is_over {
-            return Ok(());
-        }
-        match next_key(&mut self.keyboard, reader)? {
-            Some(key) => {
-                machine.key(key);
-                Ok(())
-            }
-            None => {
-                self.is_over = true;
-                Ok(())
-            }
-        }
-    }
-}
-
-/// A step, before which the printer ends its character; and what it prints is written.
-fn step<W: Write>(machine: &mut Machine, writer: &mut W) -> Result<Stepped, TerminalFault>
+/// A step, before which the printer ends its character; and what it prints is put on paper.
+#[inline(always)]
+fn step<W: Write>(
+    machine: &mut Machine,
+    paper: &mut Paper,
+    writer: &mut W,
+) -> Result<Stepped, TerminalFault>
     ensures state { machine.new ≡ (turn true machine.old).0 }
     ensures ok { IfOk result (λ did. (did ≡ (turn true machine.old).1)
-        × Appends (W.contents writer.old) (W.contents writer.new) (shown (character_of did))) }
+        × Passes (W.contents writer.old) (W.contents writer.new) paper.old paper.new
+        (shown (character_of did))) }
     ensures err { IfErr result (λ e. e ≡ fault.Writer) }
 {
     let did = take_turn(machine);
-    print(writer, &did)?;
+    paper.print(writer, &did)?;
     Ok(did)
 }
 
 /// A step, before which the printer ends its character.
+#[inline(always)]
 fn take_turn(machine: &mut Machine) -> Stepped
     ensures state { machine.new ≡ (turn true machine.old).0 }
     ensures answer { result ≡ (turn true machine.old).1 }
@@ -166,6 +122,23 @@ fn take_turn(machine: &mut Machine) -> Stepped
         machine.done();
     }
     machine.step()
+}
+
+/// Makes up to n steps that print nothing, go on, and in which the program asks for no key, so many steps after it last
+/// asked for one, and tells how many.
+#[inline(always)]
+fn go_on(machine: &mut Machine, n: u64, since: u64) -> u64
+    ensures within { result ≤ n }
+    ensures state { machine.new ≡ after true result machine.old }
+    ensures answers { (m : ℕ) → m < result → answer true m machine.old ≡ Ran None }
+    ensures asks { (m : ℕ) → m < result → asks_for_key (since + m) (after true m machine.old) ≡ false }
+{
+    let most = if machine.interrupts_on() {
+        TENTH_OF_A_SECOND.saturating_sub(since)
+    } else {
+        TENTH_OF_A_SECOND
+    };
+    machine.run_unasked(n.min(most) as usize) as u64
 }
 
 /// Why a run ends behind a step, if it does.

@@ -4,47 +4,101 @@ ghost use Rattle.std.specs.Prelude.{◌≡◌, ◌∷◌, [], OnOk, IfErr};
 ghost use Rattle.std.specs.Io.KnownBytes.{Appends};
 ghost use Rattle.cpu8.specs.Go.{character_of};
 ghost use Rattle.terminal8.specs.Terminal.{shown};
+ghost use Rattle.terminal8.specs.RunSteps.{Passes};
 ghost use Rattle.terminal8.specs.declared.outcomes.TerminalFault.TheVariants as fault;
 
 use crate::outcomes::TerminalFault;
+use arrayvec::ArrayVec;
 use cpu8::Stepped;
 use std::io::Write;
+use std::marker::Model;
 
-/// Writes what a step printed.
-pub(crate) fn print<W: Write>(writer: &mut W, did: &Stepped) -> Result<(), TerminalFault>
-    ensures ok { OnOk result (Appends (W.contents writer.old) (W.contents writer.new) (shown (character_of did.now))) }
-    ensures err { IfErr result (λ e. e ≡ fault.Writer) }
-{
-    match did {
-        Stepped::Ran {
-            printed: Some(character),
-        } => write(writer, *character),
-        _ => Ok(()),
+/// What was printed and not handed on yet, as bytes.
+#[derive(Drop)]
+pub(crate) struct Paper {
+    bytes: ArrayVec<u8, HANDED_ON_AT_ONCE>,
+}
+
+impl Model for Paper {
+    ghost use Rattle.std.specs.Prelude.{ℕ, List};
+
+    ghost Value = { List ℕ };
+
+    ghost view = { λ p. p.bytes.items };
+}
+
+impl Paper {
+    /// Nothing was printed.
+    pub(crate) fn new() -> Paper
+        ensures { result ≡ [] }
+    {
+        Paper {
+            bytes: ArrayVec::new(),
+        }
+    }
+
+    /// Prints what a step did.
+    #[inline(always)]
+    pub(crate) fn print<W: Write>(
+        &mut self,
+        writer: &mut W,
+        did: &Stepped,
+    ) -> Result<(), TerminalFault>
+        ensures ok { OnOk result (Passes (W.contents writer.old) (W.contents writer.new) self.old self.new
+            (shown (character_of did.now))) }
+        ensures err { IfErr result (λ e. e ≡ fault.Writer) }
+    {
+        match did {
+            Stepped::Ran {
+                printed: Some(character),
+            } => self.put(writer, *character),
+            _ => Ok(()),
+        }
+    }
+
+    /// Prints a character without its top bit, but not NUL.
+    fn put<W: Write>(&mut self, writer: &mut W, character: u8) -> Result<(), TerminalFault>
+        ensures ok { OnOk result (Passes (W.contents writer.old) (W.contents writer.new) self.old self.new
+            (shown (character ∷ []))) }
+        ensures err { IfErr result (λ e. e ≡ fault.Writer) }
+    {
+        let byte = character % 0o200;
+        if byte == 0 {
+            return Ok(());
+        }
+        if self.bytes.is_full() {
+            self.hand_on(writer)?;
+        }
+        self.bytes.push(byte);
+        Ok(())
+    }
+
+    /// Hands on what was printed to a writer.
+    fn hand_on<W: Write>(&mut self, writer: &mut W) -> Result<(), TerminalFault>
+        ensures ok { OnOk result (Appends (W.contents writer.old) (W.contents writer.new) self.old) }
+        ensures rest { OnOk result (self.new ≡ []) }
+        ensures err { IfErr result (λ e. e ≡ fault.Writer) }
+    {
+        if writer.write_all(self.bytes.as_slice()).is_err() {
+            return Err(TerminalFault::Writer);
+        }
+        self.bytes.clear();
+        Ok(())
+    }
+
+    /// Hands on what was printed to a writer, and has that hand it on too.
+    pub(crate) fn flush<W: Write>(&mut self, writer: &mut W) -> Result<(), TerminalFault>
+        ensures ok { OnOk result (Passes (W.contents writer.old) (W.contents writer.new) self.old self.new []) }
+        ensures rest { OnOk result (self.new ≡ []) }
+        ensures err { IfErr result (λ e. e ≡ fault.Writer) }
+    {
+        self.hand_on(writer)?;
+        if writer.flush().is_err() {
+            return Err(TerminalFault::Writer);
+        }
+        Ok(())
     }
 }
 
-/// Writes a character without its top bit, but not NUL.
-fn write<W: Write>(writer: &mut W, character: u8) -> Result<(), TerminalFault>
-    ensures ok { OnOk result (Appends (W.contents writer.old) (W.contents writer.new) (shown (character ∷ []))) }
-    ensures err { IfErr result (λ e. e ≡ fault.Writer) }
-{
-    let byte = character % 0o200;
-    if byte == 0 {
-        return Ok(());
-    }
-    if writer.write_all(&[byte]).is_err() {
-        return Err(TerminalFault::Writer);
-    }
-    Ok(())
-}
-
-/// Hands on what was written.
-pub(crate) fn flush<W: Write>(writer: &mut W) -> Result<(), TerminalFault>
-    ensures ok { OnOk result (Appends (W.contents writer.old) (W.contents writer.new) []) }
-    ensures err { IfErr result (λ e. e ≡ fault.Writer) }
-{
-    if writer.flush().is_err() {
-        return Err(TerminalFault::Writer);
-    }
-    Ok(())
-}
+/// The bytes that are kept at most.
+const HANDED_ON_AT_ONCE: usize = 0o10000;

@@ -2,6 +2,7 @@
 
 ghost use Rattle.std.specs.Prelude.{◌≡◌, ◌+◌, ◌≤◌, ◌++◌, [], true, length, vec_len, vec_capacity};
 ghost use Rattle.cpu8.specs.QuietSteps.{AreQuiet, AreUnbroken, IsUnbroken, is_quiet, is_settled};
+ghost use Rattle.cpu8.specs.Unasked.{AreUnasked};
 ghost use Rattle.cpu8.specs.Go.{IsGo, after, break_ahead, character_of, printed_by, reason, turn};
 
 use super::Machine;
@@ -46,6 +47,39 @@ impl Machine {
             steps: n,
             why: Why::Limit,
         }
+    }
+
+    /// Makes steps, at most n, as many as are quickly made without a look at the Teletype, and tells how many: with a printer
+    /// that ends its character before the next step (this project's profile), each an instruction that prints nothing and
+    /// goes on. It stops before a KSF that finds the keyboard flag clear, where a program asks for a key, and before an
+    /// instruction that changes whether interrupts are on. None may be made: then take a `step`.
+    pub fn run_unasked(&mut self, n: usize) -> usize
+        ensures within { result ≤ n }
+        ensures state { self.new ≡ after true result self.old }
+        ensures unasked { AreUnasked self.old result }
+    {
+        if !self.processor.is_quiet(true) || !self.processor.is_settled() {
+            return 0;
+        }
+        if self.processor.finds_transfer(&self.core) {
+            return 0;
+        }
+        self.run_settled(n)
+    }
+
+    /// The same for a machine that is quiet and settled: on a copy of the processor, as below.
+    #[inline(never)]
+    fn run_settled(&mut self, n: usize) -> usize
+        requires quiet { is_quiet true self.old ≡ true }
+        requires settled { is_settled self.old ≡ true }
+        ensures within { result ≤ n }
+        ensures state { self.new ≡ after true result self.old }
+        ensures unasked { AreUnasked self.old result }
+    {
+        let mut processor = self.processor.settled();
+        let steps = processor.run_unasked(&mut self.core, n);
+        self.processor = processor;
+        steps
     }
 
     /// Makes up to n steps as long as they are quiet, and no break is ahead; none where breaks tell of some cells alone,

@@ -1,12 +1,13 @@
 //! Steps with no look at the Teletype: what a run mostly makes, on a processor of its own that the compiler keeps in
 //! registers. So every function here is inlined, and what is rare is left to the other steps. The larger ones have the
-//! parameter MINDS, whether breaks are minded, so that each stands in the program once for each of the two loops, and not
-//! once for both, which would not be inlined.
+//! parameters MINDS, whether breaks are minded, and ASKS, whether the loop stops where the program asks for a key, so that
+//! each stands in the program once for each of the three loops, and not once for all, which would not be inlined.
 
-ghost use Rattle.std.specs.Prelude.{◌≡◌, ◌<◌, ◌≤◌, ◌/◌, true};
+ghost use Rattle.std.specs.Prelude.{◌≡◌, ◌<◌, ◌≤◌, ◌/◌, true, false, nat_eq};
 ghost use Rattle.cpu8.specs.State.{next_cell, with_core};
 ghost use Rattle.cpu8.specs.Step.{fetched};
 ghost use Rattle.cpu8.specs.Go.{after, is_break};
+ghost use Rattle.cpu8.specs.Unasked.{AreUnasked, finds_no_key, is_ksf};
 ghost use Rattle.cpu8.specs.QuietSteps.{AreMinded, AreQuiet, Does, DoesOrNot, is_quiet, is_settled, operates_on};
 
 use super::Processor;
@@ -68,7 +69,7 @@ impl Processor {
     {
         let _quick = quick;
         for made in 0..n {
-            if !self.step_quietly::<MINDS>(core) {
+            if !self.step_quietly::<MINDS, false>(core) {
                 return made;
             }
             if self.is_at_break::<MINDS>(breaks) {
@@ -76,6 +77,39 @@ impl Processor {
             }
         }
         n
+    }
+
+    /// Makes up to n steps as long as they are quiet, with a quick printer, and none is a KSF that finds the keyboard flag
+    /// clear.
+    #[inline(always)]
+    pub(crate) fn run_unasked(&mut self, core: &mut Core, n: usize) -> usize
+        requires { is_quiet true self.old ≡ true }
+        ensures within { result ≤ n }
+        ensures state { with_core self.new core.new ≡ after true result (with_core self.old core.old) }
+        ensures unasked { AreUnasked (with_core self.old core.old) result }
+    {
+        for made in 0..n {
+            if !self.step_quietly::<false, true>(core) {
+                return made;
+            }
+        }
+        n
+    }
+
+    /// Whether the next instruction is an IOT: a step makes it sooner than a run that may end before it or behind it.
+    #[inline(always)]
+    pub(crate) fn finds_transfer(&self, core: &Core) -> bool
+        ensures { result ≡ nat_eq (fetched (with_core self.now core.now) / 0o1000) 6 }
+    {
+        core.get(self.next_cell()).get() / 0o1000 == 6
+    }
+
+    /// Whether the next instruction is a KSF, and the keyboard flag is clear.
+    #[inline(always)]
+    fn finds_no_key(&self, core: &Core) -> bool
+        ensures { result ≡ finds_no_key (with_core self.now core.now) }
+    {
+        !self.teletype.keyboard_flag() && is_ksf(core.get(self.next_cell()))
     }
 
     /// Whether the next instruction is at a break, where none of its field has one or each is told of.
@@ -88,10 +122,11 @@ impl Processor {
         if MINDS { breaks[cell] } else { false }
     }
 
-    /// The next instruction, if it is one that is done here.
+    /// The next instruction, if it is one that is done here. With ASKS a KSF that finds the keyboard flag clear is none.
     #[inline(always)]
-    fn step_quietly<const MINDS: bool>(&mut self, core: &mut Core) -> bool
-        ensures { DoesOrNot (with_core self.old core.old) (fetched (with_core self.old core.old)) result (with_core self.new core.new) }
+    fn step_quietly<const MINDS: bool, const ASKS: bool>(&mut self, core: &mut Core) -> bool
+        ensures does { DoesOrNot (with_core self.old core.old) (fetched (with_core self.old core.old)) result (with_core self.new core.new) }
+        ensures asks { ASKS ≡ true → result ≡ true → finds_no_key (with_core self.old core.old) ≡ false }
     {
         let word = core.get(self.next_cell());
         match word.get() / 0o200 {
@@ -119,11 +154,16 @@ impl Processor {
             0o25 => self.refer(core, leading(0o25, word)),
             0o26 => self.refer(core, leading(0o26, word)),
             0o27 => self.refer(core, leading(0o27, word)),
-            0o30 => return self.transfer_quietly(core, leading(0o30, word)),
+            0o30 => {
+                if ASKS && self.finds_no_key(core) {
+                    return false;
+                }
+                return self.transfer_quietly(core, leading(0o30, word));
+            }
             0o31 => return self.transfer_quietly(core, leading(0o31, word)),
             0o32 => return self.transfer_quietly(core, leading(0o32, word)),
             0o33 => return self.transfer_quietly(core, leading(0o33, word)),
-            _ => return self.operate_quietly::<MINDS>(core, word),
+            _ => return self.operate_quietly::<MINDS, ASKS>(core, word),
         }
         true
     }
@@ -171,7 +211,11 @@ impl Processor {
 
     /// An operate instruction that goes on. The words of everyday use are each compiled for themselves.
     #[inline(always)]
-    fn operate_quietly<const MINDS: bool>(&mut self, core: &Core, word: Word) -> bool
+    fn operate_quietly<const MINDS: bool, const ASKS: bool>(
+        &mut self,
+        core: &Core,
+        word: Word,
+    ) -> bool
         requires { 7 ≤ word / 0o1000 }
         ensures { DoesOrNot (with_core self.old core.now) word result (with_core self.new core.now) }
     {
@@ -236,6 +280,14 @@ fn leading(bits: u16, word: Word) -> Word
     ensures { result ≡ word }
 {
     Word::low(0o200 * bits + word.get() % 0o200)
+}
+
+/// Pulse 1 of a keyboard instruction, 6031, 6033, 6035 or 6037.
+#[inline(always)]
+fn is_ksf(word: Word) -> bool
+    ensures { result ≡ is_ksf word }
+{
+    word.get() / 0o10 == 0o603 && word.get() % 2 == 1
 }
 
 /// Whether a cell has a break.

@@ -1,79 +1,95 @@
-use Rattle.std.proofs.Common.{◌≡◌, ◌+◌, ◌++◌, [], arith, sym, ◌∙◌}
+use Rattle.std.proofs.Common.{◌+◌, Bool, true, false, arith, sym, subst, ◌∙◌}
 use Rattle.std.proofs.lemmas.Result.{err_from_is_err_and}
-use Rattle.terminal8.proofs.RunLemmas.{begun, begun-runs, begun-wrote, step-at, step-wrote, step-runs, is-cut, stopped-run, limit-run, starved-run, ended-run, missed-run}
+use Rattle.terminal8.specs.RunSteps.{Attends}
+use Rattle.terminal8.specs.declared.inputs.Input.{Input}
+use Rattle.terminal8.proofs.RunLemmas.{begun, running-next, running-more, stopped-run, limit-run, starved-run, ended-run, unwritten-run, missed-run}
 use Rattle.terminal8.proofs.runs.run_steps.Goals as goal
 
 pub returns-then-not-is_running : goal.returns-then-not-is_running
-returns-then-not-is_running g c = stopped-run c.args.form c.args.n c.args.machine.now _ _ (sym c.is_running.ensures ∙ c.if-not-is_running.true)
+returns-then-not-is_running g c =
+    stopped-run c.args.form c.args.input c.args.n c.args.machine.now _ _ c.args.paper.now c.requires (sym c.is_running.ensures ∙ c.if-not-is_running.true)
 
 pub loop-made-init : goal.loop-made-init
 loop-made-init g c =
-    rw (c.new-operator.ensures.keyboard, c.new-operator.ensures.since, c.new-operator.ensures.is_over) (
-      [],
-      begun c.args.form c.args.machine.now _,
-      begun-runs c.args.form c.args.machine.now (sym c.is_running.ensures ∙ c.if-not-is_running.false),
-      begun-wrote c.args.form c.args.machine.now _,
-      omega arith,
-      omega arith,
-    )
+    rw (c.new-operator.ensures.keyboard, c.new-operator.ensures.ahead, c.new-operator.ensures.is_over, c.new-operator.ensures.since) (record {
+      running = rw (c.requires) (begun c.args.form c.args.input c.args.machine.now _ _ (sym c.is_running.ensures ∙ c.if-not-is_running.false));
+      input = c.new-operator.ensures.input;
+      sooner = omega arith;
+      within = omega arith;
+    })
 
 pub returns-in_err-attend : goal.returns-in_err-attend
 returns-in_err-attend g c =
     let p = err_from_is_err_and c.from_residual.result c.from_residual.ensures.1 in
     let i = c.loop-made.invariant in
     rw (p.1, p.2)
-    (missed-run c.args.form c.args.n c.args.machine.now c.loop-made.machine c.attend.new.machine c.loop-made.operator.keyboard c.loop-made.operator.is_over c.loop-made.operator.since
-    _ _ _ _ _ _ i.0 c.loop-made.made c.in_err-attend.field-0.0 i.1 i.3 i.5 c.in_err-attend.ensures.err c.in_err-attend.ensures.same)
+    (missed-run c.args.form c.args.input c.args.n c.args.machine.now c.loop-made.machine c.attend.new.machine c.loop-made.operator.keyboard c.attend.new.self.keyboard
+    c.loop-made.operator.ahead c.attend.new.self.ahead c.loop-made.operator.is_over c.loop-made.operator.since _ _ _ _ _ _ c.loop-made.paper c.attend.new.paper
+    c.loop-made.made c.in_err-attend.field-0.0 i.running i.within c.in_err-attend.ensures.err c.in_err-attend.ensures.paper c.in_err-attend.ensures.same)
 
 pub returns-then-branch : goal.returns-then-branch
 returns-then-branch g c =
     let i = c.loop-made.invariant in
-    starved-run c.args.form c.args.n c.args.machine.now c.loop-made.machine c.attend.new.machine c.loop-made.operator.keyboard c.attend.new.self.keyboard
-    c.loop-made.operator.is_over c.attend.new.self.is_over c.loop-made.operator.since c.attend.new.self.since _ _ _ _ _ _ i.0 c.loop-made.made c.in_ok-attend.field-0
-    i.1 i.2 i.3 c.loop-made-test.true c.in_ok-attend.ensures.ok c.in_ok-attend.ensures.writer c.if-branch.true
+    let attends = subst (λ (b : Bool). Attends c.loop-made.operator.input c.loop-made.operator.keyboard c.attend.new.self.keyboard c.loop-made.operator.ahead c.attend.new.self.ahead
+    c.loop-made.operator.is_over c.attend.new.self.is_over c.loop-made.machine c.attend.new.machine c.loop-made.operator.since c.attend.new.self.since
+    (g.R.Read.remaining c.loop-made.reader) (g.R.Read.remaining c.attend.new.reader) b) c.if-branch.true c.in_ok-attend.ensures.ok in
+    let at = subst (λ (x : Input). Attends x c.loop-made.operator.keyboard c.attend.new.self.keyboard c.loop-made.operator.ahead c.attend.new.self.ahead
+    c.loop-made.operator.is_over c.attend.new.self.is_over c.loop-made.machine c.attend.new.machine c.loop-made.operator.since c.attend.new.self.since
+    (g.R.Read.remaining c.loop-made.reader) (g.R.Read.remaining c.attend.new.reader) true) i.input attends in
+    starved-run c.args.form c.args.input c.args.n c.args.machine.now c.loop-made.machine c.attend.new.machine _ _ _ _ _ _ c.loop-made.operator.since c.attend.new.self.since
+    _ _ _ _ _ _ c.loop-made.paper c.attend.new.paper c.loop-made.made i.running c.loop-made-test.true at c.in_ok-attend.ensures.paper
 
 pub returns-in_err-did : goal.returns-in_err-did
 returns-in_err-did g c =
     let p = err_from_is_err_and c.from_residual-in_err-did.result c.from_residual-in_err-did.ensures.1 in
     let i = c.loop-made.invariant in
-    let a = c.in_ok-attend.ensures.ok in
-    let at = step-at c.args.form c.args.machine.now c.loop-made.machine c.attend.new.machine c.step.new.machine c.loop-made.operator.keyboard c.attend.new.self.keyboard
-    c.loop-made.operator.is_over c.attend.new.self.is_over c.loop-made.operator.since c.attend.new.self.since _ _ _ i.0 c.loop-made.made c.in_ok-attend.field-0
-    i.1 i.2 a c.if-branch.false c.step.ensures.state in
+    let attends = subst (λ (b : Bool). Attends c.loop-made.operator.input c.loop-made.operator.keyboard c.attend.new.self.keyboard c.loop-made.operator.ahead c.attend.new.self.ahead
+    c.loop-made.operator.is_over c.attend.new.self.is_over c.loop-made.machine c.attend.new.machine c.loop-made.operator.since c.attend.new.self.since
+    (g.R.Read.remaining c.loop-made.reader) (g.R.Read.remaining c.attend.new.reader) b) c.if-branch.false c.in_ok-attend.ensures.ok in
+    let at = subst (λ (x : Input). Attends x c.loop-made.operator.keyboard c.attend.new.self.keyboard c.loop-made.operator.ahead c.attend.new.self.ahead
+    c.loop-made.operator.is_over c.attend.new.self.is_over c.loop-made.machine c.attend.new.machine c.loop-made.operator.since c.attend.new.self.since
+    (g.R.Read.remaining c.loop-made.reader) (g.R.Read.remaining c.attend.new.reader) false) i.input attends in
     rw (p.1, p.2, c.in_err-did.ensures.err)
-    (is-cut c.args.form c.args.n c.args.machine.now c.step.new.machine c.attend.new.self.keyboard c.attend.new.self.is_over (c.attend.new.self.since + 1) _ _
-    (i.0 ++ a.bytes) (c.loop-made.made + 1) at (omega (arith, c.loop-made-test.true)))
+    (unwritten-run c.args.form c.args.input c.args.n c.args.machine.now c.loop-made.machine c.attend.new.machine c.step.new.machine _ _ _ _ _ _
+    c.loop-made.operator.since c.attend.new.self.since _ _ _ _ _ c.loop-made.paper c.loop-made.made i.running c.loop-made-test.true at c.step.ensures.state)
 
 pub returns-in-Some : goal.returns-in-Some
 returns-in-Some g c =
     let i = c.loop-made.invariant in
+    let attends = subst (λ (b : Bool). Attends c.loop-made.operator.input c.loop-made.operator.keyboard c.attend.new.self.keyboard c.loop-made.operator.ahead c.attend.new.self.ahead
+    c.loop-made.operator.is_over c.attend.new.self.is_over c.loop-made.machine c.attend.new.machine c.loop-made.operator.since c.attend.new.self.since
+    (g.R.Read.remaining c.loop-made.reader) (g.R.Read.remaining c.attend.new.reader) b) c.if-branch.false c.in_ok-attend.ensures.ok in
+    let at = subst (λ (x : Input). Attends x c.loop-made.operator.keyboard c.attend.new.self.keyboard c.loop-made.operator.ahead c.attend.new.self.ahead
+    c.loop-made.operator.is_over c.attend.new.self.is_over c.loop-made.machine c.attend.new.machine c.loop-made.operator.since c.attend.new.self.since
+    (g.R.Read.remaining c.loop-made.reader) (g.R.Read.remaining c.attend.new.reader) false) i.input attends in
     let did = c.in_ok-did.ensures.ok in
-    ended-run c.args.form c.args.n c.args.machine.now c.loop-made.machine c.attend.new.machine c.step.new.machine c.loop-made.operator.keyboard c.attend.new.self.keyboard
-    c.loop-made.operator.is_over c.attend.new.self.is_over c.loop-made.operator.since c.attend.new.self.since _ _ _ _ _ _ _ i.0 c.loop-made.made c.in_ok-attend.field-0
-    c.in_ok-did.did c.in-Some.why i.1 i.2 i.3 c.loop-made-test.true c.in_ok-attend.ensures.ok c.in_ok-attend.ensures.writer c.if-branch.false c.step.ensures.state
-    did.0 did.1 (sym c.stop_of.ensures ∙ c.in-Some.is)
+    ended-run c.args.form c.args.input c.args.n c.args.machine.now c.loop-made.machine c.attend.new.machine c.step.new.machine _ _ _ _ _ _
+    c.loop-made.operator.since c.attend.new.self.since _ _ _ _ _ _ _ c.loop-made.paper c.attend.new.paper c.step.new.paper c.loop-made.made
+    c.in_ok-did.did c.in-Some.why i.running c.loop-made-test.true at c.in_ok-attend.ensures.paper c.step.ensures.state did.0 did.1 (sym c.stop_of.ensures ∙ c.in-Some.is)
 
 pub loop-made-preserved : goal.loop-made-preserved
 loop-made-preserved g c =
     let i = c.loop-made.invariant in
-    let a = c.in_ok-attend.ensures.ok in
-    let did = c.in_ok-did.ensures.ok in (
-      i.0 ++ a.bytes,
-      step-at c.args.form c.args.machine.now c.loop-made.machine c.attend.new.machine c.step.new.machine c.loop-made.operator.keyboard c.attend.new.self.keyboard
-          c.loop-made.operator.is_over c.attend.new.self.is_over c.loop-made.operator.since c.attend.new.self.since _ _ _ i.0 c.loop-made.made c.in_ok-attend.field-0
-          i.1 i.2 a c.if-branch.false c.step.ensures.state,
-      step-runs c.args.form c.args.machine.now c.loop-made.machine c.attend.new.machine c.loop-made.operator.keyboard c.attend.new.self.keyboard
-          c.loop-made.operator.is_over c.attend.new.self.is_over c.loop-made.operator.since c.attend.new.self.since _ _ _ i.0 c.loop-made.made c.in_ok-attend.field-0
-          c.in_ok-did.did i.1 a did.0 (sym c.stop_of.ensures ∙ c.in_default.is),
-      step-wrote c.args.form c.args.machine.now c.loop-made.machine c.attend.new.machine c.loop-made.operator.keyboard c.attend.new.self.keyboard
-          c.loop-made.operator.is_over c.attend.new.self.is_over c.loop-made.operator.since c.attend.new.self.since _ _ _ _ _ _ _ i.0 c.loop-made.made c.in_ok-attend.field-0
-          c.in_ok-did.did i.1 i.3 a c.in_ok-attend.ensures.writer did.0 did.1,
-      omega (arith, a.sooner, i.4),
-      omega (arith, c.loop-made-test.true),
-    )
+    let attends = subst (λ (b : Bool). Attends c.loop-made.operator.input c.loop-made.operator.keyboard c.attend.new.self.keyboard c.loop-made.operator.ahead c.attend.new.self.ahead
+    c.loop-made.operator.is_over c.attend.new.self.is_over c.loop-made.machine c.attend.new.machine c.loop-made.operator.since c.attend.new.self.since
+    (g.R.Read.remaining c.loop-made.reader) (g.R.Read.remaining c.attend.new.reader) b) c.if-branch.false c.in_ok-attend.ensures.ok in
+    let at = subst (λ (x : Input). Attends x c.loop-made.operator.keyboard c.attend.new.self.keyboard c.loop-made.operator.ahead c.attend.new.self.ahead
+    c.loop-made.operator.is_over c.attend.new.self.is_over c.loop-made.machine c.attend.new.machine c.loop-made.operator.since c.attend.new.self.since
+    (g.R.Read.remaining c.loop-made.reader) (g.R.Read.remaining c.attend.new.reader) false) i.input attends in
+    let did = c.in_ok-did.ensures.ok in
+    let stepped = running-next c.args.form c.args.input c.args.machine.now c.loop-made.machine c.attend.new.machine c.step.new.machine _ _ _ _ _ _
+    c.loop-made.operator.since c.attend.new.self.since _ _ _ _ _ _ _ c.loop-made.paper c.attend.new.paper c.step.new.paper c.loop-made.made
+    c.in_ok-did.did i.running at c.in_ok-attend.ensures.paper c.step.ensures.state did.0 did.1 (sym c.stop_of.ensures ∙ c.in_default.is) in
+    record {
+      running = running-more c.args.form c.args.input c.args.machine.now c.step.new.machine c.go_on-more.new.machine _ _ _ (c.attend.new.self.since + 1) _ _ _ _ c.step.new.paper
+          (c.loop-made.made + 1) c.go_on-more.result stepped c.go_on-more.ensures.state c.go_on-more.ensures.answers c.go_on-more.ensures.asks;
+      input = c.in_ok-attend.ensures.input ∙ i.input;
+      sooner = omega (arith, at.sooner, i.sooner);
+      within = omega (arith, c.loop-made-test.true, c.go_on-more.ensures.within);
+    }
 
 pub returns : goal.returns
 returns g c =
     let i = c.loop-made.invariant in
-    limit-run c.args.form c.args.n c.args.machine.now c.loop-made.machine c.loop-made.operator.keyboard c.loop-made.operator.is_over c.loop-made.operator.since
-    _ _ _ _ i.0 c.loop-made.made i.1 i.2 i.3 (omega (arith, c.loop-made-test.false, i.5))
+    limit-run c.args.form c.args.input c.args.n c.args.machine.now c.loop-made.machine _ _ _ c.loop-made.operator.since _ _ _ _ c.loop-made.paper c.loop-made.made
+    i.running (omega (arith, c.loop-made-test.false, i.within))

@@ -19,30 +19,30 @@ loop-made-init g c =
 pub is_at_break-requires : goal.is_at_break-requires
 is_at_break-requires g c =
     let same : c.step_quietly.new.self.instruction_field ≡ c.args.self.now.instruction_field =
-    (c.if-not-step_quietly.ensures).stays.field c.loop-made.invariant.5 ∙ c.loop-made.invariant.4 in
+    (c.if-not-step_quietly.ensures.does).stays.field c.loop-made.invariant.5 ∙ c.loop-made.invariant.4 in
     subst (λ field. AreMinded c.args.breaks.now field _) (sym same) c.requires.breaks
 
 pub returns-then-is_at_break-clause-state : goal.returns-then-is_at_break-clause-state
 returns-then-is_at_break-clause-state g c =
     after-quiet c.args.quick c.loop-made.made (with_core c.args.self.now c.args.core.now) (with_core c.loop-made.self c.loop-made.core)
-    (with_core c.step_quietly.new.self c.step_quietly.new.core) c.loop-made.invariant.0 c.loop-made.invariant.2 c.if-not-step_quietly.ensures
+    (with_core c.step_quietly.new.self c.step_quietly.new.core) c.loop-made.invariant.0 c.loop-made.invariant.2 c.if-not-step_quietly.ensures.does
 
 pub returns-then-is_at_break-clause-quiet : goal.returns-then-is_at_break-clause-quiet
 returns-then-is_at_break-clause-quiet g c =
     quiet-next c.args.quick c.args.breaks.now c.loop-made.made (with_core c.args.self.now c.args.core.now) (with_core c.loop-made.self c.loop-made.core)
     (with_core c.step_quietly.new.self c.step_quietly.new.core) c.loop-made.invariant.0 c.loop-made.invariant.2 c.loop-made.invariant.3
-    c.if-not-step_quietly.ensures c.loop-made.invariant.1
+    c.if-not-step_quietly.ensures.does c.loop-made.invariant.1
 
 pub loop-made-preserved : goal.loop-made-preserved
 loop-made-preserved g c =
     let s = with_core c.args.self.now c.args.core.now in
     let old = with_core c.loop-made.self c.loop-made.core in
     let new = with_core c.step_quietly.new.self c.step_quietly.new.core in (
-      after-quiet c.args.quick c.loop-made.made s old new c.loop-made.invariant.0 c.loop-made.invariant.2 c.if-not-step_quietly.ensures,
+      after-quiet c.args.quick c.loop-made.made s old new c.loop-made.invariant.0 c.loop-made.invariant.2 c.if-not-step_quietly.ensures.does,
       quiet-next c.args.quick c.args.breaks.now c.loop-made.made s old new c.loop-made.invariant.0 c.loop-made.invariant.2 c.loop-made.invariant.3
-          c.if-not-step_quietly.ensures c.loop-made.invariant.1,
-      stays-quiet c.args.quick old new c.loop-made.invariant.2 (c.if-not-step_quietly.ensures).stays,
+          c.if-not-step_quietly.ensures.does c.loop-made.invariant.1,
+      stays-quiet c.args.quick old new c.loop-made.invariant.2 (c.if-not-step_quietly.ensures.does).stays,
       λ _. sym c.is_at_break.ensures ∙ c.if-is_at_break.false,
-      (c.if-not-step_quietly.ensures).stays.field c.loop-made.invariant.5 ∙ c.loop-made.invariant.4,
-      fields-same old new (c.if-not-step_quietly.ensures).stays c.loop-made.invariant.5,
+      (c.if-not-step_quietly.ensures.does).stays.field c.loop-made.invariant.5 ∙ c.loop-made.invariant.4,
+      fields-same old new (c.if-not-step_quietly.ensures.does).stays c.loop-made.invariant.5,
     )

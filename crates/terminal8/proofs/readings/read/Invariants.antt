@@ -1,6 +1,6 @@
 use Rattle.std.proofs.Common.{[]}
 use Rattle.std.specs.Io.KnownBytes.{Consumes}
-use Rattle.terminal8.proofs.readings.next_byte.Given as goal
+use Rattle.terminal8.proofs.readings.read.Given as goal
 
 -- nothing was taken
 abbrev pub invariant-loop : goal.invariant-loop
