@@ -51,7 +51,7 @@ unfolding walk_passes
 walk_goes a word rest is no_help =
     rw (is, no_help) (ap (λ w. walk_passes a.top (names_of a) w rest) (first_step a word is) ∙ passes_on a.top (names_of a) word [] rest)
 
-both_true : (x y : Bool) → x ≡ true → y ≡ true → (x && y) ≡ true
+pub both_true : (x y : Bool) → x ≡ true → y ≡ true → (x && y) ≡ true
 both_true x y one two = ap₂ (λ (a b : Bool). a && b) one two
 
 -- the command asks for nothing but a subcommand

@@ -1,3 +1,4 @@
 pub mod CommandSteps
+pub mod Octal
 pub mod Tasks
 pub mod TaskSteps

@@ -1,12 +1,14 @@
 //! The subcommand for a script.
-ghost use Rattle.std.specs.Prelude.{◌≡◌, codes, IfErr, IfOk, Some};
-ghost use Rattle.clap.specs.Words.{first_of, found_of, rows_of};
-ghost use Rattle.command8.specs.declared.kinds.TaskFault.TheVariants.{LookAndKeep};
+ghost use Rattle.std.specs.Prelude.{◌≡◌, codes, IfOk};
+ghost use Rattle.clap.specs.Words.{found_of, rows_of};
 ghost use Rattle.command8.specs.CommandSteps.{IsCommand};
-ghost use Rattle.command8.specs.Tasks.{AsksBoth, AsksFor, HasFitBlocks, run_app};
+ghost use Rattle.command8.specs.Tasks.{run_app};
 ghost use Rattle.command8.specs.Tasks as spec;
+ghost use Rattle.command8.specs.TaskSteps.{Gives, Needs};
+ghost use Rattle.command8.specs.declared.verbs.Verb.TheVariants as verb;
 
-use crate::parts::{Draft, is_set, leaf, with_image, with_lines, with_option};
+use crate::found::{is_set, value_of};
+use crate::parts::{Draft, flag, leaf, may_have, must_have, with_argument, with_lines};
 use crate::{RunForm, Saving, Task, TaskFault};
 use clap::ArgMatches;
 use std::alloc::Global;
@@ -45,35 +47,35 @@ pub fn run<'a>(alloc: Global) -> Draft<'a>
         "Run a script on a volume",
         "Runs the script of standard input on the OS/8 volume in the file IMAGE, prints the replies, and{n}writes the image back to the file. Each line gets its reply as it comes.",
     );
-    let plain = with_image(alloc, with_lines(bare, SCRIPT_LINES));
-    let with_look = with_option(
+    let image = must_have(may_have(alloc, "IMAGE", "The file that holds the volume"));
+    let look = flag(
         alloc,
-        plain,
         "look",
         "Never write the image, whatever the script does",
     );
-    let with_keep = with_option(
+    let keep = flag(
         alloc,
-        with_look,
         "keep",
         "Write the image after each entry that changed it, before its reply",
     );
-    with_option(
+    let strict = flag(
         alloc,
-        with_keep,
         "strict",
         "End with status 1 where a reply was a refusal",
-    )
+    );
+    let with_look = with_argument(
+        with_argument(Ok(with_lines(bare, SCRIPT_LINES)), image),
+        look,
+    );
+    with_argument(with_argument(with_look, keep), strict)
 }
 
-/// The run that is asked for, on the volume in a file.
-pub fn run_asked(found: &ArgMatches<'_>, image: String) -> Result<Task, TaskFault>
-    requires image { first_of (codes "IMAGE") (rows_of (found_of found.now)) ≡ Some image.bytes.items }
-    ensures task { IfOk result (λ task. AsksFor (codes "run") (rows_of (found_of found.now)) task) }
-    ensures fit { IfOk result HasFitBlocks }
-    ensures both { IfErr result (λ fault. (fault ≡ LookAndKeep)
-        × AsksBoth (Some (codes "run", rows_of (found_of found.now)))) }
+/// The run that is asked for.
+pub fn run_asked(alloc: Global, found: &ArgMatches<'_>) -> Result<Task, TaskFault>
+    requires { Needs verb.Run (rows_of (found_of found.now)) }
+    ensures { Gives (codes "run") (rows_of (found_of found.now)) result }
 {
+    let image = value_of(alloc, found, "IMAGE")?;
     match saving(is_set(found, "look"), is_set(found, "keep")) {
         Some(saving) => Ok(Task::Run(
             image,

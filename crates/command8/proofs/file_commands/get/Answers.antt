@@ -1,7 +1,9 @@
-use Rattle.clap.specs.Words.{with_rule}
-use Rattle.command8.specs.Tasks.{plain_get_app, text_rule}
+use Rattle.std.proofs.Common.{codes, ◌∷◌, []}
+use Rattle.command8.specs.Tasks.{flag_rule, image_rule, name_rule, subcommand}
 use Rattle.command8.proofs.file_commands.get.Goals as goal
 
 pub returns : goal.returns
 returns c =
-    c.with_option.ensures (with_rule plain_get_app text_rule) (c.with_option-with_text.ensures plain_get_app c.file_leaf-plain.ensures)
+    let text = c.with_argument.ensures (subcommand (codes "get") (image_rule ∷ name_rule ∷ [])) (flag_rule (codes "text")) c.file_leaf-plain.ensures c.flag-text.ensures in
+    c.with_argument-2.ensures (subcommand (codes "get") (image_rule ∷ name_rule ∷ flag_rule (codes "text") ∷ [])) (flag_rule (codes "tape")) text
+    c.flag-tape.ensures

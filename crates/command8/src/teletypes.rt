@@ -1,0 +1,103 @@
+//! The subcommand for a tape that runs with the terminal as its Teletype.
+ghost use Rattle.std.specs.Prelude.{◌≡◌, IfErr, IfOk, codes, option_map, ℕ, Option};
+ghost use Rattle.clap.specs.Words.{first_of, found_of, rows_of};
+ghost use Rattle.command8.specs.CommandSteps.{IsCommand};
+ghost use Rattle.command8.specs.Tasks.{IsOctalOf, teletype_app};
+ghost use Rattle.command8.specs.TaskSteps.{Gives, Needs, IsNoStart, IsNoSwitches};
+ghost use Rattle.command8.specs.declared.verbs.Verb.TheVariants as verb;
+
+use crate::found::{is_set, steps_of, text_of, value_if_given, value_of};
+use crate::octal::{cell, octal_word};
+use crate::parts::{Draft, flag, hidden, leaf, may_have, must_have, option, steps, with_argument};
+use crate::{Task, TaskFault, TeletypeForm};
+use clap::ArgMatches;
+use std::alloc::Global;
+use word12::{Cell, Word};
+
+/// The subcommand `teletype`.
+pub fn teletype<'a>(alloc: Global) -> Draft<'a>
+    ensures { IfOk result (λ command. IsCommand command teletype_app) }
+{
+    let bare = leaf(
+        alloc,
+        "teletype",
+        "Run a BIN paper tape with the terminal as the Teletype",
+        "Loads the BIN paper tape in the file TAPE into core, or the tape that the file NAME of the OS/8{n}volume in the image TAPE begins with, and starts the processor. What it prints goes to standard{n}output with its top bit dropped; standard input is the keyboard. It ends where the processor{n}halts, where the program waits for a key and there are no more, and at a limit. The exit status is{n}0 after HALT or where the keys ended, 1 after a word that is no instruction, the limit or a fault{n}of the tape, and 2 for words that are refused.",
+    );
+    let tape = must_have(may_have(
+        alloc,
+        "TAPE",
+        "The file of the tape, or of the image that holds NAME",
+    ));
+    let name = may_have(alloc, "NAME", "The name of the file on the volume");
+    let start = option(
+        alloc,
+        "start",
+        "FAAAA",
+        "The cell to start at, field and address in octal; else 00200",
+    );
+    let switches = option(
+        alloc,
+        "switches",
+        "WWWW",
+        "The word that the switches are set to, in octal; else 0000",
+    );
+    let raw = flag(
+        alloc,
+        "raw",
+        "Give each key and each character as it is, with no change of line ends",
+    );
+    let live = hidden(flag(alloc, "live", "Take the keys as they are struck"));
+    let with_name = with_argument(with_argument(Ok(bare), tape), name);
+    let with_switches = with_argument(with_argument(with_name, start), switches);
+    let with_raw = with_argument(with_argument(with_switches, steps(alloc)), raw);
+    with_argument(with_raw, live)
+}
+
+/// The run that is asked for.
+pub fn teletype_asked(alloc: Global, found: &ArgMatches<'_>) -> Result<Task, TaskFault>
+    requires { Needs verb.Teletype (rows_of (found_of found.now)) }
+    ensures { Gives (codes "teletype") (rows_of (found_of found.now)) result }
+{
+    let start = start_of(alloc, found)?;
+    let switches = switches_of(alloc, found)?;
+    let file = value_of(alloc, found, "TAPE")?;
+    let name = value_if_given(alloc, found, "NAME")?;
+    Ok(Task::Teletype(TeletypeForm {
+        file,
+        name,
+        start,
+        switches,
+        steps: steps_of(found),
+        is_raw: is_set(found, "raw"),
+        is_live: is_set(found, "live"),
+    }))
+}
+
+/// The cell to start at, if one was given.
+fn start_of(alloc: Global, found: &ArgMatches<'_>) -> Result<Option<Cell>, TaskFault>
+    ensures start { IfOk result (λ start. IsOctalOf 5 (first_of (codes "start") (rows_of (found_of found.now))) start) }
+    ensures refused { IfErr result (IsNoStart (rows_of (found_of found.now))) }
+{
+    let Some(text) = text_of(found, "start") else {
+        return Ok(None);
+    };
+    match cell(text.as_bytes()) {
+        Some(start) => Ok(Some(start)),
+        None => Err(TaskFault::Start(String::from_str(alloc, text)?)),
+    }
+}
+
+/// What the switches are set to, if it was given.
+fn switches_of(alloc: Global, found: &ArgMatches<'_>) -> Result<Option<Word>, TaskFault>
+    ensures switches { IfOk result (λ word. IsOctalOf 4 (first_of (codes "switches") (rows_of (found_of found.now))) word) }
+    ensures refused { IfErr result (IsNoSwitches (rows_of (found_of found.now))) }
+{
+    let Some(text) = text_of(found, "switches") else {
+        return Ok(None);
+    };
+    match octal_word(text.as_bytes()) {
+        Some(word) => Ok(Some(word)),
+        None => Err(TaskFault::Switches(String::from_str(alloc, text)?)),
+    }
+}
