@@ -257,8 +257,7 @@ pub has_blocks : (s : Shape) → IsLeaf s → arg_by_id s.rules (codes "BLOCKS")
     → HasBlocks (rows_after s.rules [] words)
 has_blocks s leaf own words none =
     let found = given s leaf blocks_built own refl refl words none in
-    let first = first_value blocks_built found.0.values refl found.2 in
-    (
+    let first = first_value blocks_built found.0.values refl found.2 in (
       first.0,
       ap (option_and_then row_text) found.1 ∙ (ap (option_map (read_as found.0.reading)) first.1 ∙ ap (λ how. Some (read_as how first.0)) found.3),
       passed (Unsigned 8 4095) first.0 first.2,

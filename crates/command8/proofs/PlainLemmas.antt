@@ -179,7 +179,7 @@ entered_as which uses P takes name asked = (
   ap₂ (λ (a b : Bool). a && b) is_plain (enter_takes (built pdp8) (word which) s (words_of uses) found no_more (level_goes_by s uses takes)),
   λ task asks.
       let here : AsksFor s.name (rows_after s.rules [] (words_of uses)) task =
-          subst (λ (met : Option (Text × List Row)). Asks met task) (enter_met (built pdp8) (word which) s (words_of uses) found) asks in
+      subst (λ (met : Option (Text × List Row)). Asks met task) (enter_met (built pdp8) (word which) s (words_of uses) found) asks in
       let there : AsksFor (word which) (rows_after s.rules [] (words_of uses)) task = subst (λ (w : Text). AsksFor w (rows_after s.rules [] (words_of uses)) task) found.name here in
       let seen : AsksFor (word which) (found_by which uses) task = subst (λ (rows : List Row). AsksFor (word which) rows task) (level_rows s uses takes) there in
       asked task (seen_as which (found_by which uses) task seen) seen,

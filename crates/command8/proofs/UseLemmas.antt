@@ -183,7 +183,7 @@ option_goes s a name word rest h waiting position last plain named valued goes =
     (name_read s a name true waiting position h named) (name_goes s a name true waiting h named valued.passes) refl refl
     (goes_on s (waiting_held s.rules a h) (option a.id) position word rest last (option_held s.rules a word h) idle position (option_held s.rules a word h, next idle)
     (word_read s.rules (option a.id) position word (waiting_held s.rules a h) plain ∙ (ap (λ (o : Option Rule).
-        let met : Held × Step = ((option_word o a.id word (waiting_held s.rules a h)).0, next (option_word o a.id word (waiting_held s.rules a h)).1) in met) valued.own
+    let met : Held × Step = ((option_word o a.id word (waiting_held s.rules a h)).0, next (option_word o a.id word (waiting_held s.rules a h)).1) in met) valued.own
     ∙ ap (λ (b : Bool). let met : Held × Step = (option_held s.rules a word h, next (if b then option a.id else idle)) in met) valued.one))
     (word_goes s (option a.id) word (waiting_held s.rules a h) plain) refl refl goes)
 

@@ -2,3 +2,4 @@ pub mod CommandSteps
 pub mod Octal
 pub mod Tasks
 pub mod TaskSteps
+pub mod Usage

@@ -34,13 +34,10 @@ pub fn get<'a>(alloc: Global) -> Draft<'a>
         "Write a file of a volume to standard output",
         "Writes the file NAME of the OS/8 volume in the file IMAGE to standard output: its frames, three{n}for each two words. The line of a fault goes to standard error. The image is not written.",
     );
-    let text = flag(alloc, "text", "Write its text, each line ended by LF");
-    let tape = flag(
-        alloc,
-        "tape",
-        "Write the BIN tape that it begins with, also where --text is given",
-    );
-    with_argument(with_argument(plain, text), tape)
+    let text = "Write its text, each line ended by LF";
+    let with_text = with_argument(plain, flag(alloc, "text", text));
+    let tape = "Write the BIN tape that it begins with, also where --text is given";
+    with_argument(with_text, flag(alloc, "tape", tape))
 }
 
 pub fn put<'a>(alloc: Global) -> Draft<'a>
@@ -52,12 +49,8 @@ pub fn put<'a>(alloc: Global) -> Draft<'a>
         "Make standard input a file of a volume",
         "Makes the bytes of standard input the file NAME of the OS/8 volume in the file IMAGE, in place of{n}an older one, and prints STORED, the name and the number of blocks. After a fault the image{n}is as it was.",
     );
-    let text = flag(
-        alloc,
-        "text",
-        "Keep them as a text, each LF as CR and LF, control Z behind",
-    );
-    with_argument(plain, text)
+    let text = "Keep them as a text, each LF as CR and LF, control Z behind";
+    with_argument(plain, flag(alloc, "text", text))
 }
 
 pub fn check<'a>(alloc: Global) -> Draft<'a>

@@ -1,4 +1,5 @@
-ghost use Rattle.std.specs.Prelude.{◌≡◌};
+ghost use Rattle.std.specs.Prelude.{◌≡◌, option_map};
+ghost use Rattle.command8.specs.Usage.{usage_of};
 ghost use Rattle.command8.specs.declared.kinds.TaskFault.TheVariants.{Memory};
 
 use char_pack::{GetForm, PutForm};
@@ -130,6 +131,24 @@ pub enum TaskFault {
     /// 7: this is no word.
     #[error("invalid value '{0}' for '--switches <WWWW>': not four octal digits")]
     Switches(String),
+}
+
+impl TaskFault {
+    /// The line on usage behind a refusal of words that `clap` takes; none where `clap` has one of its own, or memory ran out.
+    pub fn usage(&self) -> Option<&'static str>
+        ensures { option_map (λ line. line.now) result ≡ usage_of self.now }
+    {
+        match self {
+            TaskFault::Words(_) | TaskFault::Memory => None,
+            TaskFault::LookAndKeep => Some("Usage: pdp8 run [OPTIONS] <IMAGE>"),
+            TaskFault::InputTwice | TaskFault::CrossAlone => {
+                Some("Usage: pdp8 assemble [OPTIONS] <FILE>...")
+            }
+            TaskFault::Start(_) | TaskFault::Switches(_) => {
+                Some("Usage: pdp8 teletype [OPTIONS] <TAPE> [NAME]")
+            }
+        }
+    }
 }
 
 impl From<AllocError> for TaskFault {

@@ -47,27 +47,15 @@ pub fn run<'a>(alloc: Global) -> Draft<'a>
         "Run a script on a volume",
         "Runs the script of standard input on the OS/8 volume in the file IMAGE, prints the replies, and{n}writes the image back to the file. Each line gets its reply as it comes.",
     );
-    let image = must_have(may_have(alloc, "IMAGE", "The file that holds the volume"));
-    let look = flag(
-        alloc,
-        "look",
-        "Never write the image, whatever the script does",
-    );
-    let keep = flag(
-        alloc,
-        "keep",
-        "Write the image after each entry that changed it, before its reply",
-    );
-    let strict = flag(
-        alloc,
-        "strict",
-        "End with status 1 where a reply was a refusal",
-    );
-    let with_look = with_argument(
-        with_argument(Ok(with_lines(bare, SCRIPT_LINES)), image),
-        look,
-    );
-    with_argument(with_argument(with_look, keep), strict)
+    let image = "The file that holds the volume";
+    let lined = Ok(with_lines(bare, SCRIPT_LINES));
+    let one = with_argument(lined, must_have(may_have(alloc, "IMAGE", image)));
+    let look = "Never write the image, whatever the script does";
+    let two = with_argument(one, flag(alloc, "look", look));
+    let keep = "Write the image after each entry that changed it, before its reply";
+    let three = with_argument(two, flag(alloc, "keep", keep));
+    let strict = "End with status 1 where a reply was a refusal";
+    with_argument(three, flag(alloc, "strict", strict))
 }
 
 /// The run that is asked for.

@@ -1,5 +1,5 @@
-ghost use Rattle.std.specs.Prelude.{◌≡◌, ◌∷◌, [], true, IfErr, IfOk, map};
-ghost use Rattle.clap.specs.Words.{found_of, rows_of, subcommand_rows_of, takes};
+ghost use Rattle.std.specs.Prelude.{◌≡◌, ◌∷◌, [], true, codes, IfErr, IfOk, map};
+ghost use Rattle.clap.specs.Words.{App, found_of, new_app, rows_of, subcommand_rows_of, takes};
 ghost use Rattle.command8.specs.Tasks.{Answers, IsPastClap, bare_app, pdp8};
 ghost use Rattle.command8.specs.TaskSteps.{Gives, GivesMet, HasMet, IsFaultOf, IsWhole, Needs, word};
 ghost use Rattle.command8.specs.CommandSteps.{IsCommand};
@@ -52,17 +52,37 @@ fn command_line<'a>(alloc: Global) -> Draft<'a>
     with_leaf(nine, check(alloc))
 }
 
-/// The command `pdp8` before it has its subcommands. Its texts always name it `pdp8`, whatever the first word is.
+/// The command `pdp8` before it has its subcommands.
 fn bare_command_line<'a>(alloc: Global) -> Draft<'a>
     ensures { IfOk result (λ command. IsCommand command bare_app) }
 {
-    let named = Command::new(alloc, "pdp8").bin_name("pdp8")?;
-    let command = named
+    match named_command_line(alloc) {
+        Ok(command) => Ok(with_version(with_texts(command))),
+        Err(error) => Err(error),
+    }
+}
+
+/// The command of the name `pdp8`, by which its texts call it, whatever the first word is.
+fn named_command_line<'a>(alloc: Global) -> Draft<'a>
+    ensures { IfOk result (λ command. IsCommand command (new_app (codes "pdp8"))) }
+{
+    Command::new(alloc, "pdp8").bin_name("pdp8")
+}
+
+/// The program's command with its texts for help.
+fn with_texts<'a>(command: Command<'a>) -> Command<'a>
+    ensures { (app : App) → IsCommand command.entry app → IsCommand result app }
+{
+    command
         .about("A PDP-8 programming system on OS/8 volumes")
         .after_help("The exit status is 0, or 1 after a fault, or 2 for words that are refused.")
-        .version("0.1.0")
-        .subcommand_required(true);
-    Ok(command)
+}
+
+/// The program's command with its version, which wants a subcommand.
+fn with_version<'a>(command: Command<'a>) -> Command<'a>
+    ensures { IsCommand command.entry (new_app (codes "pdp8")) → IsCommand result bare_app }
+{
+    command.version("0.1.0").subcommand_required(true)
 }
 
 /// An error of `clap` as a fault.

@@ -4,6 +4,5 @@ use Rattle.command8.proofs.file_commands.get.Goals as goal
 
 pub returns : goal.returns
 returns c =
-    let text = c.with_argument.ensures (subcommand (codes "get") (image_rule ∷ name_rule ∷ [])) (flag_rule (codes "text")) c.file_leaf-plain.ensures c.flag-text.ensures in
-    c.with_argument-2.ensures (subcommand (codes "get") (image_rule ∷ name_rule ∷ flag_rule (codes "text") ∷ [])) (flag_rule (codes "tape")) text
-    c.flag-tape.ensures
+    let text = c.with_argument-with_text.ensures (subcommand (codes "get") (image_rule ∷ name_rule ∷ [])) (flag_rule (codes "text")) c.file_leaf-plain.ensures c.flag.ensures in
+    c.with_argument.ensures (subcommand (codes "get") (image_rule ∷ name_rule ∷ flag_rule (codes "text") ∷ [])) (flag_rule (codes "tape")) text c.flag-2.ensures

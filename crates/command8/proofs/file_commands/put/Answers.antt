@@ -4,4 +4,4 @@ use Rattle.command8.proofs.file_commands.put.Goals as goal
 
 pub returns : goal.returns
 returns c =
-    c.with_argument.ensures (subcommand (codes "put") (image_rule ∷ name_rule ∷ [])) (flag_rule (codes "text")) c.file_leaf-plain.ensures c.flag-text.ensures
+    c.with_argument.ensures (subcommand (codes "put") (image_rule ∷ name_rule ∷ [])) (flag_rule (codes "text")) c.file_leaf-plain.ensures c.flag.ensures
