@@ -4,5 +4,6 @@ pub mod LeafLemmas
 pub mod EnterLemmas
 pub mod UseLemmas
 pub mod NumberLemmas
+pub mod VerbLemmas
 pub mod TaskLemmas
 pub mod PlainLemmas

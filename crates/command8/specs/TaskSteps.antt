@@ -1,5 +1,5 @@
 -- What the parts of `task` come to, for private clauses.
-use Rattle.std.specs.Prelude.{◌≡◌, ◌≢◌, ◌≤◌, ⊤, if◌then◌else◌, true, codes, is_some, length, List, Option, None, Some, Result, Ok, Err}
+use Rattle.std.specs.Prelude.{◌≡◌, ◌≢◌, ◌≤◌, ⊤, true, codes, find, is_some, length, List, [], ◌∷◌, Option, None, Some, Result, Ok, Err}
 use Rattle.std.specs.Str.{bytes_eq}
 use Rattle.std.specs.Option.{option_map_or}
 use Rattle.clap.specs.Words.{Row, Text, first_of, kind_of, one_of, IsUnsignedIn}
@@ -78,20 +78,13 @@ word verb.Get = codes "get"
 word verb.Put = codes "put"
 word verb.Check = codes "check"
 
+abbrev pub verbs : List Verb
+verbs =
+    verb.Tape ∷ verb.Source ∷ verb.Assemble ∷ verb.Teletype ∷ verb.Run ∷ verb.Create ∷ verb.List ∷ verb.Get ∷ verb.Put ∷ verb.Check ∷ []
+
 -- the subcommand of this name
 abbrev pub verb_of : Text → Option Verb
-verb_of name =
-    if bytes_eq name (codes "tape") then Some verb.Tape
-    else if bytes_eq name (codes "source") then Some verb.Source
-    else if bytes_eq name (codes "assemble") then Some verb.Assemble
-    else if bytes_eq name (codes "teletype") then Some verb.Teletype
-    else if bytes_eq name (codes "run") then Some verb.Run
-    else if bytes_eq name (codes "create") then Some verb.Create
-    else if bytes_eq name (codes "list") then Some verb.List
-    else if bytes_eq name (codes "get") then Some verb.Get
-    else if bytes_eq name (codes "put") then Some verb.Put
-    else if bytes_eq name (codes "check") then Some verb.Check
-    else None
+verb_of name = find (λ which. bytes_eq name (word which)) verbs
 
 -- ## What a subcommand has found by then
 

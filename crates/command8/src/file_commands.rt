@@ -8,7 +8,7 @@ ghost use Rattle.command8.specs.TaskSteps.{Gives, Needs};
 ghost use Rattle.command8.specs.declared.verbs.Verb.TheVariants as verb;
 
 use crate::found::{is_set, value_of};
-use crate::parts::{Draft, file_leaf, flag, image_leaf, with_argument};
+use crate::parts::{Draft, flag, leaf, with_argument, with_image, with_name};
 use crate::{Task, TaskFault};
 use char_pack::{GetForm, PutForm};
 use clap::ArgMatches;
@@ -17,23 +17,25 @@ use std::alloc::Global;
 pub fn list<'a>(alloc: Global) -> Draft<'a>
     ensures { IfOk result (λ command. IsCommand command list_app) }
 {
-    image_leaf(
+    let bare = leaf(
         alloc,
         "list",
         "List the files of a volume",
         "Prints a line NAME n for each file of the OS/8 volume in the file IMAGE, in name order, with its{n}length in blocks, and a line FREE n for the blocks of no file. The image is not written.",
-    )
+    );
+    with_image(alloc, Ok(bare))
 }
 
 pub fn get<'a>(alloc: Global) -> Draft<'a>
     ensures { IfOk result (λ command. IsCommand command get_app) }
 {
-    let plain = file_leaf(
+    let bare = leaf(
         alloc,
         "get",
         "Write a file of a volume to standard output",
         "Writes the file NAME of the OS/8 volume in the file IMAGE to standard output: its frames, three{n}for each two words. The line of a fault goes to standard error. The image is not written.",
     );
+    let plain = with_name(alloc, with_image(alloc, Ok(bare)));
     let text = "Write its text, each line ended by LF";
     let with_text = with_argument(plain, flag(alloc, "text", text));
     let tape = "Write the BIN tape that it begins with, also where --text is given";
@@ -43,12 +45,13 @@ pub fn get<'a>(alloc: Global) -> Draft<'a>
 pub fn put<'a>(alloc: Global) -> Draft<'a>
     ensures { IfOk result (λ command. IsCommand command put_app) }
 {
-    let plain = file_leaf(
+    let bare = leaf(
         alloc,
         "put",
         "Make standard input a file of a volume",
         "Makes the bytes of standard input the file NAME of the OS/8 volume in the file IMAGE, in place of{n}an older one, and prints STORED, the name and the number of blocks. After a fault the image{n}is as it was.",
     );
+    let plain = with_name(alloc, with_image(alloc, Ok(bare)));
     let text = "Keep them as a text, each LF as CR and LF, control Z behind";
     with_argument(plain, flag(alloc, "text", text))
 }
@@ -56,12 +59,13 @@ pub fn put<'a>(alloc: Global) -> Draft<'a>
 pub fn check<'a>(alloc: Global) -> Draft<'a>
     ensures { IfOk result (λ command. IsCommand command check_app) }
 {
-    image_leaf(
+    let bare = leaf(
         alloc,
         "check",
         "Tell what a volume's directory says",
         "Accepts or refuses the OS/8 volume in the file IMAGE, and prints its blocks, the segments of its{n}directory, each file and empty with its first block and its length, and the blocks that the{n}directory does not cover. The image is not written.",
-    )
+    );
+    with_image(alloc, Ok(bare))
 }
 
 /// The volume whose files are to be listed.

@@ -1,9 +1,9 @@
 //! What subcommands are made of: their texts and their arguments. What `clap` makes of each kind of argument is computed here, once. A
 //! command that memory was not granted for is passed on as it is, so that no function holds one command while it waits for another.
-ghost use Rattle.std.specs.Prelude.{◌∷◌, [], ◌<◌, true, IfOk};
-ghost use Rattle.clap.specs.Words.{App, Rule, Shape, new_app, new_rule, with_rule};
+ghost use Rattle.std.specs.Prelude.{◌<◌, true, IfOk};
+ghost use Rattle.clap.specs.Words.{App, Rule, new_app, new_rule, with_rule};
 ghost use Rattle.command8.specs.CommandSteps.{IsArgument, IsCommand, with_leaf};
-ghost use Rattle.command8.specs.Tasks.{blocks_rule, flag_rule, image_rule, name_rule, option_rule, steps_rule, subcommand, word_rule, words_rule};
+ghost use Rattle.command8.specs.Tasks.{blocks_rule, flag_rule, image_rule, name_rule, option_rule, steps_rule, words_rule};
 
 use clap::{Arg, ArgAction, Command};
 use std::alloc::{AllocError, Global};
@@ -43,34 +43,38 @@ pub fn with_leaf<'a>(command: Draft<'a>, leaf: Draft<'a>) -> Draft<'a>
     ensures { (app sub : App) → IfOk command.entry (λ old. IsCommand old app) → IfOk leaf.entry (λ given. IsCommand given sub)
         → IfOk result (λ new. IsCommand new (with_leaf app sub)) }
 {
-    match command {
-        Ok(command) => match leaf {
-            Ok(leaf) => command.subcommand(leaf),
-            Err(error) => Err(error),
-        },
+    match leaf {
+        Ok(leaf) => with_whole_leaf(command, leaf),
         Err(error) => Err(error),
     }
 }
 
-/// A subcommand for the file of an image.
-pub fn image_leaf<'a>(
-    alloc: Global,
-    word: &'a str,
-    about: &'a str,
-    long_about: &'a str,
-) -> Draft<'a>
-    ensures { IfOk result (λ command. IsCommand command (subcommand word.entry.now (image_rule ∷ []))) }
+fn with_whole_leaf<'a>(command: Draft<'a>, leaf: Command<'a>) -> Draft<'a>
+    ensures { (app sub : App) → IfOk command.entry (λ old. IsCommand old app) → IsCommand leaf.entry sub
+        → IfOk result (λ new. IsCommand new (with_leaf app sub)) }
 {
-    let image = must_have(may_have(alloc, "IMAGE", "The file that holds the volume"));
-    with_argument(Ok(leaf(alloc, word, about, long_about)), image)
+    match command {
+        Ok(command) => command.subcommand(leaf),
+        Err(error) => Err(error),
+    }
 }
 
-/// A subcommand for a file of the volume in the file of an image.
-pub fn file_leaf<'a>(alloc: Global, word: &'a str, about: &'a str, long_about: &'a str) -> Draft<'a>
-    ensures { IfOk result (λ command. IsCommand command (subcommand word.entry.now (image_rule ∷ name_rule ∷ []))) }
+/// A command with the name of an image's file.
+pub fn with_image<'a>(alloc: Global, command: Draft<'a>) -> Draft<'a>
+    ensures { (app : App) → IfOk command.entry (λ old. IsCommand old app)
+        → IfOk result (λ new. IsCommand new (with_rule app image_rule)) }
 {
-    let name = must_have(may_have(alloc, "NAME", "The name of the file on the volume"));
-    with_argument(image_leaf(alloc, word, about, long_about), name)
+    let help = "The file that holds the volume";
+    with_argument(command, must_have(may_have(alloc, "IMAGE", help)))
+}
+
+/// A command with the name of a file on a volume.
+pub fn with_name<'a>(alloc: Global, command: Draft<'a>) -> Draft<'a>
+    ensures { (app : App) → IfOk command.entry (λ old. IsCommand old app)
+        → IfOk result (λ new. IsCommand new (with_rule app name_rule)) }
+{
+    let help = "The name of the file on the volume";
+    with_argument(command, must_have(may_have(alloc, "NAME", help)))
 }
 
 /// A word that may be given.

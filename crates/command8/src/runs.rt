@@ -8,7 +8,7 @@ ghost use Rattle.command8.specs.TaskSteps.{Gives, Needs};
 ghost use Rattle.command8.specs.declared.verbs.Verb.TheVariants as verb;
 
 use crate::found::{is_set, value_of};
-use crate::parts::{Draft, flag, leaf, may_have, must_have, with_argument, with_lines};
+use crate::parts::{Draft, flag, leaf, with_argument, with_image, with_lines};
 use crate::{RunForm, Saving, Task, TaskFault};
 use clap::ArgMatches;
 use std::alloc::Global;
@@ -47,9 +47,7 @@ pub fn run<'a>(alloc: Global) -> Draft<'a>
         "Run a script on a volume",
         "Runs the script of standard input on the OS/8 volume in the file IMAGE, prints the replies, and{n}writes the image back to the file. Each line gets its reply as it comes.",
     );
-    let image = "The file that holds the volume";
-    let lined = Ok(with_lines(bare, SCRIPT_LINES));
-    let one = with_argument(lined, must_have(may_have(alloc, "IMAGE", image)));
+    let one = with_image(alloc, Ok(with_lines(bare, SCRIPT_LINES)));
     let look = "Never write the image, whatever the script does";
     let two = with_argument(one, flag(alloc, "look", look));
     let keep = "Write the image after each entry that changed it, before its reply";

@@ -64,12 +64,12 @@ fn start_of(alloc: Global, found: &ArgMatches<'_>) -> Result<Option<Cell>, TaskF
     ensures start { IfOk result (λ start. IsOctalOf 5 (first_of (codes "start") (rows_of (found_of found.now))) start) }
     ensures refused { IfErr result (IsNoStart (rows_of (found_of found.now))) }
 {
-    let Some(text) = text_of(found, "start") else {
-        return Ok(None);
-    };
-    match cell(text.as_bytes()) {
-        Some(start) => Ok(Some(start)),
-        None => Err(TaskFault::Start(String::from_str(alloc, text)?)),
+    match text_of(found, "start") {
+        Some(text) => match cell(text.as_bytes()) {
+            Some(start) => Ok(Some(start)),
+            None => Err(TaskFault::Start(String::from_str(alloc, text)?)),
+        },
+        None => Ok(None),
     }
 }
 
@@ -78,11 +78,11 @@ fn switches_of(alloc: Global, found: &ArgMatches<'_>) -> Result<Option<Word>, Ta
     ensures switches { IfOk result (λ word. IsOctalOf 4 (first_of (codes "switches") (rows_of (found_of found.now))) word) }
     ensures refused { IfErr result (IsNoSwitches (rows_of (found_of found.now))) }
 {
-    let Some(text) = text_of(found, "switches") else {
-        return Ok(None);
-    };
-    match octal_word(text.as_bytes()) {
-        Some(word) => Ok(Some(word)),
-        None => Err(TaskFault::Switches(String::from_str(alloc, text)?)),
+    match text_of(found, "switches") {
+        Some(text) => match octal_word(text.as_bytes()) {
+            Some(word) => Ok(Some(word)),
+            None => Err(TaskFault::Switches(String::from_str(alloc, text)?)),
+        },
+        None => Ok(None),
     }
 }

@@ -1,5 +1,7 @@
 //! The subcommands by their names.
-ghost use Rattle.std.specs.Prelude.{◌≡◌};
+ghost use Rattle.std.specs.Prelude.{◌≡◌, find};
+ghost use Rattle.std.specs.Str.{bytes_eq};
+ghost use Rattle.command8.specs.TaskSteps.{word};
 ghost use Rattle.command8.specs.TaskSteps as spec;
 
 /// A subcommand.
@@ -17,21 +19,53 @@ pub enum Verb {
     Check,
 }
 
+/// The subcommands.
+const VERBS: [Verb; 10] = [
+    Verb::Tape,
+    Verb::Source,
+    Verb::Assemble,
+    Verb::Teletype,
+    Verb::Run,
+    Verb::Create,
+    Verb::List,
+    Verb::Get,
+    Verb::Put,
+    Verb::Check,
+];
+
+/// The name of a subcommand.
+fn word_of(verb: Verb) -> &'static str
+    ensures { result.now ≡ word verb }
+{
+    match verb {
+        Verb::Tape => "tape",
+        Verb::Source => "source",
+        Verb::Assemble => "assemble",
+        Verb::Teletype => "teletype",
+        Verb::Run => "run",
+        Verb::Create => "create",
+        Verb::List => "list",
+        Verb::Get => "get",
+        Verb::Put => "put",
+        Verb::Check => "check",
+    }
+}
+
 /// The subcommand of a name.
 pub fn verb_of(name: &str) -> Option<Verb>
     ensures { result ≡ spec.verb_of name.now }
 {
-    match name {
-        "tape" => Some(Verb::Tape),
-        "source" => Some(Verb::Source),
-        "assemble" => Some(Verb::Assemble),
-        "teletype" => Some(Verb::Teletype),
-        "run" => Some(Verb::Run),
-        "create" => Some(Verb::Create),
-        "list" => Some(Verb::List),
-        "get" => Some(Verb::Get),
-        "put" => Some(Verb::Put),
-        "check" => Some(Verb::Check),
-        _ => None,
+    first_of(&VERBS, name)
+}
+
+/// The first of these subcommands that has the name.
+fn first_of(verbs: &[Verb], name: &str) -> Option<Verb>
+    ensures { result ≡ find (λ which. bytes_eq name.now (word which)) verbs.now }
+{
+    for verb in verbs {
+        if name == word_of(*verb) {
+            return Some(*verb);
+        }
     }
+    None
 }

@@ -7,7 +7,7 @@ ghost use Rattle.command8.specs.TaskSteps.{Gives, Needs};
 ghost use Rattle.command8.specs.declared.verbs.Verb.TheVariants as verb;
 
 use crate::found::{blocks_of, value_of};
-use crate::parts::{Draft, blocks, image_leaf, with_argument};
+use crate::parts::{Draft, blocks, leaf, with_argument, with_image};
 use crate::{Task, TaskFault};
 use clap::ArgMatches;
 use std::alloc::Global;
@@ -15,13 +15,13 @@ use std::alloc::Global;
 pub fn create<'a>(alloc: Global) -> Draft<'a>
     ensures { IfOk result (λ command. IsCommand command create_app) }
 {
-    let plain = image_leaf(
+    let bare = leaf(
         alloc,
         "create",
         "Write an empty volume",
         "Writes an empty OS/8 volume of BLOCKS blocks of 512 bytes to the file IMAGE, in place of any{n}file of that name, and prints CREATED and the number of blocks.",
     );
-    with_argument(plain, blocks(alloc))
+    with_argument(with_image(alloc, Ok(bare)), blocks(alloc))
 }
 
 /// The new volume that is asked for.
