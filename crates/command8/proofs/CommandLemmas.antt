@@ -1,5 +1,5 @@
 -- An argument with one setting more, and a command with one part more.
-use Rattle.std.proofs.Common.{◌≡◌, ◌∙◌, ◌||◌, ◌<◌, ℕ, List, Bool, Option, Some, None, ap, ap₂, arith, refl, subst, true, false}
+use Rattle.std.proofs.Common.{◌≡◌, ◌∙◌, ◌||◌, ◌<◌, ℕ, List, Bool, Option, Some, None, Result, Ok, Err, IfOk, ap, ap₂, arith, refl, subst, true, false}
 use Rattle.std.specs.Prelude.{IsSomeAnd, max, ℤ, pos}
 use Rattle.clap.specs.Walk.{Rule, rule_of}
 use Rattle.clap.specs.Simple.{App, app_of, app_of_fields, new_app, new_shape, with_rule, with_subcommand}
@@ -106,14 +106,31 @@ subcommand_too old new app is old_is = (
   ap (λ (f : Command-F Command). f.has_globals) is ∙ old_is.1,
 )
 
-pub adds_argument : (old new : Command) (argument : Arg) (app : App) (rule : Rule) → AddsArg old argument new → IsArgument argument rule → IsCommand old app
+-- ## What may want memory
+
+pub named_draft : {E : Type 0} (old : Command) (made : Result Command E) (app : App) (named : Command → Type 0) → IsCommand old app
+    → IfOk made (λ new. (fields_of new ≡ record (fields_of old) { bin_name = (fields_of new).bin_name }) × named new) → IfOk made (λ new. IsCommand new app)
+named_draft old (Ok new) app named is made = text_too old new app (record (fields_of old) { bin_name = (fields_of new).bin_name }) made.0 refl refl is
+named_draft old (Err error) app named is made = tt
+
+adds_argument : (old new : Command) (argument : Arg) (app : App) (rule : Rule) → AddsArg old argument new → IsArgument argument rule → IsCommand old app
     → IsCommand new (with_rule app rule)
 unfolding IsArgument IsCommand
 adds_argument old new argument app rule adds of is =
     (adds.shape of.1 ∙ ap₂ with_rule is.0 of.0, adds.globals ∙ ap₂ (λ (a b : Bool). a || b) is.1 of.1)
 
-pub adds_leaf : (old new leaf : Command) (app sub : App) → AddsSubcommand old leaf new → IsCommand old app → IsCommand leaf sub
+adds_leaf : (old new leaf : Command) (app sub : App) → AddsSubcommand old leaf new → IsCommand old app → IsCommand leaf sub
     → IsCommand new (with_leaf app sub)
 unfolding IsCommand
 adds_leaf old new leaf app sub adds is given =
     (adds.shape given.1 ∙ ap₂ with_subcommand is.0 (ap (λ (a : App). a.top) given.0), adds.globals ∙ ap₂ (λ (a b : Bool). a || b) is.1 given.1)
+
+pub argument_draft : {E : Type 0} (old : Command) (argument : Arg) (made : Result Command E) (app : App) (rule : Rule) → IsCommand old app → IsArgument argument rule
+    → IfOk made (λ new. AddsArg old argument new) → IfOk made (λ new. IsCommand new (with_rule app rule))
+argument_draft old argument (Ok new) app rule is of adds = adds_argument old new argument app rule adds of is
+argument_draft old argument (Err error) app rule is of adds = tt
+
+pub leaf_draft : {E : Type 0} (old leaf : Command) (made : Result Command E) (app sub : App) → IsCommand old app → IsCommand leaf sub
+    → IfOk made (λ new. AddsSubcommand old leaf new) → IfOk made (λ new. IsCommand new (with_leaf app sub))
+leaf_draft old leaf (Ok new) app sub is given adds = adds_leaf old new leaf app sub adds is given
+leaf_draft old leaf (Err error) app sub is given adds = tt

@@ -431,6 +431,20 @@ plain_assemble name file plain =
     asked : (task : Task) → Seen verb.Assemble task → AsksFor (word verb.Assemble) (found_by verb.Assemble (at_place files_built file ∷ [])) task → IsAssembleOf (file ∷ []) None task
     asked task (a_assemble form) asks = (sym asks.1.0, sym asks.1.1, no_value (λ file. file.bytes.items) form.list asks.1.2, asks.1.3)
 
+-- standard input as the only source
+pub plain_assemble_input : (name : Text) → IsTakenAs (name ∷ codes "assemble" ∷ codes "-" ∷ []) (IsAssembleOf (codes "-" ∷ []) None)
+plain_assemble_input name =
+    entered_as verb.Assemble (at_place files_built (codes "-") ∷ []) (IsAssembleOf (codes "-" ∷ []) None) (record {
+      pass = (record { no_long = refl; no_short = refl; no_dashes = refl }, record { found = refl; passes = refl; no_end = refl }, tt);
+      settles = refl;
+      defaults = refl;
+      valid = refl;
+    }) name asked
+  where
+    asked : (task : Task) → Seen verb.Assemble task → AsksFor (word verb.Assemble) (found_by verb.Assemble (at_place files_built (codes "-") ∷ [])) task
+        → IsAssembleOf (codes "-" ∷ []) None task
+    asked task (a_assemble form) asks = (sym asks.1.0, sym asks.1.1, no_value (λ file. file.bytes.items) form.list asks.1.2, asks.1.3)
+
 pub plain_assemble_two : (name file other : Text) → IsPlain file → IsPlain other
     → IsTakenAs (name ∷ codes "assemble" ∷ file ∷ other ∷ []) (IsAssembleOf (file ∷ other ∷ []) None)
 plain_assemble_two name file other plain plain_too =

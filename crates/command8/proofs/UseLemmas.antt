@@ -1,11 +1,11 @@
 -- Plain words and long options, as a subcommand takes them one after the other.
 use Rattle.std.proofs.Common.{◌≡◌, ◌∙◌, ◌&&◌, ◌||◌, if◌then◌else◌, ℕ, Bool, cond, true, false, not, refl, ap, ap₂, List, [], ◌∷◌, Option, Some, None, is_some}
-use Rattle.std.specs.Prelude.{⊤, fold, nat_lt, option_and_then}
+use Rattle.std.specs.Prelude.{⊤, fold, nat_lt}
 use Rattle.std.specs.List.{list_all}
 use Rattle.std.specs.Option.{option_map_or}
 use Rattle.std.specs.Str.{bytes_eq}
 use Rattle.std.proofs.lemmas.Bool.{ne_eqb}
-use Rattle.clap.specs.Lexer.{long_of, long_of_rest, short_of, short_of_rest, strip_byte}
+use Rattle.clap.specs.Lexer.{long_of, short_of}
 use Rattle.clap.specs.Walk.{Held, Rule, Step, Text, Waiting, Walk}
 use Rattle.clap.specs.Walk.{idle, option, positional, next, trailing, value}
 use Rattle.clap.specs.Walk.{after_flag, after_step, arg_by_id, arg_by_index, arg_by_long, finished, flag_met, is_multiple, long_met, long_or_other, most_values, next_position, nothing_held, option_met, option_word, pending_count, plain_word, positional_held, pushed, reacted, rows_after, settled, short_or_plain, subcommand_met, subcommand_or_other, takes_values, to_positional, walk, walk_from, walked, word_met}
@@ -14,13 +14,19 @@ use Rattle.clap.specs.Takes.{bundle_passes, default_passes, flag_word_passes, is
 use Rattle.command8.specs.Tasks.{IsPlain}
 use Rattle.command8.proofs.EnterLemmas.{both_true}
 
--- the word begins with no hyphen
-abbrev pub IsNoOption : Text → Type 0
-IsNoOption word = (strip_byte 45 word ≡ None) × (bytes_eq word (45 ∷ 45 ∷ []) ≡ false)
+-- the word is no option and no `--`
+pub record IsNoOption (word : Text) : Type 0 where
+  pub no_long : long_of word ≡ None
+  pub no_short : short_of word ≡ None
+  pub no_dashes : bytes_eq word (45 ∷ 45 ∷ []) ≡ false
 
 pub no_option : (word : Text) → IsPlain word → IsNoOption word
-no_option [] plain = (refl, refl)
-no_option (b ∷ rest) plain = (rw (ne_eqb b 45 plain) refl, rw (ne_eqb b 45 plain) refl)
+no_option [] plain = record { no_long = refl; no_short = refl; no_dashes = refl }
+no_option (b ∷ rest) plain = record {
+  no_long = rw (ne_eqb b 45 plain) refl;
+  no_short = rw (ne_eqb b 45 plain) refl;
+  no_dashes = rw (ne_eqb b 45 plain) refl;
+}
 
 -- ## What stands in the words
 
@@ -90,27 +96,26 @@ word_read : (c : List Rule) (waiting : Waiting) (position : ℕ) (word : Text) (
     → word_met c [] false waiting position word h ≡ plain_word c waiting word h
 word_read c waiting position word h plain =
     ap (λ o. subcommand_or_other c o waiting position word h) (no_subcommand waiting word)
-    ∙ (ap (λ b. cond b (h, trailing position) (long_or_other c waiting word (long_of word) h)) plain.1
-    ∙ (ap (λ o. long_or_other c waiting word (option_and_then long_of_rest (option_and_then (strip_byte 45) o)) h) plain.0
-    ∙ ap (λ o. short_or_plain c waiting word (option_and_then short_of_rest o) h) plain.0))
+    ∙ (ap (λ b. cond b (h, trailing position) (long_or_other c waiting word (long_of word) h)) plain.no_dashes
+    ∙ (ap (λ o. long_or_other c waiting word o h) plain.no_long ∙ ap (λ o. short_or_plain c waiting word o h) plain.no_short))
 
 word_goes : (s : Shape) (waiting : Waiting) (word : Text) (h : Held) → IsNoOption word → word_passes s [] false waiting word h ≡ true
 word_goes s waiting word h plain =
     ap (λ o. other_passes s o word h) (no_subcommand waiting word)
-    ∙ (ap (λ b. b || flag_word_passes s.rules s.args_override_self (long_of word) word h) plain.1
-    ∙ (ap (λ o. flag_word_passes s.rules s.args_override_self (option_and_then long_of_rest (option_and_then (strip_byte 45) o)) word h) plain.0
-    ∙ ap (λ o. option_map_or (λ flags. bundle_passes s.rules s.args_override_self flags h) (option_and_then short_of_rest o) true) plain.0))
+    ∙ (ap (λ b. b || flag_word_passes s.rules s.args_override_self (long_of word) word h) plain.no_dashes
+    ∙ (ap (λ o. flag_word_passes s.rules s.args_override_self o word h) plain.no_long
+    ∙ ap (λ o. option_map_or (λ flags. bundle_passes s.rules s.args_override_self flags h) o true) plain.no_short))
 
-no_dashes : (name : Text) → long_of (45 ∷ 45 ∷ name) ≡ Some (name, None) → bytes_eq (45 ∷ 45 ∷ name) (45 ∷ 45 ∷ []) ≡ false
-no_dashes [] read = absurd (cc)
-no_dashes (x ∷ xs) read = refl
+not_dashes : (name : Text) → long_of (45 ∷ 45 ∷ name) ≡ Some (name, None) → bytes_eq (45 ∷ 45 ∷ name) (45 ∷ 45 ∷ []) ≡ false
+not_dashes [] read = absurd (cc)
+not_dashes (x ∷ xs) read = refl
 
 name_read : (s : Shape) (a : Rule) (name : Text) (takes : Bool) (waiting : Waiting) (position : ℕ) (h : Held) → IsNamed s a name takes
     → word_met s.rules [] false waiting position (45 ∷ 45 ∷ name) h
     ≡ (let met : Held × _ = if takes then option_met s.rules a None h else flag_met s.rules a None h in after_flag s.rules waiting (45 ∷ 45 ∷ name) met.0 met.1)
 name_read s a name takes waiting position h named =
     ap (λ o. subcommand_or_other s.rules o waiting position (45 ∷ 45 ∷ name) h) (no_subcommand waiting (45 ∷ 45 ∷ name))
-    ∙ (ap (λ b. cond b (h, trailing position) (long_or_other s.rules waiting (45 ∷ 45 ∷ name) (long_of (45 ∷ 45 ∷ name)) h)) (no_dashes name named.read)
+    ∙ (ap (λ b. cond b (h, trailing position) (long_or_other s.rules waiting (45 ∷ 45 ∷ name) (long_of (45 ∷ 45 ∷ name)) h)) (not_dashes name named.read)
     ∙ (ap (λ o. long_or_other s.rules waiting (45 ∷ 45 ∷ name) o h) named.read
     ∙ (ap (λ o. after_flag s.rules waiting (45 ∷ 45 ∷ name) (long_met s.rules o None h).0 (long_met s.rules o None h).1) named.found
     ∙ ap (λ b. after_flag s.rules waiting (45 ∷ 45 ∷ name) (if b then option_met s.rules a None h else flag_met s.rules a None h).0 (if b then option_met s.rules a None h else flag_met s.rules a None h).1) named.takes_value)))
@@ -120,7 +125,7 @@ name_goes : (s : Shape) (a : Rule) (name : Text) (takes : Bool) (waiting : Waiti
     → word_passes s [] false waiting (45 ∷ 45 ∷ name) h ≡ true
 name_goes s a name takes waiting h named passes =
     ap (λ o. other_passes s o (45 ∷ 45 ∷ name) h) (no_subcommand waiting (45 ∷ 45 ∷ name))
-    ∙ (ap (λ b. b || flag_word_passes s.rules s.args_override_self (long_of (45 ∷ 45 ∷ name)) (45 ∷ 45 ∷ name) h) (no_dashes name named.read)
+    ∙ (ap (λ b. b || flag_word_passes s.rules s.args_override_self (long_of (45 ∷ 45 ∷ name)) (45 ∷ 45 ∷ name) h) (not_dashes name named.read)
     ∙ (ap (λ o. flag_word_passes s.rules s.args_override_self o (45 ∷ 45 ∷ name) h) named.read
     ∙ (ap (λ o. long_passes s.rules s.args_override_self o None h) named.found
     ∙ (ap (λ b. if b then option_passes s.rules s.args_override_self a None h else react_passes s.rules s.args_override_self a [] h) named.takes_value ∙ passes))))

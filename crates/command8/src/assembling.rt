@@ -24,13 +24,13 @@ pub fn assemble<'a>(alloc: Global) -> Draft<'a>
         "Assembles the PAL III sources in the files FILE, one after the other as one program, to a BIN paper{n}tape, which goes to standard output, or to the file TAPE. The line of a fault goes to standard{n}error. The exit status is 1 after a fault of a source or of a file.",
     );
     let files = "The 1 to 8 sources, which stand together; - is standard input, once at most";
-    let one = with_argument(Ok(bare), words(alloc, "FILE", 8, files));
+    let command = with_argument(Ok(bare), words(alloc, "FILE", 8, files));
     let output = "The file that gets the tape, in place of standard output";
-    let two = with_argument(one, option(alloc, "output", "TAPE", output));
+    let command = with_argument(command, option(alloc, "output", "TAPE", output));
     let list = "Write a listing to the file LISTING too";
-    let three = with_argument(two, option(alloc, "list", "LISTING", list));
+    let command = with_argument(command, option(alloc, "list", "LISTING", list));
     let cross = "Put a table of cross references behind the listing; it wants --list";
-    with_argument(three, flag(alloc, "cross", cross))
+    with_argument(command, flag(alloc, "cross", cross))
 }
 
 /// The assembly that is asked for.

@@ -39,6 +39,7 @@ pub fn plain_words()
         → IsTakenAs (name ∷ codes "put" ∷ image ∷ file ∷ codes "--text" ∷ []) (IsPutOf image file put_as.Text) }
     ensures assemble { (name file : List ℕ) → IsPlain file
         → IsTakenAs (name ∷ codes "assemble" ∷ file ∷ []) (IsAssembleOf (file ∷ []) None) }
+    ensures assemble_input { (name : List ℕ) → IsTakenAs (name ∷ codes "assemble" ∷ codes "-" ∷ []) (IsAssembleOf (codes "-" ∷ []) None) }
     ensures assemble_two { (name file other : List ℕ) → IsPlain file → IsPlain other
         → IsTakenAs (name ∷ codes "assemble" ∷ file ∷ other ∷ []) (IsAssembleOf (file ∷ other ∷ []) None) }
     ensures assemble_output { (name file output : List ℕ) → IsPlain file → IsPlain output

@@ -47,13 +47,13 @@ pub fn run<'a>(alloc: Global) -> Draft<'a>
         "Run a script on a volume",
         "Runs the script of standard input on the OS/8 volume in the file IMAGE, prints the replies, and{n}writes the image back to the file. Each line gets its reply as it comes.",
     );
-    let one = with_image(alloc, Ok(with_lines(bare, SCRIPT_LINES)));
+    let command = with_image(alloc, Ok(with_lines(bare, SCRIPT_LINES)));
     let look = "Never write the image, whatever the script does";
-    let two = with_argument(one, flag(alloc, "look", look));
+    let command = with_argument(command, flag(alloc, "look", look));
     let keep = "Write the image after each entry that changed it, before its reply";
-    let three = with_argument(two, flag(alloc, "keep", keep));
+    let command = with_argument(command, flag(alloc, "keep", keep));
     let strict = "End with status 1 where a reply was a refusal";
-    with_argument(three, flag(alloc, "strict", strict))
+    with_argument(command, flag(alloc, "strict", strict))
 }
 
 /// The run that is asked for.

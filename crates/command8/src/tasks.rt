@@ -40,16 +40,16 @@ pub fn task(alloc: Global, words: &[&str]) -> Result<Task, TaskFault>
 fn command_line<'a>(alloc: Global) -> Draft<'a>
     ensures { IfOk result (λ command. IsCommand command pdp8) }
 {
-    let one = with_leaf(bare_command_line(alloc), Ok(tape(alloc)));
-    let two = with_leaf(one, Ok(source(alloc)));
-    let three = with_leaf(two, assemble(alloc));
-    let four = with_leaf(three, teletype(alloc));
-    let five = with_leaf(four, run(alloc));
-    let six = with_leaf(five, create(alloc));
-    let seven = with_leaf(six, list(alloc));
-    let eight = with_leaf(seven, get(alloc));
-    let nine = with_leaf(eight, put(alloc));
-    with_leaf(nine, check(alloc))
+    let line = with_leaf(bare_command_line(alloc), Ok(tape(alloc)));
+    let line = with_leaf(line, Ok(source(alloc)));
+    let line = with_leaf(line, assemble(alloc));
+    let line = with_leaf(line, teletype(alloc));
+    let line = with_leaf(line, run(alloc));
+    let line = with_leaf(line, create(alloc));
+    let line = with_leaf(line, list(alloc));
+    let line = with_leaf(line, get(alloc));
+    let line = with_leaf(line, put(alloc));
+    with_leaf(line, check(alloc))
 }
 
 /// The command `pdp8` before it has its subcommands.

@@ -25,18 +25,18 @@ pub fn teletype<'a>(alloc: Global) -> Draft<'a>
         "Loads the BIN paper tape in the file TAPE into core, or the tape that the file NAME of the OS/8{n}volume in the image TAPE begins with, and starts the processor. What it prints goes to standard{n}output with its top bit dropped; standard input is the keyboard. It ends where the processor{n}halts, where the program waits for a key and there are no more, and at a limit. The exit status is{n}0 after HALT or where the keys ended, 1 after a word that is no instruction, the limit or a fault{n}of the tape, and 2 for words that are refused.",
     );
     let tape = "The file of the tape, or of the image that holds NAME";
-    let one = with_argument(Ok(bare), must_have(may_have(alloc, "TAPE", tape)));
+    let command = with_argument(Ok(bare), must_have(may_have(alloc, "TAPE", tape)));
     let name = "The name of the file on the volume";
-    let two = with_argument(one, may_have(alloc, "NAME", name));
+    let command = with_argument(command, may_have(alloc, "NAME", name));
     let start = "The cell to start at, field and address in octal; else 00200";
-    let three = with_argument(two, option(alloc, "start", "FAAAA", start));
+    let command = with_argument(command, option(alloc, "start", "FAAAA", start));
     let switches = "The word that the switches are set to, in octal; else 0000";
-    let four = with_argument(three, option(alloc, "switches", "WWWW", switches));
-    let five = with_argument(four, steps(alloc));
+    let command = with_argument(command, option(alloc, "switches", "WWWW", switches));
+    let command = with_argument(command, steps(alloc));
     let raw = "Give each key and each character as it is, with no change of line ends";
-    let six = with_argument(five, flag(alloc, "raw", raw));
+    let command = with_argument(command, flag(alloc, "raw", raw));
     let live = "Take the keys as they are struck";
-    with_argument(six, hidden(flag(alloc, "live", live)))
+    with_argument(command, hidden(flag(alloc, "live", live)))
 }
 
 /// The run that is asked for.

@@ -15,8 +15,7 @@ returns-in-Some-cell-clause-start c =
 pub returns-in_ok-from_str-in-None-cell-clause-refused : goal.returns-in_ok-from_str-in-None-cell-clause-refused
 returns-in_ok-from_str-in-None-cell-clause-refused c =
     let given = ap (option_map (λ text. text.now)) (sym c.in-Some.is) ∙ c.text_of.ensures in
-    let kept = c.in_ok-from_str-in-None-cell.ensures.ok in
-    (
+    let kept = c.in_ok-from_str-in-None-cell.ensures.ok in (
       sym given ∙ ap Some (sym kept),
       ap (octal_of 5) (kept ∙ sym c.as_bytes.ensures.value) ∙ (sym c.cell.ensures ∙ c.in-None-cell.is),
     )

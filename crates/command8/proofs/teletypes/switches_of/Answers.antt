@@ -15,8 +15,7 @@ returns-in-Some-octal_word-clause-switches c =
 pub returns-in_ok-from_str-in-None-octal_word-clause-refused : goal.returns-in_ok-from_str-in-None-octal_word-clause-refused
 returns-in_ok-from_str-in-None-octal_word-clause-refused c =
     let given = ap (option_map (λ text. text.now)) (sym c.in-Some.is) ∙ c.text_of.ensures in
-    let kept = c.in_ok-from_str-in-None-octal_word.ensures.ok in
-    (
+    let kept = c.in_ok-from_str-in-None-octal_word.ensures.ok in (
       sym given ∙ ap Some (sym kept),
       ap (octal_of 4) (kept ∙ sym c.as_bytes.ensures.value) ∙ (sym c.octal_word.ensures ∙ c.in-None-octal_word.is),
     )
