@@ -1,8 +1,8 @@
 //! The subcommand for a tape that runs with the terminal as its Teletype.
 ghost use Rattle.std.specs.Prelude.{◌≡◌, IfErr, IfOk, codes, option_map, ℕ, Option};
-ghost use Rattle.clap.specs.Words.{first_of, found_of, rows_of};
+ghost use Rattle.clap.specs.Words.{App, first_of, found_of, rows_of, with_rule};
 ghost use Rattle.command8.specs.CommandSteps.{IsCommand};
-ghost use Rattle.command8.specs.Tasks.{IsOctalOf, teletype_app};
+ghost use Rattle.command8.specs.Tasks.{IsOctalOf, flag_rule, option_rule, steps_rule, teletype_app};
 ghost use Rattle.command8.specs.TaskSteps.{Gives, Needs, IsNoStart, IsNoSwitches};
 ghost use Rattle.command8.specs.declared.verbs.Verb.TheVariants as verb;
 
@@ -28,10 +28,25 @@ pub fn teletype<'a>(alloc: Global) -> Draft<'a>
     let command = with_argument(Ok(bare), must_have(may_have(alloc, "TAPE", tape)));
     let name = "The name of the file on the volume";
     let command = with_argument(command, may_have(alloc, "NAME", name));
+    with_modes(alloc, with_cells(alloc, command))
+}
+
+/// A command with the options for what the processor begins with.
+fn with_cells<'a>(alloc: Global, command: Draft<'a>) -> Draft<'a>
+    ensures { (app : App) → IfOk command.entry (λ old. IsCommand old app)
+        → IfOk result (λ new. IsCommand new (with_rule (with_rule app (option_rule (codes "start"))) (option_rule (codes "switches")))) }
+{
     let start = "The cell to start at, field and address in octal; else 00200";
     let command = with_argument(command, option(alloc, "start", "FAAAA", start));
     let switches = "The word that the switches are set to, in octal; else 0000";
-    let command = with_argument(command, option(alloc, "switches", "WWWW", switches));
+    with_argument(command, option(alloc, "switches", "WWWW", switches))
+}
+
+/// A command with the options for how far the processor runs, and how the terminal is taken.
+fn with_modes<'a>(alloc: Global, command: Draft<'a>) -> Draft<'a>
+    ensures { (app : App) → IfOk command.entry (λ old. IsCommand old app)
+        → IfOk result (λ new. IsCommand new (with_rule (with_rule (with_rule app steps_rule) (flag_rule (codes "raw"))) (flag_rule (codes "live")))) }
+{
     let command = with_argument(command, steps(alloc));
     let raw = "Give each key and each character as it is, with no change of line ends";
     let command = with_argument(command, flag(alloc, "raw", raw));
