@@ -51,7 +51,8 @@ IsNoStart values Memory = ⊤
 IsNoStart values LookAndKeep = ⊥
 IsNoStart values InputTwice = ⊥
 IsNoStart values CrossAlone = ⊥
-IsNoStart values (Start text) = (first_of (codes "start") values ≡ Some text.bytes.items) × (octal_of 5 text.bytes.items ≡ None)
+IsNoStart values (Start text) = (first_of (codes "start") values ≡ Some text.bytes.items)
+    × (octal_of 5 text.bytes.items ≡ None)
 IsNoStart values (Switches text) = ⊥
 
 -- the value of `--switches` is no word, or there was no memory
@@ -62,7 +63,8 @@ IsNoSwitches values LookAndKeep = ⊥
 IsNoSwitches values InputTwice = ⊥
 IsNoSwitches values CrossAlone = ⊥
 IsNoSwitches values (Start text) = ⊥
-IsNoSwitches values (Switches text) = (first_of (codes "switches") values ≡ Some text.bytes.items) × (octal_of 4 text.bytes.items ≡ None)
+IsNoSwitches values (Switches text) = (first_of (codes "switches") values ≡ Some text.bytes.items)
+    × (octal_of 4 text.bytes.items ≡ None)
 
 -- ## The subcommands
 
@@ -80,7 +82,8 @@ word verb.Check = codes "check"
 
 abbrev pub verbs : List Verb
 verbs =
-    verb.Tape ∷ verb.Source ∷ verb.Assemble ∷ verb.Teletype ∷ verb.Run ∷ verb.Create ∷ verb.List ∷ verb.Get ∷ verb.Put ∷ verb.Check ∷ []
+    verb.Tape ∷ verb.Source ∷ verb.Assemble ∷ verb.Teletype ∷ verb.Run ∷ verb.Create ∷ verb.List ∷ verb.Get
+    ∷ verb.Put ∷ verb.Check ∷ []
 
 -- the subcommand of this name
 abbrev pub verb_of : Text → Option Verb
@@ -96,7 +99,8 @@ abbrev pub HasBlocks : List Row → Type 0
 HasBlocks values = (text : Text) × (one_of (codes "BLOCKS") values ≡ Some text) × IsUnsignedIn 8 4095 text
 
 abbrev pub HasSources : List Row → Type 0
-HasSources values = (1 ≤ length (values_of (codes "FILE") values)) × (length (values_of (codes "FILE") values) ≤ 8)
+HasSources values = (1 ≤ length (values_of (codes "FILE") values))
+    × (length (values_of (codes "FILE") values) ≤ 8)
 
 -- a limit of instructions is a number from 1 up, if it was given
 abbrev pub HasSteps : List Row → Type 0

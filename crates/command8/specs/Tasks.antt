@@ -34,7 +34,8 @@ word_rule id = record (new_rule id) { required = true }
 
 -- 1 to so many words, in one place
 abbrev pub words_rule : Text → ℕ → Rule
-words_rule id most = record (word_rule id) { range = Some (record { start_inclusive = 1; end_inclusive = most }) }
+words_rule id most =
+    record (word_rule id) { range = Some (record { start_inclusive = 1; end_inclusive = most }) }
 
 -- an option that takes no value
 abbrev pub flag_rule : Text → Rule
@@ -78,18 +79,23 @@ source_app = new_app (codes "source")
 
 abbrev pub assemble_app : App
 assemble_app =
-    subcommand (codes "assemble") (words_rule (codes "FILE") 8 ∷ option_rule (codes "output") ∷ option_rule (codes "list") ∷ flag_rule (codes "cross") ∷ [])
+    subcommand (codes "assemble") (words_rule (codes "FILE") 8 ∷ option_rule (codes "output")
+    ∷ option_rule (codes "list") ∷ flag_rule (codes "cross") ∷ [])
 
 -- the options of `teletype`
 abbrev pub teletype_rules : List Rule
 teletype_rules =
-    option_rule (codes "start") ∷ option_rule (codes "switches") ∷ steps_rule ∷ flag_rule (codes "raw") ∷ flag_rule (codes "live") ∷ []
+    option_rule (codes "start") ∷ option_rule (codes "switches") ∷ steps_rule ∷ flag_rule (codes "raw")
+    ∷ flag_rule (codes "live") ∷ []
 
 abbrev pub teletype_app : App
-teletype_app = subcommand (codes "teletype") (word_rule (codes "TAPE") ∷ new_rule (codes "NAME") ∷ teletype_rules)
+teletype_app =
+    subcommand (codes "teletype") (word_rule (codes "TAPE") ∷ new_rule (codes "NAME") ∷ teletype_rules)
 
 abbrev pub run_app : App
-run_app = subcommand (codes "run") (image_rule ∷ flag_rule (codes "look") ∷ flag_rule (codes "keep") ∷ flag_rule (codes "strict") ∷ [])
+run_app =
+    subcommand (codes "run") (image_rule ∷ flag_rule (codes "look") ∷ flag_rule (codes "keep")
+    ∷ flag_rule (codes "strict") ∷ [])
 
 abbrev pub create_app : App
 create_app = subcommand (codes "create") (image_rule ∷ blocks_rule ∷ [])
@@ -98,7 +104,8 @@ abbrev pub list_app : App
 list_app = subcommand (codes "list") (image_rule ∷ [])
 
 abbrev pub get_app : App
-get_app = subcommand (codes "get") (image_rule ∷ name_rule ∷ flag_rule (codes "text") ∷ flag_rule (codes "tape") ∷ [])
+get_app =
+    subcommand (codes "get") (image_rule ∷ name_rule ∷ flag_rule (codes "text") ∷ flag_rule (codes "tape") ∷ [])
 
 abbrev pub put_app : App
 put_app = subcommand (codes "put") (image_rule ∷ name_rule ∷ flag_rule (codes "text") ∷ [])
@@ -109,8 +116,8 @@ check_app = subcommand (codes "check") (image_rule ∷ [])
 -- the subcommands
 abbrev pub leaves : List Shape
 leaves =
-    tape_app.top ∷ source_app.top ∷ assemble_app.top ∷ teletype_app.top ∷ run_app.top ∷ create_app.top ∷ list_app.top ∷ get_app.top ∷ put_app.top
-    ∷ check_app.top ∷ []
+    tape_app.top ∷ source_app.top ∷ assemble_app.top ∷ teletype_app.top ∷ run_app.top ∷ create_app.top
+    ∷ list_app.top ∷ get_app.top ∷ put_app.top ∷ check_app.top ∷ []
 
 -- the program without its subcommands: it must get one, and has a version to show
 abbrev pub bare_app : App
@@ -173,7 +180,8 @@ input_count (name ∷ names) = (if bytes_eq name (codes "-") then 1 else 0) + in
 
 -- sources are assembled so
 abbrev pub IsAssembleForm : List Row → AssembleForm → Type 0
-IsAssembleForm values form = (values_of (codes "FILE") values ≡ map (λ file. file.bytes.items) form.sources.items)
+IsAssembleForm values form =
+    (values_of (codes "FILE") values ≡ map (λ file. file.bytes.items) form.sources.items)
     × (first_of (codes "output") values ≡ option_map (λ file. file.bytes.items) form.output)
     × (first_of (codes "list") values ≡ option_map (λ file. file.bytes.items) form.list)
     × (form.is_cross ≡ is_set (codes "cross") values)
@@ -238,16 +246,18 @@ AsksCrossAlone (Some met) = (met.0 ≡ codes "assemble") × (input_count (values
 -- the cell at which the processor is to start is no cell
 abbrev pub AsksNoStart : Text → Option (Text × List Row) → Type 0
 AsksNoStart text None = ⊥
-AsksNoStart text (Some met) = (met.0 ≡ codes "teletype") × (first_of (codes "start") met.1 ≡ Some text) × (octal_of 5 text ≡ None)
+AsksNoStart text (Some met) = (met.0 ≡ codes "teletype") × (first_of (codes "start") met.1 ≡ Some text)
+    × (octal_of 5 text ≡ None)
 
 -- what the switches are to be set to is no word, where the cell is none that is refused
 abbrev pub AsksNoSwitches : Text → Option (Text × List Row) → Type 0
 AsksNoSwitches text None = ⊥
-AsksNoSwitches text (Some met) = (met.0 ≡ codes "teletype") × (option_map_or (λ start. is_some (octal_of 5 start)) (first_of (codes "start") met.1) true ≡ true)
+AsksNoSwitches text (Some met) = (met.0 ≡ codes "teletype")
+    × (option_map_or (λ start. is_some (octal_of 5 start)) (first_of (codes "start") met.1) true ≡ true)
     × (first_of (codes "switches") met.1 ≡ Some text) × (octal_of 4 text ≡ None)
 
--- a new volume has 8 to 4095 blocks; there are 1 to 8 sources, one of them at most standard input, and a listing where it has cross
--- references; a limit of instructions is 1 up
+-- a new volume has 8 to 4095 blocks; there are 1 to 8 sources, one of them at most standard input, and a listing where
+-- there are cross references; a limit of instructions is 1 up
 abbrev pub HasFitBlocks : Task → Type 0
 HasFitBlocks Tape = ⊤
 HasFitBlocks Source = ⊤
@@ -258,13 +268,14 @@ HasFitBlocks (Get image file form) = ⊤
 HasFitBlocks (Put image file form) = ⊤
 HasFitBlocks (Check image) = ⊤
 HasFitBlocks (Assemble form) = (1 ≤ length form.sources.items) × (length form.sources.items ≤ 8)
-    × (input_count (map (λ file. file.bytes.items) form.sources.items) ≤ 1) × (form.is_cross ≡ true → is_some form.list ≡ true)
+    × (input_count (map (λ file. file.bytes.items) form.sources.items) ≤ 1)
+    × (form.is_cross ≡ true → is_some form.list ≡ true)
 HasFitBlocks (Teletype form) = is_limit form.steps ≡ true
 
 -- The command line with these words, the program's own name first, is answered so: a task where `clap` finds no fault
--- in the words and they ask for it, an error of `clap` of a kind that the words meet, a refusal of a run that is both to look and
--- to keep, of sources that name standard input twice, of cross references with no listing, or of what is no cell or no word, or want
--- of memory.
+-- in the words and they ask for it, an error of `clap` of a kind that the words meet, a refusal of a run that is both to
+-- look and to keep, of sources that name standard input twice, of cross references with no listing, or of what is no cell
+-- or no word, or want of memory.
 abbrev pub Answers : List Text → Result Task TaskFault → Type 0
 Answers words (Ok task) = (fault_of pdp8 words ≡ []) × Asks (subcommand_of pdp8 words) task × HasFitBlocks task
 Answers words (Err (Words error)) = IsAmong (kind_of error) (fault_of pdp8 words) × (kind_of error ≢ OutOfMemory)
@@ -272,8 +283,10 @@ Answers words (Err Memory) = ⊤
 Answers words (Err LookAndKeep) = (fault_of pdp8 words ≡ []) × AsksBoth (subcommand_of pdp8 words)
 Answers words (Err InputTwice) = (fault_of pdp8 words ≡ []) × NamesInputTwice (subcommand_of pdp8 words)
 Answers words (Err CrossAlone) = (fault_of pdp8 words ≡ []) × AsksCrossAlone (subcommand_of pdp8 words)
-Answers words (Err (Start text)) = (fault_of pdp8 words ≡ []) × AsksNoStart text.bytes.items (subcommand_of pdp8 words)
-Answers words (Err (Switches text)) = (fault_of pdp8 words ≡ []) × AsksNoSwitches text.bytes.items (subcommand_of pdp8 words)
+Answers words (Err (Start text)) = (fault_of pdp8 words ≡ [])
+    × AsksNoStart text.bytes.items (subcommand_of pdp8 words)
+Answers words (Err (Switches text)) = (fault_of pdp8 words ≡ [])
+    × AsksNoSwitches text.bytes.items (subcommand_of pdp8 words)
 
 -- a fault at words that `clap` takes
 abbrev pub IsPastClap : TaskFault → Type 0
@@ -332,8 +345,9 @@ IsAssembleOf names output task = ⊥
 
 -- this file, and what it holds of a volume, from this cell, and nothing else
 abbrev pub IsTeletypeOf : Text → Option Text → Option ℕ → Task → Type 0
-IsTeletypeOf file name start (Teletype form) = (form.file.bytes.items ≡ file) × (option_map (λ name. name.bytes.items) form.name ≡ name)
-    × (form.start ≡ start) × (form.switches ≡ None) × (form.steps ≡ None) × (form.is_raw ≡ false) × (form.is_live ≡ false)
+IsTeletypeOf file name start (Teletype form) = (form.file.bytes.items ≡ file)
+    × (option_map (λ name. name.bytes.items) form.name ≡ name) × (form.start ≡ start) × (form.switches ≡ None)
+    × (form.steps ≡ None) × (form.is_raw ≡ false) × (form.is_live ≡ false)
 IsTeletypeOf file name start task = ⊥
 
 -- the command takes the words, and what they ask for has the property

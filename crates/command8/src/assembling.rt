@@ -2,7 +2,7 @@
 ghost use Rattle.std.specs.Prelude.{◌≡◌, ◌+◌, ◌<◌, ◌≤◌, codes, length, map};
 ghost use Rattle.clap.specs.Words.{found_of, rows_of};
 ghost use Rattle.std.specs.Prelude.{IfOk};
-ghost use Rattle.command8.specs.CommandSteps.{IsCommand};
+ghost use Rattle.command8.specs.CommandSteps.{IsDraft};
 ghost use Rattle.command8.specs.Tasks.{assemble_app};
 ghost use Rattle.command8.specs.Tasks as spec;
 ghost use Rattle.command8.specs.TaskSteps.{Gives, HasSources};
@@ -15,7 +15,7 @@ use std::alloc::Global;
 
 /// The subcommand `assemble`.
 pub fn assemble<'a>(alloc: Global) -> Draft<'a>
-    ensures { IfOk result (λ command. IsCommand command assemble_app) }
+    ensures { IsDraft result assemble_app }
 {
     let bare = leaf(
         alloc,

@@ -1,7 +1,7 @@
 //! The subcommands for the files of a volume.
 ghost use Rattle.std.specs.Prelude.{◌≡◌, codes, IfOk};
 ghost use Rattle.clap.specs.Words.{found_of, rows_of};
-ghost use Rattle.command8.specs.CommandSteps.{IsCommand};
+ghost use Rattle.command8.specs.CommandSteps.{IsDraft};
 ghost use Rattle.command8.specs.Tasks.{check_app, get_app, list_app, put_app};
 ghost use Rattle.command8.specs.Tasks as spec;
 ghost use Rattle.command8.specs.TaskSteps.{Gives, Needs};
@@ -15,7 +15,7 @@ use clap::ArgMatches;
 use std::alloc::Global;
 
 pub fn list<'a>(alloc: Global) -> Draft<'a>
-    ensures { IfOk result (λ command. IsCommand command list_app) }
+    ensures { IsDraft result list_app }
 {
     let bare = leaf(
         alloc,
@@ -27,7 +27,7 @@ pub fn list<'a>(alloc: Global) -> Draft<'a>
 }
 
 pub fn get<'a>(alloc: Global) -> Draft<'a>
-    ensures { IfOk result (λ command. IsCommand command get_app) }
+    ensures { IsDraft result get_app }
 {
     let bare = leaf(
         alloc,
@@ -43,7 +43,7 @@ pub fn get<'a>(alloc: Global) -> Draft<'a>
 }
 
 pub fn put<'a>(alloc: Global) -> Draft<'a>
-    ensures { IfOk result (λ command. IsCommand command put_app) }
+    ensures { IsDraft result put_app }
 {
     let bare = leaf(
         alloc,
@@ -57,7 +57,7 @@ pub fn put<'a>(alloc: Global) -> Draft<'a>
 }
 
 pub fn check<'a>(alloc: Global) -> Draft<'a>
-    ensures { IfOk result (λ command. IsCommand command check_app) }
+    ensures { IsDraft result check_app }
 {
     let bare = leaf(
         alloc,

@@ -1,5 +1,5 @@
 //! What `clap` found for an argument, by the kind of argument.
-ghost use Rattle.std.specs.Prelude.{◌≡◌, ◌≤◌, ◌+◌, ◌<◌, [], true, codes, is_some, length, map, option_map, IfOk, ℕ, List, Some};
+ghost use Rattle.std.specs.Prelude.{◌≡◌, ◌≤◌, true, codes, is_some, map, option_map, IfOk, ℕ, List, Some};
 ghost use Rattle.clap.specs.Words.{first_of, found_of, one_of, rows_of};
 ghost use Rattle.command8.specs.Tasks.{number_of};
 ghost use Rattle.command8.specs.Tasks as spec;
@@ -56,7 +56,8 @@ pub fn value_if_given(
 
 /// Copies of the values of an argument that may have several.
 pub fn values_of(alloc: Global, found: &ArgMatches<'_>, id: &str) -> Result<Vec<String>, AllocError>
-    ensures { IfOk result (λ texts. map (λ text. text.bytes.items) texts.items ≡ spec.values_of id.now (rows_of (found_of found.now))) }
+    ensures { IfOk result (λ texts. map (λ text. text.bytes.items) texts.items
+        ≡ spec.values_of id.now (rows_of (found_of found.now))) }
 {
     match found.get_strs(id) {
         Some(words) => copies(alloc, words),
@@ -66,7 +67,8 @@ pub fn values_of(alloc: Global, found: &ArgMatches<'_>, id: &str) -> Result<Vec<
 
 /// Copies of texts.
 fn copies(alloc: Global, words: &[&str]) -> Result<Vec<String>, AllocError>
-    ensures { IfOk result (λ texts. map (λ text. text.bytes.items) texts.items ≡ map (λ word. word.now) words.now) }
+    ensures { IfOk result (λ texts. map (λ text. text.bytes.items) texts.items
+        ≡ map (λ word. word.now) words.now) }
 {
     let mut texts = Vec::new(alloc);
     for word in words {

@@ -5,8 +5,8 @@ ghost use Rattle.command8.specs.declared.kinds.Saving.TheVariants.{AtEnd, Never,
 ghost use Rattle.char_pack.specs.declared.forms.GetForm.TheVariants as get_as;
 ghost use Rattle.char_pack.specs.declared.forms.PutForm.TheVariants as put_as;
 ghost use Rattle.command8.specs.Octal.{octal_of};
-ghost use Rattle.command8.specs.Tasks.{IsAssembleOf, IsCheckOf, IsCreateOf, IsGetOf, IsListOf, IsPlain, IsPutOf, IsRunOf, IsSource, IsTakenAs};
-ghost use Rattle.command8.specs.Tasks.{IsTape, IsTeletypeOf, number_of};
+ghost use Rattle.command8.specs.Tasks.{IsAssembleOf, IsCheckOf, IsCreateOf, IsGetOf, IsListOf, IsPlain};
+ghost use Rattle.command8.specs.Tasks.{IsPutOf, IsRunOf, IsSource, IsTakenAs, IsTape, IsTeletypeOf, number_of};
 
 /// A law: plain command lines are taken, and ask for what they say; a run that is both to look and to keep asks for no task (this
 /// project's profile). A word that names a file or gives a number is plain where it begins with no hyphen.
@@ -39,17 +39,20 @@ pub fn plain_words()
         → IsTakenAs (name ∷ codes "put" ∷ image ∷ file ∷ codes "--text" ∷ []) (IsPutOf image file put_as.Text) }
     ensures assemble { (name file : List ℕ) → IsPlain file
         → IsTakenAs (name ∷ codes "assemble" ∷ file ∷ []) (IsAssembleOf (file ∷ []) None) }
-    ensures assemble_input { (name : List ℕ) → IsTakenAs (name ∷ codes "assemble" ∷ codes "-" ∷ []) (IsAssembleOf (codes "-" ∷ []) None) }
+    ensures assemble_input { (name : List ℕ)
+        → IsTakenAs (name ∷ codes "assemble" ∷ codes "-" ∷ []) (IsAssembleOf (codes "-" ∷ []) None) }
     ensures assemble_two { (name file other : List ℕ) → IsPlain file → IsPlain other
         → IsTakenAs (name ∷ codes "assemble" ∷ file ∷ other ∷ []) (IsAssembleOf (file ∷ other ∷ []) None) }
     ensures assemble_output { (name file output : List ℕ) → IsPlain file → IsPlain output
-        → IsTakenAs (name ∷ codes "assemble" ∷ file ∷ codes "--output" ∷ output ∷ []) (IsAssembleOf (file ∷ []) (Some output)) }
+        → IsTakenAs (name ∷ codes "assemble" ∷ file ∷ codes "--output" ∷ output ∷ [])
+        (IsAssembleOf (file ∷ []) (Some output)) }
     ensures teletype { (name tape : List ℕ) → IsPlain tape
         → IsTakenAs (name ∷ codes "teletype" ∷ tape ∷ []) (IsTeletypeOf tape None None) }
     ensures teletype_file { (name image file : List ℕ) → IsPlain image → IsPlain file
         → IsTakenAs (name ∷ codes "teletype" ∷ image ∷ file ∷ []) (IsTeletypeOf image (Some file) None) }
     ensures teletype_start { (name tape start : List ℕ) (cell : ℕ) → IsPlain tape → octal_of 5 start ≡ Some cell
-        → IsTakenAs (name ∷ codes "teletype" ∷ tape ∷ codes "--start" ∷ start ∷ []) (IsTeletypeOf tape None (Some cell)) }
+        → IsTakenAs (name ∷ codes "teletype" ∷ tape ∷ codes "--start" ∷ start ∷ [])
+        (IsTeletypeOf tape None (Some cell)) }
     ensures check { (name image : List ℕ) → IsPlain image
         → IsTakenAs (name ∷ codes "check" ∷ image ∷ []) (IsCheckOf image) }
 {}

@@ -1,9 +1,11 @@
-//! What subcommands are made of: their texts and their arguments. What `clap` makes of each kind of argument is computed here, once. A
-//! command that memory was not granted for is passed on as it is, so that no function holds one command while it waits for another.
+//! What subcommands are made of: their texts and their arguments. What `clap` makes of each kind of argument is computed
+//! here, once. A command that memory was not granted for is passed on as it is, so that no function holds one command while
+//! it waits for another.
 ghost use Rattle.std.specs.Prelude.{◌<◌, true, IfOk};
 ghost use Rattle.clap.specs.Words.{App, Rule, new_app, new_rule, with_rule};
-ghost use Rattle.command8.specs.CommandSteps.{IsArgument, IsCommand, with_leaf};
-ghost use Rattle.command8.specs.Tasks.{blocks_rule, flag_rule, image_rule, name_rule, option_rule, steps_rule, words_rule};
+ghost use Rattle.command8.specs.CommandSteps.{IsArgument, IsCommand, IsDraft, with_leaf};
+ghost use Rattle.command8.specs.Tasks.{blocks_rule, flag_rule, image_rule, name_rule, option_rule};
+ghost use Rattle.command8.specs.Tasks.{steps_rule, words_rule};
 
 use clap::{Arg, ArgAction, Command};
 use std::alloc::{AllocError, Global};
@@ -29,8 +31,8 @@ pub fn with_lines<'a>(command: Command<'a>, lines: &'a str) -> Command<'a>
 
 /// A command with one argument more.
 pub fn with_argument<'a>(command: Draft<'a>, argument: Arg<'a>) -> Draft<'a>
-    ensures { (app : App) (rule : Rule) → IfOk command.entry (λ old. IsCommand old app) → IsArgument argument.entry rule
-        → IfOk result (λ new. IsCommand new (with_rule app rule)) }
+    ensures { (app : App) (rule : Rule) → IsDraft command.entry app → IsArgument argument.entry rule
+        → IsDraft result (with_rule app rule) }
 {
     match command {
         Ok(command) => command.arg(argument),
@@ -40,8 +42,8 @@ pub fn with_argument<'a>(command: Draft<'a>, argument: Arg<'a>) -> Draft<'a>
 
 /// A command with one subcommand more.
 pub fn with_leaf<'a>(command: Draft<'a>, leaf: Draft<'a>) -> Draft<'a>
-    ensures { (app sub : App) → IfOk command.entry (λ old. IsCommand old app) → IfOk leaf.entry (λ given. IsCommand given sub)
-        → IfOk result (λ new. IsCommand new (with_leaf app sub)) }
+    ensures { (app sub : App) → IsDraft command.entry app → IsDraft leaf.entry sub
+        → IsDraft result (with_leaf app sub) }
 {
     match leaf {
         Ok(leaf) => with_whole_leaf(command, leaf),
@@ -50,8 +52,8 @@ pub fn with_leaf<'a>(command: Draft<'a>, leaf: Draft<'a>) -> Draft<'a>
 }
 
 fn with_whole_leaf<'a>(command: Draft<'a>, leaf: Command<'a>) -> Draft<'a>
-    ensures { (app sub : App) → IfOk command.entry (λ old. IsCommand old app) → IsCommand leaf.entry sub
-        → IfOk result (λ new. IsCommand new (with_leaf app sub)) }
+    ensures { (app sub : App) → IsDraft command.entry app → IsCommand leaf.entry sub
+        → IsDraft result (with_leaf app sub) }
 {
     match command {
         Ok(command) => command.subcommand(leaf),
@@ -61,8 +63,8 @@ fn with_whole_leaf<'a>(command: Draft<'a>, leaf: Command<'a>) -> Draft<'a>
 
 /// A command with the name of an image's file.
 pub fn with_image<'a>(alloc: Global, command: Draft<'a>) -> Draft<'a>
-    ensures { (app : App) → IfOk command.entry (λ old. IsCommand old app)
-        → IfOk result (λ new. IsCommand new (with_rule app image_rule)) }
+    ensures { (app : App) → IsDraft command.entry app
+        → IsDraft result (with_rule app image_rule) }
 {
     let help = "The file that holds the volume";
     with_argument(command, must_have(may_have(alloc, "IMAGE", help)))
@@ -70,8 +72,8 @@ pub fn with_image<'a>(alloc: Global, command: Draft<'a>) -> Draft<'a>
 
 /// A command with the name of a file on a volume.
 pub fn with_name<'a>(alloc: Global, command: Draft<'a>) -> Draft<'a>
-    ensures { (app : App) → IfOk command.entry (λ old. IsCommand old app)
-        → IfOk result (λ new. IsCommand new (with_rule app name_rule)) }
+    ensures { (app : App) → IsDraft command.entry app
+        → IsDraft result (with_rule app name_rule) }
 {
     let help = "The name of the file on the volume";
     with_argument(command, must_have(may_have(alloc, "NAME", help)))
@@ -86,7 +88,8 @@ pub fn may_have<'a>(alloc: Global, id: &'a str, help: &'a str) -> Arg<'a>
 
 /// A word that must be given.
 pub fn must_have<'a>(argument: Arg<'a>) -> Arg<'a>
-    ensures { (rule : Rule) → IsArgument argument.entry rule → IsArgument result (record rule { required = true }) }
+    ensures { (rule : Rule) → IsArgument argument.entry rule
+        → IsArgument result (record rule { required = true }) }
 {
     argument.required(true)
 }

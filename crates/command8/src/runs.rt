@@ -1,7 +1,7 @@
 //! The subcommand for a script.
 ghost use Rattle.std.specs.Prelude.{◌≡◌, codes, IfOk};
 ghost use Rattle.clap.specs.Words.{found_of, rows_of};
-ghost use Rattle.command8.specs.CommandSteps.{IsCommand};
+ghost use Rattle.command8.specs.CommandSteps.{IsDraft};
 ghost use Rattle.command8.specs.Tasks.{run_app};
 ghost use Rattle.command8.specs.Tasks as spec;
 ghost use Rattle.command8.specs.TaskSteps.{Gives, Needs};
@@ -39,7 +39,7 @@ Lines of a script:
 
 /// The subcommand `run`.
 pub fn run<'a>(alloc: Global) -> Draft<'a>
-    ensures { IfOk result (λ command. IsCommand command run_app) }
+    ensures { IsDraft result run_app }
 {
     let bare = leaf(
         alloc,

@@ -2,7 +2,7 @@ ghost use Rattle.std.specs.Prelude.{◌≡◌, ◌∷◌, [], true, codes, IfErr
 ghost use Rattle.clap.specs.Words.{App, found_of, new_app, rows_of, subcommand_rows_of, takes};
 ghost use Rattle.command8.specs.Tasks.{Answers, IsPastClap, bare_app, pdp8};
 ghost use Rattle.command8.specs.TaskSteps.{Gives, GivesMet, HasMet, IsFaultOf, IsWhole, Needs, word};
-ghost use Rattle.command8.specs.CommandSteps.{IsCommand};
+ghost use Rattle.command8.specs.CommandSteps.{IsCommand, IsDraft};
 
 use crate::assembling::{assemble, assemble_asked};
 use crate::file_commands::{check, check_asked, get, get_asked, list, list_asked, put, put_asked};
@@ -38,7 +38,7 @@ pub fn task(alloc: Global, words: &[&str]) -> Result<Task, TaskFault>
 
 /// The command `pdp8` with its subcommands.
 fn command_line<'a>(alloc: Global) -> Draft<'a>
-    ensures { IfOk result (λ command. IsCommand command pdp8) }
+    ensures { IsDraft result pdp8 }
 {
     let line = with_leaf(bare_command_line(alloc), Ok(tape(alloc)));
     let line = with_leaf(line, Ok(source(alloc)));
@@ -54,7 +54,7 @@ fn command_line<'a>(alloc: Global) -> Draft<'a>
 
 /// The command `pdp8` before it has its subcommands.
 fn bare_command_line<'a>(alloc: Global) -> Draft<'a>
-    ensures { IfOk result (λ command. IsCommand command bare_app) }
+    ensures { IsDraft result bare_app }
 {
     match named_command_line(alloc) {
         Ok(command) => Ok(with_version(with_texts(command))),
@@ -64,7 +64,7 @@ fn bare_command_line<'a>(alloc: Global) -> Draft<'a>
 
 /// The command of the name `pdp8`, by which its texts call it, whatever the first word is.
 fn named_command_line<'a>(alloc: Global) -> Draft<'a>
-    ensures { IfOk result (λ command. IsCommand command (new_app (codes "pdp8"))) }
+    ensures { IsDraft result (new_app (codes "pdp8")) }
 {
     Command::new(alloc, "pdp8").bin_name("pdp8")
 }

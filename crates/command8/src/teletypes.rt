@@ -1,7 +1,7 @@
 //! The subcommand for a tape that runs with the terminal as its Teletype.
 ghost use Rattle.std.specs.Prelude.{◌≡◌, IfErr, IfOk, codes, option_map, ℕ, Option};
 ghost use Rattle.clap.specs.Words.{App, first_of, found_of, rows_of, with_rule};
-ghost use Rattle.command8.specs.CommandSteps.{IsCommand};
+ghost use Rattle.command8.specs.CommandSteps.{IsDraft};
 ghost use Rattle.command8.specs.Tasks.{IsOctalOf, flag_rule, option_rule, steps_rule, teletype_app};
 ghost use Rattle.command8.specs.TaskSteps.{Gives, Needs, IsNoStart, IsNoSwitches};
 ghost use Rattle.command8.specs.declared.verbs.Verb.TheVariants as verb;
@@ -16,7 +16,7 @@ use word12::{Cell, Word};
 
 /// The subcommand `teletype`.
 pub fn teletype<'a>(alloc: Global) -> Draft<'a>
-    ensures { IfOk result (λ command. IsCommand command teletype_app) }
+    ensures { IsDraft result teletype_app }
 {
     let bare = leaf(
         alloc,
@@ -33,8 +33,9 @@ pub fn teletype<'a>(alloc: Global) -> Draft<'a>
 
 /// A command with the options for what the processor begins with.
 fn with_cells<'a>(alloc: Global, command: Draft<'a>) -> Draft<'a>
-    ensures { (app : App) → IfOk command.entry (λ old. IsCommand old app)
-        → IfOk result (λ new. IsCommand new (with_rule (with_rule app (option_rule (codes "start"))) (option_rule (codes "switches")))) }
+    ensures { (app : App) → IsDraft command.entry app
+        → IsDraft result (with_rule (with_rule app (option_rule (codes "start")))
+        (option_rule (codes "switches"))) }
 {
     let start = "The cell to start at, field and address in octal; else 00200";
     let command = with_argument(command, option(alloc, "start", "FAAAA", start));
@@ -44,8 +45,9 @@ fn with_cells<'a>(alloc: Global, command: Draft<'a>) -> Draft<'a>
 
 /// A command with the options for how far the processor runs, and how the terminal is taken.
 fn with_modes<'a>(alloc: Global, command: Draft<'a>) -> Draft<'a>
-    ensures { (app : App) → IfOk command.entry (λ old. IsCommand old app)
-        → IfOk result (λ new. IsCommand new (with_rule (with_rule (with_rule app steps_rule) (flag_rule (codes "raw"))) (flag_rule (codes "live")))) }
+    ensures { (app : App) → IsDraft command.entry app
+        → IsDraft result (with_rule (with_rule (with_rule app steps_rule) (flag_rule (codes "raw")))
+        (flag_rule (codes "live"))) }
 {
     let command = with_argument(command, steps(alloc));
     let raw = "Give each key and each character as it is, with no change of line ends";
@@ -76,7 +78,8 @@ pub fn teletype_asked(alloc: Global, found: &ArgMatches<'_>) -> Result<Task, Tas
 
 /// The cell to start at, if one was given.
 fn start_of(alloc: Global, found: &ArgMatches<'_>) -> Result<Option<Cell>, TaskFault>
-    ensures start { IfOk result (λ start. IsOctalOf 5 (first_of (codes "start") (rows_of (found_of found.now))) start) }
+    ensures start { IfOk result (λ start.
+        IsOctalOf 5 (first_of (codes "start") (rows_of (found_of found.now))) start) }
     ensures refused { IfErr result (IsNoStart (rows_of (found_of found.now))) }
 {
     match text_of(found, "start") {
@@ -90,7 +93,8 @@ fn start_of(alloc: Global, found: &ArgMatches<'_>) -> Result<Option<Cell>, TaskF
 
 /// What the switches are set to, if it was given.
 fn switches_of(alloc: Global, found: &ArgMatches<'_>) -> Result<Option<Word>, TaskFault>
-    ensures switches { IfOk result (λ word. IsOctalOf 4 (first_of (codes "switches") (rows_of (found_of found.now))) word) }
+    ensures switches { IfOk result (λ word.
+        IsOctalOf 4 (first_of (codes "switches") (rows_of (found_of found.now))) word) }
     ensures refused { IfErr result (IsNoSwitches (rows_of (found_of found.now))) }
 {
     match text_of(found, "switches") {

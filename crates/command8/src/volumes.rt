@@ -1,7 +1,7 @@
 //! The subcommand for a new volume.
 ghost use Rattle.std.specs.Prelude.{codes, IfOk};
 ghost use Rattle.clap.specs.Words.{found_of, rows_of};
-ghost use Rattle.command8.specs.CommandSteps.{IsCommand};
+ghost use Rattle.command8.specs.CommandSteps.{IsDraft};
 ghost use Rattle.command8.specs.Tasks.{create_app};
 ghost use Rattle.command8.specs.TaskSteps.{Gives, Needs};
 ghost use Rattle.command8.specs.declared.verbs.Verb.TheVariants as verb;
@@ -13,7 +13,7 @@ use clap::ArgMatches;
 use std::alloc::Global;
 
 pub fn create<'a>(alloc: Global) -> Draft<'a>
-    ensures { IfOk result (λ command. IsCommand command create_app) }
+    ensures { IsDraft result create_app }
 {
     let bare = leaf(
         alloc,
