@@ -2,7 +2,7 @@
 use Rattle.std.proofs.Common.{◌≡◌, ◌∙◌, ◌||◌, ◌<◌, ℕ, List, Bool, Option, Some, None, Result, Ok, Err, IfOk, ap, ap₂, arith, refl, subst, true, false}
 use Rattle.std.specs.Prelude.{IsSomeAnd, max, ℤ, pos}
 use Rattle.clap.specs.Walk.{Rule, rule_of}
-use Rattle.clap.specs.Simple.{App, app_of, app_of_fields, new_app, new_shape, with_rule, with_subcommand}
+use Rattle.clap.specs.Simple.{App, app_of, app_of_fields, with_rule, with_subcommand}
 use Rattle.clap.specs.Words.{AddsArg, AddsSubcommand, NarrowsTo, new_rule}
 use Rattle.clap.specs.declared.builder.value_parser.ValueParser.TheVariants.{Unsigned}
 use Rattle.clap.specs.declared.builder.texts.Texts.TheVariants.{One}

@@ -2,10 +2,8 @@
 use Rattle.std.proofs.Common.{◌≡◌, ◌∙◌, ◌&&◌, ◌||◌, ◌⊎◌, ◌≤◌, ℕ, Bool, cond, if◌then◌else◌, codes, true, false, not, refl, sym, ap, arith, subst, inl, inr, true≢false, List, [], ◌∷◌, Option, Some, None, is_some, length}
 use Rattle.std.specs.Prelude.{⊤, ◌==◌, find, nat_lt, option_and_then, option_map, slice_get, unwrap_or}
 use Rattle.std.specs.List.{list_any}
-use Rattle.std.specs.Option.{option_map_or}
 use Rattle.std.specs.Str.{bytes_eq}
 use Rattle.std.proofs.lemmas.Bool.Decides.{nat_tests}
-use Rattle.std.proofs.lemmas.Slice.Eq.{bytes_eq-Decides}
 use Rattle.clap.proofs.ValueTestLemmas.{accepts-Accepts}
 use Rattle.clap.proofs.WalkLemmas.{both}
 use Rattle.clap.specs.Facts.{parser_of_value, unwrap_or_range}
@@ -23,7 +21,7 @@ use Rattle.clap.specs.declared.builder.value_parser.ValueParser.TheVariants.{Uns
 use Rattle.clap.specs.declared.error.kind.ErrorKind.TheVariants.{DisplayHelp, InvalidValue, TooFewValues, TooManyValues, UnknownArgument}
 use Rattle.command8.specs.Tasks.{blocks_rule, image_rule, most_steps, name_rule, pdp8_top, steps_rule, word_rule, words_rule}
 use Rattle.command8.specs.TaskSteps.{Has, HasBlocks, HasSources, HasSteps}
-use Rattle.command8.proofs.WalkLemmas.{AllGood, FitDefaults, Fits, HeldGood, IsPlainLeaf, IsUsage, TakesSome, flag_met_good, given_row, leaf_given, leaf_good, no_values, not_none, option_met_good, or_first, or_second, row_good, some_eq}
+use Rattle.command8.proofs.WalkLemmas.{FitDefaults, Fits, HeldGood, IsPlainLeaf, IsUsage, TakesSome, flag_met_good, given_row, leaf_given, leaf_good, no_values, not_none, option_met_good, or_first, or_second, row_good, some_eq}
 
 -- a subcommand as clap builds it, below the program
 abbrev pub below : Shape → Shape

@@ -1,5 +1,5 @@
 -- A text that clap took as a number is read as that number.
-use Rattle.std.proofs.Common.{◌≡◌, ◌∙◌, ◌<◌, ◌≤◌, ◌+◌, ◌*◌, ℕ, zero, suc, List, Option, Some, None, Result, Ok, Err, ap, arith, refl, sym, true, add-one, option_map}
+use Rattle.std.proofs.Common.{◌≡◌, ◌∙◌, ◌<◌, ◌≤◌, ℕ, zero, suc, List, Option, Some, None, Result, Ok, Err, ap, arith, refl, sym, true, option_map}
 use Rattle.std.specs.Prelude.{nat_le}
 use Rattle.std.proofs.lemmas.Bool.Decides.{nat_tests}
 use Rattle.std.specs.Str.Parse.{ParsesUnsigned}

@@ -2,8 +2,7 @@
 use Rattle.std.proofs.Common.{◌≡◌, ◌∙◌, ◌&&◌, if◌then◌else◌, ℕ, Bool, codes, true, false, refl, sym, ap, ap₂, map, option_map, subst, List, [], ◌∷◌, ◌++◌, Option, Some, None}
 use Rattle.std.specs.Prelude.{find, length, nat_eq}
 use Rattle.std.specs.Str.{bytes_eq}
-use Rattle.clap.specs.ValueTests.{accepts}
-use Rattle.clap.specs.Walk.{Rule, answers_to, finished, nothing_held, rows_after}
+use Rattle.clap.specs.Walk.{answers_to, finished, nothing_held, rows_after}
 use Rattle.clap.specs.Simple.{App, Shape, built, built_leaf, filled, help_shape, inherited, label_of, marked_built, with_index}
 use Rattle.clap.proofs.ValueTestLemmas.{Accepts-accepts}
 use Rattle.clap.specs.Words.{IsUnsignedIn, Row, new_rule, Text, first_of, one_of}

@@ -1,5 +1,5 @@
 -- Plain words and long options, as a subcommand takes them one after the other.
-use Rattle.std.proofs.Common.{◌≡◌, ◌∙◌, ◌&&◌, ◌||◌, if◌then◌else◌, ℕ, Bool, cond, true, false, not, refl, ap, ap₂, List, [], ◌∷◌, Option, Some, None, is_some}
+use Rattle.std.proofs.Common.{◌≡◌, ◌∙◌, ◌&&◌, ◌||◌, if◌then◌else◌, ℕ, Bool, cond, true, false, refl, ap, List, [], ◌∷◌, Option, Some, None}
 use Rattle.std.specs.Prelude.{⊤, fold, nat_lt}
 use Rattle.std.specs.List.{list_all}
 use Rattle.std.specs.Option.{option_map_or}
@@ -8,9 +8,9 @@ use Rattle.std.proofs.lemmas.Bool.{ne_eqb}
 use Rattle.clap.specs.Lexer.{long_of, short_of}
 use Rattle.clap.specs.Walk.{Held, Rule, Step, Text, Waiting, Walk}
 use Rattle.clap.specs.Walk.{idle, option, positional, next, trailing, value}
-use Rattle.clap.specs.Walk.{after_flag, after_step, arg_by_id, arg_by_index, arg_by_long, finished, flag_met, is_multiple, long_met, long_or_other, most_values, next_position, nothing_held, option_met, option_word, pending_count, plain_word, positional_held, pushed, reacted, rows_after, settled, short_or_plain, subcommand_met, subcommand_or_other, takes_values, to_positional, walk, walk_from, walked, word_met}
+use Rattle.clap.specs.Walk.{after_flag, after_step, arg_by_id, arg_by_index, arg_by_long, finished, flag_met, is_multiple, long_met, long_or_other, most_values, next_position, nothing_held, option_met, option_word, pending_count, plain_word, positional_held, pushed, reacted, rows_after, settled, short_or_plain, subcommand_met, subcommand_or_other, takes_values, to_positional, walked, word_met}
 use Rattle.clap.specs.Simple.{Shape}
-use Rattle.clap.specs.Takes.{bundle_passes, default_passes, flag_word_passes, is_valid, level_passes, long_passes, option_passes, other_passes, positional_passes, react_passes, settle_passes, step_passes, turn_passes, walk_passes, word_passes}
+use Rattle.clap.specs.Takes.{bundle_passes, default_passes, flag_word_passes, is_valid, level_passes, long_passes, option_passes, other_passes, positional_passes, react_passes, settle_passes, step_passes, walk_passes, word_passes}
 use Rattle.command8.specs.Tasks.{IsPlain}
 use Rattle.command8.proofs.EnterLemmas.{both_true}
 

@@ -1,5 +1,5 @@
 -- The subcommand of a name has the name for its word.
-use Rattle.std.proofs.Common.{◌≡◌, Bool, cond, true, false, refl, ap, ◌∙◌, List, [], ◌∷◌, Option, Some}
+use Rattle.std.proofs.Common.{◌≡◌, Bool, cond, true, false, refl, ap, ◌∙◌, List, [], ◌∷◌, Some}
 use Rattle.std.specs.Prelude.{find}
 use Rattle.std.specs.Str.{bytes_eq}
 use Rattle.std.proofs.lemmas.Slice.Eq.{bytes_eq-Decides}

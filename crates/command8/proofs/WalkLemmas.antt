@@ -1,6 +1,6 @@
 -- What the walk of `clap` over the words leaves where it meets no fault.
-use Rattle.std.proofs.Common.{◌≡◌, ◌∙◌, ◌⊎◌, inl, inr, if◌then◌else◌, ◌<◌, ◌&&◌, ℕ, Bool, cond, codes, true, false, not, zero, suc, refl, sym, ap, subst, arith, true≢false, List, [], ◌∷◌, ◌++◌, length, drop, Option, Some, None, is_some}
-use Rattle.std.specs.Prelude.{⊤, ◌==◌, ◌||◌, encode_utf8, find, fold, nat_lt, option_map, slice_get}
+use Rattle.std.proofs.Common.{◌≡◌, ◌∙◌, ◌⊎◌, inl, inr, if◌then◌else◌, ◌&&◌, ℕ, Bool, cond, codes, true, false, not, zero, suc, refl, sym, ap, subst, true≢false, List, [], ◌∷◌, ◌++◌, length, drop, Option, Some, None, is_some}
+use Rattle.std.specs.Prelude.{⊤, ◌==◌, ◌||◌, encode_utf8, find, fold, nat_lt, slice_get}
 use Rattle.std.specs.List.{list_any}
 use Rattle.std.specs.Option.{option_map_or}
 use Rattle.std.specs.Str.{bytes_eq, chars}

@@ -4,7 +4,7 @@ use Rattle.std.specs.Prelude.{◌≡◌, ◌≢◌, ◌≤◌, ⊤, Bool, true, 
 use Rattle.std.specs.Option.{option_map_or}
 use Rattle.std.specs.Str.{bytes_eq}
 use Rattle.std.specs.Str.Parse.{digits_value, without_leading_plus}
-use Rattle.std.specs.Prelude.{◌+◌, ◌*◌, ◌-◌, ◌<◌, ◌&&◌, nat_eq, nat_le, nat_lt, is_some, length, map, option_map, unwrap_or}
+use Rattle.std.specs.Prelude.{◌+◌, ◌<◌, nat_le, is_some, length, map, option_map, unwrap_or}
 use Rattle.clap.specs.Simple.{new_shape}
 use Rattle.clap.specs.Words.{App, Row, Rule, Shape, Text, all_of, first_of, fault_of, kind_of, new_app, new_rule, one_of, subcommand_of, takes, IsAmong}
 use Rattle.clap.specs.declared.builder.value_parser.ValueParser.TheVariants.{Unsigned}

@@ -1,8 +1,8 @@
-use Rattle.std.proofs.Common.{◌∙◌, ap, sym, map, option_map, List, []}
+use Rattle.std.proofs.Common.{◌∙◌, ap, sym, map, option_map, []}
 use Rattle.std.specs.Prelude.{unwrap_or}
 use Rattle.std.proofs.lemmas.Result.{IfOk-weaker}
 use Rattle.clap.proofs.WalkLemmas.{raw_values-rows}
-use Rattle.clap.specs.Words.{Text, found_of}
+use Rattle.clap.specs.Words.{found_of}
 use Rattle.command8.proofs.found.values_of.Goals as goal
 
 pub returns-in-Some : goal.returns-in-Some
