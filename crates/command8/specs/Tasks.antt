@@ -28,7 +28,7 @@ use Rattle.command8.specs.declared.kinds.TaskFault.TheVariants.{Words, Memory, L
 
 -- ## The kinds of argument
 
--- a word that may be given is a `new_rule`; one that must be given
+-- a word that must be given; one that may be given is a `new_rule`
 abbrev pub word_rule : Text → Rule
 word_rule id = record (new_rule id) { required = true }
 

@@ -30,7 +30,7 @@ pub struct RunForm {
 }
 
 /// How files of the host are assembled (PAL III manual).
-#[derive(PartialEq, Eq, Debug, Drop)]
+#[derive(Drop)]
 pub struct AssembleForm {
     /// The names of the 1 to 8 sources, in their order; `-` is standard input, and stands once at most.
     pub sources: Vec<String>,
@@ -46,7 +46,7 @@ pub struct AssembleForm {
 }
 
 /// How the processor runs with the Teletype that the terminal is (this project's profile).
-#[derive(PartialEq, Eq, Debug, Drop)]
+#[derive(Drop)]
 pub struct TeletypeForm {
     /// The file of the host: of a BIN tape, or of the image of a volume where a file of it is named.
     pub file: String,
@@ -68,7 +68,7 @@ pub struct TeletypeForm {
 }
 
 /// What a command line asks of the program.
-#[derive(PartialEq, Eq, Debug, Drop)]
+#[derive(Drop)]
 pub enum Task {
     /// List the BIN tape on standard input.
     Tape,
