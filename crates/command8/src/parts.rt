@@ -45,20 +45,20 @@ pub fn with_leaf<'a>(command: Draft<'a>, leaf: Draft<'a>) -> Draft<'a>
     ensures { (app sub : App) → IsDraft command.entry app → IsDraft leaf.entry sub
         → IsDraft result (with_leaf app sub) }
 {
-    match leaf {
-        Ok(leaf) => with_whole_leaf(command, leaf),
+    match command {
+        Ok(command) => match leaf {
+            Ok(leaf) => with_whole_leaf(command, leaf),
+            Err(error) => Err(error),
+        },
         Err(error) => Err(error),
     }
 }
 
-fn with_whole_leaf<'a>(command: Draft<'a>, leaf: Command<'a>) -> Draft<'a>
-    ensures { (app sub : App) → IsDraft command.entry app → IsCommand leaf.entry sub
+fn with_whole_leaf<'a>(command: Command<'a>, leaf: Command<'a>) -> Draft<'a>
+    ensures { (app sub : App) → IsCommand command.entry app → IsCommand leaf.entry sub
         → IsDraft result (with_leaf app sub) }
 {
-    match command {
-        Ok(command) => command.subcommand(leaf),
-        Err(error) => Err(error),
-    }
+    command.subcommand(leaf)
 }
 
 /// A command with the name of an image's file.
