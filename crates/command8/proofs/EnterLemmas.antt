@@ -1,5 +1,5 @@
 -- Where the words name a subcommand, the words behind it are that subcommand's own.
-use Rattle.std.proofs.Common.{◌≡◌, ◌∙◌, ◌&&◌, Bool, cond, codes, true, false, refl, sym, ap, ap₂, List, [], ◌∷◌, ◌++◌, append-nil, append_assoc, Option, Some, None, is_some}
+use Rattle.std.proofs.Common.{◌≡◌, ◌∙◌, ◌&&◌, Bool, codes, true, false, refl, sym, ap, ap₂, List, [], ◌∷◌, ◌++◌, append-nil, append_assoc, Option, Some, is_some}
 use Rattle.std.specs.Prelude.{find, fold, option_map}
 use Rattle.std.specs.List.{list_all}
 use Rattle.std.specs.Option.{option_map_or}
@@ -51,7 +51,7 @@ unfolding walk_passes
 walk_goes a word rest is no_help =
     rw (is, no_help) (ap (λ w. walk_passes a.top (names_of a) w rest) (first_step a word is) ∙ passes_on a.top (names_of a) word [] rest)
 
-both_true : (x y : Bool) → x ≡ true → y ≡ true → (x && y) ≡ true
+pub both_true : (x y : Bool) → x ≡ true → y ≡ true → (x && y) ≡ true
 both_true x y one two = ap₂ (λ (a b : Bool). a && b) one two
 
 -- the command asks for nothing but a subcommand

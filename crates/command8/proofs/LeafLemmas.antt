@@ -1,43 +1,49 @@
 -- The subcommands as clap builds them: words in which it finds no fault give each argument that must be there.
-use Rattle.std.proofs.Common.{◌≡◌, ◌∙◌, ◌&&◌, ◌||◌, ◌⊎◌, ℕ, Bool, cond, codes, true, false, not, refl, sym, ap, subst, inl, inr, true≢false, List, [], ◌∷◌, Option, Some, None, is_some, length}
-use Rattle.std.specs.Prelude.{⊤, find}
+use Rattle.std.proofs.Common.{◌≡◌, ◌∙◌, ◌&&◌, ◌||◌, ◌⊎◌, ◌≤◌, ℕ, Bool, cond, if◌then◌else◌, codes, true, false, not, refl, sym, ap, arith, subst, inl, inr, true≢false, List, [], ◌∷◌, Option, Some, None, is_some, length}
+use Rattle.std.specs.Prelude.{⊤, ◌==◌, find, nat_lt, option_and_then, option_map, slice_get, unwrap_or}
 use Rattle.std.specs.List.{list_any}
-use Rattle.std.specs.Option.{option_map_or}
 use Rattle.std.specs.Str.{bytes_eq}
-use Rattle.std.proofs.lemmas.Slice.Eq.{bytes_eq-Decides}
+use Rattle.std.proofs.lemmas.Bool.Decides.{nat_tests}
 use Rattle.clap.proofs.ValueTestLemmas.{accepts-Accepts}
 use Rattle.clap.proofs.WalkLemmas.{both}
-use Rattle.clap.specs.Facts.{unwrap_or_range}
-use Rattle.clap.specs.Values.{refused_kind}
-use Rattle.clap.specs.Walk.{Held, Row, Rule, Text, action_of, arg_by_id, arg_by_long, arg_by_short, has_long, has_short, long_met, most_values, nothing_held, reacted, rows_after, settled, takes_values, values_or_missing}
+use Rattle.clap.specs.Facts.{parser_of_value, unwrap_or_range}
+use Rattle.clap.specs.Values.{read_as, refused_kind}
+use Rattle.clap.specs.ValueTests.{accepts}
+use Rattle.clap.specs.Walk.{Held, Row, Rule, Text, action_of, arg_by_id, arg_by_long, arg_by_short, has_long, has_short, long_met, most_values, nothing_held, reacted, reading_by, row_text, rows_after, settled, takes_values, values_or_missing}
 use Rattle.clap.specs.Simple.{Shape, built_leaf, filled, help_rule, inherited, marked_built, with_index}
 use Rattle.clap.specs.Takes.{is_given}
-use Rattle.clap.specs.Kinds.{Kinds, range_kinds}
-use Rattle.clap.specs.Faults.{action_fault, level_fault, long_fault, react_fault, settle_fault, short_fault, use_fault}
+use Rattle.clap.specs.Words.{Accepts, IsUnsignedIn}
+use Rattle.clap.specs.Kinds.{Kinds, range_kinds, value_kinds}
+use Rattle.clap.specs.Faults.{action_fault, level_fault, long_fault, react_fault, settle_fault, short_fault, use_fault, values_fault}
 use Rattle.clap.specs.declared.builder.action.ArgAction.TheVariants.{Set, SetTrue}
+use Rattle.clap.specs.declared.builder.value_parser.ValueParser.{ValueParser}
 use Rattle.clap.specs.declared.builder.value_parser.ValueParser.TheVariants.{Unsigned}
-use Rattle.clap.specs.declared.error.kind.ErrorKind.TheVariants.{DisplayHelp, UnknownArgument, TooManyValues}
-use Rattle.command8.specs.Tasks.{blocks_rule, image_rule, name_rule, pdp8, tape_rule, text_rule}
-use Rattle.command8.specs.TaskSteps.{HasBlocks, HasImage, HasName}
-use Rattle.command8.proofs.WalkLemmas.{AllGood, FitDefaults, Gives, HeldGood, IsPlainLeaf, IsUsage, flag_met_good, found_value, leaf_given, leaf_good, not_none, or_first, or_second, some_eq}
+use Rattle.clap.specs.declared.error.kind.ErrorKind.TheVariants.{DisplayHelp, InvalidValue, TooFewValues, TooManyValues, UnknownArgument}
+use Rattle.command8.specs.Tasks.{blocks_rule, image_rule, most_steps, name_rule, pdp8_top, steps_rule, word_rule, words_rule}
+use Rattle.command8.specs.TaskSteps.{Has, HasBlocks, HasSources, HasSteps}
+use Rattle.command8.proofs.WalkLemmas.{FitDefaults, Fits, HeldGood, IsPlainLeaf, IsUsage, TakesSome, flag_met_good, given_row, leaf_given, leaf_good, no_values, not_none, option_met_good, or_first, or_second, row_good, some_eq}
 
+-- a subcommand as clap builds it, below the program
 abbrev pub below : Shape → Shape
-below s = built_leaf (inherited (marked_built pdp8.top) s)
+below s = built_leaf (inherited (marked_built pdp8_top) s)
 
 abbrev pub image_built : Rule
 image_built = with_index 1 (filled image_rule)
 
-abbrev pub blocks_built : Rule
-blocks_built = with_index 2 (filled blocks_rule)
+abbrev pub tape_built : Rule
+tape_built = with_index 1 (filled (word_rule (codes "TAPE")))
 
 abbrev pub name_built : Rule
 name_built = with_index 2 (filled name_rule)
 
-abbrev pub text_built : Rule
-text_built = filled text_rule
+abbrev pub blocks_built : Rule
+blocks_built = with_index 2 (filled blocks_rule)
 
-abbrev pub tape_built : Rule
-tape_built = filled tape_rule
+abbrev pub files_built : Rule
+files_built = with_index 1 (filled (words_rule (codes "FILE") 8))
+
+abbrev pub steps_built : Rule
+steps_built = filled steps_rule
 
 abbrev pub help_built : Rule
 help_built = filled help_rule
@@ -60,11 +66,19 @@ long_help c again (Some v) h none = not_none TooManyValues [] none
 -- ## The arguments of a subcommand
 
 -- an argument with a value, known by its place
-pub record IsValue (c : List Rule) (a : Rule) : Type 0 where
+pub record IsWord (c : List Rule) (a : Rule) : Type 0 where
   pub placed : is_some a.index ≡ true
-  pub set : action_of a ≡ Set
+  pub some : TakesSome a
   pub bare : a.defaults ≡ []
   pub own : arg_by_id c a.id ≡ Some a
+
+-- an option with a value, known by its long name alone
+pub record IsOption (c : List Rule) (a : Rule) : Type 0 where
+  pub takes : takes_values a ≡ true
+  pub some : TakesSome a
+  pub bare : a.defaults ≡ []
+  pub own : arg_by_id c a.id ≡ Some a
+  pub no_letter : (x : ℕ) → has_short a x ≡ false
 
 -- an option without a value, known by its long name alone
 pub record IsFlag (c : List Rule) (a : Rule) : Type 0 where
@@ -73,8 +87,11 @@ pub record IsFlag (c : List Rule) (a : Rule) : Type 0 where
   pub own : arg_by_id c a.id ≡ Some a
   pub no_letter : (x : ℕ) → has_short a x ≡ false
 
-abbrev IsPart : List Rule → Rule → Type 0
-IsPart c a = IsValue c a ⊎ (IsFlag c a ⊎ (a ≡ help_built))
+pub data IsPart (c : List Rule) (a : Rule) : Type 0 where
+  a_word : IsWord c a → IsPart c a
+  an_option : IsOption c a → IsPart c a
+  a_flag : IsFlag c a → IsPart c a
+  a_help : a ≡ help_built → IsPart c a
 
 abbrev pub AllParts : List Rule → List Rule → Type 0
 AllParts c [] = ⊤
@@ -91,25 +108,27 @@ part_found c p (x ∷ xs) a all is = go (λ later. part_found c p xs a all.1 lat
 parts_usage : (c : List Rule) → AllParts c c → IsUsage c
 parts_usage c all id a again vs rows is none = by_part (part_found c (λ r. bytes_eq r.id id) c a all is).0
   where
-    by_part : IsPart c a → ((action_of a ≡ Set) ⊎ (action_of a ≡ SetTrue)) × (arg_by_id c a.id ≡ Some a)
-    by_part (inl value) = (inl value.set, value.own)
-    by_part (inr (inl flag)) = (inr flag.set, flag.own)
-    by_part (inr (inr help)) = absurd (help_asked again vs rows (subst (λ (x : Rule). use_fault again x vs rows ≡ []) help none))
+    by_part : IsPart c a → (TakesSome a ⊎ (action_of a ≡ SetTrue)) × (arg_by_id c a.id ≡ Some a)
+    by_part (a_word part) = (inl part.some, part.own)
+    by_part (an_option part) = (inl part.some, part.own)
+    by_part (a_flag part) = (inr part.set, part.own)
+    by_part (a_help part) = absurd (help_asked again vs rows (subst (λ (x : Rule). use_fault again x vs rows ≡ []) part none))
 
 -- an argument with a place is found by no name
 unnamed : (index named : Bool) → index ≡ true → (not index && named) ≡ true → ⊥
 unnamed true named placed is = true≢false (sym is)
 unnamed false named placed is = true≢false (sym placed)
 
-parts_long : (c : List Rule) → AllParts c c → (again : Bool) (name : Text) (v : Option Text) (h : Held) → long_fault c again (arg_by_long c name) v h ≡ []
-    → HeldGood c h → HeldGood c (long_met c (arg_by_long c name) v h).0
-parts_long c all again name v h none good = go (arg_by_long c name) refl none
+parts_long : (c : List Rule) → AllParts c c → (again : Bool) → again ≡ false → (name : Text) (v : Option Text) (h : Held)
+    → long_fault c again (arg_by_long c name) v h ≡ [] → HeldGood c h → HeldGood c (long_met c (arg_by_long c name) v h).0
+parts_long c all again once name v h none good = go (arg_by_long c name) refl none
   where
     by_part : (a : Rule) → IsPart c a → (not (is_some a.index) && has_long a name) ≡ true → long_fault c again (Some a) v h ≡ []
         → HeldGood c (long_met c (Some a) v h).0
-    by_part a (inl value) named none = absurd (unnamed (is_some a.index) (has_long a name) value.placed named)
-    by_part a (inr (inl flag)) named none = flag_met_good c (parts_usage c all) again a v h flag.bare flag.set flag.own none good
-    by_part a (inr (inr help)) named none = absurd (long_help c again v h (subst (λ (x : Rule). long_fault c again (Some x) v h ≡ []) help none))
+    by_part a (a_word part) named none = absurd (unnamed (is_some a.index) (has_long a name) part.placed named)
+    by_part a (an_option part) named none = option_met_good c (parts_usage c all) again a v h once part.takes part.some part.own none good
+    by_part a (a_flag part) named none = flag_met_good c (parts_usage c all) again a v h once part.bare part.set part.own none good
+    by_part a (a_help part) named none = absurd (long_help c again v h (subst (λ (x : Rule). long_fault c again (Some x) v h ≡ []) part none))
 
     go : (o : Option Rule) → arg_by_long c name ≡ o → long_fault c again o v h ≡ [] → HeldGood c (long_met c o v h).0
     go None is none = absurd (not_none UnknownArgument [] none)
@@ -125,9 +144,10 @@ parts_short c all again x rest h following none = go (arg_by_short c x) refl non
     help_short none = help_reacts c again h (or_first (react_fault c again help_built [] h) (following (reacted c help_built [] h)) none)
 
     by_part : (a : Rule) → IsPart c a → (not (is_some a.index) && has_short a x) ≡ true → short_fault c again (Some a) rest h following ≡ [] → ⊥
-    by_part a (inl value) named none = unnamed (is_some a.index) (has_short a x) value.placed named
-    by_part a (inr (inl flag)) named none = true≢false (sym (both _ _ named).1 ∙ flag.no_letter x)
-    by_part a (inr (inr help)) named none = help_short (subst (λ (y : Rule). short_fault c again (Some y) rest h following ≡ []) help none)
+    by_part a (a_word part) named none = unnamed (is_some a.index) (has_short a x) part.placed named
+    by_part a (an_option part) named none = true≢false (sym (both _ _ named).1 ∙ part.no_letter x)
+    by_part a (a_flag part) named none = true≢false (sym (both _ _ named).1 ∙ part.no_letter x)
+    by_part a (a_help part) named none = help_short (subst (λ (y : Rule). short_fault c again (Some y) rest h following ≡ []) part none)
 
     go : (o : Option Rule) → arg_by_short c x ≡ o → short_fault c again o rest h following ≡ [] → ⊥
     go None is none = not_none UnknownArgument [] none
@@ -135,11 +155,12 @@ parts_short c all again x rest h following none = go (arg_by_short c x) refl non
         let found = part_found c (λ r. not (is_some r.index) && has_short r x) c a all is in
         by_part a found.0 found.1 none
 
-parts_leaf : (c : List Rule) → AllParts c c → IsPlainLeaf c
-parts_leaf c all = record {
+parts_leaf : (c : List Rule) (again : Bool) → AllParts c c → again ≡ false → IsPlainLeaf c again
+parts_leaf c again all once = record {
+  once = once;
   usage = parts_usage c all;
-  long = parts_long c all;
-  short = parts_short c all;
+  long = parts_long c all again once;
+  short = parts_short c all again;
 }
 
 parts_fit : (c list : List Rule) → AllParts c list → FitDefaults c list
@@ -147,9 +168,10 @@ parts_fit c [] all = tt
 parts_fit c (a ∷ rest) all = (by_part all.0, parts_fit c rest all.1)
   where
     by_part : IsPart c a → (a.defaults ≡ []) ⊎ ((action_of a ≡ SetTrue) × (arg_by_id c a.id ≡ Some a))
-    by_part (inl value) = inl value.bare
-    by_part (inr (inl flag)) = inr (flag.set, flag.own)
-    by_part (inr (inr help)) = inl (ap (λ (x : Rule). x.defaults) help)
+    by_part (a_word part) = inl part.bare
+    by_part (an_option part) = inl part.bare
+    by_part (a_flag part) = inr (part.set, part.own)
+    by_part (a_help part) = inl (ap (λ (x : Rule). x.defaults) part)
 
 -- ## What words with no fault give
 
@@ -180,43 +202,92 @@ wanted id a rows (x ∷ xs) is needed none =
         here a.required (is_given a.id rows) needed (subst (λ (r : Rule). (r.required && not (is_given r.id rows)) ≡ false) same one)
     go later false is one = later is
 
--- an argument with a value that must be there has one
-given : (s : Shape) → AllParts s.rules s.rules → s.subcommand_negates_reqs ≡ false → (a : Rule) → arg_by_id s.rules a.id ≡ Some a → a.required ≡ true
-    → action_of a ≡ Set → (words : List Text) → level_fault s [] nothing_held words false [] ≡ [] → Gives s.rules a (rows_after s.rules [] words)
-given s all negates a own needed set words none =
-    let rows = rows_after s.rules [] words in
-    let good = leaf_good s (parts_leaf s.rules all) (parts_fit s.rules s.rules all) [] nothing_held words false [] (tt, tt) none in
-    found_value s.rules a rows own set good (wanted a.id a rows s.rules own needed (leaf_given s [] nothing_held words false [] negates none))
-
 -- a subcommand as clap builds it
 pub record IsLeaf (s : Shape) : Type 0 where
   pub parts : AllParts s.rules s.rules
   pub negates : s.subcommand_negates_reqs ≡ false
+  pub once : s.args_override_self ≡ false
 
 abbrev pub Faultless : Shape → List Text → Type 0
 Faultless s words = level_fault s [] nothing_held words false [] ≡ []
 
-some_is : {X : Type 0} (o : Option X) (x : X) → o ≡ Some x → is_some o ≡ true
-some_is o x is = ap is_some is
+-- the values of an argument are fit where it has some, and it has some where it must
+abbrev Given : Rule → List Row → Type 0
+Given a rows = (r : Row) × (find (λ x. bytes_eq x.id a.id) rows ≡ Some r) × Fits a r.values × (r.reading ≡ reading_by a)
 
-pub has_image : (s : Shape) → IsLeaf s → arg_by_id s.rules (codes "IMAGE") ≡ Some image_built → (words : List Text) → Faultless s words
-    → HasImage (rows_after s.rules [] words)
-has_image s leaf own words none =
-    let found = given s leaf.parts leaf.negates image_built own refl refl words none in
-    some_is _ found.0 found.1
+fit : (s : Shape) → IsLeaf s → (a : Rule) → arg_by_id s.rules a.id ≡ Some a → action_of a ≡ Set → (words : List Text) → Faultless s words
+    → (r : Row) → find (λ x. bytes_eq x.id a.id) (rows_after s.rules [] words) ≡ Some r → Fits a r.values × (r.reading ≡ reading_by a)
+fit s leaf a own set words none r is =
+    let good = leaf_good s (parts_leaf s.rules s.args_override_self leaf.parts leaf.once) (parts_fit s.rules s.rules leaf.parts) [] nothing_held words false [] tt none in
+    row_good s.rules a (rows_after s.rules [] words) r own set good is
 
-pub has_name : (s : Shape) → IsLeaf s → arg_by_id s.rules (codes "NAME") ≡ Some name_built → (words : List Text) → Faultless s words
-    → HasName (rows_after s.rules [] words)
-has_name s leaf own words none =
-    let found = given s leaf.parts leaf.negates name_built own refl refl words none in
-    some_is _ found.0 found.1
+given : (s : Shape) → IsLeaf s → (a : Rule) → arg_by_id s.rules a.id ≡ Some a → a.required ≡ true → action_of a ≡ Set → (words : List Text)
+    → Faultless s words → Given a (rows_after s.rules [] words)
+given s leaf a own needed set words none =
+    let rows = rows_after s.rules [] words in
+    let row = given_row a.id rows (wanted a.id a rows s.rules own needed (leaf_given s [] nothing_held words false [] leaf.negates none)) in
+    let fits = fit s leaf a own set words none row.0 row.1 in
+    (row.0, row.1, fits.0, fits.1)
 
-taken : (b : Bool) → cond b [] (refused_kind (Unsigned 8 4095) ∷ []) ≡ [] → b ≡ true
-taken true none = refl
-taken false none = absurd (not_none (refused_kind (Unsigned 8 4095)) [] none)
+-- the first of the values, which are some
+first_value : (a : Rule) (values : List Text) → nat_lt 0 (unwrap_or_range a.range).start_inclusive ≡ true → Fits a values
+    → (v : Text) × (slice_get values 0 ≡ Some v) × (value_kinds a.ignore_case (parser_of_value a.parser) v ≡ [])
+first_value a [] some fits = absurd (no_values (unwrap_or_range a.range).start_inclusive (most_values a) some fits.0)
+first_value a (v ∷ vs) some fits = (v, refl, or_first (value_kinds a.ignore_case (parser_of_value a.parser) v) (values_fault a vs) fits.1)
+
+-- a word that must be given has a value
+pub has_word : (s : Shape) → IsLeaf s → (a : Rule) → arg_by_id s.rules a.id ≡ Some a → a.required ≡ true → TakesSome a → (words : List Text)
+    → Faultless s words → Has a.id (rows_after s.rules [] words)
+has_word s leaf a own needed some words none =
+    let found = given s leaf a own needed some.0 words none in
+    let first = first_value a found.0.values some.1 found.2 in
+    ap (λ o. is_some (option_and_then (λ (r : Row). slice_get r.values 0) o)) found.1 ∙ ap is_some first.1
+
+-- a value that a number's parser took
+passed : (parser : ValueParser) (text : Text) → value_kinds false parser text ≡ [] → Accepts false parser text
+passed parser text none = accepts-Accepts false parser text (taken (accepts false parser text) none)
+  where
+    taken : (b : Bool) → cond b [] (refused_kind parser ∷ []) ≡ [] → b ≡ true
+    taken true none = refl
+    taken false none = absurd (not_none (refused_kind parser) [] none)
 
 pub has_blocks : (s : Shape) → IsLeaf s → arg_by_id s.rules (codes "BLOCKS") ≡ Some blocks_built → (words : List Text) → Faultless s words
     → HasBlocks (rows_after s.rules [] words)
 has_blocks s leaf own words none =
-    let found = given s leaf.parts leaf.negates blocks_built own refl refl words none in
-    (found.0, found.2, accepts-Accepts false (Unsigned 8 4095) found.0 (taken _ found.3))
+    let found = given s leaf blocks_built own refl refl words none in
+    let first = first_value blocks_built found.0.values refl found.2 in (
+      first.0,
+      ap (option_and_then row_text) found.1 ∙ (ap (option_map (read_as found.0.reading)) first.1 ∙ ap (λ how. Some (read_as how first.0)) found.3),
+      passed (Unsigned 8 4095) first.0 first.2,
+    )
+
+-- a limit that is given is a number from 1 up
+pub has_steps : (s : Shape) → IsLeaf s → arg_by_id s.rules (codes "steps") ≡ Some steps_built → (words : List Text) → Faultless s words
+    → HasSteps (rows_after s.rules [] words)
+has_steps s leaf own words none text is = go (find (λ x. bytes_eq x.id (codes "steps")) (rows_after s.rules [] words)) refl is
+  where
+    go : (o : Option Row) → find (λ x. bytes_eq x.id (codes "steps")) (rows_after s.rules [] words) ≡ o → option_and_then row_text o ≡ Some text
+        → IsUnsignedIn 1 most_steps text
+    go None found is = absurd (cc)
+    go (Some r) found is =
+        let fits = fit s leaf steps_built own refl words none r found in
+        let first = first_value steps_built r.values refl fits.0 in
+        let read : Some text ≡ Some first.0 = sym is ∙ (ap (option_map (read_as r.reading)) first.1 ∙ ap (λ how. Some (read_as how first.0)) fits.1) in
+        subst (λ (t : Text). IsUnsignedIn 1 most_steps t) (sym (some_eq text first.0 read)) (passed (Unsigned 1 most_steps) first.0 first.2)
+
+up_to_eight : (n : ℕ) → range_kinds 1 8 n ≡ [] → (1 ≤ n) × (n ≤ 8)
+up_to_eight n none = go (n == 0) (nat_lt n 1) (nat_lt 8 n) refl refl none
+  where
+    go : (empty few many : Bool) → nat_lt n 1 ≡ few → nat_lt 8 n ≡ many
+        → (if empty then InvalidValue ∷ [] else (if few then TooFewValues ∷ [] else (if many then TooManyValues ∷ [] else []))) ≡ [] → (1 ≤ n) × (n ≤ 8)
+    go true few many low high none = absurd (not_none InvalidValue [] none)
+    go false true many low high none = absurd (not_none TooFewValues [] none)
+    go false false true low high none = absurd (not_none TooManyValues [] none)
+    go false false false low high none = (grind (arith, nat_tests), grind (arith, nat_tests))
+
+pub has_sources : (s : Shape) → IsLeaf s → arg_by_id s.rules (codes "FILE") ≡ Some files_built → (words : List Text) → Faultless s words
+    → HasSources (rows_after s.rules [] words)
+has_sources s leaf own words none =
+    let found = given s leaf files_built own refl refl words none in
+    let values = ap (λ o. unwrap_or (option_map (λ (r : Row). r.values) o) []) found.1 in
+    subst (λ (vs : List Text). (1 ≤ length vs) × (length vs ≤ 8)) (sym values) (up_to_eight (length found.0.values) found.2.0)

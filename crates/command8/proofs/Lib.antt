@@ -2,6 +2,8 @@ pub mod CommandLemmas
 pub mod WalkLemmas
 pub mod LeafLemmas
 pub mod EnterLemmas
+pub mod UseLemmas
 pub mod NumberLemmas
+pub mod VerbLemmas
 pub mod TaskLemmas
 pub mod PlainLemmas

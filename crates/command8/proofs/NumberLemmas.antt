@@ -1,8 +1,11 @@
 -- A text that clap took as a number is read as that number.
-use Rattle.std.proofs.Common.{◌≡◌, ◌≤◌, ℕ, List, Option, Some, None, Result, Ok, Err, refl}
+use Rattle.std.proofs.Common.{◌≡◌, ◌∙◌, ◌<◌, ◌≤◌, ℕ, zero, suc, List, Option, Some, None, Result, Ok, Err, ap, arith, refl, sym, true, option_map}
+use Rattle.std.specs.Prelude.{nat_le}
+use Rattle.std.proofs.lemmas.Bool.Decides.{nat_tests}
 use Rattle.std.specs.Str.Parse.{ParsesUnsigned}
-use Rattle.clap.specs.Words.{IsUnsignedIn, ReadsOne}
-use Rattle.command8.specs.Tasks.{number_of}
+use Rattle.clap.specs.Words.{IsUnsignedIn, ReadsOne, Text}
+use Rattle.command8.specs.Octal.{octal_limit}
+use Rattle.command8.specs.Tasks.{is_limit, most_steps, number_of}
 
 pub unsigned_reads : (E : Type 0) (G : List ℕ → Result ℕ E → Type 0) (low high : ℕ) (t : List ℕ) (r : Option ℕ) → ReadsOne G t r
     → ((u : List ℕ) (x : Result ℕ E) → G u x → ParsesUnsigned 64 10 u x) → IsUnsignedIn low high t
@@ -12,8 +15,31 @@ unsigned_reads E G low high t (Some v) read only passed =
     (v, refl, is, rw is passed.2, rw is passed.3)
 unsigned_reads E G low high t None read only passed = absurd (only t (Err read.0) read.1 (passed.0, passed.1))
 
+-- what is read of a number that may be given, and passed where it is
+pub limit_given : (given : Option Text) (r : Option ℕ) → (given ≡ None → r ≡ None)
+    → ((t : Text) → given ≡ Some t → (n : ℕ) × (r ≡ Some n) × (n ≡ number_of t) × (1 ≤ n) × (n ≤ most_steps))
+    → (option_map number_of given ≡ r) × (is_limit r ≡ true)
+limit_given None r none some =
+    let is = none refl in
+    (sym is, ap is_limit is)
+limit_given (Some t) r none some =
+    let had = some t refl in
+    (ap Some (sym had.2) ∙ sym had.1, ap is_limit had.1 ∙ leb-true had.0 had.3)
+  where
+    leb-true : (n : ℕ) → 1 ≤ n → nat_le 1 n ≡ true
+    leb-true n lt = grind (arith, nat_tests)
+
 pub same_some : {X : Type 0} (x y : X) → Some x ≡ Some y → x ≡ y
 same_some x y same = cc
 
 pub none_some : {X : Type 0} (x : X) → None ≡ Some x → ⊥
 none_some x same = cc
+
+-- an octal number of at most 4 digits
+pub four_digits : (count value : ℕ) → count < 5 → value < octal_limit count → value < 0o10000
+four_digits zero value short small = omega (arith, small)
+four_digits (suc zero) value short small = omega (arith, small)
+four_digits (suc (suc zero)) value short small = omega (arith, small)
+four_digits (suc (suc (suc zero))) value short small = omega (arith, small)
+four_digits (suc (suc (suc (suc zero)))) value short small = omega (arith, small)
+four_digits (suc (suc (suc (suc (suc n))))) value short small = omega (arith, short)

@@ -1,15 +1,15 @@
 -- Words in which clap finds no fault name a subcommand with the values that it needs.
-use Rattle.std.proofs.Common.{◌≡◌, ◌≢◌, Result, Ok, Err, IfOk, IfErr, ◌∙◌, ◌||◌, ◌⊎◌, Bool, cond, codes, true, false, refl, sym, ap, subst, inl, inr, true≢false, List, [], ◌∷◌, Option, Some, None, is_some}
+use Rattle.std.proofs.Common.{◌≡◌, ◌≢◌, Result, Ok, Err, IfErr, ◌∙◌, ◌||◌, ◌⊎◌, ℕ, Bool, cond, codes, true, false, refl, sym, ap, subst, inl, inr, true≢false, List, [], ◌∷◌, Option, Some, None, is_some}
 use Rattle.std.specs.Prelude.{⊤, find, option_map}
 use Rattle.std.specs.Option.{option_map_or}
 use Rattle.std.specs.Str.{bytes_eq}
 use Rattle.std.proofs.lemmas.Slice.Eq.{bytes_eq-Decides}
-use Rattle.clap.specs.Walk.{Row, Text, answers_to, nothing_held, rows_after, walk}
-use Rattle.clap.specs.Simple.{App, Shape, argument_words, built, entered, label_of, names_of, new_app, rows_at, subcommand_of, with_rule}
+use Rattle.clap.specs.Walk.{Row, Rule, Text, action_of, answers_to, arg_by_id, has_short, nothing_held, rows_after, takes_values, walk}
+use Rattle.clap.specs.Simple.{App, Shape, argument_words, built, entered, label_of, names_of, rows_at, subcommand_of}
 use Rattle.clap.specs.Kinds.{HasKind, IsAmong}
 use Rattle.clap.specs.Faults.{entered_fault, fault_of, level_fault}
-use Rattle.clap.proofs.OnLiterals.{clap_on_literals}
 use Rattle.clap.specs.Words.{HasMatchesOf, is_simple, is_simple_and_free, kind_of, subcommand_rows_of, app_of, takes}
+use Rattle.clap.specs.declared.builder.action.ArgAction.TheVariants.{SetTrue}
 use Rattle.clap.specs.declared.builder.command.Command.{Command}
 use Rattle.clap.specs.declared.parser.matches.ArgMatches.{ArgMatches}
 use Rattle.clap.specs.declared.error.Error.{Error}
@@ -17,109 +17,87 @@ use Rattle.clap.specs.declared.error.kind.ErrorKind.TheVariants.{OutOfMemory}
 use Rattle.command8.specs.CommandSteps.{IsCommand}
 use Rattle.command8.specs.declared.kinds.Task.{Task}
 use Rattle.command8.specs.declared.kinds.TaskFault.{TaskFault}
-use Rattle.command8.specs.declared.kinds.TaskFault.TheVariants.{Words, Memory, LookAndKeep}
-use Rattle.command8.specs.Tasks.{Answers, Asks, HasFitBlocks, create_app, get_app, image_rule, pdp8, put_app, run_app, source_app, tape_app}
-use Rattle.command8.specs.TaskSteps.{HasMet, IsFaultOf, IsRefused, IsWhole}
-use Rattle.command8.proofs.LeafLemmas.{Faultless, IsLeaf, below, has_blocks, has_image, has_name}
-use Rattle.command8.proofs.WalkLemmas.{IsNoHelp, level_stops}
+use Rattle.command8.specs.declared.kinds.TaskFault.TheVariants.{Words, Memory, LookAndKeep, InputTwice, CrossAlone, Start, Switches}
+use Rattle.command8.specs.declared.verbs.Verb.TheVariants as verb
+use Rattle.command8.specs.Tasks.{Answers, Asks, AsksBoth, AsksCrossAlone, AsksNoStart, AsksNoSwitches, IsPastClap, NamesInputTwice, assemble_app, check_app, create_app, get_app, list_app, pdp8, put_app, run_app, source_app, tape_app, teletype_app}
+use Rattle.command8.specs.TaskSteps.{GivesMet, HasMet, IsFaultOf, IsRefused, IsWhole}
+use Rattle.command8.proofs.LeafLemmas.{Faultless, IsLeaf, IsPart, a_flag, a_help, a_word, an_option, below, has_blocks, has_sources, has_steps, has_word, image_built, name_built, tape_built}
+use Rattle.command8.proofs.WalkLemmas.{IsNoHelp, TakesSome, level_stops}
 
 -- ## The subcommands
 
--- a subcommand for an image alone, of any name
-abbrev pub image_shape : Text → Shape
-image_shape name = below (with_rule (new_app name) image_rule).top
+-- what each kind of argument is computes where it stands in a list of rules
+flag_part : (c : List Rule) (a : Rule) → takes_values a ≡ false → action_of a ≡ SetTrue → arg_by_id c a.id ≡ Some a → ((x : ℕ) → has_short a x ≡ false) → IsPart c a
+flag_part c a bare set own no_letter = a_flag (record { bare = bare; set = set; own = own; no_letter = no_letter })
 
-image_leaf : (name : Text) → IsLeaf (image_shape name)
-image_leaf name = record { parts = (inl (record { placed = refl; set = refl; bare = refl; own = refl }), (inr (inr refl), tt)); negates = refl }
+word_part : (c : List Rule) (a : Rule) → is_some a.index ≡ true → TakesSome a → a.defaults ≡ [] → arg_by_id c a.id ≡ Some a → IsPart c a
+word_part c a placed some bare own = a_word (record { placed = placed; some = some; bare = bare; own = own })
+
+option_part : (c : List Rule) (a : Rule) → takes_values a ≡ true → TakesSome a → a.defaults ≡ [] → arg_by_id c a.id ≡ Some a
+    → ((x : ℕ) → has_short a x ≡ false) → IsPart c a
+option_part c a takes some bare own no_letter = an_option (record { takes = takes; some = some; bare = bare; own = own; no_letter = no_letter })
+
+assemble_leaf : IsLeaf (below assemble_app.top)
+assemble_leaf = record { parts = (word_part _ _ refl (refl, refl) refl refl, (option_part _ _ refl (refl, refl) refl refl (λ x. refl), (option_part _ _ refl (refl, refl) refl refl (λ x. refl), (flag_part _ _ refl refl refl (λ x. refl), (a_help refl, tt))))); negates = refl; once = refl }
+
+teletype_leaf : IsLeaf (below teletype_app.top)
+teletype_leaf = record { parts = (word_part _ _ refl (refl, refl) refl refl, (word_part _ _ refl (refl, refl) refl refl, (option_part _ _ refl (refl, refl) refl refl (λ x. refl), (option_part _ _ refl (refl, refl) refl refl (λ x. refl), (option_part _ _ refl (refl, refl) refl refl (λ x. refl), (flag_part _ _ refl refl refl (λ x. refl), (flag_part _ _ refl refl refl (λ x. refl), (a_help refl, tt)))))))); negates = refl; once = refl }
 
 run_leaf : IsLeaf (below run_app.top)
-run_leaf = record {
-  parts = (
-    inl (record { placed = refl; set = refl; bare = refl; own = refl }),
-    (
-      inr (inl (record { bare = refl; set = refl; own = refl; no_letter = λ x. refl })),
-      (
-        inr (inl (record { bare = refl; set = refl; own = refl; no_letter = λ x. refl })),
-        (
-          inr (inl (record { bare = refl; set = refl; own = refl; no_letter = λ x. refl })),
-          (inr (inr refl), tt),
-        ),
-      ),
-    ),
-  );
-  negates = refl;
-}
+run_leaf = record { parts = (word_part _ _ refl (refl, refl) refl refl, (flag_part _ _ refl refl refl (λ x. refl), (flag_part _ _ refl refl refl (λ x. refl), (flag_part _ _ refl refl refl (λ x. refl), (a_help refl, tt))))); negates = refl; once = refl }
 
 create_leaf : IsLeaf (below create_app.top)
-create_leaf = record {
-  parts = (inl (record { placed = refl; set = refl; bare = refl; own = refl }), (inl (record { placed = refl; set = refl; bare = refl; own = refl }), (inr (inr refl), tt)));
-  negates = refl;
-}
+create_leaf = record { parts = (word_part _ _ refl (refl, refl) refl refl, (word_part _ _ refl (refl, refl) refl refl, (a_help refl, tt))); negates = refl; once = refl }
+
+list_leaf : IsLeaf (below list_app.top)
+list_leaf = record { parts = (word_part _ _ refl (refl, refl) refl refl, (a_help refl, tt)); negates = refl; once = refl }
 
 get_leaf : IsLeaf (below get_app.top)
-get_leaf = record {
-  parts = (
-    inl (record { placed = refl; set = refl; bare = refl; own = refl }),
-    (
-      inl (record { placed = refl; set = refl; bare = refl; own = refl }),
-      (
-        inr (inl (record { bare = refl; set = refl; own = refl; no_letter = λ x. refl })),
-        (
-          inr (inl (record { bare = refl; set = refl; own = refl; no_letter = λ x. refl })),
-          (inr (inr refl), tt),
-        ),
-      ),
-    ),
-  );
-  negates = refl;
-}
+get_leaf = record { parts = (word_part _ _ refl (refl, refl) refl refl, (word_part _ _ refl (refl, refl) refl refl, (flag_part _ _ refl refl refl (λ x. refl), (flag_part _ _ refl refl refl (λ x. refl), (a_help refl, tt))))); negates = refl; once = refl }
 
 put_leaf : IsLeaf (below put_app.top)
-put_leaf = record {
-  parts = (
-    inl (record { placed = refl; set = refl; bare = refl; own = refl }),
-    (
-      inl (record { placed = refl; set = refl; bare = refl; own = refl }),
-      (
-        inr (inl (record { bare = refl; set = refl; own = refl; no_letter = λ x. refl })),
-        (inr (inr refl), tt),
-      ),
-    ),
-  );
-  negates = refl;
-}
+put_leaf = record { parts = (word_part _ _ refl (refl, refl) refl refl, (word_part _ _ refl (refl, refl) refl refl, (flag_part _ _ refl refl refl (λ x. refl), (a_help refl, tt)))); negates = refl; once = refl }
+
+check_leaf : IsLeaf (below check_app.top)
+check_leaf = record { parts = (word_part _ _ refl (refl, refl) refl refl, (a_help refl, tt)); negates = refl; once = refl }
 
 -- a subcommand that is entered with no fault has what it needs
 abbrev Whole : Shape → Type 0
 Whole s = (words : List Text) → Faultless s words → IsWhole s.name (rows_after s.rules [] words)
 
 tape_whole : Whole (below tape_app.top)
-tape_whole words none = inl refl
+tape_whole words none = (verb.Tape, refl, tt)
 
 source_whole : Whole (below source_app.top)
-source_whole words none = inr (inl refl)
+source_whole words none = (verb.Source, refl, tt)
+
+assemble_whole : Whole (below assemble_app.top)
+assemble_whole words none = (verb.Assemble, refl, has_sources _ assemble_leaf refl words none)
+
+teletype_whole : Whole (below teletype_app.top)
+teletype_whole words none =
+    (verb.Teletype, refl, (has_word _ teletype_leaf tape_built refl refl (refl, refl) words none, has_steps _ teletype_leaf refl words none))
 
 run_whole : Whole (below run_app.top)
-run_whole words none = inr (inr (inl (refl, has_image _ run_leaf refl words none)))
+run_whole words none = (verb.Run, refl, has_word _ run_leaf image_built refl refl (refl, refl) words none)
 
 create_whole : Whole (below create_app.top)
 create_whole words none =
-    inr (inr (inr (inl (refl, has_image _ create_leaf refl words none, has_blocks _ create_leaf refl words none))))
+    (verb.Create, refl, (has_word _ create_leaf image_built refl refl (refl, refl) words none, has_blocks _ create_leaf refl words none))
 
-list_whole : Whole (image_shape (codes "list"))
-list_whole words none = inr (inr (inr (inr (inl (refl, has_image _ (image_leaf (codes "list")) refl words none)))))
+list_whole : Whole (below list_app.top)
+list_whole words none = (verb.List, refl, has_word _ list_leaf image_built refl refl (refl, refl) words none)
 
 get_whole : Whole (below get_app.top)
 get_whole words none =
-    inr (inr (inr (inr (inr (inl (refl, has_image _ get_leaf refl words none, has_name _ get_leaf refl words none))))))
+    (verb.Get, refl, (has_word _ get_leaf image_built refl refl (refl, refl) words none, has_word _ get_leaf name_built refl refl (refl, refl) words none))
 
 put_whole : Whole (below put_app.top)
 put_whole words none =
-    inr (inr (inr (inr (inr (inr (inl (refl, has_image _ put_leaf refl words none, has_name _ put_leaf refl words none)))))))
+    (verb.Put, refl, (has_word _ put_leaf image_built refl refl (refl, refl) words none, has_word _ put_leaf name_built refl refl (refl, refl) words none))
 
-check_whole : Whole (image_shape (codes "check"))
-check_whole words none =
-    inr (inr (inr (inr (inr (inr (inr (refl, has_image _ (image_leaf (codes "check")) refl words none)))))))
+check_whole : Whole (below check_app.top)
+check_whole words none = (verb.Check, refl, has_word _ check_leaf image_built refl refl (refl, refl) words none)
 
 -- ## The whole command
 
@@ -160,7 +138,7 @@ entered_whole : (stop : Option (Text × List Text)) → IsNoHelp stop → is_som
 entered_whole None past met none = absurd (true≢false (sym met))
 entered_whole (Some p) past met none =
     chosen p.0 p.1 (built pdp8).subs
-    (inr tape_whole, (inr source_whole, (inr run_whole, (inr create_whole, (inr list_whole, (inr get_whole, (inr put_whole, (inr check_whole, (inl (no_help p.0 past), tt)))))))))
+    (inr tape_whole, (inr source_whole, (inr assemble_whole, (inr teletype_whole, (inr run_whole, (inr create_whole, (inr list_whole, (inr get_whole, (inr put_whole, (inr check_whole, (inl (no_help p.0 past), tt)))))))))))
     met none
 
 -- words with no fault ask for a subcommand that has what it needs
@@ -179,11 +157,9 @@ unfolding IsCommand
 is_pdp8 command is = is.0
 
 is_free : is_simple_and_free pdp8 ≡ true
-unfolding clap_on_literals
 is_free = refl
 
 pub is_plain : is_simple pdp8 ≡ true
-unfolding clap_on_literals
 is_plain = refl
 
 pub no_fault : (app : App) (words : List Text) → app ≡ pdp8 → (is_simple_and_free app ≡ true → fault_of app words ≡ []) → fault_of pdp8 words ≡ []
@@ -197,40 +173,58 @@ memory_fault : (error : Error) (fault : TaskFault) → IsFaultOf error fault →
 memory_fault error (Words same) is memory = absurd (is.1 memory)
 memory_fault error Memory is memory = refl
 memory_fault error LookAndKeep is memory = absurd is
+memory_fault error InputTwice is memory = absurd is
+memory_fault error CrossAlone is memory = absurd is
+memory_fault error (Start text) is memory = absurd is
+memory_fault error (Switches text) is memory = absurd is
 
 -- words with no fault that ask for no task
-refused_answer : (words : List Text) (fault : TaskFault) → fault_of pdp8 words ≡ [] → IsRefused (subcommand_of pdp8 words) fault → Answers words (Err fault)
-refused_answer words (Words error) none is = absurd is
-refused_answer words Memory none is = tt
-refused_answer words LookAndKeep none is = (none, is)
+refused_answer : (words : List Text) (met : Option (Text × List Row)) (fault : TaskFault) → subcommand_of pdp8 words ≡ met → fault_of pdp8 words ≡ []
+    → IsRefused met fault → Answers words (Err fault)
+refused_answer words met (Words error) same none is = absurd is
+refused_answer words met Memory same none is = tt
+refused_answer words met LookAndKeep same none is = (none, subst AsksBoth (sym same) is)
+refused_answer words met InputTwice same none is = (none, subst NamesInputTwice (sym same) is)
+refused_answer words met CrossAlone same none is = (none, subst AsksCrossAlone (sym same) is)
+refused_answer words met (Start text) same none is = (none, subst (AsksNoStart text.bytes.items) (sym same) is)
+refused_answer words met (Switches text) same none is = (none, subst (AsksNoSwitches text.bytes.items) (sym same) is)
 
-refused_kind : (met : Option (Text × List Row)) (fault : TaskFault) → IsRefused met fault → (fault ≡ Memory) ⊎ (fault ≡ LookAndKeep)
-refused_kind met (Words error) is = absurd is
-refused_kind met Memory is = inl refl
-refused_kind met LookAndKeep is = inr refl
+refused_kind : (met : Option (Text × List Row)) (fault : TaskFault) → IsRefused met fault → IsPastClap fault
+refused_kind met (Words error) is = is
+refused_kind met Memory is = tt
+refused_kind met LookAndKeep is = tt
+refused_kind met InputTwice is = tt
+refused_kind met CrossAlone is = tt
+refused_kind met (Start text) is = tt
+refused_kind met (Switches text) is = tt
 
 -- what is asked for is answered, or why it is refused
-pub asked_answer : (words : List Text) (asked : Result Task TaskFault) → fault_of pdp8 words ≡ [] → IfOk asked (Asks (subcommand_of pdp8 words))
-    → IfOk asked HasFitBlocks → IfErr asked (IsRefused (subcommand_of pdp8 words)) → Answers words asked
-asked_answer words (Ok task) none asks fit refused = (none, asks, fit)
-asked_answer words (Err fault) none asks fit refused = refused_answer words fault none refused
+pub asked_answer : (words : List Text) (met : Option (Text × List Row)) (asked : Result Task TaskFault) → subcommand_of pdp8 words ≡ met
+    → fault_of pdp8 words ≡ [] → GivesMet met asked → Answers words asked
+asked_answer words None asked same none gives = absurd gives
+asked_answer words (Some met) (Ok task) same none gives = (none, subst (λ (m : Option (Text × List Row)). Asks m task) (sym same) gives.0, gives.1)
+asked_answer words (Some met) (Err fault) same none gives = refused_answer words (Some met) fault same none gives
 
-pub asked_kind : (met : Option (Text × List Row)) (asked : Result Task TaskFault) → IfErr asked (IsRefused met)
-    → IfErr asked (λ fault. (fault ≡ Memory) ⊎ (fault ≡ LookAndKeep))
-asked_kind met (Ok task) refused = tt
-asked_kind met (Err fault) refused = refused_kind met fault refused
+pub asked_kind : (met : Option (Text × List Row)) (asked : Result Task TaskFault) → GivesMet met asked → IfErr asked IsPastClap
+asked_kind None asked gives = absurd gives
+asked_kind (Some met) (Ok task) gives = tt
+asked_kind (Some met) (Err fault) gives = refused_kind (Some met) fault gives
 
 -- an error at words that the command takes is want of memory
 pub taken_fault : (app : App) (words : List Text) (error : Error) (fault : TaskFault) → app ≡ pdp8
-    → (takes app words ≡ true → kind_of error ≡ OutOfMemory) → IsFaultOf error fault → takes pdp8 words ≡ true → (fault ≡ Memory) ⊎ (fault ≡ LookAndKeep)
+    → (takes app words ≡ true → kind_of error ≡ OutOfMemory) → IsFaultOf error fault → takes pdp8 words ≡ true → IsPastClap fault
 taken_fault app words error fault same passes is takes_them =
-    inl (memory_fault error fault is (passes (ap (λ (a : App). takes a words) same ∙ takes_them)))
+    subst IsPastClap (sym (memory_fault error fault is (passes (ap (λ (a : App). takes a words) same ∙ takes_them)))) tt
 
 -- an error is of a kind that the words meet, or want of memory
 pub fault_answer : (app : App) (words : List Text) (error : Error) (fault : TaskFault) → app ≡ pdp8
     → (is_simple_and_free app ≡ true → HasKind (fault_of app words) error) → IsFaultOf error fault → Answers words (Err fault)
 fault_answer app words error Memory same kinds is = tt
 fault_answer app words error LookAndKeep same kinds is = absurd is
+fault_answer app words error InputTwice same kinds is = absurd is
+fault_answer app words error CrossAlone same kinds is = absurd is
+fault_answer app words error (Start text) same kinds is = absurd is
+fault_answer app words error (Switches text) same kinds is = absurd is
 fault_answer app words error (Words other) same kinds is =
     met (subst (λ (a : App). HasKind (fault_of a words) error) same (kinds (ap is_simple_and_free same ∙ is_free)))
   where

@@ -1,3 +1,5 @@
 pub mod CommandSteps
+pub mod Octal
 pub mod Tasks
 pub mod TaskSteps
+pub mod Usage

@@ -1,9 +1,11 @@
-ghost use Rattle.std.specs.Prelude.{◌≡◌};
+ghost use Rattle.std.specs.Prelude.{◌≡◌, option_map};
+ghost use Rattle.command8.specs.Usage.{usage_of};
 ghost use Rattle.command8.specs.declared.kinds.TaskFault.TheVariants.{Memory};
 
 use char_pack::{GetForm, PutForm};
 use std::alloc::AllocError;
 use thiserror::Error;
+use word12::{Cell, Word};
 
 /// When a run of a script writes the image, if the script changed it.
 #[derive(Clone, Copy, PartialEq, Eq, Debug)]
@@ -27,8 +29,46 @@ pub struct RunForm {
     pub is_strict: bool,
 }
 
+/// How files of the host are assembled (PAL III manual).
+#[derive(Drop)]
+pub struct AssembleForm {
+    /// The names of the 1 to 8 sources, in their order; `-` is standard input, and stands once at most.
+    pub sources: Vec<String>,
+
+    /// The file that gets the BIN tape, if one is named.
+    pub output: Option<String>,
+
+    /// The file that gets the listing, if one is named.
+    pub list: Option<String>,
+
+    /// Whether a table of cross references goes behind the listing; there is a listing then.
+    pub is_cross: bool,
+}
+
+/// How the processor runs with the Teletype that the terminal is (this project's profile).
+#[derive(Drop)]
+pub struct TeletypeForm {
+    /// The file of the host: of a BIN tape, or of the image of a volume where a file of it is named.
+    pub file: String,
+
+    /// The name of the file on the volume, if one is named.
+    pub name: Option<String>,
+
+    /// The cell at which the processor starts, if one is given.
+    pub start: Option<Cell>,
+
+    /// What the switches are set to, if it is given.
+    pub switches: Option<Word>,
+
+    /// The most instructions that are done, 1 up, if a limit is given.
+    pub steps: Option<u64>,
+
+    pub is_raw: bool,
+    pub is_live: bool,
+}
+
 /// What a command line asks of the program.
-#[derive(PartialEq, Eq, Debug, Drop)]
+#[derive(Drop)]
 pub enum Task {
     /// List the BIN tape on standard input.
     Tape,
@@ -53,6 +93,12 @@ pub enum Task {
 
     /// Tell of the volume in the file of this name, its directory and where its files lie.
     Check(String),
+
+    /// Assemble sources to a BIN tape.
+    Assemble(AssembleForm),
+
+    /// Run a tape with the terminal as the Teletype.
+    Teletype(TeletypeForm),
 }
 
 /// Why a command line asks for nothing.
@@ -69,6 +115,40 @@ pub enum TaskFault {
     /// 3: a run is both to look and to keep.
     #[error("the argument '--look' cannot be used with '--keep'")]
     LookAndKeep,
+
+    /// 4: standard input is named twice among the sources.
+    #[error("the argument '-' cannot be used multiple times")]
+    InputTwice,
+
+    /// 5: cross references are asked for, and no listing.
+    #[error("the following required arguments were not provided:\n  --list <LISTING>")]
+    CrossAlone,
+
+    /// 6: this is no cell.
+    #[error("invalid value '{0}' for '--start <FAAAA>': not five octal digits, a field and an address")]
+    Start(String),
+
+    /// 7: this is no word.
+    #[error("invalid value '{0}' for '--switches <WWWW>': not four octal digits")]
+    Switches(String),
+}
+
+impl TaskFault {
+    /// The line on usage behind a refusal of words that `clap` takes; none where `clap` has one of its own, or memory ran out.
+    pub fn usage(&self) -> Option<&'static str>
+        ensures { option_map (λ line. line.now) result ≡ usage_of self.now }
+    {
+        match self {
+            TaskFault::Words(_) | TaskFault::Memory => None,
+            TaskFault::LookAndKeep => Some("Usage: pdp8 run [OPTIONS] <IMAGE>"),
+            TaskFault::InputTwice | TaskFault::CrossAlone => {
+                Some("Usage: pdp8 assemble [OPTIONS] <FILE>...")
+            }
+            TaskFault::Start(_) | TaskFault::Switches(_) => {
+                Some("Usage: pdp8 teletype [OPTIONS] <TAPE> [NAME]")
+            }
+        }
+    }
 }
 
 impl From<AllocError> for TaskFault {

@@ -1,12 +1,21 @@
 //! What the words of the program's command line ask for, as the library `clap` reads them. No task is done here.
 #![tactic(auto)]
 
+mod assembling;
 mod file_commands;
+mod found;
 mod kinds;
+mod laws;
+mod octal;
 mod parts;
 mod runs;
+mod tapes;
 mod tasks;
+mod teletypes;
+mod verbs;
+mod volumes;
 
-pub use kinds::{RunForm, Saving, Task, TaskFault};
+pub use kinds::{AssembleForm, RunForm, Saving, Task, TaskFault, TeletypeForm};
+pub use laws::plain_words;
 pub use runs::SCRIPT_LINES;
-pub use tasks::{plain_words, task};
+pub use tasks::task;

@@ -1,12 +1,14 @@
 //! The subcommand for a script.
-ghost use Rattle.std.specs.Prelude.{◌≡◌, codes, IfErr, IfOk, Some};
-ghost use Rattle.clap.specs.Words.{first_of, found_of, rows_of};
-ghost use Rattle.command8.specs.declared.kinds.TaskFault.TheVariants.{LookAndKeep};
-ghost use Rattle.command8.specs.CommandSteps.{IsCommand};
-ghost use Rattle.command8.specs.Tasks.{AsksBoth, AsksFor, HasFitBlocks, run_app};
+ghost use Rattle.std.specs.Prelude.{◌≡◌, codes, IfOk};
+ghost use Rattle.clap.specs.Words.{found_of, rows_of};
+ghost use Rattle.command8.specs.CommandSteps.{IsDraft};
+ghost use Rattle.command8.specs.Tasks.{run_app};
 ghost use Rattle.command8.specs.Tasks as spec;
+ghost use Rattle.command8.specs.TaskSteps.{Gives, Needs};
+ghost use Rattle.command8.specs.declared.verbs.Verb.TheVariants as verb;
 
-use crate::parts::{Draft, is_set, leaf, with_image, with_lines, with_option};
+use crate::found::{is_set, value_of};
+use crate::parts::{Draft, flag, leaf, with_argument, with_image, with_lines};
 use crate::{RunForm, Saving, Task, TaskFault};
 use clap::ArgMatches;
 use std::alloc::Global;
@@ -37,7 +39,7 @@ Lines of a script:
 
 /// The subcommand `run`.
 pub fn run<'a>(alloc: Global) -> Draft<'a>
-    ensures { IfOk result (λ command. IsCommand command run_app) }
+    ensures { IsDraft result run_app }
 {
     let bare = leaf(
         alloc,
@@ -45,35 +47,21 @@ pub fn run<'a>(alloc: Global) -> Draft<'a>
         "Run a script on a volume",
         "Runs the script of standard input on the OS/8 volume in the file IMAGE, prints the replies, and{n}writes the image back to the file. Each line gets its reply as it comes.",
     );
-    let plain = with_image(alloc, with_lines(bare, SCRIPT_LINES));
-    let with_look = with_option(
-        alloc,
-        plain,
-        "look",
-        "Never write the image, whatever the script does",
-    );
-    let with_keep = with_option(
-        alloc,
-        with_look,
-        "keep",
-        "Write the image after each entry that changed it, before its reply",
-    );
-    with_option(
-        alloc,
-        with_keep,
-        "strict",
-        "End with status 1 where a reply was a refusal",
-    )
+    let command = with_image(alloc, Ok(with_lines(bare, SCRIPT_LINES)));
+    let look = "Never write the image, whatever the script does";
+    let command = with_argument(command, flag(alloc, "look", look));
+    let keep = "Write the image after each entry that changed it, before its reply";
+    let command = with_argument(command, flag(alloc, "keep", keep));
+    let strict = "End with status 1 where a reply was a refusal";
+    with_argument(command, flag(alloc, "strict", strict))
 }
 
-/// The run that is asked for, on the volume in a file.
-pub fn run_asked(found: &ArgMatches<'_>, image: String) -> Result<Task, TaskFault>
-    requires image { first_of (codes "IMAGE") (rows_of (found_of found.now)) ≡ Some image.bytes.items }
-    ensures task { IfOk result (λ task. AsksFor (codes "run") (rows_of (found_of found.now)) task) }
-    ensures fit { IfOk result HasFitBlocks }
-    ensures both { IfErr result (λ fault. (fault ≡ LookAndKeep)
-        × AsksBoth (Some (codes "run", rows_of (found_of found.now)))) }
+/// The run that is asked for.
+pub fn run_asked(alloc: Global, found: &ArgMatches<'_>) -> Result<Task, TaskFault>
+    requires { Needs verb.Run (rows_of (found_of found.now)) }
+    ensures { Gives (codes "run") (rows_of (found_of found.now)) result }
 {
+    let image = value_of(alloc, found, "IMAGE")?;
     match saving(is_set(found, "look"), is_set(found, "keep")) {
         Some(saving) => Ok(Task::Run(
             image,

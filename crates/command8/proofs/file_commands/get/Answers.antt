@@ -1,7 +1,11 @@
-use Rattle.clap.specs.Words.{with_rule}
-use Rattle.command8.specs.Tasks.{plain_get_app, text_rule}
+use Rattle.std.proofs.Common.{codes, ◌∷◌, []}
+use Rattle.clap.specs.Words.{new_app}
+use Rattle.command8.specs.Tasks.{flag_rule, image_rule, name_rule, subcommand}
 use Rattle.command8.proofs.file_commands.get.Goals as goal
 
 pub returns : goal.returns
 returns c =
-    c.with_option.ensures (with_rule plain_get_app text_rule) (c.with_option-with_text.ensures plain_get_app c.file_leaf-plain.ensures)
+    let image = c.with_image.ensures (new_app (codes "get")) c.leaf-bare.ensures in
+    let plain = c.with_name-plain.ensures (subcommand (codes "get") (image_rule ∷ [])) image in
+    let text = c.with_argument-with_text.ensures (subcommand (codes "get") (image_rule ∷ name_rule ∷ [])) (flag_rule (codes "text")) plain c.flag.ensures in
+    c.with_argument.ensures (subcommand (codes "get") (image_rule ∷ name_rule ∷ flag_rule (codes "text") ∷ [])) (flag_rule (codes "tape")) text c.flag-2.ensures

@@ -1,7 +1,10 @@
-use Rattle.std.proofs.Common.{codes}
-use Rattle.clap.specs.Words.{new_app, with_rule}
-use Rattle.command8.specs.Tasks.{image_rule, name_rule}
+use Rattle.std.proofs.Common.{codes, ◌∷◌, []}
+use Rattle.clap.specs.Words.{new_app}
+use Rattle.command8.specs.Tasks.{flag_rule, image_rule, name_rule, subcommand}
 use Rattle.command8.proofs.file_commands.put.Goals as goal
 
 pub returns : goal.returns
-returns c = c.with_option.ensures (with_rule (with_rule (new_app (codes "put")) image_rule) name_rule) c.file_leaf-plain.ensures
+returns c =
+    let image = c.with_image.ensures (new_app (codes "put")) c.leaf-bare.ensures in
+    let plain = c.with_name-plain.ensures (subcommand (codes "put") (image_rule ∷ [])) image in
+    c.with_argument.ensures (subcommand (codes "put") (image_rule ∷ name_rule ∷ [])) (flag_rule (codes "text")) plain c.flag.ensures

@@ -1,11 +1,13 @@
-use Rattle.std.proofs.Common.{◌∙◌, ap}
-use Rattle.clap.specs.Simple.{app_of_fields}
-use Rattle.command8.specs.CommandSteps.{IsCommand}
+use Rattle.std.proofs.Common.{refl, Some}
+use Rattle.clap.specs.Words.{new_app}
+use Rattle.clap.specs.declared.builder.command.Command.TheViews.{out-Command as fields_of}
+use Rattle.command8.proofs.CommandLemmas.{named_command, text_too}
 use Rattle.command8.proofs.parts.leaf.Goals as goal
 
 pub returns : goal.returns
-unfolding IsCommand
-returns c = (
-  ap app_of_fields c.long_about.ensures ∙ (ap app_of_fields c.about.ensures ∙ c.new.ensures.app),
-  ap (λ f. f.has_globals) c.long_about.ensures ∙ (ap (λ f. f.has_globals) c.about.ensures ∙ c.new.ensures.local),
-)
+returns c =
+    let app = new_app c.args.word.now in
+    let new = named_command c.new.result app c.new.ensures.app c.new.ensures.local in
+    let about = text_too c.new.result c.about.result app (record (fields_of c.new.result) { about = Some c.args.about }) c.about.ensures refl refl new in
+    text_too c.about.result c.long_about.result app (record (fields_of c.about.result) { long_about = Some c.args.long_about }) c.long_about.ensures refl refl
+    about

@@ -1,12 +1,13 @@
-use Rattle.std.proofs.Common.{codes}
-use Rattle.clap.specs.Words.{new_app, with_rule}
-use Rattle.command8.specs.Tasks.{plain_run_app, look_rule, keep_rule}
+use Rattle.std.proofs.Common.{codes, ◌∷◌, []}
+use Rattle.clap.specs.Words.{new_app}
+use Rattle.command8.specs.Tasks.{flag_rule, image_rule, subcommand}
 use Rattle.command8.proofs.runs.run.Goals as goal
 
 pub returns : goal.returns
 returns c =
-    let bare = new_app (codes "run") in
-    let plain = c.with_image-plain.ensures bare (c.with_lines.ensures bare c.leaf-bare.ensures) in
-    let look = c.with_option-with_look.ensures plain_run_app plain in
-    let keep = c.with_option-with_keep.ensures (with_rule plain_run_app look_rule) look in
-    c.with_option.ensures (with_rule (with_rule plain_run_app look_rule) keep_rule) keep
+    let bare = c.with_lines.ensures (new_app (codes "run")) c.leaf-bare.ensures in
+    let one = c.with_image-command.ensures (new_app (codes "run")) bare in
+    let two = c.with_argument-command.ensures (subcommand (codes "run") (image_rule ∷ [])) (flag_rule (codes "look")) one c.flag.ensures in
+    let three = c.with_argument-command-2.ensures (subcommand (codes "run") (image_rule ∷ flag_rule (codes "look") ∷ [])) (flag_rule (codes "keep")) two c.flag-2.ensures in
+    c.with_argument.ensures (subcommand (codes "run") (image_rule ∷ flag_rule (codes "look") ∷ flag_rule (codes "keep") ∷ [])) (flag_rule (codes "strict")) three
+    c.flag-3.ensures
