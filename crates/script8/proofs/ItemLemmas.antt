@@ -11,6 +11,7 @@ use Rattle.script8.specs.declared.items.Next.{Next}
 use Rattle.script8.specs.declared.items.Next.TheVariants as next
 use Rattle.script8.specs.CutSteps.{ended, HasFront, Cuts, Opens, TooFew}
 use Rattle.script8.specs.declared.entries.Entry.TheVariants as entry
+use Rattle.script8.specs.declared.entries.FileEntry.TheVariants as files
 use Rattle.script8.specs.declared.faults.SessionFault.{SessionFault}
 use Rattle.script8.specs.declared.faults.SessionFault.TheVariants.{BadLine, Memory}
 use Rattle.script8.specs.declared.lines.Line.{Line}
@@ -128,8 +129,8 @@ past short (line ∷ front) more zero size = absurd (some_line (length front) si
 past short (line ∷ front) more (suc n) size = past short front more n (omega (arith, size))
 
 -- the lines of a STORE are its text
-lines_done : (short : List Item) (name : List ℕ) (front more : List (List ℕ)) (count : ℕ) → length front ≡ count → items_of_line short (Ok (line.Store name count)) (front ++ more) ≡ Do (entry.Store name (text_of front)) ∷ []
-lines_done short name front more count size = rw (enough front more count size) (ap (λ l. Do (entry.Store name (text_of l)) ∷ []) (first front more count size))
+lines_done : (short : List Item) (name : List ℕ) (front more : List (List ℕ)) (count : ℕ) → length front ≡ count → items_of_line short (Ok (line.Store name count)) (front ++ more) ≡ Do (entry.Files (files.Store name (text_of front))) ∷ []
+lines_done short name front more count size = rw (enough front more count size) (ap (λ l. Do (entry.Files (files.Store name (text_of l))) ∷ []) (first front more count size))
   where
     within : (front more : List (List ℕ)) → length front ≤ length (front ++ more)
     within [] more = omega arith
@@ -155,17 +156,17 @@ lines_done short name front more count size = rw (enough front more count size) 
 
 -- a STORE with its lines
 pub stores : (text rest front content name : List ℕ) (is_end : Bool) (count bytes more sum : ℕ) → Opens text is_end (Ok (line.Store name count)) bytes → rest ≡ drop bytes text → Cuts rest is_end count more
-    → front ≡ take more rest → content ≡ ended front → sum ≡ bytes + more → Gives text is_end (Do (entry.Store name content) ∷ []) sum
+    → front ≡ take more rest → content ≡ ended front → sum ≡ bytes + more → Gives text is_end (Do (entry.Files (files.Store name content)) ∷ []) sum
 unfolding script_of whole_of
 stores text rest front content name is_end count bytes more sum o rest_is cuts front_is content_is sum_is = record {
   some = omega (arith, o.some, sum_is);
   within = omega (arith, sum_is, cuts.within, o.within, rest_length);
-  script = script text (drop bytes text) (drop more rest) o.script (ap lines_of (sym rest_is) ∙ cuts.script) ∙ ap (λ r. Do (entry.Store name content) ∷ script_of r) behind;
+  script = script text (drop bytes text) (drop more rest) o.script (ap lines_of (sym rest_is) ∙ cuts.script) ∙ ap (λ r. Do (entry.Files (files.Store name content)) ∷ script_of r) behind;
   on = λ goes_on. record {
     script = λ last. script (text ++ last) (drop bytes text ++ last) (drop more rest ++ last) ((o.on goes_on).script last) (ap (λ r. lines_of (r ++ last)) (sym rest_is) ∙ (cuts.on goes_on).script last)
-        ∙ ap (λ r. Do (entry.Store name content) ∷ script_of (r ++ last)) behind;
+        ∙ ap (λ r. Do (entry.Files (files.Store name content)) ∷ script_of (r ++ last)) behind;
     whole = λ last. whole (text ++ last) (drop bytes text ++ last) (drop more rest ++ last) ((o.on goes_on).whole last) (ap (λ r. ended_lines (r ++ last)) (sym rest_is) ∙ (cuts.on goes_on).whole last)
-        ∙ ap (λ r. Do (entry.Store name content) ∷ whole_of (r ++ last)) behind;
+        ∙ ap (λ r. Do (entry.Files (files.Store name content)) ∷ whole_of (r ++ last)) behind;
   };
 }
   where
@@ -175,21 +176,21 @@ stores text rest front content name is_end count bytes more sum o rest_is cuts f
     content_same : text_of cuts.front ≡ content
     content_same = cuts.content ∙ ap ended (sym front_is) ∙ sym content_is
 
-    script : (text rest last : List ℕ) → lines_of text ≡ o.line ∷ lines_of rest → lines_of rest ≡ cuts.front ++ lines_of last → script_of text ≡ Do (entry.Store name content) ∷ script_of last
+    script : (text rest last : List ℕ) → lines_of text ≡ o.line ∷ lines_of rest → lines_of rest ≡ cuts.front ++ lines_of last → script_of text ≡ Do (entry.Files (files.Store name content)) ∷ script_of last
     script text rest last first next =
         script_opens text o.line rest _ o.said_is first
         ∙ ap (λ r. items_of_line (Refused BadLine ∷ []) (Ok (line.Store name count)) r ++ items_of (Refused BadLine ∷ []) count r) next
         ∙ ap (λ l. l ++ items_of (Refused BadLine ∷ []) count (cuts.front ++ lines_of last)) (lines_done (Refused BadLine ∷ []) name cuts.front (lines_of last) count cuts.size)
-        ∙ ap (λ l. Do (entry.Store name (text_of cuts.front)) ∷ l) (past (Refused BadLine ∷ []) cuts.front (lines_of last) count cuts.size)
-        ∙ ap (λ t. Do (entry.Store name t) ∷ script_of last) content_same
+        ∙ ap (λ l. Do (entry.Files (files.Store name (text_of cuts.front))) ∷ l) (past (Refused BadLine ∷ []) cuts.front (lines_of last) count cuts.size)
+        ∙ ap (λ t. Do (entry.Files (files.Store name t)) ∷ script_of last) content_same
 
-    whole : (text rest last : List ℕ) → ended_lines text ≡ o.line ∷ ended_lines rest → ended_lines rest ≡ cuts.front ++ ended_lines last → whole_of text ≡ Do (entry.Store name content) ∷ whole_of last
+    whole : (text rest last : List ℕ) → ended_lines text ≡ o.line ∷ ended_lines rest → ended_lines rest ≡ cuts.front ++ ended_lines last → whole_of text ≡ Do (entry.Files (files.Store name content)) ∷ whole_of last
     whole text rest last first next =
         whole_opens text o.line rest _ o.said_is first
         ∙ ap (λ r. items_of_line [] (Ok (line.Store name count)) r ++ items_of [] count r) next
         ∙ ap (λ l. l ++ items_of [] count (cuts.front ++ ended_lines last)) (lines_done [] name cuts.front (ended_lines last) count cuts.size)
-        ∙ ap (λ l. Do (entry.Store name (text_of cuts.front)) ∷ l) (past [] cuts.front (ended_lines last) count cuts.size)
-        ∙ ap (λ t. Do (entry.Store name t) ∷ whole_of last) content_same
+        ∙ ap (λ l. Do (entry.Files (files.Store name (text_of cuts.front))) ∷ l) (past [] cuts.front (ended_lines last) count cuts.size)
+        ∙ ap (λ t. Do (entry.Files (files.Store name t)) ∷ whole_of last) content_same
 
     drop_length : (n : ℕ) (text : List ℕ) → n ≤ length text → length (drop n text) + n ≡ length text
     drop_length zero text within = omega arith

@@ -2,6 +2,7 @@
 use Rattle.std.specs.Prelude.{◌≡◌, ℕ, zero, suc, ◌-◌, ◌<◌, ◌≤◌, ◌==◌, nat_lt, Bool, true, false, if◌then◌else◌, List, [], ◌∷◌, ◌++◌, length, take, drop, Result, Ok, Err}
 use Rattle.script8.specs.Lines.{says, HasName, onto_first}
 use Rattle.script8.specs.declared.entries.Entry.TheVariants as entry
+use Rattle.script8.specs.declared.entries.FileEntry.TheVariants as files
 use Rattle.script8.specs.declared.faults.SessionFault.{SessionFault}
 use Rattle.script8.specs.declared.faults.SessionFault.TheVariants.{BadLine, Memory}
 use Rattle.script8.specs.declared.lines.Line.{Line}
@@ -35,7 +36,9 @@ text_of (line ∷ lines) = line ++ 0o12 ∷ text_of lines
 abbrev pub items_of_line : List Item → Result Line SessionFault → List (List ℕ) → List Item
 items_of_line cut (Ok line.Empty) lines = []
 items_of_line cut (Ok line.Finish) lines = Finish ∷ []
-items_of_line cut (Ok (line.Store name count)) lines = if nat_lt (length lines) count then cut else Do (entry.Store name (text_of (take count lines))) ∷ []
+items_of_line cut (Ok (line.Store name count)) lines =
+    if nat_lt (length lines) count then cut
+    else Do (entry.Files (files.Store name (text_of (take count lines)))) ∷ []
 items_of_line cut (Ok (line.Whole entry)) lines = Do entry ∷ []
 items_of_line cut (Err fault) lines = Refused fault ∷ []
 
@@ -50,7 +53,8 @@ lines_taken (Err fault) = 0
 -- the items of lines, of which the first belong, so many, to a STORE above them
 abbrev pub items_of : List Item → ℕ → List (List ℕ) → List Item
 items_of cut above [] = []
-items_of cut zero (line ∷ lines) = items_of_line cut (says line) lines ++ items_of cut (lines_taken (says line)) lines
+items_of cut zero (line ∷ lines) =
+    items_of_line cut (says line) lines ++ items_of cut (lines_taken (says line)) lines
 items_of cut (suc above) (line ∷ lines) = items_of cut above lines
 
 -- the items of a script: a STORE that its end cuts off is refused
@@ -89,7 +93,8 @@ IsOut text false lines = (0 < lines) × (lines ≡ lines_wanted (ended_lines tex
 
 -- the first line of a text has a name, which is kept
 abbrev pub BeginsWithName : List ℕ → Type 0
-BeginsWithName text = (line : List ℕ) × (lines : List (List ℕ)) × (lines_of text ≡ line ∷ lines) × HasName (says line)
+BeginsWithName text =
+    (line : List ℕ) × (lines : List (List ℕ)) × (lines_of text ≡ line ∷ lines) × HasName (says line)
 
 -- What a text begins with, where it is a script's end or goes on.
 abbrev pub Begins : List ℕ → Bool → Result Next SessionFault → Type 0

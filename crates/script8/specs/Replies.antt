@@ -7,6 +7,8 @@ use Rattle.script8.specs.Faults.{fault_text}
 use Rattle.script8.specs.Shown.{shown}
 use Rattle.script8.specs.declared.entries.Entry.{Entry}
 use Rattle.script8.specs.declared.entries.Entry.TheVariants as entry
+use Rattle.script8.specs.declared.entries.JobEntry.{JobEntry}
+use Rattle.script8.specs.declared.entries.JobEntry.TheVariants as job
 use Rattle.script8.specs.declared.faults.SessionFault.{SessionFault}
 use Rattle.script8.specs.declared.faults.SessionFault.TheVariants.{BadLine, NoJob, TooManyJobs, File, Asm, Tape, BadText, Reader, Writer, Memory, TooManyBreaks}
 use Rattle.script8.specs.declared.replies.Reply.{Reply}
@@ -50,7 +52,8 @@ cell_text cell = octal_digit (cell / 0o10000) ∷ octal4 (cell % 0o10000)
 
 -- the three octal digits of a character
 abbrev pub character_text : ℕ → List ℕ
-character_text character = octal_digit (character / 64) ∷ octal_digit (character / 8) ∷ octal_digit character ∷ []
+character_text character =
+    octal_digit (character / 64) ∷ octal_digit (character / 8) ∷ octal_digit character ∷ []
 
 abbrev pub why_text : Why → List ℕ
 why_text Halt = codes "HALT"
@@ -81,7 +84,8 @@ said_text (Loaded job name) = job_text job (codes " LOADED " ++ shown name)
 said_text (Squeezed job) = job_text job (codes " SQUEEZED")
 said_text Finished = codes "FINISHED"
 said_text (Started cell) = codes "STARTED " ++ cell_text cell
-said_text (Steps steps why cell) = codes "STEPS " ++ decimal steps ++ 0o40 ∷ why_text why ++ 0o40 ∷ cell_text cell
+said_text (Steps steps why cell) =
+    codes "STEPS " ++ decimal steps ++ 0o40 ∷ why_text why ++ 0o40 ∷ cell_text cell
 said_text (Key character) = codes "KEY " ++ character_text character
 said_text Done = codes "DONE"
 said_text (Switches word) = codes "SWITCHES " ++ octal4 word
@@ -107,27 +111,18 @@ abbrev pub reply_lines : Reply → List ℕ
 reply_lines (Line said) = line_of (said_text said)
 reply_lines (reply.Report report) = report_lines report
 
+-- the job to which an entry of jobs gives a turn
+abbrev pub job_of_turn : JobEntry → Option ℕ
+job_of_turn (job.Assemble to from) = None
+job_of_turn (job.Load name) = None
+job_of_turn job.Squeeze = None
+job_of_turn (job.Turn number) = Some number
+
 -- the job to which an entry gives a turn
 abbrev pub job_of_entry : Entry → Option ℕ
-job_of_entry (entry.Store name text) = None
-job_of_entry (entry.Delete name) = None
-job_of_entry entry.Direct = None
-job_of_entry (entry.Assemble to from) = None
-job_of_entry (entry.Load name) = None
-job_of_entry entry.Squeeze = None
-job_of_entry (entry.Turn job) = Some job
-job_of_entry (entry.Start cell) = None
-job_of_entry (entry.Step steps) = None
-job_of_entry (entry.Go steps) = None
-job_of_entry (entry.Run cell steps) = None
-job_of_entry (entry.Key character) = None
-job_of_entry entry.Done = None
-job_of_entry (entry.Switches word) = None
-job_of_entry (entry.Examine cell) = None
-job_of_entry (entry.Deposit cell word) = None
-job_of_entry (entry.Break cell is_on) = None
-job_of_entry entry.Registers = None
-job_of_entry entry.Printed = None
+job_of_entry (entry.Files it) = None
+job_of_entry (entry.Jobs it) = job_of_turn it
+job_of_entry (entry.Console it) = None
 
 -- the job of an entry, where there is an entry
 abbrev pub job_of : Option Entry → Option ℕ

@@ -7,7 +7,7 @@ ghost use Rattle.script8.specs.declared.items.Item.TheVariants.{Refused};
 ghost use Rattle.script8.specs.declared.lines.Line.TheVariants.{Store};
 ghost use Rattle.script8.specs.declared.items.Next.TheVariants as next;
 
-use crate::{Bytes, Entry, Line, SessionFault, parse_line};
+use crate::{Bytes, Entry, FileEntry, Line, SessionFault, parse_line};
 use std::alloc::{AllocError, Global};
 
 /// An item of a script.
@@ -114,7 +114,7 @@ fn store_item(
             let (lines, _) = behind.split_at(more);
             match ended_text(alloc, lines) {
                 Ok(text) => Ok(Next::Item {
-                    item: Item::Do(Entry::Store { name, text }),
+                    item: Item::Do(Entry::Files(FileEntry::Store { name, text })),
                     bytes: bytes + more,
                 }),
                 Err(_) => Err(SessionFault::Memory),

@@ -24,7 +24,7 @@ pub mod text_lines;
 
 pub use answers::put_reply;
 pub use bytes::Bytes;
-pub use entries::Entry;
+pub use entries::{ConsoleEntry, Entry, FileEntry, JobEntry};
 pub use faults::SessionFault;
 pub use file_lengths::FileLengths;
 pub use items::{Item, Next, lines_left, next_item, one_line_wanted};

@@ -2,11 +2,11 @@
 ghost use Rattle.std.specs.Prelude.{◌≡◌, ◌≤◌, ◌++◌};
 ghost use Rattle.arrayvec.specs.ArrayVec.{array_vec_len};
 ghost use Rattle.script8.specs.Faults.{fault_text, code_text, asm_fault_text, tape_fault_text, file_fault_text};
-ghost use Rattle.script8.specs.Replies.{lent, begin_text, end_text, job_of as the_job, job_of_entry as the_job_of};
+ghost use Rattle.script8.specs.Replies.{lent, begin_text, end_text, job_of as the_job, job_of_turn};
 
 use crate::said::put_job;
 use crate::text_lines::{put, put_name, put_number};
-use crate::{Entry, SessionFault};
+use crate::{Entry, JobEntry, SessionFault};
 use arrayvec::ArrayVec;
 use bin_tape::TapeFault;
 use os8_files::FileFault;
@@ -124,35 +124,18 @@ pub(crate) fn job_of(entry: Option<&Entry>) -> Option<u32>
     ensures { result ≡ the_job (lent entry.entry) }
 {
     match entry {
-        Some(entry) => job_of_entry(entry),
-        None => None,
+        Some(Entry::Jobs(entry)) => job_of_turn(entry),
+        Some(Entry::Files(_) | Entry::Console(_)) | None => None,
     }
 }
 
-/// The job to which an entry gives a turn.
-fn job_of_entry(entry: &Entry) -> Option<u32>
-    ensures { result ≡ the_job_of entry.now }
+/// The job to which an entry of jobs gives a turn.
+fn job_of_turn(entry: &JobEntry) -> Option<u32>
+    ensures { result ≡ job_of_turn entry.now }
 {
     match entry {
-        Entry::Turn(job) => Some(*job),
-        Entry::Store { .. }
-        | Entry::Delete { .. }
-        | Entry::Direct
-        | Entry::Assemble { .. }
-        | Entry::Load { .. }
-        | Entry::Squeeze
-        | Entry::Start(_)
-        | Entry::Step(_)
-        | Entry::Go(_)
-        | Entry::Run { .. }
-        | Entry::Key(_)
-        | Entry::Done
-        | Entry::Switches(_)
-        | Entry::Examine(_)
-        | Entry::Deposit { .. }
-        | Entry::Break { .. }
-        | Entry::Registers
-        | Entry::Printed => None,
+        JobEntry::Turn(job) => Some(*job),
+        JobEntry::Assemble { .. } | JobEntry::Load { .. } | JobEntry::Squeeze => None,
     }
 }
 

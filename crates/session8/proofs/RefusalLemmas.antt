@@ -2,10 +2,9 @@
 use Rattle.std.proofs.Common.{◌≡◌, ◌⊎◌, inl, inr, None, Err, refl, sym, ◌∙◌, ap}
 use Rattle.script8.specs.Replies.{job_of_entry}
 use Rattle.script8.specs.declared.entries.Entry.{Entry}
-use Rattle.script8.specs.declared.entries.Entry.TheVariants as entry
 use Rattle.script8.specs.declared.faults.SessionFault.{SessionFault}
 use Rattle.script8.specs.declared.faults.SessionFault.TheVariants as fault
-use Rattle.session8.specs.Refusals.{after_refusal}
+use Rattle.session8.specs.Refusals.{after_refusal, jobs_without}
 use Rattle.session8.specs.State.{State}
 use Rattle.session8.specs.System.{Step}
 
@@ -23,46 +22,10 @@ left_by old new e fault.Writer step = inr step.1
 left_by old new e fault.TooManyBreaks step = inr step.1
 
 after_is : (old : State) (e : Entry) → job_of_entry e ≡ None → after_refusal old e ≡ old
-after_is old (entry.Store name text) none = refl
-after_is old (entry.Delete name) none = refl
-after_is old entry.Direct none = refl
-after_is old (entry.Assemble to from) none = refl
-after_is old (entry.Load name) none = refl
-after_is old entry.Squeeze none = refl
-after_is old (entry.Turn number) none = cc
-after_is old (entry.Start cell) none = refl
-after_is old (entry.Step n) none = refl
-after_is old (entry.Go n) none = refl
-after_is old (entry.Run cell n) none = refl
-after_is old (entry.Key character) none = refl
-after_is old entry.Done none = refl
-after_is old (entry.Switches word) none = refl
-after_is old (entry.Examine cell) none = refl
-after_is old (entry.Deposit cell word) none = refl
-after_is old (entry.Break cell is_on) none = refl
-after_is old entry.Registers none = refl
-after_is old entry.Printed none = refl
+after_is old e none = ap (λ job. record old { jobs = jobs_without job old.jobs }) none
 
 after_others : (old : State) (e : Entry) → after_refusal old e ≡ record old { jobs = (after_refusal old e).jobs }
-after_others old (entry.Store name text) = refl
-after_others old (entry.Delete name) = refl
-after_others old entry.Direct = refl
-after_others old (entry.Assemble to from) = refl
-after_others old (entry.Load name) = refl
-after_others old entry.Squeeze = refl
-after_others old (entry.Turn number) = refl
-after_others old (entry.Start cell) = refl
-after_others old (entry.Step n) = refl
-after_others old (entry.Go n) = refl
-after_others old (entry.Run cell n) = refl
-after_others old (entry.Key character) = refl
-after_others old entry.Done = refl
-after_others old (entry.Switches word) = refl
-after_others old (entry.Examine cell) = refl
-after_others old (entry.Deposit cell word) = refl
-after_others old (entry.Break cell is_on) = refl
-after_others old entry.Registers = refl
-after_others old entry.Printed = refl
+after_others old e = refl
 
 pub refused_others : (old new : State) (e : Entry) (why : SessionFault) → Step old e (Err why) new → new ≡ record old { jobs = new.jobs }
 refused_others old new e why step = elim (left_by old new e why step) [

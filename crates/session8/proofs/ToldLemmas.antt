@@ -5,7 +5,14 @@ use Rattle.session8.proofs.ByteLemmas.{appends_more}
 use Rattle.script8.specs.Replies.{answer_lines, reply_lines, fault_line, IsShort}
 use Rattle.script8.specs.declared.entries.Entry.{Entry}
 use Rattle.script8.specs.declared.entries.Entry.TheVariants as kinds
-use Rattle.script8.specs.declared.replies.Reply.TheVariants.{Line, Report}
+use Rattle.script8.specs.declared.entries.ConsoleEntry.{ConsoleEntry}
+use Rattle.script8.specs.declared.entries.ConsoleEntry.TheVariants as console
+use Rattle.script8.specs.declared.entries.FileEntry.TheVariants as filing
+use Rattle.script8.specs.declared.entries.JobEntry.TheVariants as order
+use Rattle.session8.specs.Console.{Shows}
+use Rattle.script8.specs.declared.replies.Reply.TheVariants.{Line}
+use Rattle.script8.specs.declared.replies.Reply.TheVariants as reply
+use Rattle.script8.specs.declared.replies.Report.{Report}
 use Rattle.script8.specs.declared.replies.Report.TheVariants as report
 use Rattle.script8.specs.declared.replies.Said.TheVariants.{Finished}
 use Rattle.script8.specs.declared.faults.SessionFault.{SessionFault}
@@ -42,7 +49,7 @@ turns_append ((n, answer) ∷ xs) ys old mid new first second = (first.0, first.
 
 pub turn_lines_append : (xs ys : List (ℕ × Answer)) → turn_lines (xs ++ ys) ≡ turn_lines xs ++ turn_lines ys
 turn_lines_append [] ys = refl
-turn_lines_append ((n, answer) ∷ xs) ys = ap (λ l. (if is_working answer then [] else answer_lines (Some (kinds.Turn n)) answer) ++ l) (turn_lines_append xs ys) ∙ sym (append_assoc (if is_working answer then [] else answer_lines (Some (kinds.Turn n)) answer) (turn_lines xs) (turn_lines ys))
+turn_lines_append ((n, answer) ∷ xs) ys = ap (λ l. (if is_working answer then [] else answer_lines (Some (kinds.Jobs (order.Turn n))) answer) ++ l) (turn_lines_append xs ys) ∙ sym (append_assoc (if is_working answer then [] else answer_lines (Some (kinds.Jobs (order.Turn n))) answer) (turn_lines xs) (turn_lines ys))
 
 -- what is written for items and for further items
 pub writes_append : (a b : List Item) (old mid new : State) (w w1 w2 : Option (List ℕ)) (last : List ℕ) → Writes old a mid w w1 [] → Writes mid b new w1 w2 last → Writes old (a ++ b) new w w2 last
@@ -112,42 +119,46 @@ front_none items old new same = record { front = []; rest = items; parts = refl;
 pub front_all : (items : List Item) (old new : State) (lines : List (List ℕ)) → Told old items lines new → AnswersFront old items new (all_lines lines)
 front_all items old new lines told = record { front = items; rest = []; parts = sym (append-nil items); lines = lines; mid = new; told = told; turns = []; taken = refl; begun = tt; shown = sym (append-nil _) }
 
+-- a report of the console leaves it as it was
+console_unchanged : (it : ConsoleEntry) (report : Report) (old new : Console) → Shows old it (reply.Report report) new → new ≡ old
+console_unchanged console.Registers (report.Registers text) old new shows = shows.1
+console_unchanged console.Printed (report.Printed characters) old new shows = shows.1
+console_unchanged console.Registers (report.Direct lengths free) old new shows = absurd shows
+console_unchanged console.Registers (report.Printed characters) old new shows = absurd shows
+console_unchanged console.Printed (report.Direct lengths free) old new shows = absurd shows
+console_unchanged console.Printed (report.Registers text) old new shows = absurd shows
+console_unchanged (console.Start cell) report old new shows = absurd shows
+console_unchanged (console.Step n) report old new shows = absurd shows
+console_unchanged (console.Go n) report old new shows = absurd shows
+console_unchanged (console.Run cell n) report old new shows = absurd shows
+console_unchanged (console.Key character) report old new shows = absurd shows
+console_unchanged console.Done report old new shows = absurd shows
+console_unchanged (console.Switches word) report old new shows = absurd shows
+console_unchanged (console.Examine cell) report old new shows = absurd shows
+console_unchanged (console.Deposit cell word) report old new shows = absurd shows
+console_unchanged (console.Break cell true) report old new shows = absurd shows
+console_unchanged (console.Break cell false) report old new shows = absurd shows
+
 -- a report leaves all as it was
 unchanged : (entry : Entry) (answer : Answer) (old new : State) → Step old entry answer new → (IsShort answer → ⊥) → new ≡ old
 unchanged entry (Ok (Line said)) old new step long = absurd (long tt)
 unchanged entry (Err why) old new step long = absurd (long tt)
-unchanged (kinds.Store name text) (Ok (Report shown)) old new step long = absurd step.0
-unchanged (kinds.Delete name) (Ok (Report shown)) old new step long = absurd step.0
-unchanged (kinds.Assemble to from) (Ok (Report shown)) old new step long = absurd step.0
-unchanged (kinds.Load name) (Ok (Report shown)) old new step long = absurd step.0
-unchanged kinds.Squeeze (Ok (Report shown)) old new step long = absurd step.0
-unchanged (kinds.Turn n) (Ok (Report shown)) old new step long = absurd step.0
-unchanged (kinds.Start cell) (Ok (Report shown)) old new step long = absurd step.0
-unchanged (kinds.Step n) (Ok (Report shown)) old new step long = absurd step.1
-unchanged (kinds.Go n) (Ok (Report shown)) old new step long = absurd step.1
-unchanged (kinds.Run cell n) (Ok (Report shown)) old new step long = absurd step.1
-unchanged (kinds.Key character) (Ok (Report shown)) old new step long = absurd step.0
-unchanged kinds.Done (Ok (Report shown)) old new step long = absurd step.0
-unchanged (kinds.Switches word) (Ok (Report shown)) old new step long = absurd step.0
-unchanged (kinds.Examine cell) (Ok (Report shown)) old new step long = absurd step.0
-unchanged (kinds.Deposit cell word) (Ok (Report shown)) old new step long = absurd step.0
-unchanged (kinds.Break cell true) (Ok (Report shown)) old new step long = absurd step.0
-unchanged (kinds.Break cell false) (Ok (Report shown)) old new step long = absurd step.0
-unchanged kinds.Direct (Ok (Report (report.Direct files free))) old new step long = step.2
-unchanged kinds.Direct (Ok (Report (report.Registers text))) old new step long = absurd step.0
-unchanged kinds.Direct (Ok (Report (report.Printed characters))) old new step long = absurd step.0
-unchanged kinds.Registers (Ok (Report (report.Direct files free))) old new step long = absurd step.0
-unchanged kinds.Registers (Ok (Report (report.Registers text))) old new step long = step.1 ∙ ap (λ (c : Console). record old { console = c }) step.0.1
-unchanged kinds.Registers (Ok (Report (report.Printed characters))) old new step long = absurd step.0
-unchanged kinds.Printed (Ok (Report (report.Direct files free))) old new step long = absurd step.0
-unchanged kinds.Printed (Ok (Report (report.Registers text))) old new step long = absurd step.0
-unchanged kinds.Printed (Ok (Report (report.Printed characters))) old new step long = step.1 ∙ ap (λ (c : Console). record old { console = c }) step.0.1
+unchanged (kinds.Console it) (Ok (reply.Report report)) old new step long = step.2 ∙ ap (λ (c : Console). record old { console = c }) (console_unchanged it report old.console new.console step.1)
+unchanged (kinds.Files (filing.Store name text)) (Ok (reply.Report shown)) old new step long = absurd step
+unchanged (kinds.Files (filing.Delete name)) (Ok (reply.Report shown)) old new step long = absurd step
+unchanged (kinds.Files filing.Direct) (Ok (reply.Report (report.Direct lengths free))) old new step long = step.2
+unchanged (kinds.Files filing.Direct) (Ok (reply.Report (report.Registers text))) old new step long = absurd step
+unchanged (kinds.Files filing.Direct) (Ok (reply.Report (report.Printed characters))) old new step long = absurd step
+unchanged (kinds.Jobs (order.Assemble to from)) (Ok (reply.Report shown)) old new step long = absurd step
+unchanged (kinds.Jobs (order.Load name)) (Ok (reply.Report shown)) old new step long = absurd step
+unchanged (kinds.Jobs order.Squeeze) (Ok (reply.Report shown)) old new step long = absurd step
+unchanged (kinds.Jobs (order.Turn n)) (Ok (reply.Report shown)) old new step long = absurd step
 
 -- a turn's answer is one line
-pub short_turn : (n : ℕ) (answer : Answer) (old new : State) → Step old (kinds.Turn n) answer new → (IsShort answer → ⊥) → ⊥
+pub short_turn : (n : ℕ) (answer : Answer) (old new : State) → Step old (kinds.Jobs (order.Turn n)) answer new → (IsShort answer → ⊥) → ⊥
 short_turn n (Ok (Line said)) old new step long = long tt
 short_turn n (Err why) old new step long = long tt
-short_turn n (Ok (Report shown)) old new step long = step.0
+short_turn n (Ok (reply.Report shown)) old new step long = step
 
 -- an entry that was done, and its answer
 pub entry_told : (entry : Entry) (answer : Answer) (old new : State) (w w' : Option (List ℕ)) (r : Result (Unit {0}) Ending)
@@ -181,8 +192,8 @@ refused_told why old new w w' (Err e) same ok err =
 
 -- a turn whose line is written
 pub turn_told : (n : ℕ) (answer : Answer) (old new : State) (w w' : Option (List ℕ)) (r : Result (Unit {0}) Ending)
-    → Step old (kinds.Turn n) answer new → answer ≢ Err fault.Memory → is_working answer ≡ false
-    → OnOk r (Appends w w' (answer_lines (Some (kinds.Turn n)) answer))
+    → Step old (kinds.Jobs (order.Turn n)) answer new → answer ≢ Err fault.Memory → is_working answer ≡ false
+    → OnOk r (Appends w w' (answer_lines (Some (kinds.Jobs (order.Turn n))) answer))
     → IfErr r (λ e. (e ≡ ending.Writer) ⊎ ((e ≡ ending.Memory) × Appends w w' [] × (IsShort answer → ⊥)))
     → RunsTurn n old new w w' r
 turn_told n answer old new w w' (Ok done) step other ended ok err = (answer, step, other, subst (λ (l : List ℕ). Appends w w' l) (sym (append-nil _ ∙ rw ended refl)) ok)

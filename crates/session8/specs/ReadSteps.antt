@@ -10,19 +10,23 @@ use Rattle.session8.specs.Reading.{IsRead, Takes, IsReadWithin}
 -- leaves the bytes.
 abbrev pub Reads : ℕ → Option (List ℕ) → Option (List ℕ) → List ℕ → List ℕ → Result Bool SessionFault → Type 0
 Reads room old new before after (Ok true) = IsRead old new [] × (after ≡ before)
-Reads room old new before after (Ok false) = (bytes : List ℕ) × Consumes old new bytes × (after ≡ before ++ bytes) × (length bytes ≤ room)
+Reads room old new before after (Ok false) =
+    (bytes : List ℕ) × Consumes old new bytes × (after ≡ before ++ bytes) × (length bytes ≤ room)
 Reads room old new before after (Err fault) =
     (bytes : List ℕ) × Consumes old new bytes × (after ≡ before) × (length bytes ≤ room)
     × (((fault ≡ Reader) × (bytes ≡ [])) ⊎ (fault ≡ Memory))
 
 -- What one read comes to where so many bytes of a script may be read, and so many were: the reader's end, more bytes, of which
 -- so many lines are wanted, or a fault.
-abbrev pub Feeds : ℕ → Option (List ℕ) → Option (List ℕ) → List ℕ → ℕ → List ℕ → ℕ → ℕ → Result Bool SessionFault → Type 0
+abbrev pub Feeds : ℕ → Option (List ℕ) → Option (List ℕ) → List ℕ → ℕ → List ℕ → ℕ → ℕ
+    → Result Bool SessionFault → Type 0
 Feeds most old new before count after lines' count' (Ok true) = IsRead old new [] × (after ≡ before)
 Feeds most old new before count after lines' count' (Ok false) =
-    (bytes : List ℕ) × Consumes old new bytes × (after ≡ before ++ bytes) × (count' ≡ count + length bytes) × (count' ≤ most) × Waits after lines'
+    (bytes : List ℕ) × Consumes old new bytes × (after ≡ before ++ bytes) × (count' ≡ count + length bytes)
+    × (count' ≤ most) × Waits after lines'
 Feeds most old new before count after lines' count' (Err fault) =
-    (bytes : List ℕ) × Consumes old new bytes × (count + length bytes ≤ most) × (((fault ≡ Reader) × (bytes ≡ [])) ⊎ (fault ≡ Memory))
+    (bytes : List ℕ) × Consumes old new bytes × (count + length bytes ≤ most)
+    × (((fault ≡ Reader) × (bytes ≡ [])) ⊎ (fault ≡ Memory))
 
 -- What reading so many bytes at most comes to: the end of the reader, all those bytes, or a fault; where that is the
 -- reader's, the bytes are all that were taken.

@@ -5,7 +5,6 @@ use Rattle.session8.specs.Interleaving.{EntryReads, EntryPlaces}
 use Rattle.std.specs.Prelude.{◌≡◌, ◌<◌, true, false, OnOk, Err, Bool}
 use Rattle.jobs8.specs.Calls.{Outlives}
 use Rattle.script8.specs.declared.faults.SessionFault.TheVariants.{Memory}
-use Rattle.session8.specs.Console.{is_console}
 use Rattle.session8.specs.Failing.{StepsStopped}
 use Rattle.session8.specs.System.{Answer, Step}
 
@@ -23,12 +22,13 @@ pub record Leaves (entry : Entry) (old new : Seen) : Type 0 where
 pub record Does (entry : Entry) (old : Seen) (answer : Answer) (new : Seen) : Type 0 where
   pub step : IsQuiet old new → Step (state_of old) entry answer (state_of new)
   pub later : IsLater old new
-  pub files : old.volume.stopped ≡ false → old.volume.failed_writes < new.volume.failed_writes → Outlives old.volume.blocks new.volume.blocks
+  pub files : old.volume.stopped ≡ false → old.volume.failed_writes < new.volume.failed_writes
+      → Outlives old.volume.blocks new.volume.blocks
   pub running : IsQuiet old new → new.volume.stopped ≡ false
   pub memory : answer ≡ Err Memory → IsSame old new
   pub reply : IsReply answer
   pub tells : old.volume.stopped ≡ false → Tells entry old answer new
-  pub stopped : old.volume.stopped ≡ true → StepsStopped (is_console entry) (state_of old) entry answer (state_of new)
+  pub stopped : old.volume.stopped ≡ true → StepsStopped (state_of old) entry answer (state_of new)
   pub done : OnOk answer (Step (state_of old) entry answer (state_of new) × IsSteadied entry old new)
 
 -- ## System

@@ -6,9 +6,9 @@ ghost use Rattle.debug8.specs.Breaks.{no_breaks};
 ghost use Rattle.jobs8.specs.Calls.{TakesTurn};
 ghost use Rattle.jobs8.specs.Settled.{IsSettled};
 ghost use Rattle.session8.specs.Work.{with_core};
-ghost use Rattle.session8.specs.Console.{is_console, Shows, why_of};
+ghost use Rattle.session8.specs.Console.{Shows, why_of};
 ghost use Rattle.session8.specs.ConsoleSteps.{ConsoleDoes};
-ghost use Rattle.script8.specs.declared.entries.Entry.TheVariants as entry;
+ghost use Rattle.script8.specs.declared.entries.ConsoleEntry.TheVariants as entry;
 ghost use Rattle.script8.specs.declared.replies.Reply.TheVariants.{Line};
 ghost use Rattle.script8.specs.declared.replies.Said.TheVariants as said;
 
@@ -17,7 +17,7 @@ use cpu8::{Gone, Machine};
 use debug8::{DebugFault, Debugger};
 use jobs8::{JobFault, Jobs, Turned};
 use os8_files::FileService;
-use script8::{Bytes, Entry, Reply, Report, Said, Why};
+use script8::{Bytes, ConsoleEntry, Reply, Report, Said, Why};
 use std::alloc::Global;
 use std::marker::Model;
 use volume_image::BlockStore;
@@ -57,31 +57,23 @@ impl Console {
     }
 
     /// Does an entry of the console (Small Computer Handbook).
-    pub(crate) fn enter(&mut self, alloc: Global, entry: &Entry) -> Result<Reply, DebugFault>
-        requires { is_console entry.now ≡ true }
+    pub(crate) fn enter(&mut self, alloc: Global, entry: &ConsoleEntry) -> Result<Reply, DebugFault>
         ensures { ConsoleDoes entry.now self.old result self.new }
     {
         match entry {
-            Entry::Start(cell) => Ok(self.start(*cell)),
-            Entry::Step(steps) => self.step(*steps),
-            Entry::Go(steps) => self.go(*steps),
-            Entry::Run { cell, steps } => self.run(*cell, *steps),
-            Entry::Key(character) => Ok(self.key(*character)),
-            Entry::Done => Ok(self.done()),
-            Entry::Switches(word) => Ok(self.switches(*word)),
-            Entry::Examine(cell) => Ok(self.examine(*cell)),
-            Entry::Deposit { cell, word } => Ok(self.deposit(*cell, *word)),
-            Entry::Break { cell, is_on: true } => self.set_break(*cell),
-            Entry::Break { cell, is_on: false } => Ok(self.clear_break(*cell)),
-            Entry::Registers => self.registers(alloc),
-            Entry::Printed => self.printed(alloc),
-            Entry::Store { .. }
-            | Entry::Delete { .. }
-            | Entry::Direct
-            | Entry::Assemble { .. }
-            | Entry::Load { .. }
-            | Entry::Squeeze
-            | Entry::Turn(_) => unreachable!(),
+            ConsoleEntry::Start(cell) => Ok(self.start(*cell)),
+            ConsoleEntry::Step(steps) => self.step(*steps),
+            ConsoleEntry::Go(steps) => self.go(*steps),
+            ConsoleEntry::Run { cell, steps } => self.run(*cell, *steps),
+            ConsoleEntry::Key(character) => Ok(self.key(*character)),
+            ConsoleEntry::Done => Ok(self.done()),
+            ConsoleEntry::Switches(word) => Ok(self.switches(*word)),
+            ConsoleEntry::Examine(cell) => Ok(self.examine(*cell)),
+            ConsoleEntry::Deposit { cell, word } => Ok(self.deposit(*cell, *word)),
+            ConsoleEntry::Break { cell, is_on: true } => self.set_break(*cell),
+            ConsoleEntry::Break { cell, is_on: false } => Ok(self.clear_break(*cell)),
+            ConsoleEntry::Registers => self.registers(alloc),
+            ConsoleEntry::Printed => self.printed(alloc),
         }
     }
 

@@ -5,6 +5,7 @@ ghost use Rattle.jobs8.specs.Jobs.{loading, squeezing, job_of, with_job};
 ghost use Rattle.script8.specs.Replies.{job_of_entry};
 ghost use Rattle.script8.specs.declared.entries.Entry.{Entry};
 ghost use Rattle.script8.specs.declared.entries.Entry.TheVariants as entry;
+ghost use Rattle.script8.specs.declared.entries.JobEntry.TheVariants as job;
 ghost use Rattle.script8.specs.declared.faults.SessionFault.{SessionFault};
 ghost use Rattle.session8.specs.Road.{changes_file, is_loaded, Arrives, GoesOn, HasMade, NoneTells};
 ghost use Rattle.session8.specs.Same.{IsAlike, IsApart, speaks_of_room};
@@ -29,10 +30,10 @@ pub fn refusals()
 /// must be the same in both.
 pub fn interleavings()
     ensures own { (old new : State) (number : ℕ) (clean : Bool) (left : ℕ) (answer : Answer)
-        → job_of number old.jobs ≡ Some (squeezing clean left) → Step old (entry.Turn number) answer new
+        → job_of number old.jobs ≡ Some (squeezing clean left) → Step old (entry.Jobs (job.Turn number)) answer new
         → new ≡ record old { tight = new.tight; jobs = with_job number (job_of number new.jobs) old.jobs } }
     ensures turn { (old new : State) (number : ℕ) (clean : Bool) (left : ℕ) (answer : Answer)
-        → job_of number old.jobs ≡ Some (squeezing clean left) → Step old (entry.Turn number) answer new
+        → job_of number old.jobs ≡ Some (squeezing clean left) → Step old (entry.Jobs (job.Turn number)) answer new
         → IsAlike old new }
     ensures others { (one two one' : State) (e : Entry) (answer : Answer) → IsAlike one two
         → IsApart e one two → speaks_of_room answer ≡ false → Step one e answer one'
@@ -49,7 +50,7 @@ pub fn road()
     ensures console { (old new : State) (entries : List Entry) (answers : List Answer) (stopped : Bool)
         → Run old entries answers stopped new → NoneTells is_loaded answers
         → GoesOn old.console entries answers new.console }
-    ensures load { (one two three four : State) (maker loader name left : ℕ) (sources : List (List ℕ)) (entries : List Entry) (answers : List Answer) (stopped : Bool) (answer : Answer) → HasMade maker name sources one two → Run two entries answers stopped three → NoneTells (changes_file name) answers → job_of loader three.jobs ≡ Some (loading name left) → Step three (entry.Turn loader) answer four → Arrives sources three answer four }
+    ensures load { (one two three four : State) (maker loader name left : ℕ) (sources : List (List ℕ)) (entries : List Entry) (answers : List Answer) (stopped : Bool) (answer : Answer) → HasMade maker name sources one two → Run two entries answers stopped three → NoneTells (changes_file name) answers → job_of loader three.jobs ≡ Some (loading name left) → Step three (entry.Jobs (job.Turn loader)) answer four → Arrives sources three answer four }
 {
     no_fault();
     one_reading();

@@ -3,8 +3,7 @@ ghost use Rattle.os8_dir.specs.Reading.{Sound, Meets, directory_of};
 ghost use Rattle.os8_dir.specs.declared.faults.DirFault.TheVariants.{Device};
 ghost use Rattle.jobs8.specs.Jobs.{no_jobs};
 ghost use Rattle.jobs8.specs.Calls.{Outlives};
-ghost use Rattle.session8.specs.Console.{is_console};
-ghost use Rattle.session8.specs.ConsoleSteps.{is_counted};
+ghost use Rattle.session8.specs.Console.{is_within_limits};
 ghost use Rattle.session8.specs.Failing.{StepsStopped};
 ghost use Rattle.session8.specs.System.{Step, Run};
 ghost use Rattle.session8.specs.SessionSteps.{is_memory, Leaves, Does};
@@ -22,7 +21,7 @@ use debug8::DebugFault;
 use jobs8::Jobs;
 use os8_dir::DirFault;
 use os8_files::FileService;
-use script8::{Entry, Reply, SessionFault, are_steps};
+use script8::{ConsoleEntry, Entry, Reply, SessionFault, are_steps};
 use std::alloc::Global;
 use std::marker::Model;
 use volume_image::BlockStore;
@@ -131,7 +130,7 @@ impl<S: BlockStore> Session<S> {
             × IsSteadied entry self.old self.new) }
         ensures tells { self.old.volume.stopped ≡ false → Tells entry self.old result self.new }
         ensures stopped { self.old.volume.stopped ≡ true
-            → StepsStopped (is_console entry) (state_of self.old) entry result (state_of self.new) }
+            → StepsStopped (state_of self.old) entry result (state_of self.new) }
         ensures reads { EntryReads entry self.old self.new }
         ensures places { EntryPlaces entry self.old self.new }
         ensures room { EntryTellsRoom entry self.old result }
@@ -176,39 +175,21 @@ impl<S: BlockStore> Session<S> {
         ensures room { EntryTellsRoom entry.now self.old result }
     {
         match entry {
-            Entry::Store { name, text } => self.store(alloc, name.as_slice(), text.as_slice()),
-            Entry::Delete { name } => self.delete(alloc, name.as_slice()),
-            Entry::Direct => self.direct(alloc),
-            Entry::Assemble { to, from } => self.assemble(alloc, to.as_slice(), from.as_slice()),
-            Entry::Load { name } => self.load(alloc, name.as_slice()),
-            Entry::Squeeze => self.squeeze(),
-            Entry::Turn(number) => self.turn(alloc, *number),
-            Entry::Start(_)
-            | Entry::Step(_)
-            | Entry::Go(_)
-            | Entry::Run { .. }
-            | Entry::Key(_)
-            | Entry::Done
-            | Entry::Switches(_)
-            | Entry::Examine(_)
-            | Entry::Deposit { .. }
-            | Entry::Break { .. }
-            | Entry::Registers
-            | Entry::Printed => self.console(alloc, entry),
+            Entry::Files(entry) => self.enter_files(alloc, entry),
+            Entry::Jobs(entry) => self.enter_jobs(alloc, entry),
+            Entry::Console(entry) => self.operate(alloc, entry),
         }
     }
 
     /// Does an entry of the console.
-    fn console(&mut self, alloc: Global, entry: &Entry) -> Result<Reply, SessionFault>
-        requires { is_console entry.now ≡ true }
-        ensures does { Does entry.now self.old result self.new }
-        ensures leaves { Leaves entry.now self.old self.new }
-        ensures room { EntryTellsRoom entry.now self.old result }
+    fn operate(&mut self, alloc: Global, asked: &ConsoleEntry) -> Result<Reply, SessionFault>
+        ensures does { Does (entry.Console asked.now) self.old result self.new }
+        ensures leaves { Leaves (entry.Console asked.now) self.old self.new }
     {
-        if !is_counted(entry) {
+        if !is_within_limits(asked) {
             return Err(SessionFault::BadLine);
         }
-        match self.console.enter(alloc, entry) {
+        match self.console.enter(alloc, asked) {
             Ok(reply) => Ok(reply),
             Err(DebugFault::TooManyBreaks) => Err(SessionFault::TooManyBreaks),
             Err(DebugFault::Memory) => Err(SessionFault::Memory),
@@ -228,29 +209,22 @@ fn parts(alloc: Global) -> Result<(Vec<u8>, Console), DebugFault>
 }
 
 /// Whether an entry that makes steps asks for as many as it may.
-fn is_counted(entry: &Entry) -> bool
-    ensures { result ≡ is_counted entry.now }
+fn is_within_limits(entry: &ConsoleEntry) -> bool
+    ensures { result ≡ is_within_limits entry.now }
 {
     match entry {
-        Entry::Step(steps) => are_steps(*steps),
-        Entry::Go(steps) => are_steps(*steps),
-        Entry::Run { steps, .. } => are_steps(*steps),
-        Entry::Store { .. }
-        | Entry::Delete { .. }
-        | Entry::Direct
-        | Entry::Assemble { .. }
-        | Entry::Load { .. }
-        | Entry::Squeeze
-        | Entry::Turn(_)
-        | Entry::Start(_)
-        | Entry::Key(_)
-        | Entry::Done
-        | Entry::Switches(_)
-        | Entry::Examine(_)
-        | Entry::Deposit { .. }
-        | Entry::Break { .. }
-        | Entry::Registers
-        | Entry::Printed => true,
+        ConsoleEntry::Step(steps) | ConsoleEntry::Go(steps) | ConsoleEntry::Run { steps, .. } => {
+            are_steps(*steps)
+        }
+        ConsoleEntry::Start(_)
+        | ConsoleEntry::Key(_)
+        | ConsoleEntry::Done
+        | ConsoleEntry::Switches(_)
+        | ConsoleEntry::Examine(_)
+        | ConsoleEntry::Deposit { .. }
+        | ConsoleEntry::Break { .. }
+        | ConsoleEntry::Registers
+        | ConsoleEntry::Printed => true,
     }
 }
 

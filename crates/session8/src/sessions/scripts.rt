@@ -18,7 +18,7 @@ use crate::endings::Ending;
 use crate::pending::{Begun, Pending};
 use crate::readings::{MOST, PIECE, ends, zero_bytes};
 use crate::watchers::{Unwatched, Watcher};
-use script8::{Entry, Item, Next, Reply, Said, SessionFault, next_item, put_reply};
+use script8::{Entry, Item, JobEntry, Next, Reply, Said, SessionFault, next_item, put_reply};
 use std::alloc::Global;
 use std::io::{Read, Write};
 use volume_image::BlockStore;
@@ -282,7 +282,8 @@ impl<S: BlockStore> Session<S> {
         if let Ok(Reply::Line(Said::Working(_))) = answer {
             return Ok(());
         }
-        self.tell(Some(&Entry::Turn(number)), &answer, writer, watcher)
+        let turn = Entry::Jobs(JobEntry::Turn(number));
+        self.tell(Some(&turn), &answer, writer, watcher)
     }
 
     /// Tells the watcher of an answer, and writes its lines. `Memory` comes only where they are several, and then nothing is written.
