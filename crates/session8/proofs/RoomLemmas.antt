@@ -1,5 +1,5 @@
 -- What refusals for want of room tell of the store's blocks.
-use Rattle.std.proofs.Common.{◌≡◌, ℕ, Bool, true, false, List, Option, Some, Ok, Err, refl, sym, subst, ap}
+use Rattle.std.proofs.Common.{◌≡◌, ℕ, Bool, true, false, List, Err, refl, sym, subst}
 use Rattle.os8_files.specs.Mounted.{Mounted}
 use Rattle.os8_files.specs.Puts.{Puts, TellsRoom}
 use Rattle.os8_files.specs.declared.faults.FileFault.{FileFault}

@@ -1,6 +1,6 @@
 -- What a refusal for want of room tells of the store's blocks, of which the system machine, to which a volume is a map of files, says
 -- bounds alone.
-use Rattle.std.specs.Prelude.{◌≡◌, ℕ, Option, Some, List, Ok, Err}
+use Rattle.std.specs.Prelude.{◌≡◌, ℕ, Some, List, Ok, Err}
 use Rattle.char_pack.specs.Texts.{stored}
 use Rattle.os8_dir.specs.Names.{parsed_name}
 use Rattle.os8_files.specs.Puts.{TellsRoom}
