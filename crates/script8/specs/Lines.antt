@@ -1,5 +1,5 @@
 -- What the lines of a script say (this project's profile).
-use Rattle.std.specs.Prelude.{◌≡◌, ◌⊎◌, ℕ, ◌+◌, ◌-◌, ◌*◌, codes, ◌==◌, ◌&&◌, nat_eq, nat_le, nat_lt, if◌then◌else◌, Bool, true, false, Option, Some, None, List, [], ◌∷◌, length, Result, Ok, Err}
+use Rattle.std.specs.Prelude.{◌≡◌, ◌⊎◌, ℕ, ◌+◌, ◌-◌, ◌*◌, codes, ◌==◌, ◌&&◌, nat_eq, nat_le, nat_lt, if◌then◌else◌, Bool, true, false, Option, Some, None, option_map, List, [], ◌∷◌, length, Result, Ok, Err}
 use Rattle.std.specs.List.{list_all}
 use Rattle.std.specs.Str.{bytes_eq}
 use Rattle.script8.specs.declared.entries.Entry.{Entry}
@@ -85,11 +85,7 @@ setting_of word =
     if bytes_eq word (codes "ON") then Some true else
     (if bytes_eq word (codes "OFF") then Some false else None)
 
--- an entry of one operand, or of two, where they are there
-abbrev pub of_one : {A E : Type 0} → (A → E) → Option A → Option E
-of_one entry None = None
-of_one entry (Some a) = Some (entry a)
-
+-- an entry of two operands, where they are there
 abbrev pub of_two : {A B E : Type 0} → (A → B → E) → Option A → Option B → Option E
 of_two entry None b = None
 of_two entry (Some a) None = None
@@ -105,12 +101,12 @@ bare_console verb =
 -- those of two words
 abbrev pub console_with_word : List ℕ → List ℕ → Option ConsoleEntry
 console_with_word verb word =
-    if bytes_eq verb (codes "START") then of_one console.Start (cell_of word) else
-    (if bytes_eq verb (codes "STEP") then of_one console.Step (steps_of word) else
-    (if bytes_eq verb (codes "GO") then of_one console.Go (steps_of word) else
-    (if bytes_eq verb (codes "KEY") then of_one console.Key (character_of word) else
-    (if bytes_eq verb (codes "SWITCHES") then of_one console.Switches (octal_of 4 word) else
-    (if bytes_eq verb (codes "EXAMINE") then of_one console.Examine (cell_of word) else None)))))
+    if bytes_eq verb (codes "START") then option_map console.Start (cell_of word) else
+    (if bytes_eq verb (codes "STEP") then option_map console.Step (steps_of word) else
+    (if bytes_eq verb (codes "GO") then option_map console.Go (steps_of word) else
+    (if bytes_eq verb (codes "KEY") then option_map console.Key (character_of word) else
+    (if bytes_eq verb (codes "SWITCHES") then option_map console.Switches (octal_of 4 word) else
+    (if bytes_eq verb (codes "EXAMINE") then option_map console.Examine (cell_of word) else None)))))
 
 -- and those of three
 abbrev pub console_with_words : List ℕ → List ℕ → List ℕ → Option ConsoleEntry
@@ -122,7 +118,7 @@ console_with_words verb first second =
 
 -- an entry of the console
 abbrev pub at_console : Option ConsoleEntry → Option Entry
-at_console it = of_one entry.Console it
+at_console it = option_map entry.Console it
 
 -- the entries of one word
 abbrev pub bare_entry : List ℕ → Option Entry
@@ -134,7 +130,7 @@ bare_entry verb =
 -- the entries of two words, but those with names
 abbrev pub entry_with_word : List ℕ → List ℕ → Option Entry
 entry_with_word verb word =
-    if bytes_eq verb (codes "TURN") then of_one (λ number. entry.Jobs (job.Turn number)) (number_of word)
+    if bytes_eq verb (codes "TURN") then option_map (λ number. entry.Jobs (job.Turn number)) (number_of word)
     else at_console (console_with_word verb word)
 
 -- what an entry of one line says
@@ -251,9 +247,9 @@ abbrev pub HasName : Result Line SessionFault → Type 0
 HasName (Ok Empty) = ⊥
 HasName (Ok Finish) = ⊥
 HasName (Ok (Store name lines)) = Unit {0}
-HasName (Ok (Whole said)) = KeepsNames said
+HasName (Ok (Whole it)) = KeepsNames it
 HasName (Err fault) = ⊥
 
 -- What a line says is told; where it has a name, memory for it may be refused.
 abbrev pub Parses : Result Line SessionFault → Result Line SessionFault → Type 0
-Parses said result = (result ≡ said) ⊎ ((result ≡ Err Memory) × HasName said)
+Parses meaning result = (result ≡ meaning) ⊎ ((result ≡ Err Memory) × HasName meaning)

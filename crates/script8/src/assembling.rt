@@ -1,4 +1,4 @@
-//! What `ASSEMBLE` is said of: a target and its sources.
+//! The operand of `ASSEMBLE`: a target and its sources.
 ghost use Rattle.std.specs.Prelude.{◌≡◌, ◌≤◌, ◌&&◌, ◌⊎◌, ◌++◌, OnOk, IfOk, nat_le, length, Ok, Err};
 ghost use Rattle.std.specs.List.{list_all};
 ghost use Rattle.script8.specs.Lines.{Parses, whole, assemble_of, lists_names, listed, is_name};
@@ -45,7 +45,8 @@ fn are_names(list: &[u8], most: usize) -> bool
 
 /// The `ASSEMBLE` of a target and of the sources of a list.
 fn target_and_sources(alloc: Global, to: &[u8], from: &[u8]) -> Result<Line, SessionFault>
-    ensures { (result ≡ Ok (Whole (entry.Jobs (job.Assemble to.now (listed from.now))))) ⊎ (result ≡ Err Memory) }
+    ensures { (result ≡ Ok (Whole (entry.Jobs (job.Assemble to.now (listed from.now)))))
+        ⊎ (result ≡ Err Memory) }
 {
     let to = Vec::from_slice(alloc, to)?;
     let mut names = Vec::new(alloc);

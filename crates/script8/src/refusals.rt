@@ -1,10 +1,10 @@
 //! The texts of refusals.
-ghost use Rattle.std.specs.Prelude.{◌≡◌, ◌≤◌, ◌++◌};
+ghost use Rattle.std.specs.Prelude.{◌≡◌, ◌≤◌, ◌++◌, option_copied};
 ghost use Rattle.arrayvec.specs.ArrayVec.{array_vec_len};
 ghost use Rattle.script8.specs.Faults.{fault_text, code_text, asm_fault_text, tape_fault_text, file_fault_text};
-ghost use Rattle.script8.specs.Replies.{lent, begin_text, end_text, job_of as the_job, job_of_turn};
+ghost use Rattle.script8.specs.Replies.{fault_prefix, job_prefix, job_of as the_job, job_of_turn};
 
-use crate::said::put_job;
+use crate::line_replies::put_job;
 use crate::text_lines::{put, put_name, put_number};
 use crate::{Entry, JobEntry, SessionFault};
 use arrayvec::ArrayVec;
@@ -121,7 +121,7 @@ fn put_tape_fault(line: &mut ArrayVec<u8, 80>, fault: TapeFault)
 
 /// The job to which an entry gives a turn, where there is an entry.
 pub(crate) fn job_of(entry: Option<&Entry>) -> Option<u32>
-    ensures { result ≡ the_job (lent entry.entry) }
+    ensures { result ≡ the_job (option_copied entry.entry) }
 {
     match entry {
         Some(Entry::Jobs(entry)) => job_of_turn(entry),
@@ -140,20 +140,20 @@ fn job_of_turn(entry: &JobEntry) -> Option<u32>
 }
 
 /// Puts what stands before a fault of a job's turn, or of no job's, into an empty line.
-pub(crate) fn put_begin(line: &mut ArrayVec<u8, 80>, job: Option<u32>, fault: SessionFault)
+pub(crate) fn put_fault_prefix(line: &mut ArrayVec<u8, 80>, job: Option<u32>, fault: SessionFault)
     requires { array_vec_len line.old ≡ 0 }
-    ensures text { line.new.items ≡ line.old.items ++ begin_text job fault }
+    ensures text { line.new.items ≡ line.old.items ++ fault_prefix job fault }
     ensures short { array_vec_len line.new ≤ 25 }
 {
     if let Some(job) = job {
-        put_end(line, job, fault);
+        put_job_prefix(line, job, fault);
     }
 }
 
 /// Puts the job of a fault that is its end into an empty line.
-fn put_end(line: &mut ArrayVec<u8, 80>, job: u32, fault: SessionFault)
+fn put_job_prefix(line: &mut ArrayVec<u8, 80>, job: u32, fault: SessionFault)
     requires { array_vec_len line.old ≡ 0 }
-    ensures text { line.new.items ≡ line.old.items ++ end_text job fault }
+    ensures text { line.new.items ≡ line.old.items ++ job_prefix job fault }
     ensures short { array_vec_len line.new ≤ 25 }
 {
     if let SessionFault::File(_) | SessionFault::Asm(_) | SessionFault::Tape(_) = fault {

@@ -11,9 +11,9 @@ use Rattle.script8.specs.declared.faults.SessionFault.{SessionFault}
 use Rattle.script8.specs.declared.faults.SessionFault.TheVariants as fault
 use Rattle.script8.specs.declared.replies.Reply.{Reply}
 use Rattle.session8.specs.Refusals.{MayRefuse, MayLack, after_refusal}
-use Rattle.session8.specs.Failing.{StepsStopped}
-use Rattle.session8.specs.Session.{Seen, state_of, IsQuiet, IsSteadied, Tells}
-use Rattle.session8.specs.SessionSteps.{Does}
+use Rattle.session8.specs.Failing.{MayAnswerStopped}
+use Rattle.session8.specs.Session.{Seen, state_of, IsQuiet, IsSteadied, TellsBlockCalls}
+use Rattle.session8.specs.SessionSteps.{DoesEntry}
 use Rattle.session8.specs.System.{Answer, MayReply, ConsoleMayReply}
 
 -- an answer that is a refusal, and one that is a reply
@@ -52,7 +52,7 @@ steadied (entry.Jobs it) old new quiet = quiet
 steadied (entry.Console it) old new quiet = tt
 
 -- a reply
-pub replied : (e : Entry) (old new : Seen) (reply : Reply) → old.volume.stopped ≡ false → IsSteady old.volume new.volume → MayReply (state_of old) e reply (state_of new) → Does e old (Ok reply) new
+pub replied : (e : Entry) (old new : Seen) (reply : Reply) → old.volume.stopped ≡ false → IsSteady old.volume new.volume → MayReply (state_of old) e reply (state_of new) → DoesEntry e old (Ok reply) new
 replied e old new reply running still done = record {
   step = λ quiet. done;
   later = record { reads = omega (arith, still.reads); writes = omega (arith, still.writes) };
@@ -66,7 +66,7 @@ replied e old new reply running still done = record {
 }
 
 -- a reply of the console, which leaves the volume alone, whatever failed before
-pub shown : (it : ConsoleEntry) (old new : Seen) (reply : Reply) → new.volume ≡ old.volume → ConsoleMayReply (state_of old) it reply (state_of new) → Does (entry.Console it) old (Ok reply) new
+pub shown : (it : ConsoleEntry) (old new : Seen) (reply : Reply) → new.volume ≡ old.volume → ConsoleMayReply (state_of old) it reply (state_of new) → DoesEntry (entry.Console it) old (Ok reply) new
 shown it old new reply same done = record {
   step = λ quiet. done;
   later = record { reads = omega (arith, still.reads); writes = omega (arith, still.writes) };
@@ -83,7 +83,7 @@ shown it old new reply same done = record {
     still = steady_same old.volume new.volume same
 
 -- a refusal of the file service, where no block call failed
-pub refused : (e : Entry) (old new : Seen) (why : FileFault) → old.volume.stopped ≡ false → (IsQuiet old new → Tells e old (Err (fault.File why)) new) → IsSteady old.volume new.volume → MayRefuse (state_of old) e (fault.File why) → state_of new ≡ after_refusal (state_of old) e → Does e old (Err (fault.File why)) new
+pub refused : (e : Entry) (old new : Seen) (why : FileFault) → old.volume.stopped ≡ false → (IsQuiet old new → TellsBlockCalls e old (Err (fault.File why)) new) → IsSteady old.volume new.volume → MayRefuse (state_of old) e (fault.File why) → state_of new ≡ after_refusal (state_of old) e → DoesEntry e old (Err (fault.File why)) new
 refused e old new why running tells still may after = record {
   step = λ quiet. (may, after);
   later = record { reads = omega (arith, still.reads); writes = omega (arith, still.writes) };
@@ -97,7 +97,7 @@ refused e old new why running tells still may after = record {
 }
 
 -- what want of memory left undone
-pub undone : (e : Entry) (old new : Seen) → (old.volume.stopped ≡ true → StepsStopped (state_of old) e (Err fault.Memory) (state_of new)) → MayLack (state_of old) e → IsSteady old.volume new.volume → state_of new ≡ state_of old → Does e old (Err fault.Memory) new
+pub undone : (e : Entry) (old new : Seen) → (old.volume.stopped ≡ true → MayAnswerStopped (state_of old) e (Err fault.Memory) (state_of new)) → MayLack (state_of old) e → IsSteady old.volume new.volume → state_of new ≡ state_of old → DoesEntry e old (Err fault.Memory) new
 undone e old new halts may still same = record {
   step = λ quiet. (may, same);
   later = record { reads = omega (arith, still.reads); writes = omega (arith, still.writes) };
@@ -130,7 +130,7 @@ pub record HasFailed (old new : Mounted) : Type 0 where
   pub stopped : new.stopped ≡ true
 
 -- a write failed in an entry that neither changes the jobs nor the console
-pub failed : (e : Entry) (old new : Seen) → HasFailed old.volume new.volume → new.jobs ≡ (after_refusal (state_of old) e).jobs → new.console ≡ old.console → Does e old (Err (fault.File file.Device)) new
+pub failed : (e : Entry) (old new : Seen) → HasFailed old.volume new.volume → new.jobs ≡ (after_refusal (state_of old) e).jobs → new.console ≡ old.console → DoesEntry e old (Err (fault.File file.Device)) new
 failed e old new has jobs console = record {
   step = λ quiet. absurd (loud quiet);
   later = record { reads = has.behind.reads; writes = has.behind.writes };
@@ -147,7 +147,7 @@ failed e old new has jobs console = record {
     loud quiet = omega (arith, has.more, quiet.writes)
 
 -- a write had failed before
-pub stopped : (e : Entry) (old new : Seen) → StepsStopped (state_of old) e (Err (fault.File file.Stopped)) (state_of new) → old.volume.stopped ≡ true → IsBehind old.volume new.volume → Does e old (Err (fault.File file.Stopped)) new
+pub stopped : (e : Entry) (old new : Seen) → MayAnswerStopped (state_of old) e (Err (fault.File file.Stopped)) (state_of new) → old.volume.stopped ≡ true → IsBehind old.volume new.volume → DoesEntry e old (Err (fault.File file.Stopped)) new
 stopped e old new step halted behind = record {
   step = λ quiet. absurd (true≢false (sym halted ∙ quiet.running));
   later = record { reads = behind.reads; writes = behind.writes };

@@ -16,7 +16,7 @@ use Rattle.script8.specs.declared.entries.Entry.TheVariants as entry
 use Rattle.script8.specs.declared.entries.FileEntry.TheVariants as filing
 use Rattle.script8.specs.declared.entries.JobEntry.TheVariants as order
 use Rattle.session8.specs.Interleaving.{EntryReads, EntryPlaces, KeepsPlacesBut, TurnReads, TurnPlaces, job_taking}
-use Rattle.session8.specs.SessionSteps.{Leaves}
+use Rattle.session8.specs.SessionSteps.{LeavesAlone}
 use Rattle.session8.specs.Session.{Seen}
 
 -- ## Nothing is read or moved
@@ -55,21 +55,21 @@ moves_none (entry.Jobs it) old new keeps = turn_moves_none (job_taking (job_of_t
 moves_none (entry.Console it) old new keeps = keeps
 
 -- an entry that changes holds of the volume at most
-pub leaves_all : (e : Entry) (old new : Seen) → new.volume ≡ record old.volume { holds = new.volume.holds } → Leaves e old new
+pub leaves_all : (e : Entry) (old new : Seen) → new.volume ≡ record old.volume { holds = new.volume.holds } → LeavesAlone e old new
 leaves_all e old new is = record {
   reads = reads_none e old new (ap (λ (m : Mounted). m.reads) is);
   places = moves_none e old new (λ name running. ap (λ (m : Mounted). extent_on m name) is);
 }
 
-pub leaves_same : (e : Entry) (old new : Seen) → new.volume ≡ old.volume → Leaves e old new
+pub leaves_same : (e : Entry) (old new : Seen) → new.volume ≡ old.volume → LeavesAlone e old new
 leaves_same e old new is = leaves_all e old new (is ∙ ap (λ (m : Mounted). record old.volume { holds = m.holds }) (sym is))
 
 -- ## A file is stored or deleted
 
-pub store_leaves : (bytes text : List ℕ) (old new : Seen) (name : ℕ) → parsed_name bytes ≡ Some name → new.volume.reads ≡ old.volume.reads → KeepsOtherPlaces name old.volume new.volume → Leaves (entry.Files (filing.Store bytes text)) old new
+pub store_leaves : (bytes text : List ℕ) (old new : Seen) (name : ℕ) → parsed_name bytes ≡ Some name → new.volume.reads ≡ old.volume.reads → KeepsOtherPlaces name old.volume new.volume → LeavesAlone (entry.Files (filing.Store bytes text)) old new
 store_leaves bytes text old new name is same keeps = record { reads = same; places = subst (λ n. KeepsPlacesBut n old.volume new.volume) (sym is) keeps }
 
-pub delete_leaves : (bytes : List ℕ) (old new : Seen) (name : ℕ) → parsed_name bytes ≡ Some name → new.volume.reads ≡ old.volume.reads → KeepsOtherPlaces name old.volume new.volume → Leaves (entry.Files (filing.Delete bytes)) old new
+pub delete_leaves : (bytes : List ℕ) (old new : Seen) (name : ℕ) → parsed_name bytes ≡ Some name → new.volume.reads ≡ old.volume.reads → KeepsOtherPlaces name old.volume new.volume → LeavesAlone (entry.Files (filing.Delete bytes)) old new
 delete_leaves bytes old new name is same keeps = record { reads = same; places = subst (λ n. KeepsPlacesBut n old.volume new.volume) (sym is) keeps }
 
 -- ## A job takes a turn
@@ -94,7 +94,7 @@ plain_at : (number : ℕ) (js : List (Option Job)) → job_of number (plain_jobs
 plain_at zero js = refl
 plain_at (suc place) js = get_or-map plain_job js place None
 
-pub turn_leaves : MovesLaw → ReadsLaw → (number : ℕ) (old new : Seen) (js : List (Option Job)) → old.jobs ≡ plain_jobs js → CallsOf (job_at number js) old.volume new.volume → Leaves (entry.Jobs (order.Turn number)) old new
+pub turn_leaves : MovesLaw → ReadsLaw → (number : ℕ) (old new : Seen) (js : List (Option Job)) → old.jobs ≡ plain_jobs js → CallsOf (job_at number js) old.volume new.volume → LeavesAlone (entry.Jobs (order.Turn number)) old new
 turn_leaves moves reads number old new js is calls = record {
   reads = subst (λ j. TurnReads j old.volume new.volume) (sym here) (turn_reads reads old.volume new.volume (job_at number js) calls);
   places = subst (λ j. TurnPlaces j old.volume new.volume) (sym here) (turn_places moves old.volume new.volume (job_at number js) calls);

@@ -28,12 +28,12 @@ use Rattle.script8.specs.declared.faults.SessionFault.TheVariants as fault
 use Rattle.script8.specs.declared.replies.Reply.{Reply}
 use Rattle.script8.specs.declared.replies.Reply.TheVariants.{Line, Report}
 use Rattle.script8.specs.declared.replies.Report.TheVariants as report
-use Rattle.script8.specs.declared.replies.Said.TheVariants as said
+use Rattle.script8.specs.declared.replies.LineReply.TheVariants as line
 use Rattle.session8.specs.Files.{HasDeleted, DeleteRefused}
 use Rattle.session8.specs.Refusals.{Named, MayRefuse, FilesMayRefuse, JobsMayRefuse, MayLack, after_refusal, jobs_without}
 use Rattle.session8.specs.Same.{lasting_job, lasting_jobs, lasting_work, unsqueezed, IsAlike, IsApart, JobIsApart, speaks_of_room}
 use Rattle.session8.specs.State.{State}
-use Rattle.session8.specs.System.{Answer, MayReply, FilesMayReply, JobsMayReply, ConsoleMayReply, Step}
+use Rattle.session8.specs.System.{Answer, MayReply, FilesMayReply, JobsMayReply, ConsoleMayReply, MayAnswer}
 use Rattle.session8.specs.Work.{Works, job_state, with_work, fault_of_job}
 use Rattle.session8.proofs.ReplyLemmas.{stored_alone, deleted_alone, assembled_alone, loaded_alone, squeezed_alone}
 use Rattle.session8.proofs.SameLemmas.{lasting_put, alike}
@@ -112,7 +112,7 @@ worked one one' t js after other same is = ap unsqueezed is ∙ ap (with_work on
 
 -- two states may answer the same, and the second goes on to one that is the same but for its squeezing jobs
 abbrev Follows : State → Entry → Answer → State → Type 0
-Follows two e answer one' = (two' : State) × Step two e answer two' × IsAlike one' two'
+Follows two e answer one' = (two' : State) × MayAnswer two e answer two' × IsAlike one' two'
 
 -- ## The console
 
@@ -289,29 +289,29 @@ deleted one one' t js name same step = (with_work (over one t js) left, (left, h
     has : HasDeleted name (job_state (over one t js)) left
     has = record { file = step.1.file; there = step.1.there; free = same_held one.jobs js name false same step.1.free; others = refl }
 
-stores : (one one' : State) (t : Bool) (js : Jobs) (name text : List ℕ) (other blocks : ℕ) → AreAlike one.jobs js → FilesMayReply one (filing.Store name text) (Line (said.Stored other blocks)) one' → Follows (over one t js) (entry.Files (filing.Store name text)) (Ok (Line (said.Stored other blocks))) one'
+stores : (one one' : State) (t : Bool) (js : Jobs) (name text : List ℕ) (other blocks : ℕ) → AreAlike one.jobs js → FilesMayReply one (filing.Store name text) (Line (line.Stored other blocks)) one' → Follows (over one t js) (entry.Files (filing.Store name text)) (Ok (Line (line.Stored other blocks))) one'
 stores one one' t js name text other blocks same step =
     let put = has_put one t js other (stored text) one.jobs js step.2.0 same same step.2.1.1 in
     (with_work (over one t js) put.0, (step.0, step.1, (put.0, (step.2.1.0, put.1), refl)), worked one one' t js step.2.0 put.0 put.2 step.2.2)
 
-deletes : (one one' : State) (t : Bool) (js : Jobs) (name : List ℕ) (other : ℕ) → AreAlike one.jobs js → FilesMayReply one (filing.Delete name) (Line (said.Deleted other)) one' → Follows (over one t js) (entry.Files (filing.Delete name)) (Ok (Line (said.Deleted other))) one'
+deletes : (one one' : State) (t : Bool) (js : Jobs) (name : List ℕ) (other : ℕ) → AreAlike one.jobs js → FilesMayReply one (filing.Delete name) (Line (line.Deleted other)) one' → Follows (over one t js) (entry.Files (filing.Delete name)) (Ok (Line (line.Deleted other))) one'
 deletes one one' t js name other same step = let left = deleted one one' t js other same step.1 in (left.0, (step.0, left.1), left.2)
 
-begins_assembling : (one one' : State) (t : Bool) (js : Jobs) (to : List ℕ) (from : List (List ℕ)) (number : ℕ) → AreAlike one.jobs js → least_free one.jobs ≡ least_free js → JobsMayReply one (order.Assemble to from) (Line (said.Job number)) one' → Follows (over one t js) (entry.Jobs (order.Assemble to from)) (Ok (Line (said.Job number))) one'
+begins_assembling : (one one' : State) (t : Bool) (js : Jobs) (to : List ℕ) (from : List (List ℕ)) (number : ℕ) → AreAlike one.jobs js → least_free one.jobs ≡ least_free js → JobsMayReply one (order.Assemble to from) (Line (line.Job number)) one' → Follows (over one t js) (entry.Jobs (order.Assemble to from)) (Ok (Line (line.Job number))) one'
 begins_assembling one one' t js to from number same apart step = (
   _,
   (step.0, step.1, step.2, step.3, (_, (step.4.1.0, record { unheld = same_held one.jobs js step.0 false same step.4.1.1.unheld; other = step.4.1.1.other }, record { least = sym apart ∙ step.4.1.2.least; others = refl }), refl)),
   begins one one' t js number (new_assembling (job_state one) step.0 step.1) step.4.0 same step.4.1.2.others step.4.2,
 )
 
-begins_loading : (one one' : State) (t : Bool) (js : Jobs) (name : List ℕ) (number : ℕ) → AreAlike one.jobs js → least_free one.jobs ≡ least_free js → JobsMayReply one (order.Load name) (Line (said.Job number)) one' → Follows (over one t js) (entry.Jobs (order.Load name)) (Ok (Line (said.Job number))) one'
+begins_loading : (one one' : State) (t : Bool) (js : Jobs) (name : List ℕ) (number : ℕ) → AreAlike one.jobs js → least_free one.jobs ≡ least_free js → JobsMayReply one (order.Load name) (Line (line.Job number)) one' → Follows (over one t js) (entry.Jobs (order.Load name)) (Ok (Line (line.Job number))) one'
 begins_loading one one' t js name number same apart step = (
   _,
   (step.0, step.1, (_, (step.2.1.0, record { least = sym apart ∙ step.2.1.1.least; others = refl }), refl)),
   begins one one' t js number (new_loading (job_state one) step.0) step.2.0 same step.2.1.1.others step.2.2,
 )
 
-begins_squeezing : (one one' : State) (t : Bool) (js : Jobs) (number : ℕ) → AreAlike one.jobs js → least_free one.jobs ≡ least_free js → JobsMayReply one order.Squeeze (Line (said.Job number)) one' → Follows (over one t js) (entry.Jobs order.Squeeze) (Ok (Line (said.Job number))) one'
+begins_squeezing : (one one' : State) (t : Bool) (js : Jobs) (number : ℕ) → AreAlike one.jobs js → least_free one.jobs ≡ least_free js → JobsMayReply one order.Squeeze (Line (line.Job number)) one' → Follows (over one t js) (entry.Jobs order.Squeeze) (Ok (Line (line.Job number))) one'
 begins_squeezing one one' t js number same apart step = (
   _,
   (_, record { least = sym apart ∙ step.1.least; others = refl }, refl),
@@ -491,7 +491,7 @@ refusal : (one one' : State) (t : Bool) (js : Jobs) (e : Entry) (why : SessionFa
     → MayRefuse one e why × (one' ≡ after_refusal one e) → (two' : State) × (MayRefuse (over one t js) e why × (two' ≡ after_refusal (over one t js) e)) × IsAlike one' two'
 refusal one one' t js e why same apart room step = (after_refusal (over one t js) e, (refuses one t js e why same apart room step.0, refl), ap unsqueezed step.1 ∙ refused_alike one t js e same)
 
-entry_follows : (one one' : State) (t : Bool) (js : Jobs) (e : Entry) (answer : Answer) → AreAlike one.jobs js → IsApart e one (over one t js) → speaks_of_room answer ≡ false → Step one e answer one' → Follows (over one t js) e answer one'
+entry_follows : (one one' : State) (t : Bool) (js : Jobs) (e : Entry) (answer : Answer) → AreAlike one.jobs js → IsApart e one (over one t js) → speaks_of_room answer ≡ false → MayAnswer one e answer one' → Follows (over one t js) e answer one'
 entry_follows one one' t js e (Ok reply) same apart room step = replies one one' t js e reply same apart step
 entry_follows one one' t js e (Err fault.Memory) same apart room step = (over one t js, (lacks one t js e same apart step.0, refl), ap unsqueezed step.1 ∙ alike one t js (sym same))
 entry_follows one one' t js e (Err fault.BadLine) same apart room step = refusal one one' t js e fault.BadLine same apart room step
@@ -509,7 +509,7 @@ entry_follows one one' t js e (Err (fault.File why)) same apart room step = refu
 over_is : (one two : State) → IsAlike one two → two ≡ over one two.tight two.jobs
 over_is one two same = sym (ap (λ (s : State). over s two.tight two.jobs) same)
 
-pub others_follow : (one two one' : State) (e : Entry) (answer : Answer) → IsAlike one two → IsApart e one two → speaks_of_room answer ≡ false → Step one e answer one' → (two' : State) × Step two e answer two' × IsAlike one' two'
+pub others_follow : (one two one' : State) (e : Entry) (answer : Answer) → IsAlike one two → IsApart e one two → speaks_of_room answer ≡ false → MayAnswer one e answer one' → (two' : State) × MayAnswer two e answer two' × IsAlike one' two'
 others_follow one two one' e answer same apart room step = subst (λ (s : State). Follows s e answer one') (sym is) (entry_follows one one' two.tight two.jobs e answer (ap (λ (s : State). s.jobs) same) (subst (λ (s : State). IsApart e one s) is apart) room step)
   where
     is : two ≡ over one two.tight two.jobs

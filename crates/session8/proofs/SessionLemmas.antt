@@ -28,12 +28,12 @@ use Rattle.script8.specs.declared.faults.SessionFault.{SessionFault}
 use Rattle.script8.specs.declared.faults.SessionFault.TheVariants as fault
 use Rattle.script8.specs.declared.replies.Reply.{Reply}
 use Rattle.script8.specs.declared.replies.Reply.TheVariants.{Line}
-use Rattle.script8.specs.declared.replies.Said.TheVariants.{Stored, Deleted}
+use Rattle.script8.specs.declared.replies.LineReply.TheVariants.{Stored, Deleted}
 use Rattle.session8.specs.Console.{IsBreakTooMany, TakesMemory, is_within_limits}
 use Rattle.session8.specs.ConsoleSteps.{ConsoleDoes}
 use Rattle.session8.specs.Files.{text_blocks}
 use Rattle.session8.specs.Session.{Seen, state_of}
-use Rattle.session8.specs.SessionSteps.{Does}
+use Rattle.session8.specs.SessionSteps.{DoesEntry}
 use Rattle.session8.specs.State.{Console, State}
 use Rattle.session8.specs.Work.{job_state}
 use Rattle.session8.proofs.DoesLemmas.{steady, steady_same, shown, replied, refused, undone, HasFailed, failed, behind_same, stopped}
@@ -101,7 +101,7 @@ same_state : (s : Seen) (v : Mounted) → v ≡ s.volume → state_of (over s v)
 same_state s v is = ap (λ (w : Mounted). state_of (over s w)) is
 
 -- a file that is not taken out
-pub delete_refused : (s : Seen) (v : Mounted) (bytes : List ℕ) (name : ℕ) (why : FileFault) → parsed_name bytes ≡ Some name → s.volume.tentative ≡ None → HoldAlike s → Deletes s.volume name (Err why) v → Does (entry.Files (filing.Delete bytes)) s (Err (fault_of_file why)) (over s v)
+pub delete_refused : (s : Seen) (v : Mounted) (bytes : List ℕ) (name : ℕ) (why : FileFault) → parsed_name bytes ≡ Some name → s.volume.tentative ≡ None → HoldAlike s → Deletes s.volume name (Err why) v → DoesEntry (entry.Files (filing.Delete bytes)) s (Err (fault_of_file why)) (over s v)
 delete_refused s v bytes name file.NotFound is none alike has = refused _ _ _ _ has.0.running (λ quiet. quiet) (steady_same _ _ has.2) (name, is, has.1) (same_state s v has.2)
 delete_refused s v bytes name (file.Busy other) is none alike has = refused _ _ _ _ has.0.running (λ quiet. quiet) (steady_same _ _ has.4) (name, is, (has.1, has.2, sym (alike name) ∙ has.3)) (same_state s v has.4)
 delete_refused s v bytes name file.DirectoryFull is none alike has = refused _ _ _ _ has.0.running (λ quiet. quiet) (steady_same _ _ has.5) (name, is, (has.1, sym (alike name) ∙ has.2, full s _ has.4)) (same_state s v has.5)
@@ -121,7 +121,7 @@ delete_settled old new js js' name told kept settled is has =
     subst (λ l. IsSettled new l) (sym is) (told old new js settled (kept old new name (Ok tt) has) (ap (λ (m : Mounted). m.tentative) has.others ∙ settled.none))
 
 -- a file that is taken out
-pub delete_done : (s : Seen) (v : Mounted) (js : List (Option Job)) (bytes : List ℕ) (name : ℕ) → parsed_name bytes ≡ Some name → HoldAlike s → js ≡ disturbed s.jobs → HasDeleted s.volume name v → Does (entry.Files (filing.Delete bytes)) s (Ok (Line (Deleted name))) (over_with s v js)
+pub delete_done : (s : Seen) (v : Mounted) (js : List (Option Job)) (bytes : List ℕ) (name : ℕ) → parsed_name bytes ≡ Some name → HoldAlike s → js ≡ disturbed s.jobs → HasDeleted s.volume name v → DoesEntry (entry.Files (filing.Delete bytes)) s (Ok (Line (Deleted name))) (over_with s v js)
 delete_done s v js bytes name is alike told has = replied _ _ _ _ has.ready.running (steady _ _ _ _ _ has.others) (
   is,
   (
@@ -158,7 +158,7 @@ put_settled old new js js' name words told kept settled is has none = subst (λ 
 
 -- a text that is not stored
 pub store_refused : (s : Seen) (v : Mounted) (bytes : List ℕ) (name : ℕ) (text words : List ℕ) (why : FileFault) → parsed_name bytes ≡ Some name → HoldAlike s → is_storable text ≡ true → words ≡ stored text
-    → Puts s.volume name words (Err why) v → Does (entry.Files (filing.Store bytes text)) s (Err (fault_of_file why)) (over s v)
+    → Puts s.volume name words (Err why) v → DoesEntry (entry.Files (filing.Store bytes text)) s (Err (fault_of_file why)) (over s v)
 store_refused s v bytes name text words (file.Busy other) is alike storable words_are has = refused _ _ _ _ has.0.running (λ quiet. quiet) (steady_same _ _ has.3) (name, is, storable, (has.1, sym (alike name) ∙ has.2)) (same_state s v has.3)
 store_refused s v bytes name text words (file.NoRoom n) is alike storable words_are has = refused _ _ _ _ has.0.running (λ quiet. quiet) (steady_same _ _ has.4) (name, is, storable, (sym (alike name) ∙ has.1, crowded s _ n (subst (λ (l : List ℕ). n < blocks_filled l) words_are has.2) has.3)) (same_state s v has.4)
 store_refused s v bytes name text words file.DirectoryFull is alike storable words_are has = refused _ _ _ _ has.0.running (λ quiet. quiet) (steady _ _ _ _ _ has.3.others) (name, is, storable, (sym (alike name) ∙ has.1, full s _ (subst (λ (l : List ℕ). IsOver s.volume.blocks (insert (files_of s.volume.blocks) name (plain_file s.volume l))) words_are has.2))) (kept_state s v _ has.3)
@@ -172,7 +172,7 @@ store_refused s v bytes name text words file.TentativeOpen is alike storable wor
 store_refused s v bytes name text words file.NothingWritten is alike storable words_are has = absurd has
 
 -- a text that can't be stored
-pub no_text_stored : (s : Seen) (bytes : List ℕ) (name : ℕ) (text : List ℕ) → parsed_name bytes ≡ Some name → is_storable text ≡ false → Does (entry.Files (filing.Store bytes text)) s (Err fault.BadText) s
+pub no_text_stored : (s : Seen) (bytes : List ℕ) (name : ℕ) (text : List ℕ) → parsed_name bytes ≡ Some name → is_storable text ≡ false → DoesEntry (entry.Files (filing.Store bytes text)) s (Err fault.BadText) s
 no_text_stored s bytes name text is no_text = record {
   step = λ quiet. ((name, is, no_text), refl);
   later = record { reads = omega arith; writes = omega arith };
@@ -186,16 +186,16 @@ no_text_stored s bytes name text is no_text = record {
 }
 
 -- a text for whose words memory was lacking
-pub text_lacks : (s : Seen) (bytes : List ℕ) (name : ℕ) (text : List ℕ) → parsed_name bytes ≡ Some name → HoldAlike s → is_storable text ≡ true → s.volume.stopped ≡ false → contains s.volume.holds name ≡ false → Does (entry.Files (filing.Store bytes text)) s (Err fault.Memory) s
+pub text_lacks : (s : Seen) (bytes : List ℕ) (name : ℕ) (text : List ℕ) → parsed_name bytes ≡ Some name → HoldAlike s → is_storable text ≡ true → s.volume.stopped ≡ false → contains s.volume.holds name ≡ false → DoesEntry (entry.Files (filing.Store bytes text)) s (Err fault.Memory) s
 text_lacks s bytes name text is alike storable running free = undone _ _ _ (λ halted. absurd (true≢false (sym halted ∙ running))) (name, is, storable, sym (alike name) ∙ free) (steady_same _ _ refl) refl
 
 -- a text that is not stored, since it can't be, or a write has failed, or a job holds the name
 pub unstored : (s : Seen) (bytes : List ℕ) (name : ℕ) (text : List ℕ) (why : SessionFault) → parsed_name bytes ≡ Some name → HoldAlike s → (s.volume.stopped ≡ false → contains s.volume.holds name ≡ true) → (is_storable text ≡ false → why ≡ fault.BadText)
-    → (is_storable text ≡ true → s.volume.stopped ≡ true → why ≡ fault.File file.Stopped) → (is_storable text ≡ true → s.volume.stopped ≡ false → why ≡ fault.File (file.Busy name)) → Does (entry.Files (filing.Store bytes text)) s (Err why) s
+    → (is_storable text ≡ true → s.volume.stopped ≡ true → why ≡ fault.File file.Stopped) → (is_storable text ≡ true → s.volume.stopped ≡ false → why ≡ fault.File (file.Busy name)) → DoesEntry (entry.Files (filing.Store bytes text)) s (Err why) s
 unstored s bytes name text why is alike held bad halts busy = by_text (is_storable text) (s.volume.stopped) refl refl
   where
     it : SessionFault → Type 0
-    it f = Does (entry.Files (filing.Store bytes text)) s (Err f) s
+    it f = DoesEntry (entry.Files (filing.Store bytes text)) s (Err f) s
 
     by_text : (storable halted : Bool) → is_storable text ≡ storable → s.volume.stopped ≡ halted → it why
     by_text false halted no_text stands = subst it (sym (bad no_text)) (no_text_stored s bytes name text is no_text)
@@ -204,7 +204,7 @@ unstored s bytes name text why is alike held bad halts busy = by_text (is_storab
 
 -- a text that is stored
 pub store_done : (s : Seen) (v : Mounted) (js : List (Option Job)) (bytes : List ℕ) (name : ℕ) (text words : List ℕ) (blocks : ℕ) → parsed_name bytes ≡ Some name → HoldAlike s → js ≡ disturbed s.jobs → is_storable text ≡ true → words ≡ stored text → blocks ≡ text_blocks text
-    → HasPut s.volume name words v → Does (entry.Files (filing.Store bytes text)) s (Ok (Line (Stored name blocks))) (over_with s v js)
+    → HasPut s.volume name words v → DoesEntry (entry.Files (filing.Store bytes text)) s (Ok (Line (Stored name blocks))) (over_with s v js)
 store_done s v js bytes name text words blocks is alike told storable words_are blocks_are has = replied _ _ _ _ has.ready.running (steady _ _ _ _ _ has.others) (
   is,
   blocks_are,
@@ -224,7 +224,7 @@ store_done s v js bytes name text words blocks is alike told storable words_are 
 )
 
 -- what the console shows is a step
-pub console_shown : (it : ConsoleEntry) (s : Seen) (reply : Reply) (console : Console) → is_within_limits it ≡ true → ConsoleDoes it s.console (Ok reply) console → Does (entry.Console it) s (Ok reply) (record s { console = console })
+pub console_shown : (it : ConsoleEntry) (s : Seen) (reply : Reply) (console : Console) → is_within_limits it ≡ true → ConsoleDoes it s.console (Ok reply) console → DoesEntry (entry.Console it) s (Ok reply) (record s { console = console })
 console_shown it s reply console within has = shown it s _ reply refl (within, has, refl)
 
 -- a console that is the same
@@ -232,11 +232,11 @@ same_console : (s : Seen) (console : Console) → console ≡ s.console → stat
 same_console s console is = ap (λ (c : Console). record (state_of s) { console = c }) is
 
 -- an entry of the console for which memory was lacking
-pub console_undone : (it : ConsoleEntry) (s : Seen) (console : Console) → is_within_limits it ≡ true → TakesMemory it → console ≡ s.console → Does (entry.Console it) s (Err fault.Memory) (record s { console = console })
+pub console_undone : (it : ConsoleEntry) (s : Seen) (console : Console) → is_within_limits it ≡ true → TakesMemory it → console ≡ s.console → DoesEntry (entry.Console it) s (Err fault.Memory) (record s { console = console })
 console_undone it s console within takes is = undone (entry.Console it) s _ (λ halted. ((takes, within), same_console s console is)) (takes, within) (steady_same _ _ refl) (same_console s console is)
 
 -- fewer or more steps than an entry may make are refused
-pub console_unlimited : (it : ConsoleEntry) (s : Seen) → is_within_limits it ≡ false → Does (entry.Console it) s (Err fault.BadLine) s
+pub console_unlimited : (it : ConsoleEntry) (s : Seen) → is_within_limits it ≡ false → DoesEntry (entry.Console it) s (Err fault.BadLine) s
 console_unlimited it s past = record {
   step = λ quiet. (past, refl);
   later = record { reads = omega arith; writes = omega arith };
@@ -250,7 +250,7 @@ console_unlimited it s past = record {
 }
 
 -- a break too many is refused
-pub console_full : (it : ConsoleEntry) (s : Seen) (console : Console) → IsBreakTooMany s.console it → console ≡ s.console → Does (entry.Console it) s (Err fault.TooManyBreaks) (record s { console = console })
+pub console_full : (it : ConsoleEntry) (s : Seen) (console : Console) → IsBreakTooMany s.console it → console ≡ s.console → DoesEntry (entry.Console it) s (Err fault.TooManyBreaks) (record s { console = console })
 console_full it s console full is = record {
   step = λ quiet. (full, same_console s console is);
   later = record { reads = omega arith; writes = omega arith };

@@ -14,7 +14,7 @@ use Rattle.script8.specs.declared.entries.ConsoleEntry.TheVariants as console
 use Rattle.script8.specs.declared.replies.Reply.{Reply}
 use Rattle.script8.specs.declared.replies.Reply.TheVariants.{Line, Report}
 use Rattle.script8.specs.declared.replies.Report.TheVariants as report
-use Rattle.script8.specs.declared.replies.Said.TheVariants as said
+use Rattle.script8.specs.declared.replies.LineReply.TheVariants as line
 use Rattle.script8.specs.declared.replies.Why.{Why}
 use Rattle.script8.specs.declared.replies.Why.TheVariants.{Halt, Unassigned, Break, Limit}
 use Rattle.session8.specs.State.{Console}
@@ -54,32 +54,32 @@ pub record HasGone (old : Console) (quick : Bool) (breaks : List Bool) (from : c
       ≡ record old { machine = after quick steps from; printed = old.printed ++ printed_by quick steps from }
 
 -- What the console replies to an entry, and how it then stands.
-abbrev pub Shows : Console → ConsoleEntry → Reply → Console → Type 0
-Shows old (console.Start cell) (Line (said.Started at)) new =
+abbrev pub ConsoleReplies : Console → ConsoleEntry → Reply → Console → Type 0
+ConsoleReplies old (console.Start cell) (Line (line.Started at)) new =
     (at ≡ cell) × (new ≡ record old { machine = started old.machine cell })
-Shows old (console.Step n) (Line (said.Steps steps why at)) new =
+ConsoleReplies old (console.Step n) (Line (line.Steps steps why at)) new =
     HasGone old false [] old.machine n steps why at new
-Shows old (console.Go n) (Line (said.Steps steps why at)) new =
+ConsoleReplies old (console.Go n) (Line (line.Steps steps why at)) new =
     HasGone old false old.breaks old.machine n steps why at new
-Shows old (console.Run cell n) (Line (said.Steps steps why at)) new =
+ConsoleReplies old (console.Run cell n) (Line (line.Steps steps why at)) new =
     HasGone old true old.breaks (started old.machine cell) n steps why at new
-Shows old (console.Key character) (Line (said.Key struck)) new =
+ConsoleReplies old (console.Key character) (Line (line.Key struck)) new =
     (struck ≡ character) × (new ≡ record old { machine = key_struck old.machine character })
-Shows old console.Done (Line said.Done) new = new ≡ record old { machine = printer_done old.machine }
-Shows old (console.Switches word) (Line (said.Switches set)) new =
+ConsoleReplies old console.Done (Line line.Done) new = new ≡ record old { machine = printer_done old.machine }
+ConsoleReplies old (console.Switches word) (Line (line.Switches set)) new =
     (set ≡ word) × (new ≡ record old { machine = switches_set old.machine word })
-Shows old (console.Examine cell) (Line (said.Core at word)) new =
+ConsoleReplies old (console.Examine cell) (Line (line.Core at word)) new =
     (at ≡ cell) × (word ≡ slice_index old.machine.core cell) × (new ≡ old)
-Shows old (console.Deposit cell word) (Line (said.Core at given)) new =
+ConsoleReplies old (console.Deposit cell word) (Line (line.Core at given)) new =
     (at ≡ cell) × (given ≡ word) × (new ≡ record old { machine = deposited old.machine cell word })
-Shows old (console.Break cell true) (Line (said.Break at is_on)) new =
+ConsoleReplies old (console.Break cell true) (Line (line.Break at is_on)) new =
     (at ≡ cell) × (is_on ≡ true) × (count_breaks new.breaks ≤ 64)
     × (new ≡ record old { breaks = break_set old.breaks cell })
-Shows old (console.Break cell false) (Line (said.Break at is_on)) new =
+ConsoleReplies old (console.Break cell false) (Line (line.Break at is_on)) new =
     (at ≡ cell) × (is_on ≡ false) × (new ≡ record old { breaks = break_cleared old.breaks cell })
-Shows old console.Registers (Report (report.Registers text)) new = (text ≡ snapshot old.machine) × (new ≡ old)
-Shows old console.Printed (Report (report.Printed characters)) new = (characters ≡ old.printed) × (new ≡ old)
-Shows old entry reply new = ⊥
+ConsoleReplies old console.Registers (Report (report.Registers text)) new = (text ≡ snapshot old.machine) × (new ≡ old)
+ConsoleReplies old console.Printed (Report (report.Printed characters)) new = (characters ≡ old.printed) × (new ≡ old)
+ConsoleReplies old entry reply new = ⊥
 
 -- a break more than 64 would be set
 abbrev pub IsBreakTooMany : Console → ConsoleEntry → Type 0

@@ -5,10 +5,10 @@ use Rattle.debug8.specs.declared.faults.DebugFault.TheVariants.{TooManyBreaks, M
 use Rattle.script8.specs.declared.entries.ConsoleEntry.{ConsoleEntry}
 use Rattle.script8.specs.declared.replies.Reply.{Reply}
 use Rattle.session8.specs.State.{Console}
-use Rattle.session8.specs.Console.{Shows, IsBreakTooMany, TakesMemory}
+use Rattle.session8.specs.Console.{ConsoleReplies, IsBreakTooMany, TakesMemory}
 
 -- What doing an entry at the console comes to.
 abbrev pub ConsoleDoes : ConsoleEntry → Console → Result Reply DebugFault → Console → Type 0
-ConsoleDoes entry old (Ok reply) new = Shows old entry reply new
+ConsoleDoes entry old (Ok reply) new = ConsoleReplies old entry reply new
 ConsoleDoes entry old (Err TooManyBreaks) new = IsBreakTooMany old entry × (new ≡ old)
 ConsoleDoes entry old (Err Memory) new = TakesMemory entry × (new ≡ old)

@@ -15,7 +15,7 @@ use Rattle.script8.specs.declared.faults.SessionFault.TheVariants.{BadLine, NoJo
 use Rattle.session8.specs.Files.{parsed_names}
 use Rattle.session8.specs.Refusals.{IsOfNoForm, Named, after_refusal}
 use Rattle.session8.specs.State.{State}
-use Rattle.session8.specs.System.{Answer, Step}
+use Rattle.session8.specs.System.{Answer, MayAnswer}
 
 -- bytes are a name
 abbrev pub IsName : List ℕ → Type 0
@@ -47,10 +47,10 @@ JobsStopFor s entry why = ⊥
 
 -- What an entry comes to where a write has failed before: at the console the step that it always is, and any other is refused. A
 -- refused turn ends its job.
-abbrev pub StepsStopped : State → Entry → Answer → State → Type 0
-StepsStopped old (entry.Console it) answer new = Step old (entry.Console it) answer new
-StepsStopped old (entry.Files it) (Err why) new = FilesStopFor it why × (new ≡ old)
-StepsStopped old (entry.Files it) (Ok reply) new = ⊥
-StepsStopped old (entry.Jobs it) (Err why) new =
+abbrev pub MayAnswerStopped : State → Entry → Answer → State → Type 0
+MayAnswerStopped old (entry.Console it) answer new = MayAnswer old (entry.Console it) answer new
+MayAnswerStopped old (entry.Files it) (Err why) new = FilesStopFor it why × (new ≡ old)
+MayAnswerStopped old (entry.Files it) (Ok reply) new = ⊥
+MayAnswerStopped old (entry.Jobs it) (Err why) new =
     JobsStopFor old it why × (new ≡ after_refusal old (entry.Jobs it))
-StepsStopped old (entry.Jobs it) (Ok reply) new = ⊥
+MayAnswerStopped old (entry.Jobs it) (Ok reply) new = ⊥

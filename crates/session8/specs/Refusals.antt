@@ -29,11 +29,11 @@ use Rattle.session8.specs.Work.{job_state, fault_of_job}
 abbrev pub IsOfNoForm : List (List ℕ) → Type 0
 IsOfNoForm from = (length from ≡ 0) ⊎ (8 < length from)
 
--- a target and its sources are names, of which this is said
+-- a target and its sources are names, of which this holds
 abbrev pub Named : List ℕ → List (List ℕ) → (ℕ → List ℕ → Type 0) → Type 0
-Named to from said =
+Named to from holds =
     (target : ℕ) × (sources : List ℕ) × (parsed_name to ≡ Some target) × (parsed_names from ≡ Some sources)
-    × said target sources
+    × holds target sources
 
 -- What the machine may refuse an entry of files for.
 abbrev pub FilesMayRefuse : State → FileEntry → SessionFault → Type 0

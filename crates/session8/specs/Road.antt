@@ -10,10 +10,10 @@ use Rattle.script8.specs.declared.entries.Entry.TheVariants as entry
 use Rattle.script8.specs.declared.entries.JobEntry.TheVariants.{Turn}
 use Rattle.script8.specs.declared.faults.SessionFault.TheVariants.{Tape}
 use Rattle.script8.specs.declared.replies.Reply.TheVariants.{Line}
-use Rattle.script8.specs.declared.replies.Said.TheVariants.{Stored, Deleted, Assembled, Loaded}
-use Rattle.session8.specs.Console.{Shows}
+use Rattle.script8.specs.declared.replies.LineReply.TheVariants.{Stored, Deleted, Assembled, Loaded}
+use Rattle.session8.specs.Console.{ConsoleReplies}
 use Rattle.session8.specs.State.{Console, State}
-use Rattle.session8.specs.System.{Answer, Run, Step}
+use Rattle.session8.specs.System.{Answer, Run, MayAnswer}
 use Rattle.session8.specs.Work.{job_state, with_core}
 
 -- ## What answers tell
@@ -38,20 +38,20 @@ NoneTells tells (answer ∷ answers) = (tells answer ≡ false) × NoneTells tel
 -- ## The console by itself
 
 -- an entry of the console that is replied to does there what it shows, and any other entry nothing
-abbrev pub Operates : Console → Entry → Answer → Console → Type 0
-Operates old (entry.Console it) (Ok reply) new = Shows old it reply new
-Operates old (entry.Console it) (Err why) new = new ≡ old
-Operates old (entry.Files it) answer new = new ≡ old
-Operates old (entry.Jobs it) answer new = new ≡ old
+abbrev pub OperatesConsole : Console → Entry → Answer → Console → Type 0
+OperatesConsole old (entry.Console it) (Ok reply) new = ConsoleReplies old it reply new
+OperatesConsole old (entry.Console it) (Err why) new = new ≡ old
+OperatesConsole old (entry.Files it) answer new = new ≡ old
+OperatesConsole old (entry.Jobs it) answer new = new ≡ old
 
 -- Entries with these answers do this to the console, one after another, whatever the files and the jobs are. Want of memory ends
 -- them.
-abbrev pub GoesOn : Console → List Entry → List Answer → Console → Type 0
-GoesOn old [] [] new = new ≡ old
-GoesOn old (entry ∷ entries) [] new = new ≡ old
-GoesOn old (entry ∷ entries) (answer ∷ answers) new =
-    (mid : Console) × Operates old entry answer mid × GoesOn mid entries answers new
-GoesOn old [] (answer ∷ answers) new = ⊥
+abbrev pub ConsoleGoesOn : Console → List Entry → List Answer → Console → Type 0
+ConsoleGoesOn old [] [] new = new ≡ old
+ConsoleGoesOn old (entry ∷ entries) [] new = new ≡ old
+ConsoleGoesOn old (entry ∷ entries) (answer ∷ answers) new =
+    (mid : Console) × OperatesConsole old entry answer mid × ConsoleGoesOn mid entries answers new
+ConsoleGoesOn old [] (answer ∷ answers) new = ⊥
 
 -- ## From sources to core
 
@@ -62,7 +62,7 @@ pub record HasMade (number name : ℕ) (sources : List (List ℕ)) (old new : St
   pub blocks : ℕ
   pub job : job_of number old.jobs ≡ Some (assembling name from left)
   pub words : sources ≡ words_among (job_state old) from
-  pub step : Step old (entry.Jobs (Turn number)) (Ok (Line (Assembled number name blocks))) new
+  pub step : MayAnswer old (entry.Jobs (Turn number)) (Ok (Line (Assembled number name blocks))) new
 
 -- each cell has the word that the sources put into it, and where they put none the word that it had
 pub record IsLaid (sources : List (List ℕ)) (old new : List ℕ) : Type 0 where
@@ -78,4 +78,4 @@ pub record Arrives (sources : List (List ℕ)) (old : State) (answer : Answer) (
   pub laid : is_loaded answer ≡ true → IsLaid sources old.console.machine.core core
   pub goes_on : is_loaded answer ≡ true → (last : State) → (entries : List Entry) → (answers : List Answer)
       → (stopped : Bool) → Run new entries answers stopped last
-      → NoneTells is_loaded answers → GoesOn (with_core old.console core) entries answers last.console
+      → NoneTells is_loaded answers → ConsoleGoesOn (with_core old.console core) entries answers last.console

@@ -56,9 +56,9 @@ pub record HasFailed (entry : Entry) (old new : Seen) : Type 0 where
   pub console : new.console ≡ old.console
 
 -- What an answer tells of the block calls where no write has failed before: `Device` comes just where one failed.
-abbrev pub Tells : Entry → Seen → Answer → Seen → Type 0
-Tells entry old (Err (File file.Device)) new = HasFailed entry old new
-Tells entry old answer new = IsQuiet old new
+abbrev pub TellsBlockCalls : Entry → Seen → Answer → Seen → Type 0
+TellsBlockCalls entry old (Err (File file.Device)) new = HasFailed entry old new
+TellsBlockCalls entry old answer new = IsQuiet old new
 
 -- an answer to an entry is neither the reader's nor the writer's fault
 abbrev pub IsReply : Answer → Type 0

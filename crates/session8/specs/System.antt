@@ -17,12 +17,12 @@ use Rattle.script8.specs.declared.faults.SessionFault.TheVariants.{Memory}
 use Rattle.script8.specs.declared.replies.Reply.{Reply}
 use Rattle.script8.specs.declared.replies.Reply.TheVariants.{Line, Report}
 use Rattle.script8.specs.declared.replies.Report.TheVariants.{Direct}
-use Rattle.script8.specs.declared.replies.Said.TheVariants.{Stored, Deleted, Job}
-use Rattle.session8.specs.Console.{Shows, is_within_limits}
+use Rattle.script8.specs.declared.replies.LineReply.TheVariants.{Stored, Deleted, Job}
+use Rattle.session8.specs.Console.{ConsoleReplies, is_within_limits}
 use Rattle.session8.specs.Files.{HasStored, HasDeleted, text_blocks}
 use Rattle.session8.specs.Refusals.{Named, MayRefuse, MayLack, after_refusal}
 use Rattle.session8.specs.State.{State}
-use Rattle.session8.specs.Work.{Works, said_of}
+use Rattle.session8.specs.Work.{Works, turn_reply}
 
 -- what is answered to an entry
 abbrev pub Answer : Type 0
@@ -48,15 +48,15 @@ JobsMayReply old (job.Load name) (Line (Job number)) new =
     × Works (λ before after. LoadStarts before n (Ok number) after) old new
 JobsMayReply old job.Squeeze (Line (Job number)) new =
     Works (λ before after. SqueezeStarts before (Ok number) after) old new
-JobsMayReply old (job.Turn number) (Line said) new =
-    (turned : Turned) × (said ≡ said_of number turned)
+JobsMayReply old (job.Turn number) (Line reply) new =
+    (turned : Turned) × (reply ≡ turn_reply number turned)
     × Works (λ before after. Turns before number (Ok turned) after) old new
 JobsMayReply old entry reply new = ⊥
 
 -- What it may do and reply to an entry of the console.
 abbrev pub ConsoleMayReply : State → ConsoleEntry → Reply → State → Type 0
 ConsoleMayReply old entry reply new =
-    (is_within_limits entry ≡ true) × Shows old.console entry reply new.console
+    (is_within_limits entry ≡ true) × ConsoleReplies old.console entry reply new.console
     × (new ≡ record old { console = new.console })
 
 -- What the machine may do and reply.
@@ -66,10 +66,10 @@ MayReply old (entry.Jobs it) reply new = JobsMayReply old it reply new
 MayReply old (entry.Console it) reply new = ConsoleMayReply old it reply new
 
 -- From old, the machine may answer the entry so, and go on to new.
-abbrev pub Step : State → Entry → Answer → State → Type 0
-Step old entry (Ok reply) new = MayReply old entry reply new
-Step old entry (Err Memory) new = MayLack old entry × (new ≡ old)
-Step old entry (Err why) new = MayRefuse old entry why × (new ≡ after_refusal old entry)
+abbrev pub MayAnswer : State → Entry → Answer → State → Type 0
+MayAnswer old entry (Ok reply) new = MayReply old entry reply new
+MayAnswer old entry (Err Memory) new = MayLack old entry × (new ≡ old)
+MayAnswer old entry (Err why) new = MayRefuse old entry why × (new ≡ after_refusal old entry)
 
 -- The machine may give these answers to these entries, one step after another. Want of memory ends the run before an entry for which
 -- the machine may lack it.
@@ -77,5 +77,5 @@ abbrev pub Run : State → List Entry → List Answer → Bool → State → Typ
 Run old [] [] stopped new = (stopped ≡ false) × (new ≡ old)
 Run old (entry ∷ entries) [] stopped new = (stopped ≡ true) × MayLack old entry × (new ≡ old)
 Run old (entry ∷ entries) (answer ∷ answers) stopped new =
-    (mid : State) × Step old entry answer mid × (answer ≢ Err Memory) × Run mid entries answers stopped new
+    (mid : State) × MayAnswer old entry answer mid × (answer ≢ Err Memory) × Run mid entries answers stopped new
 Run old [] (answer ∷ answers) stopped new = ⊥

@@ -1,15 +1,15 @@
-ghost use Rattle.std.specs.Prelude.{◌≡◌, ◌+◌, ◌<◌, ◌≤◌, ◌↔◌, [], false, true, None, OnOk, IfOk, IfErr, IsErrOf, ◌++◌, ◌∷◌, vec_len, vec_capacity, Err};
+ghost use Rattle.std.specs.Prelude.{◌≡◌, ◌+◌, ◌<◌, ◌≤◌, ◌↔◌, [], false, true, None, OnOk, IfOk, IfErr, IsErrOf, vec_len, vec_capacity, Err};
 ghost use Rattle.os8_dir.specs.Reading.{Sound, Meets, directory_of};
 ghost use Rattle.os8_dir.specs.declared.faults.DirFault.TheVariants.{Device};
 ghost use Rattle.jobs8.specs.Jobs.{no_jobs};
 ghost use Rattle.jobs8.specs.Calls.{Outlives};
 ghost use Rattle.session8.specs.Console.{is_within_limits};
-ghost use Rattle.session8.specs.Failing.{StepsStopped};
-ghost use Rattle.session8.specs.System.{Step, Run};
-ghost use Rattle.session8.specs.SessionSteps.{is_memory, Leaves, Does};
+ghost use Rattle.session8.specs.Failing.{MayAnswerStopped};
+ghost use Rattle.session8.specs.System.{MayAnswer, Run};
+ghost use Rattle.session8.specs.SessionSteps.{is_memory, LeavesAlone, DoesEntry};
 ghost use Rattle.session8.specs.Interleaving.{EntryReads, EntryPlaces};
 ghost use Rattle.session8.specs.Room.{EntryTellsRoom};
-ghost use Rattle.session8.specs.Session.{state_of, IsQuiet, IsLater, IsSame, IsReply, IsSteadied, Tells};
+ghost use Rattle.session8.specs.Session.{state_of, IsQuiet, IsLater, IsSame, IsReply, IsSteadied, TellsBlockCalls};
 ghost use Rattle.core_load.specs.Core.{zeros};
 ghost use Rattle.cpu8.specs.State.{stopped};
 ghost use Rattle.debug8.specs.Breaks.{no_breaks};
@@ -118,7 +118,8 @@ impl<S: BlockStore> Session<S> {
     /// of files or jobs is `Stopped`, but for a bad form, name or text and a turn of no job, and one of the console goes on. No
     /// steps, and more than 1,000,000, are a `BadLine`.
     pub fn enter(&mut self, alloc: Global, entry: Entry) -> Result<Reply, SessionFault>
-        ensures step { IsQuiet self.old self.new → Step (state_of self.old) entry result (state_of self.new) }
+        ensures step { IsQuiet self.old self.new
+            → MayAnswer (state_of self.old) entry result (state_of self.new) }
         ensures later { IsLater self.old self.new }
         ensures files { self.old.volume.stopped ≡ false
             → self.old.volume.failed_writes < self.new.volume.failed_writes
@@ -126,11 +127,11 @@ impl<S: BlockStore> Session<S> {
         ensures running { IsQuiet self.old self.new → self.new.volume.stopped ≡ false }
         ensures memory { IsErrOf result Memory → IsSame self.old self.new }
         ensures reply { IsReply result }
-        ensures done { OnOk result (Step (state_of self.old) entry result (state_of self.new)
+        ensures done { OnOk result (MayAnswer (state_of self.old) entry result (state_of self.new)
             × IsSteadied entry self.old self.new) }
-        ensures tells { self.old.volume.stopped ≡ false → Tells entry self.old result self.new }
+        ensures tells { self.old.volume.stopped ≡ false → TellsBlockCalls entry self.old result self.new }
         ensures stopped { self.old.volume.stopped ≡ true
-            → StepsStopped (state_of self.old) entry result (state_of self.new) }
+            → MayAnswerStopped (state_of self.old) entry result (state_of self.new) }
         ensures reads { EntryReads entry self.old self.new }
         ensures places { EntryPlaces entry self.old self.new }
         ensures room { EntryTellsRoom entry self.old result }
@@ -142,7 +143,8 @@ impl<S: BlockStore> Session<S> {
     /// was done by then, it is answered.
     pub fn run(&mut self, alloc: Global, entries: &[Entry]) -> Result<Ran, SessionFault>
         ensures run { IsQuiet self.old self.new
-            → IfOk result (λ ran. Run (state_of self.old) entries.now ran.replies.items ran.stopped (state_of self.new)) }
+            → IfOk result
+            (λ ran. Run (state_of self.old) entries.now ran.replies.items ran.stopped (state_of self.new)) }
         ensures later { IsLater self.old self.new }
         ensures running { IsQuiet self.old self.new → self.new.volume.stopped ≡ false }
         ensures stopped { IfOk result (λ ran. ran.stopped ≡ true → 0 < vec_len ran.replies) }
@@ -160,7 +162,7 @@ impl<S: BlockStore> Session<S> {
                     stopped: true,
                 });
             }
-            push_reserved(&mut replies, answer);
+            replies.push_reserved(answer);
         }
         Ok(Ran {
             replies,
@@ -168,10 +170,10 @@ impl<S: BlockStore> Session<S> {
         })
     }
 
-    /// Does an entry that is lent.
+    /// Does an entry.
     fn step(&mut self, alloc: Global, entry: &Entry) -> Result<Reply, SessionFault>
-        ensures does { Does entry.now self.old result self.new }
-        ensures leaves { Leaves entry.now self.old self.new }
+        ensures does { DoesEntry entry.now self.old result self.new }
+        ensures leaves { LeavesAlone entry.now self.old self.new }
         ensures room { EntryTellsRoom entry.now self.old result }
     {
         match entry {
@@ -183,8 +185,8 @@ impl<S: BlockStore> Session<S> {
 
     /// Does an entry of the console.
     fn operate(&mut self, alloc: Global, asked: &ConsoleEntry) -> Result<Reply, SessionFault>
-        ensures does { Does (entry.Console asked.now) self.old result self.new }
-        ensures leaves { Leaves (entry.Console asked.now) self.old self.new }
+        ensures does { DoesEntry (entry.Console asked.now) self.old result self.new }
+        ensures leaves { LeavesAlone (entry.Console asked.now) self.old self.new }
     {
         if !is_within_limits(asked) {
             return Err(SessionFault::BadLine);
@@ -235,18 +237,5 @@ fn is_memory(answer: &Result<Reply, SessionFault>) -> bool
     match answer {
         Err(SessionFault::Memory) => true,
         _ => false,
-    }
-}
-
-/// Adds an item for which there is room.
-fn push_reserved<T>(items: &mut Vec<T>, item: T)
-    requires { vec_len items.old < vec_capacity items.old }
-    ensures items { items.new.items ≡ items.old.items ++ item ∷ [] }
-    ensures len { vec_len items.new ≡ vec_len items.old + 1 }
-    ensures capacity { vec_capacity items.old ≤ vec_capacity items.new }
-{
-    match items.push(item) {
-        Ok(()) => {}
-        Err(_) => unreachable!(),
     }
 }

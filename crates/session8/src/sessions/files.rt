@@ -9,7 +9,7 @@ ghost use Rattle.script8.specs.declared.entries.Entry.TheVariants as entry;
 ghost use Rattle.script8.specs.declared.entries.FileEntry.TheVariants as filing;
 ghost use Rattle.script8.specs.declared.faults.SessionFault.TheVariants.{BadText, File};
 ghost use Rattle.session8.specs.Room.{IfFile, EntryTellsRoom};
-ghost use Rattle.session8.specs.SessionSteps.{Leaves, Does};
+ghost use Rattle.session8.specs.SessionSteps.{LeavesAlone, DoesEntry};
 
 use super::Session;
 use char_pack::{TextFault, is_storable, store};
@@ -17,7 +17,7 @@ use jobs8::laws::{disturbed_jobs, held_names, settled_calls};
 use os8_dir::Name;
 use os8_files::FileFault;
 use os8_files::laws::{block_reads, file_places, kept_holds};
-use script8::{FileEntry, FileLengths, Reply, Report, Said, SessionFault};
+use script8::{FileEntry, FileLengths, LineReply, Reply, Report, SessionFault};
 use std::alloc::Global;
 use volume_image::BlockStore;
 
@@ -28,8 +28,8 @@ impl<S: BlockStore> Session<S> {
         alloc: Global,
         asked: &FileEntry,
     ) -> Result<Reply, SessionFault>
-        ensures does { Does (entry.Files asked.now) self.old result self.new }
-        ensures leaves { Leaves (entry.Files asked.now) self.old self.new }
+        ensures does { DoesEntry (entry.Files asked.now) self.old result self.new }
+        ensures leaves { LeavesAlone (entry.Files asked.now) self.old self.new }
         ensures room { EntryTellsRoom (entry.Files asked.now) self.old result }
     {
         match asked {
@@ -41,8 +41,8 @@ impl<S: BlockStore> Session<S> {
 
     /// Makes a file of a text.
     fn store(&mut self, alloc: Global, name: &[u8], text: &[u8]) -> Result<Reply, SessionFault>
-        ensures does { Does (entry.Files (filing.Store name.now text.now)) self.old result self.new }
-        ensures leaves { Leaves (entry.Files (filing.Store name.now text.now)) self.old self.new }
+        ensures does { DoesEntry (entry.Files (filing.Store name.now text.now)) self.old result self.new }
+        ensures leaves { LeavesAlone (entry.Files (filing.Store name.now text.now)) self.old self.new }
         ensures room { EntryTellsRoom (entry.Files (filing.Store name.now text.now)) self.old result }
     {
         match Name::parse(name) {
@@ -55,9 +55,9 @@ impl<S: BlockStore> Session<S> {
     fn store_named(&mut self, alloc: Global, name: Name, text: &[u8]) -> Result<Reply, SessionFault>
         requires { IsNamed name }
         ensures does { (bytes : List ℕ) → parsed_name bytes ≡ Some name
-            → Does (entry.Files (filing.Store bytes text.now)) self.old result self.new }
+            → DoesEntry (entry.Files (filing.Store bytes text.now)) self.old result self.new }
         ensures leaves { (bytes : List ℕ) → parsed_name bytes ≡ Some name
-            → Leaves (entry.Files (filing.Store bytes text.now)) self.old self.new }
+            → LeavesAlone (entry.Files (filing.Store bytes text.now)) self.old self.new }
         ensures room { IfFile (TellsRoom self.old.volume.blocks name (spec.stored text.now)) result }
     {
         block_reads();
@@ -76,15 +76,15 @@ impl<S: BlockStore> Session<S> {
                 self.files.put(alloc, name, &words)?;
                 self.jobs.disturb();
                 let blocks = words.len() / 256;
-                Ok(Reply::Line(Said::Stored { name, blocks }))
+                Ok(Reply::Line(LineReply::Stored { name, blocks }))
             }
         }
     }
 
     /// Takes a file out.
     fn delete(&mut self, alloc: Global, name: &[u8]) -> Result<Reply, SessionFault>
-        ensures does { Does (entry.Files (filing.Delete name.now)) self.old result self.new }
-        ensures leaves { Leaves (entry.Files (filing.Delete name.now)) self.old self.new }
+        ensures does { DoesEntry (entry.Files (filing.Delete name.now)) self.old result self.new }
+        ensures leaves { LeavesAlone (entry.Files (filing.Delete name.now)) self.old self.new }
     {
         block_reads();
         disturbed_jobs();
@@ -97,15 +97,15 @@ impl<S: BlockStore> Session<S> {
             Some(name) => {
                 self.files.delete(alloc, &name)?;
                 self.jobs.disturb();
-                Ok(Reply::Line(Said::Deleted(name)))
+                Ok(Reply::Line(LineReply::Deleted(name)))
             }
         }
     }
 
     /// The files in name order, and the free blocks.
     fn direct(&mut self, alloc: Global) -> Result<Reply, SessionFault>
-        ensures does { Does (entry.Files filing.Direct) self.old result self.new }
-        ensures leaves { Leaves (entry.Files filing.Direct) self.old self.new }
+        ensures does { DoesEntry (entry.Files filing.Direct) self.old result self.new }
+        ensures leaves { LeavesAlone (entry.Files filing.Direct) self.old self.new }
     {
         let files = self.files.listing(alloc)?;
         let free = self.files.free();
