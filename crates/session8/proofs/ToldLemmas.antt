@@ -190,6 +190,12 @@ refused_told why old new w w' (Ok done) same ok err = record {
 refused_told why old new w w' (Err e) same ok err =
     subst (λ (e : Ending). RunsItems (Refused why ∷ []) old new w w' (Err e)) (sym err) (_, front_all (Refused why ∷ []) old new (fault_line why ∷ []) (refl, same))
 
+-- a turn that left its job, whose line is not shown
+pub turn_working : (n : ℕ) (answer : Answer) (old new : State) (w : Option (List ℕ))
+    → MayAnswer old (kinds.Jobs (order.Turn n)) answer new → answer ≢ Err fault.Memory → is_working answer ≡ true → Appends w w []
+    → RunsTurn n old new w w (Ok tt)
+turn_working n answer old new w step other working none = (answer, step, other, subst (λ (l : List ℕ). Appends w w l) (sym (append-nil _ ∙ rw working refl)) none)
+
 -- a turn whose line is written
 pub turn_told : (n : ℕ) (answer : Answer) (old new : State) (w w' : Option (List ℕ)) (r : Result (Unit {0}) Ending)
     → MayAnswer old (kinds.Jobs (order.Turn n)) answer new → answer ≢ Err fault.Memory → is_working answer ≡ false

@@ -9,7 +9,7 @@ ghost use Rattle.script8.specs.declared.items.Item.TheVariants.{Do, Finish};
 ghost use Rattle.jobs8.specs.Jobs.{lowest_job, turns_left};
 ghost use Rattle.session8.specs.Reading.{TakesBytes};
 ghost use Rattle.session8.specs.RunSteps.{RunsItems, RunsTurn, RunsNext, RunsPrefix, RunsGiven, RunsRead, IsBegun, IsEnded, fault_of};
-ghost use Rattle.session8.specs.Script.{RunsText};
+ghost use Rattle.session8.specs.Script.{RunsText, is_working};
 ghost use Rattle.session8.specs.declared.endings.Ending.TheVariants as ending;
 ghost use Rattle.session8.specs.Session.{state_of, IsQuiet, IsLater};
 
@@ -292,7 +292,7 @@ impl<S: BlockStore> Session<S> {
         if is_memory(&answer) {
             return Err(Ending::Memory);
         }
-        if let Ok(Reply::Line(LineReply::Working(_))) = answer {
+        if is_working(&answer) {
             return Ok(());
         }
         let turn = Entry::Jobs(JobEntry::Turn(number));
@@ -380,7 +380,17 @@ impl<S: BlockStore> Session<S> {
     }
 }
 
-/// Writes the lines of an answer, which are built in a line that is lent.
+/// Whether an answer tells that a job took a turn, and is not at its end.
+fn is_working(answer: &Result<Reply, SessionFault>) -> bool
+    ensures { result ≡ is_working answer.now }
+{
+    match answer {
+        Ok(Reply::Line(LineReply::Working(_))) => true,
+        _ => false,
+    }
+}
+
+/// Writes the lines of an answer, which are built in a vector that is borrowed.
 fn write_lines<W: Write>(
     line: &mut Vec<u8>,
     entry: Option<&Entry>,
