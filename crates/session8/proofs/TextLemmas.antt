@@ -10,6 +10,7 @@ use Rattle.script8.specs.declared.items.Item.{Item}
 use Rattle.session8.specs.Reading.{IsRead, IsReadWithin, IsTaken, TakesBytes}
 use Rattle.session8.specs.declared.endings.Ending.{Ending}
 use Rattle.session8.specs.declared.endings.Ending.TheVariants as ending
+use Rattle.session8.specs.declared.pending.Begun.TheVariants.{Ran}
 use Rattle.session8.specs.State.{State}
 use Rattle.session8.specs.RunSteps.{RunsItems, RunsNext, RunsPrefix, RunsGiven, RunsRead, IsRunTo, IsEnded, StartsWithItems, items_in, fault_of}
 use Rattle.session8.specs.Script.{all_lines, WritesAnswers, WritesPrefix, RunsText}
@@ -76,6 +77,25 @@ pub front_next : (text : List ℕ) (is_end : Bool) (done bytes : ℕ) (front ite
     → StartsWithItems text is_end (front ++ items) (drop (done + bytes) text)
 front_next text is_end done bytes front items heads gives =
     heads_more text (drop done text) (drop (done + bytes) text) is_end front items heads (subst (λ (r : List ℕ). StartsWithItems (drop done text) is_end items r) (drop-drop bytes done text) (gives_heads (drop done text) is_end items bytes gives))
+
+-- a text of which a prefix is answered up to some bytes, behind which these lines are written
+abbrev pub IsRunUpTo : List ℕ → Bool → List ℕ → State → State → Option (List ℕ) → Option (List ℕ) → Type 0
+IsRunUpTo text is_end rest old new w w' = (items : List Item) × StartsWithItems text is_end items rest × WritesAnswers old items new w w' []
+
+-- one more item
+pub up_to_next : (text rest : List ℕ) (is_end : Bool) (done bytes : ℕ) (old mid new : State) (w w1 w2 : Option (List ℕ)) → rest ≡ drop done text
+    → IsRunUpTo text is_end (drop done text) old mid w w1 → RunsNext rest is_end mid new w1 w2 (Ok (Ran bytes)) → IsRunUpTo text is_end (drop (done + bytes) text) old new w w2
+up_to_next text rest is_end done bytes old mid new w w1 w2 back first next = (
+  first.0 ++ next.0,
+  front_next text is_end done bytes first.0 next.0 first.1 (subst (λ (l : List ℕ). GivesItems l is_end next.0 bytes) back next.1),
+  writes_append first.0 next.0 old mid new w w1 w2 [] first.2 next.2,
+)
+
+-- an item that ends the run
+pub up_to_stopped : (text rest : List ℕ) (is_end : Bool) (done : ℕ) (old mid new : State) (w w1 w2 : Option (List ℕ)) (why : Ending) → rest ≡ drop done text
+    → IsRunUpTo text is_end (drop done text) old mid w w1 → RunsNext rest is_end mid new w1 w2 (Err why) → RunsPrefix text is_end old new w w2 (Err why)
+up_to_stopped text rest is_end done old mid new w w1 w2 why back first next =
+    front_stopped text rest is_end first.0 old mid new w w1 w2 why (subst (λ (l : List ℕ). StartsWithItems text is_end first.0 l) (sym back) first.1) first.2 next
 
 -- a text that is run to its end
 pub runs_end : (text : List ℕ) (old new : State) (w w' : Option (List ℕ)) (why : Ending) → RunsPrefix text true old new w w' (Err why) → RunsItems (script_of text) old new w w' (Err why)

@@ -410,9 +410,7 @@ fn write_lines<W: Write>(
     if put_reply(entry, answer, line).is_err() {
         return Err(Ending::Memory);
     }
-    if writer.write_all(line).is_err() {
-        return Err(Ending::Writer);
-    }
+    writer.write_all(line)?;
     Ok(())
 }
 
@@ -420,8 +418,6 @@ fn flush<W: Write>(writer: &mut W) -> Result<(), Ending>
     ensures ok { OnOk result (Appends (W.contents writer.old) (W.contents writer.new) []) }
     ensures err { IfErr result (λ e. e ≡ ending.Writer) }
 {
-    if writer.flush().is_err() {
-        return Err(Ending::Writer);
-    }
+    writer.flush()?;
     Ok(())
 }
