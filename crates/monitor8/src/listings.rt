@@ -1,7 +1,7 @@
 ghost use Rattle.std.specs.Prelude.{◌≡◌, ℕ, ◌≤◌, ◌++◌, List, Option, IfOk, OnOk, IfErr, MatchResult};
 ghost use Rattle.std.specs.Io.KnownBytes.{Appends};
 ghost use Rattle.bin_tape.specs.Map.{IsMapOf};
-ghost use Rattle.session8.specs.Reading.{Takes};
+ghost use Rattle.session8.specs.Reading.{TakesBytes};
 ghost use Rattle.monitor8.specs.Listing.{cell_line, line_of, lines_below};
 ghost use Rattle.monitor8.specs.Lists.{IsListed, ListsTape};
 ghost use Rattle.monitor8.specs.ListSteps.{IsListingFault};
@@ -24,7 +24,7 @@ pub fn tape_text<R: Read, W: Write>(
     writer: &mut W,
 ) -> Result<(), SessionFault>
     ensures lists { ListsTape (R.remaining reader.old) (R.remaining reader.new) (W.contents writer.old) (W.contents writer.new) result }
-    ensures taken { (count : ℕ) × Takes (R.remaining reader.old) (R.remaining reader.new) count × (count ≤ 16777217)
+    ensures taken { (count : ℕ) × TakesBytes (R.remaining reader.old) (R.remaining reader.new) count × (count ≤ 16777217)
         × (count ≡ 16777217 → result ≡ Err fault.Reader) }
 {
     let frames = read_all(alloc, reader)?;

@@ -1,5 +1,5 @@
 ghost use Rattle.std.specs.Prelude.{◌≡◌, ℕ, ◌≤◌, Err};
-ghost use Rattle.session8.specs.Reading.{Takes};
+ghost use Rattle.session8.specs.Reading.{TakesBytes};
 ghost use Rattle.script8.specs.declared.faults.SessionFault.TheVariants as fault;
 ghost use Rattle.monitor8.specs.declared.sources.SourceFault.TheVariants.{Session};
 ghost use Rattle.monitor8.specs.Written.{WritesSource};
@@ -30,7 +30,7 @@ pub fn source_text<R: Read, W: Write>(
     writer: &mut W,
 ) -> Result<(), SourceFault>
     ensures source { WritesSource (R.remaining reader.old) (R.remaining reader.new) (W.contents writer.old) (W.contents writer.new) result }
-    ensures taken { (count : ℕ) × Takes (R.remaining reader.old) (R.remaining reader.new) count × (count ≤ 16777217)
+    ensures taken { (count : ℕ) × TakesBytes (R.remaining reader.old) (R.remaining reader.new) count × (count ≤ 16777217)
         × (count ≡ 16777217 → result ≡ Err (Session fault.Reader)) }
 {
     let frames = match read_all(alloc, reader) {

@@ -5,12 +5,13 @@ use Rattle.std.proofs.lemmas.Bool.Decides.{leb_tells}
 use Rattle.std.proofs.lemmas.List.{append_cancel_right, drop-drop, drop_all}
 use Rattle.script8.specs.Lines.{says, HasName, Parses}
 use Rattle.script8.proofs.LineLemmas.{says_err}
-use Rattle.script8.specs.Items.{lines_of, ended_lines, text_of, items_of_line, lines_taken, items_of, script_of, whole_of, lines_wanted, Gives, Waits, IsOut, Begins, BeginsWithName}
+use Rattle.script8.specs.Items.{lines_of, ended_lines, text_of, items_of_line, lines_taken, items_of, script_of, whole_of, lines_wanted, GivesItems, WaitsForLines, HasNoItem, BeginsWith, BeginsWithName}
 use Rattle.script8.proofs.CutLemmas.{ends_append}
 use Rattle.script8.specs.declared.items.Next.{Next}
 use Rattle.script8.specs.declared.items.Next.TheVariants as next
-use Rattle.script8.specs.CutSteps.{ended, HasFront, Cuts, Opens, TooFew}
+use Rattle.script8.specs.CutSteps.{ended, HasPrefix, Cuts, FirstLineSays, TooFew}
 use Rattle.script8.specs.declared.entries.Entry.TheVariants as entry
+use Rattle.script8.specs.declared.entries.FileEntry.TheVariants as files
 use Rattle.script8.specs.declared.faults.SessionFault.{SessionFault}
 use Rattle.script8.specs.declared.faults.SessionFault.TheVariants.{BadLine, Memory}
 use Rattle.script8.specs.declared.lines.Line.{Line}
@@ -26,7 +27,7 @@ no_lines (line ∷ lines) few = absurd (some_line (length lines) few)
     some_line n h = omega (arith, h)
 
 -- a text with no line has no item
-pub is_out : (text : List ℕ) (is_end : Bool) (missing : ℕ) → TooFew text is_end 1 missing → IsOut text is_end missing
+pub is_out : (text : List ℕ) (is_end : Bool) (missing : ℕ) → TooFew text is_end 1 missing → HasNoItem text is_end missing
 unfolding script_of whole_of
 is_out text true missing few = (ap (items_of (Refused BadLine ∷ []) 0) (no_lines (lines_of text) few.0), omega (arith, few.1, few.2))
 is_out text false missing few = (
@@ -59,38 +60,38 @@ some_bytes text line (suc n) is = omega arith
 
 -- the first line of a text, without its LF
 pub opens : (text front command : List ℕ) (is_end : Bool) (bytes : ℕ) (said : Result Line SessionFault) → Cuts text is_end 1 bytes → front ≡ take bytes text → ended front ≡ command ++ 10 ∷ []
-    → said ≡ says command → Opens text is_end said bytes
-opens text front command is_end bytes said cuts front_is command_is said_is =
+    → said ≡ says command → FirstLineSays text is_end said bytes
+opens text front command is_end bytes said cuts front_is command_is meaning_is =
     let one = one_line cuts.front cuts.size in
     let whole_line = sym (ap text_of one.1) ∙ cuts.content in
     let same = append_cancel_right one.0 command (10 ∷ []) (whole_line ∙ ap ended (sym front_is) ∙ command_is) in
     record {
       line = one.0;
-      said_is = ap says same ∙ sym said_is;
+      meaning_is = ap says same ∙ sym meaning_is;
       some = some_bytes text one.0 bytes whole_line;
       within = cuts.within;
       script = cuts.script ∙ ap (λ f. f ++ lines_of (drop bytes text)) one.1;
-      on = λ goes_on. subst (λ (f : List (List ℕ)). HasFront text f (drop bytes text)) one.1 (cuts.on goes_on);
+      on = λ goes_on. subst (λ (f : List (List ℕ)). HasPrefix text f (drop bytes text)) one.1 (cuts.on goes_on);
     }
 
 -- the items of a first line, and those behind it
 script_opens : (text line rest : List ℕ) (said : Result Line SessionFault) → says line ≡ said → lines_of text ≡ line ∷ lines_of rest
     → script_of text ≡ items_of_line (Refused BadLine ∷ []) said (lines_of rest) ++ items_of (Refused BadLine ∷ []) (lines_taken said) (lines_of rest)
 unfolding script_of
-script_opens text line rest said said_is first =
+script_opens text line rest said meaning_is first =
     ap (items_of (Refused BadLine ∷ []) 0) first
-    ∙ ap (λ s. items_of_line (Refused BadLine ∷ []) s (lines_of rest) ++ items_of (Refused BadLine ∷ []) (lines_taken s) (lines_of rest)) said_is
+    ∙ ap (λ s. items_of_line (Refused BadLine ∷ []) s (lines_of rest) ++ items_of (Refused BadLine ∷ []) (lines_taken s) (lines_of rest)) meaning_is
 
 whole_opens : (text line rest : List ℕ) (said : Result Line SessionFault) → says line ≡ said → ended_lines text ≡ line ∷ ended_lines rest
     → whole_of text ≡ items_of_line [] said (ended_lines rest) ++ items_of [] (lines_taken said) (ended_lines rest)
 unfolding whole_of
-whole_opens text line rest said said_is first =
+whole_opens text line rest said meaning_is first =
     ap (items_of [] 0) first
-    ∙ ap (λ s. items_of_line [] s (ended_lines rest) ++ items_of [] (lines_taken s) (ended_lines rest)) said_is
+    ∙ ap (λ s. items_of_line [] s (ended_lines rest) ++ items_of [] (lines_taken s) (ended_lines rest)) meaning_is
 
 -- a line that takes no others
 pub gives : (text : List ℕ) (is_end : Bool) (said : Result Line SessionFault) (items : List Item) (bytes : ℕ) → lines_taken said ≡ 0
-    → ((short : List Item) (lines : List (List ℕ)) → items_of_line short said lines ≡ items) → Opens text is_end said bytes → Gives text is_end items bytes
+    → ((short : List Item) (lines : List (List ℕ)) → items_of_line short said lines ≡ items) → FirstLineSays text is_end said bytes → GivesItems text is_end items bytes
 unfolding script_of whole_of
 gives text is_end said items bytes none are o = record {
   some = o.some;
@@ -104,13 +105,13 @@ gives text is_end said items bytes none are o = record {
   where
     script : (text rest : List ℕ) → lines_of text ≡ o.line ∷ lines_of rest → script_of text ≡ items ++ script_of rest
     script text rest first =
-        script_opens text o.line rest said o.said_is first
+        script_opens text o.line rest said o.meaning_is first
         ∙ ap (λ n. items_of_line (Refused BadLine ∷ []) said (lines_of rest) ++ items_of (Refused BadLine ∷ []) n (lines_of rest)) none
         ∙ ap (λ l. l ++ script_of rest) (are (Refused BadLine ∷ []) (lines_of rest))
 
     whole : (text rest : List ℕ) → ended_lines text ≡ o.line ∷ ended_lines rest → whole_of text ≡ items ++ whole_of rest
     whole text rest first =
-        whole_opens text o.line rest said o.said_is first
+        whole_opens text o.line rest said o.meaning_is first
         ∙ ap (λ n. items_of_line [] said (ended_lines rest) ++ items_of [] n (ended_lines rest)) none
         ∙ ap (λ l. l ++ whole_of rest) (are [] (ended_lines rest))
 
@@ -128,8 +129,8 @@ past short (line ∷ front) more zero size = absurd (some_line (length front) si
 past short (line ∷ front) more (suc n) size = past short front more n (omega (arith, size))
 
 -- the lines of a STORE are its text
-lines_done : (short : List Item) (name : List ℕ) (front more : List (List ℕ)) (count : ℕ) → length front ≡ count → items_of_line short (Ok (line.Store name count)) (front ++ more) ≡ Do (entry.Store name (text_of front)) ∷ []
-lines_done short name front more count size = rw (enough front more count size) (ap (λ l. Do (entry.Store name (text_of l)) ∷ []) (first front more count size))
+lines_done : (short : List Item) (name : List ℕ) (front more : List (List ℕ)) (count : ℕ) → length front ≡ count → items_of_line short (Ok (line.Store name count)) (front ++ more) ≡ Do (entry.Files (files.Store name (text_of front))) ∷ []
+lines_done short name front more count size = rw (enough front more count size) (ap (λ l. Do (entry.Files (files.Store name (text_of l))) ∷ []) (first front more count size))
   where
     within : (front more : List (List ℕ)) → length front ≤ length (front ++ more)
     within [] more = omega arith
@@ -154,18 +155,18 @@ lines_done short name front more count size = rw (enough front more count size) 
     first (line ∷ front) more (suc n) size = ap (λ l. line ∷ l) (first front more n (omega (arith, size)))
 
 -- a STORE with its lines
-pub stores : (text rest front content name : List ℕ) (is_end : Bool) (count bytes more sum : ℕ) → Opens text is_end (Ok (line.Store name count)) bytes → rest ≡ drop bytes text → Cuts rest is_end count more
-    → front ≡ take more rest → content ≡ ended front → sum ≡ bytes + more → Gives text is_end (Do (entry.Store name content) ∷ []) sum
+pub stores : (text rest front content name : List ℕ) (is_end : Bool) (count bytes more sum : ℕ) → FirstLineSays text is_end (Ok (line.Store name count)) bytes → rest ≡ drop bytes text → Cuts rest is_end count more
+    → front ≡ take more rest → content ≡ ended front → sum ≡ bytes + more → GivesItems text is_end (Do (entry.Files (files.Store name content)) ∷ []) sum
 unfolding script_of whole_of
 stores text rest front content name is_end count bytes more sum o rest_is cuts front_is content_is sum_is = record {
   some = omega (arith, o.some, sum_is);
   within = omega (arith, sum_is, cuts.within, o.within, rest_length);
-  script = script text (drop bytes text) (drop more rest) o.script (ap lines_of (sym rest_is) ∙ cuts.script) ∙ ap (λ r. Do (entry.Store name content) ∷ script_of r) behind;
+  script = script text (drop bytes text) (drop more rest) o.script (ap lines_of (sym rest_is) ∙ cuts.script) ∙ ap (λ r. Do (entry.Files (files.Store name content)) ∷ script_of r) behind;
   on = λ goes_on. record {
     script = λ last. script (text ++ last) (drop bytes text ++ last) (drop more rest ++ last) ((o.on goes_on).script last) (ap (λ r. lines_of (r ++ last)) (sym rest_is) ∙ (cuts.on goes_on).script last)
-        ∙ ap (λ r. Do (entry.Store name content) ∷ script_of (r ++ last)) behind;
+        ∙ ap (λ r. Do (entry.Files (files.Store name content)) ∷ script_of (r ++ last)) behind;
     whole = λ last. whole (text ++ last) (drop bytes text ++ last) (drop more rest ++ last) ((o.on goes_on).whole last) (ap (λ r. ended_lines (r ++ last)) (sym rest_is) ∙ (cuts.on goes_on).whole last)
-        ∙ ap (λ r. Do (entry.Store name content) ∷ whole_of (r ++ last)) behind;
+        ∙ ap (λ r. Do (entry.Files (files.Store name content)) ∷ whole_of (r ++ last)) behind;
   };
 }
   where
@@ -175,21 +176,21 @@ stores text rest front content name is_end count bytes more sum o rest_is cuts f
     content_same : text_of cuts.front ≡ content
     content_same = cuts.content ∙ ap ended (sym front_is) ∙ sym content_is
 
-    script : (text rest last : List ℕ) → lines_of text ≡ o.line ∷ lines_of rest → lines_of rest ≡ cuts.front ++ lines_of last → script_of text ≡ Do (entry.Store name content) ∷ script_of last
+    script : (text rest last : List ℕ) → lines_of text ≡ o.line ∷ lines_of rest → lines_of rest ≡ cuts.front ++ lines_of last → script_of text ≡ Do (entry.Files (files.Store name content)) ∷ script_of last
     script text rest last first next =
-        script_opens text o.line rest _ o.said_is first
+        script_opens text o.line rest _ o.meaning_is first
         ∙ ap (λ r. items_of_line (Refused BadLine ∷ []) (Ok (line.Store name count)) r ++ items_of (Refused BadLine ∷ []) count r) next
         ∙ ap (λ l. l ++ items_of (Refused BadLine ∷ []) count (cuts.front ++ lines_of last)) (lines_done (Refused BadLine ∷ []) name cuts.front (lines_of last) count cuts.size)
-        ∙ ap (λ l. Do (entry.Store name (text_of cuts.front)) ∷ l) (past (Refused BadLine ∷ []) cuts.front (lines_of last) count cuts.size)
-        ∙ ap (λ t. Do (entry.Store name t) ∷ script_of last) content_same
+        ∙ ap (λ l. Do (entry.Files (files.Store name (text_of cuts.front))) ∷ l) (past (Refused BadLine ∷ []) cuts.front (lines_of last) count cuts.size)
+        ∙ ap (λ t. Do (entry.Files (files.Store name t)) ∷ script_of last) content_same
 
-    whole : (text rest last : List ℕ) → ended_lines text ≡ o.line ∷ ended_lines rest → ended_lines rest ≡ cuts.front ++ ended_lines last → whole_of text ≡ Do (entry.Store name content) ∷ whole_of last
+    whole : (text rest last : List ℕ) → ended_lines text ≡ o.line ∷ ended_lines rest → ended_lines rest ≡ cuts.front ++ ended_lines last → whole_of text ≡ Do (entry.Files (files.Store name content)) ∷ whole_of last
     whole text rest last first next =
-        whole_opens text o.line rest _ o.said_is first
+        whole_opens text o.line rest _ o.meaning_is first
         ∙ ap (λ r. items_of_line [] (Ok (line.Store name count)) r ++ items_of [] count r) next
         ∙ ap (λ l. l ++ items_of [] count (cuts.front ++ ended_lines last)) (lines_done [] name cuts.front (ended_lines last) count cuts.size)
-        ∙ ap (λ l. Do (entry.Store name (text_of cuts.front)) ∷ l) (past [] cuts.front (ended_lines last) count cuts.size)
-        ∙ ap (λ t. Do (entry.Store name t) ∷ whole_of last) content_same
+        ∙ ap (λ l. Do (entry.Files (files.Store name (text_of cuts.front))) ∷ l) (past [] cuts.front (ended_lines last) count cuts.size)
+        ∙ ap (λ t. Do (entry.Files (files.Store name t)) ∷ whole_of last) content_same
 
     drop_length : (n : ℕ) (text : List ℕ) → n ≤ length text → length (drop n text) + n ≡ length text
     drop_length zero text within = omega arith
@@ -222,13 +223,13 @@ few_line short name lines count few = rw (less lines count few) refl
     less lines count few = elim (leb_tells (suc (length lines)) count) [ inl h ↦ h.0 | inr h ↦ absurd (not_less (length lines) count few h.1) ]
 
 -- a STORE whose lines are not all there at a script's end
-pub cut_short : (text rest name : List ℕ) (count bytes missing : ℕ) → Opens text true (Ok (line.Store name count)) bytes → rest ≡ drop bytes text → TooFew rest true count missing
-    → Gives text true (Refused BadLine ∷ []) (length text)
+pub cut_short : (text rest name : List ℕ) (count bytes missing : ℕ) → FirstLineSays text true (Ok (line.Store name count)) bytes → rest ≡ drop bytes text → TooFew rest true count missing
+    → GivesItems text true (Refused BadLine ∷ []) (length text)
 unfolding script_of
 cut_short text rest name count bytes missing o rest_is few = record {
   some = omega (arith, o.some, o.within);
   within = omega arith;
-  script = script_opens text o.line (drop bytes text) _ o.said_is o.script
+  script = script_opens text o.line (drop bytes text) _ o.meaning_is o.script
       ∙ ap (λ r. items_of_line (Refused BadLine ∷ []) (Ok (line.Store name count)) r ++ items_of (Refused BadLine ∷ []) count r) (ap lines_of (sym rest_is))
       ∙ ap (λ l. l ++ items_of (Refused BadLine ∷ []) count (lines_of rest)) (few_line (Refused BadLine ∷ []) name (lines_of rest) count few.0)
       ∙ ap (λ l. Refused BadLine ∷ l) (few_items (Refused BadLine ∷ []) (lines_of rest) count few.0)
@@ -237,44 +238,44 @@ cut_short text rest name count bytes missing o rest_is few = record {
 }
 
 -- and in a text that goes on
-pub waits : (text rest name : List ℕ) (count bytes missing : ℕ) → Opens text false (Ok (line.Store name count)) bytes → rest ≡ drop bytes text → TooFew rest false count missing → IsOut text false missing
+pub waits : (text rest name : List ℕ) (count bytes missing : ℕ) → FirstLineSays text false (Ok (line.Store name count)) bytes → rest ≡ drop bytes text → TooFew rest false count missing → HasNoItem text false missing
 waits text rest name count bytes missing o rest_is few = (few.0, wanted, waiting)
   where
     first : ended_lines text ≡ o.line ∷ ended_lines rest
     first = ap ended_lines (sym (append-nil text)) ∙ (o.on refl).whole [] ∙ ap (λ r. o.line ∷ ended_lines r) (append-nil (drop bytes text) ∙ sym rest_is)
 
     wanted : missing ≡ lines_wanted (ended_lines text)
-    wanted = omega (arith, few.1) ∙ ap (λ s. lines_taken s - length (ended_lines rest)) (sym o.said_is) ∙ ap lines_wanted (sym first)
+    wanted = omega (arith, few.1) ∙ ap (λ s. lines_taken s - length (ended_lines rest)) (sym o.meaning_is) ∙ ap lines_wanted (sym first)
 
-    waiting : Waits text missing
+    waiting : WaitsForLines text missing
     waiting more fewer =
         let less : length (ended_lines (rest ++ more)) < count = omega (arith, few.1, fewer, ends_append rest more) in
-        whole_opens (text ++ more) o.line (rest ++ more) _ o.said_is ((o.on refl).whole more ∙ ap (λ r. o.line ∷ ended_lines (r ++ more)) (sym rest_is))
+        whole_opens (text ++ more) o.line (rest ++ more) _ o.meaning_is ((o.on refl).whole more ∙ ap (λ r. o.line ∷ ended_lines (r ++ more)) (sym rest_is))
         ∙ ap (λ l. l ++ items_of [] count (ended_lines (rest ++ more))) (few_line [] name (ended_lines (rest ++ more)) count less)
         ∙ few_items [] (ended_lines (rest ++ more)) count less
 
 -- a STORE whose lines are not all there
-pub few_lines : (text rest name : List ℕ) (is_end : Bool) (count bytes missing : ℕ) (found : Next) → Opens text is_end (Ok (line.Store name count)) bytes → rest ≡ drop bytes text → TooFew rest is_end count missing
-    → (is_end ≡ true → found ≡ next.Item (Refused BadLine) (length text)) → (is_end ≡ false → found ≡ next.End missing) → Begins text is_end (Ok found)
+pub few_lines : (text rest name : List ℕ) (is_end : Bool) (count bytes missing : ℕ) (found : Next) → FirstLineSays text is_end (Ok (line.Store name count)) bytes → rest ≡ drop bytes text → TooFew rest is_end count missing
+    → (is_end ≡ true → found ≡ next.Item (Refused BadLine) (length text)) → (is_end ≡ false → found ≡ next.End missing) → BeginsWith text is_end (Ok found)
 few_lines text rest name true count bytes missing found o rest_is few over on = rw (over refl) (cut_short text rest name count bytes missing o rest_is few)
 few_lines text rest name false count bytes missing found o rest_is few over on = rw (on refl) (waits text rest name count bytes missing o rest_is few)
 
-pub one_wanted : Waits [] 1
+pub one_wanted : WaitsForLines [] 1
 unfolding whole_of
 one_wanted more few = ap (items_of [] 0) (no_lines (ended_lines more) few)
 
 -- lines that a text wants are fewer by those that come
-pub fewer_wanted : (text bytes : List ℕ) (lines left : ℕ) → left ≡ lines - length (ended_lines bytes) → Waits text lines → Waits (text ++ bytes) left
+pub fewer_wanted : (text bytes : List ℕ) (lines left : ℕ) → left ≡ lines - length (ended_lines bytes) → WaitsForLines text lines → WaitsForLines (text ++ bytes) left
 fewer_wanted text bytes lines left is waits more fewer =
     ap whole_of (append_assoc text bytes more) ∙ waits (bytes ++ more) (omega (arith, is, fewer, ends_append bytes more))
 
-abbrev Said : Type 0
-Said = Result Line SessionFault
+abbrev LineReply : Type 0
+LineReply = Result Line SessionFault
 
-ok_err : (x : Line) → ◌≡◌ {A = Said} (Ok x) (Err Memory) → ⊥
+ok_err : (x : Line) → ◌≡◌ {A = LineReply} (Ok x) (Err Memory) → ⊥
 ok_err x same = cc
 
-err_err : ◌≡◌ {A = Said} (Err BadLine) (Err Memory) → ⊥
+err_err : ◌≡◌ {A = LineReply} (Err BadLine) (Err Memory) → ⊥
 err_err same = cc
 
 -- what a line says that was read
@@ -292,5 +293,5 @@ said_name why command (inl is) other = absurd (other (says_err command why (sym 
 said_name why command (inr is) other = is.1
 
 -- a text whose first line says a name begins with one
-pub begins_name : (text : List ℕ) (is_end : Bool) (said : Result Line SessionFault) (bytes : ℕ) → Opens text is_end said bytes → HasName said → BeginsWithName text
-begins_name text is_end said bytes o has = (o.line, lines_of (drop bytes text), o.script, subst HasName (sym o.said_is) has)
+pub begins_name : (text : List ℕ) (is_end : Bool) (said : Result Line SessionFault) (bytes : ℕ) → FirstLineSays text is_end said bytes → HasName said → BeginsWithName text
+begins_name text is_end said bytes o has = (o.line, lines_of (drop bytes text), o.script, subst HasName (sym o.meaning_is) has)

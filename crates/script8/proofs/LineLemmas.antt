@@ -5,7 +5,7 @@ use Rattle.std.specs.List.{list_all, position, position_or_len}
 use Rattle.std.proofs.lemmas.List.Recursion.{is_position_or_len}
 use Rattle.std.specs.Str.{bytes_eq}
 use Rattle.std.proofs.lemmas.Bool.Decides.{eqb_tells, leb_tells}
-use Rattle.script8.specs.Lines.{command_of, onto_first, parts_of, words_of, form_of, whole, name_bytes, named, store_of, is_name, listed, lists_names, assembled, assemble_of, bare_entry, entry_with_word, entry_with_words, command_says, says}
+use Rattle.script8.specs.Lines.{command_of, onto_first, parts_of, words_of, form_of, whole, name_bytes, named, store_of, is_name, listed, lists_names, assembled, assemble_of, bare_entry, entry_with_word, at_console, console_with_words, command_says, says}
 use Rattle.script8.specs.CutSteps.{part_of, is_mark}
 use Rattle.script8.specs.declared.entries.Entry.{Entry}
 use Rattle.script8.specs.declared.faults.SessionFault.{SessionFault}
@@ -145,7 +145,7 @@ form_err (verb ∷ word ∷ []) why is =
     if_err (bytes_eq verb (codes "DELETE")) _ _ why (named_err _ word why)
     (if_err (bytes_eq verb (codes "LOAD")) _ _ why (named_err _ word why)
     (if_err (bytes_eq verb (codes "ASSEMBLE")) _ _ why (whole_err (assemble_of word) why) (whole_err (entry_with_word verb word) why))) is
-form_err (verb ∷ first ∷ second ∷ []) why is = if_err (bytes_eq verb (codes "STORE")) _ _ why (store_err first _ why) (whole_err (entry_with_words verb first second) why) is
+form_err (verb ∷ first ∷ second ∷ []) why is = if_err (bytes_eq verb (codes "STORE")) _ _ why (store_err first _ why) (whole_err (at_console (console_with_words verb first second)) why) is
 form_err (verb ∷ first ∷ second ∷ third ∷ words) why is = cc
 
 command_err : (command : List ℕ) (why : SessionFault) → command_says command ≡ Err why → why ≡ BadLine

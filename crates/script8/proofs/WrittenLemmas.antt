@@ -6,6 +6,7 @@ use Rattle.std.proofs.lemmas.Bool.Decides.{eqb_tells, leb_tells}
 use Rattle.script8.specs.Lines.{says, command_says, command_of, form_of, parts_of, onto_first, whole, is_name, listed, lists_names, assembled, target_and_sources}
 use Rattle.script8.specs.Written.{IsPlain, ArePlain, joined, AssembleAsWritten}
 use Rattle.script8.specs.declared.entries.Entry.TheVariants as entry
+use Rattle.script8.specs.declared.entries.JobEntry.TheVariants as job
 
 -- no byte is a mark
 abbrev HasNo : ℕ → List ℕ → Type 0
@@ -70,11 +71,11 @@ command_same [] free = refl
 command_same (b ∷ []) (one, free) = rw one refl
 command_same (b ∷ c ∷ bs) (one, free) = ap (λ t. b ∷ t) (command_same (c ∷ bs) free)
 
-chosen : (to source : List ℕ) (others : List (List ℕ)) → ArePlain (to ∷ source ∷ others) → length others ≤ 7 → target_and_sources to (joined source others) ≡ Some (entry.Assemble to (source ∷ others))
+chosen : (to source : List ℕ) (others : List (List ℕ)) → ArePlain (to ∷ source ∷ others) → length others ≤ 7 → target_and_sources to (joined source others) ≡ Some (entry.Jobs (job.Assemble to (source ∷ others)))
 chosen to source others (some, plain, rest) few =
-    ap (λ b. if b && lists_names 8 (joined source others) then Some (entry.Assemble to (listed (joined source others))) else None) (names_listed 1 to [] (some, plain, tt) (omega arith))
-    ∙ ap (λ b. if b then Some (entry.Assemble to (listed (joined source others))) else None) (names_listed 8 source others rest (omega (arith, few)))
-    ∙ ap (λ names. Some (entry.Assemble to names)) (listed_joined source others rest)
+    ap (λ b. if b && lists_names 8 (joined source others) then Some (entry.Jobs (job.Assemble to (listed (joined source others)))) else None) (names_listed 1 to [] (some, plain, tt) (omega arith))
+    ∙ ap (λ b. if b then Some (entry.Jobs (job.Assemble to (listed (joined source others)))) else None) (names_listed 8 source others rest (omega (arith, few)))
+    ∙ ap (λ names. Some (entry.Jobs (job.Assemble to names))) (listed_joined source others rest)
 
 pub assemble_as_written : AssembleAsWritten
 unfolding says

@@ -24,7 +24,7 @@ abbrev pub ended : List ℕ → List ℕ
 ended text = ended_behind false text
 
 -- the lines of a text that goes on begin with these, and those of the rest come behind them, whatever follows
-pub record HasFront (text : List ℕ) (front : List (List ℕ)) (rest : List ℕ) : Type 0 where
+pub record HasPrefix (text : List ℕ) (front : List (List ℕ)) (rest : List ℕ) : Type 0 where
   pub script : (more : List ℕ) → lines_of (text ++ more) ≡ front ++ lines_of (rest ++ more)
   pub whole : (more : List ℕ) → ended_lines (text ++ more) ≡ front ++ ended_lines (rest ++ more)
 
@@ -35,16 +35,16 @@ pub record Cuts (text : List ℕ) (is_end : Bool) (count bytes : ℕ) : Type 0 w
   pub size : length front ≡ count
   pub content : text_of front ≡ ended (take bytes text)
   pub script : lines_of text ≡ front ++ lines_of (drop bytes text)
-  pub on : is_end ≡ false → HasFront text front (drop bytes text)
+  pub on : is_end ≡ false → HasPrefix text front (drop bytes text)
 
 -- the first line of a text has so many bytes, and says this
-pub record Opens (text : List ℕ) (is_end : Bool) (said : Result Line SessionFault) (bytes : ℕ) : Type 0 where
+pub record FirstLineSays (text : List ℕ) (is_end : Bool) (meaning : Result Line SessionFault) (bytes : ℕ) : Type 0 where
   pub line : List ℕ
-  pub said_is : says line ≡ said
+  pub meaning_is : says line ≡ meaning
   pub some : 0 < bytes
   pub within : bytes ≤ length text
   pub script : lines_of text ≡ line ∷ lines_of (drop bytes text)
-  pub on : is_end ≡ false → HasFront text (line ∷ []) (drop bytes text)
+  pub on : is_end ≡ false → HasPrefix text (line ∷ []) (drop bytes text)
 
 -- a text has fewer lines; where it goes on, so many more must be ended
 abbrev pub TooFew : List ℕ → Bool → ℕ → ℕ → Type 0

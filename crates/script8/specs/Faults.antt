@@ -64,7 +64,8 @@ asm_fault_text asm.Memory = codes "? 10 MEMORY"
 abbrev pub tape_fault_text : TapeFault → List ℕ
 tape_fault_text (BadFrame at) = codes "? 6.1 BAD FRAME " ++ decimal at
 tape_fault_text NoOrigin = codes "? 6.2 NO ORIGIN"
-tape_fault_text (CheckSum found computed) = codes "? 6.3 CHECK SUM " ++ octal4 found ++ codes " " ++ octal4 computed
+tape_fault_text (CheckSum found computed) =
+    codes "? 6.3 CHECK SUM " ++ octal4 found ++ codes " " ++ octal4 computed
 tape_fault_text NoTrailer = codes "? 6.4 NO TRAILER"
 tape_fault_text tape.Memory = codes "? 10 MEMORY"
 

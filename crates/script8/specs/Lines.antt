@@ -1,9 +1,15 @@
 -- What the lines of a script say (this project's profile).
-use Rattle.std.specs.Prelude.{◌≡◌, ◌⊎◌, ℕ, ◌+◌, ◌-◌, ◌*◌, codes, ◌==◌, ◌&&◌, nat_eq, nat_le, nat_lt, if◌then◌else◌, Bool, true, false, Option, Some, None, List, [], ◌∷◌, length, Result, Ok, Err}
+use Rattle.std.specs.Prelude.{◌≡◌, ◌⊎◌, ℕ, ◌+◌, ◌-◌, ◌*◌, codes, ◌==◌, ◌&&◌, nat_eq, nat_le, nat_lt, if◌then◌else◌, Bool, true, false, Option, Some, None, option_map, List, [], ◌∷◌, length, Result, Ok, Err}
 use Rattle.std.specs.List.{list_all}
 use Rattle.std.specs.Str.{bytes_eq}
 use Rattle.script8.specs.declared.entries.Entry.{Entry}
 use Rattle.script8.specs.declared.entries.Entry.TheVariants as entry
+use Rattle.script8.specs.declared.entries.FileEntry.{FileEntry}
+use Rattle.script8.specs.declared.entries.FileEntry.TheVariants as files
+use Rattle.script8.specs.declared.entries.JobEntry.{JobEntry}
+use Rattle.script8.specs.declared.entries.JobEntry.TheVariants as job
+use Rattle.script8.specs.declared.entries.ConsoleEntry.{ConsoleEntry}
+use Rattle.script8.specs.declared.entries.ConsoleEntry.TheVariants as console
 use Rattle.script8.specs.declared.faults.SessionFault.{SessionFault}
 use Rattle.script8.specs.declared.faults.SessionFault.TheVariants.{BadLine, Memory}
 use Rattle.script8.specs.declared.lines.Line.{Line}
@@ -79,42 +85,53 @@ setting_of word =
     if bytes_eq word (codes "ON") then Some true else
     (if bytes_eq word (codes "OFF") then Some false else None)
 
--- an entry of one operand, or of two, where they are there
-abbrev pub of_one : {A : Type 0} → (A → Entry) → Option A → Option Entry
-of_one entry None = None
-of_one entry (Some a) = Some (entry a)
-
-abbrev pub of_two : {A B : Type 0} → (A → B → Entry) → Option A → Option B → Option Entry
+-- an entry of two operands, where they are there
+abbrev pub of_two : {A B E : Type 0} → (A → B → E) → Option A → Option B → Option E
 of_two entry None b = None
 of_two entry (Some a) None = None
 of_two entry (Some a) (Some b) = Some (entry a b)
 
+-- the entries of the console: those of one word
+abbrev pub bare_console : List ℕ → Option ConsoleEntry
+bare_console verb =
+    if bytes_eq verb (codes "DONE") then Some console.Done else
+    (if bytes_eq verb (codes "REGISTERS") then Some console.Registers else
+    (if bytes_eq verb (codes "PRINTED") then Some console.Printed else None))
+
+-- those of two words
+abbrev pub console_with_word : List ℕ → List ℕ → Option ConsoleEntry
+console_with_word verb word =
+    if bytes_eq verb (codes "START") then option_map console.Start (cell_of word) else
+    (if bytes_eq verb (codes "STEP") then option_map console.Step (steps_of word) else
+    (if bytes_eq verb (codes "GO") then option_map console.Go (steps_of word) else
+    (if bytes_eq verb (codes "KEY") then option_map console.Key (character_of word) else
+    (if bytes_eq verb (codes "SWITCHES") then option_map console.Switches (octal_of 4 word) else
+    (if bytes_eq verb (codes "EXAMINE") then option_map console.Examine (cell_of word) else None)))))
+
+-- and those of three
+abbrev pub console_with_words : List ℕ → List ℕ → List ℕ → Option ConsoleEntry
+console_with_words verb first second =
+    if bytes_eq verb (codes "RUN") then of_two console.Run (cell_of first) (steps_of second) else
+    (if bytes_eq verb (codes "DEPOSIT") then of_two console.Deposit (cell_of first) (octal_of 4 second) else
+    (if bytes_eq verb (codes "BREAK") then of_two console.Break (cell_of first) (setting_of second)
+    else None))
+
+-- an entry of the console
+abbrev pub at_console : Option ConsoleEntry → Option Entry
+at_console it = option_map entry.Console it
+
 -- the entries of one word
 abbrev pub bare_entry : List ℕ → Option Entry
 bare_entry verb =
-    if bytes_eq verb (codes "DIRECT") then Some entry.Direct else
-    (if bytes_eq verb (codes "SQUEEZE") then Some entry.Squeeze else
-    (if bytes_eq verb (codes "DONE") then Some entry.Done else
-    (if bytes_eq verb (codes "REGISTERS") then Some entry.Registers else
-    (if bytes_eq verb (codes "PRINTED") then Some entry.Printed else None))))
+    if bytes_eq verb (codes "DIRECT") then Some (entry.Files files.Direct) else
+    (if bytes_eq verb (codes "SQUEEZE") then Some (entry.Jobs job.Squeeze)
+    else at_console (bare_console verb))
 
 -- the entries of two words, but those with names
 abbrev pub entry_with_word : List ℕ → List ℕ → Option Entry
 entry_with_word verb word =
-    if bytes_eq verb (codes "TURN") then of_one entry.Turn (number_of word) else
-    (if bytes_eq verb (codes "START") then of_one entry.Start (cell_of word) else
-    (if bytes_eq verb (codes "STEP") then of_one entry.Step (steps_of word) else
-    (if bytes_eq verb (codes "GO") then of_one entry.Go (steps_of word) else
-    (if bytes_eq verb (codes "KEY") then of_one entry.Key (character_of word) else
-    (if bytes_eq verb (codes "SWITCHES") then of_one entry.Switches (octal_of 4 word) else
-    (if bytes_eq verb (codes "EXAMINE") then of_one entry.Examine (cell_of word) else None))))))
-
--- the entries of three words
-abbrev pub entry_with_words : List ℕ → List ℕ → List ℕ → Option Entry
-entry_with_words verb first second =
-    if bytes_eq verb (codes "RUN") then of_two entry.Run (cell_of first) (steps_of second) else
-    (if bytes_eq verb (codes "DEPOSIT") then of_two entry.Deposit (cell_of first) (octal_of 4 second) else
-    (if bytes_eq verb (codes "BREAK") then of_two entry.Break (cell_of first) (setting_of second) else None))
+    if bytes_eq verb (codes "TURN") then option_map (λ number. entry.Jobs (job.Turn number)) (number_of word)
+    else at_console (console_with_word verb word)
 
 -- what an entry of one line says
 abbrev pub whole : Option Entry → Result Line SessionFault
@@ -152,7 +169,8 @@ lists_names most list = list_all is_name (listed list) && nat_le (length (listed
 
 -- `ASSEMBLE` of one target and of 1 to 8 sources, which are between commas
 abbrev pub target_and_sources : List ℕ → List ℕ → Option Entry
-target_and_sources to from = if lists_names 1 to && lists_names 8 from then Some (entry.Assemble to (listed from)) else None
+target_and_sources to from =
+    if lists_names 1 to && lists_names 8 from then Some (entry.Jobs (job.Assemble to (listed from))) else None
 
 -- the parts of an `ASSEMBLE`: a target and its sources
 abbrev pub assembled : List (List ℕ) → Option Entry
@@ -169,17 +187,26 @@ assemble_of word = assembled (parts_of 60 word)
 abbrev pub bare : List ℕ → Result Line SessionFault
 bare verb = if bytes_eq verb (codes "FINISH") then Ok Finish else whole (bare_entry verb)
 
+-- `DELETE` and `LOAD` of a name
+abbrev pub delete : List ℕ → Entry
+delete name = entry.Files (files.Delete name)
+
+abbrev pub load : List ℕ → Entry
+load name = entry.Jobs (job.Load name)
+
 -- what a command of two words says
 abbrev pub with_word : List ℕ → List ℕ → Result Line SessionFault
 with_word verb word =
-    if bytes_eq verb (codes "DELETE") then named entry.Delete (name_bytes word) else
-    (if bytes_eq verb (codes "LOAD") then named entry.Load (name_bytes word) else
-    (if bytes_eq verb (codes "ASSEMBLE") then whole (assemble_of word) else whole (entry_with_word verb word)))
+    if bytes_eq verb (codes "DELETE") then named delete (name_bytes word) else
+    (if bytes_eq verb (codes "LOAD") then named load (name_bytes word) else
+    (if bytes_eq verb (codes "ASSEMBLE") then whole (assemble_of word)
+    else whole (entry_with_word verb word)))
 
 -- what a command of three words says
 abbrev pub with_words : List ℕ → List ℕ → List ℕ → Result Line SessionFault
 with_words verb first second =
-    if bytes_eq verb (codes "STORE") then store_of (name_bytes first) (within 0 999999 (number_of second)) else whole (entry_with_words verb first second)
+    if bytes_eq verb (codes "STORE") then store_of (name_bytes first) (within 0 999999 (number_of second))
+    else whole (at_console (console_with_words verb first second))
 
 -- what the words of a command say, or that they have none of the forms
 abbrev pub form_of : List (List ℕ) → Result Line SessionFault
@@ -199,35 +226,30 @@ unfoldable pub says : List ℕ → Result Line SessionFault
 says line = command_says (command_of line)
 
 -- the names of an entry of one line are kept
+abbrev pub KeepsNameOfFile : FileEntry → Type 0
+KeepsNameOfFile (files.Store name text) = ⊥
+KeepsNameOfFile (files.Delete name) = Unit {0}
+KeepsNameOfFile files.Direct = ⊥
+
+abbrev pub KeepsNamesOfJob : JobEntry → Type 0
+KeepsNamesOfJob (job.Assemble to from) = Unit {0}
+KeepsNamesOfJob (job.Load name) = Unit {0}
+KeepsNamesOfJob job.Squeeze = ⊥
+KeepsNamesOfJob (job.Turn number) = ⊥
+
 abbrev pub KeepsNames : Entry → Type 0
-KeepsNames (entry.Store name text) = ⊥
-KeepsNames (entry.Delete name) = Unit {0}
-KeepsNames entry.Direct = ⊥
-KeepsNames (entry.Assemble to from) = Unit {0}
-KeepsNames (entry.Load name) = Unit {0}
-KeepsNames entry.Squeeze = ⊥
-KeepsNames (entry.Turn job) = ⊥
-KeepsNames (entry.Start cell) = ⊥
-KeepsNames (entry.Step steps) = ⊥
-KeepsNames (entry.Go steps) = ⊥
-KeepsNames (entry.Run cell steps) = ⊥
-KeepsNames (entry.Key character) = ⊥
-KeepsNames entry.Done = ⊥
-KeepsNames (entry.Switches word) = ⊥
-KeepsNames (entry.Examine cell) = ⊥
-KeepsNames (entry.Deposit cell word) = ⊥
-KeepsNames (entry.Break cell is_on) = ⊥
-KeepsNames entry.Registers = ⊥
-KeepsNames entry.Printed = ⊥
+KeepsNames (entry.Files it) = KeepsNameOfFile it
+KeepsNames (entry.Jobs it) = KeepsNamesOfJob it
+KeepsNames (entry.Console it) = ⊥
 
 -- a line of a STORE, a DELETE, a LOAD or an ASSEMBLE: its names are kept
 abbrev pub HasName : Result Line SessionFault → Type 0
 HasName (Ok Empty) = ⊥
 HasName (Ok Finish) = ⊥
 HasName (Ok (Store name lines)) = Unit {0}
-HasName (Ok (Whole said)) = KeepsNames said
+HasName (Ok (Whole it)) = KeepsNames it
 HasName (Err fault) = ⊥
 
 -- What a line says is told; where it has a name, memory for it may be refused.
 abbrev pub Parses : Result Line SessionFault → Result Line SessionFault → Type 0
-Parses said result = (result ≡ said) ⊎ ((result ≡ Err Memory) × HasName said)
+Parses meaning result = (result ≡ meaning) ⊎ ((result ≡ Err Memory) × HasName meaning)

@@ -1,5 +1,4 @@
 -- The lines of replies and refusals (this project's profile).
-use denote.Ref.{Bor}
 use Rattle.std.specs.Prelude.{ℕ, ◌/◌, ◌%◌, codes, decimal, Bool, true, false, Option, Some, None, List, [], ◌∷◌, ◌++◌, Result, Ok, Err}
 use Rattle.std.specs.List.{flat_map}
 use Rattle.word12.specs.Octal.{octal_digit, octal4}
@@ -7,6 +6,8 @@ use Rattle.script8.specs.Faults.{fault_text}
 use Rattle.script8.specs.Shown.{shown}
 use Rattle.script8.specs.declared.entries.Entry.{Entry}
 use Rattle.script8.specs.declared.entries.Entry.TheVariants as entry
+use Rattle.script8.specs.declared.entries.JobEntry.{JobEntry}
+use Rattle.script8.specs.declared.entries.JobEntry.TheVariants as job
 use Rattle.script8.specs.declared.faults.SessionFault.{SessionFault}
 use Rattle.script8.specs.declared.faults.SessionFault.TheVariants.{BadLine, NoJob, TooManyJobs, File, Asm, Tape, BadText, Reader, Writer, Memory, TooManyBreaks}
 use Rattle.script8.specs.declared.replies.Reply.{Reply}
@@ -14,8 +15,8 @@ use Rattle.script8.specs.declared.replies.Reply.TheVariants.{Line}
 use Rattle.script8.specs.declared.replies.Reply.TheVariants as reply
 use Rattle.script8.specs.declared.replies.Report.{Report}
 use Rattle.script8.specs.declared.replies.Report.TheVariants.{Direct, Registers, Printed}
-use Rattle.script8.specs.declared.replies.Said.{Said}
-use Rattle.script8.specs.declared.replies.Said.TheVariants.{Stored, Deleted, Job, Working, Assembled, Loaded, Squeezed, Finished, Started, Steps, Key, Done, Switches, Core, Break}
+use Rattle.script8.specs.declared.replies.LineReply.{LineReply}
+use Rattle.script8.specs.declared.replies.LineReply.TheVariants.{Stored, Deleted, Job, Working, Assembled, Loaded, Squeezed, Finished, Started, Steps, Key, Done, Switches, Core, Break}
 use Rattle.script8.specs.declared.replies.Why.{Why}
 use Rattle.script8.specs.declared.replies.Why.TheVariants.{Halt, Unassigned, Limit}
 use Rattle.script8.specs.declared.replies.Why.TheVariants as why
@@ -40,7 +41,7 @@ fault_line fault = fault_text fault ++ 0o12 ∷ []
 abbrev pub line_of : List ℕ → List ℕ
 line_of text = text ++ 0o12 ∷ []
 
--- a job and what is said of it
+-- a job and a text about it
 abbrev pub job_text : ℕ → List ℕ → List ℕ
 job_text job text = codes "JOB " ++ decimal job ++ text
 
@@ -50,7 +51,8 @@ cell_text cell = octal_digit (cell / 0o10000) ∷ octal4 (cell % 0o10000)
 
 -- the three octal digits of a character
 abbrev pub character_text : ℕ → List ℕ
-character_text character = octal_digit (character / 64) ∷ octal_digit (character / 8) ∷ octal_digit character ∷ []
+character_text character =
+    octal_digit (character / 64) ∷ octal_digit (character / 8) ∷ octal_digit character ∷ []
 
 abbrev pub why_text : Why → List ℕ
 why_text Halt = codes "HALT"
@@ -70,23 +72,24 @@ file_text name blocks = shown name ++ 0o40 ∷ decimal blocks
 abbrev pub assembled_text : ℕ → ℕ → ℕ → List ℕ
 assembled_text job name blocks = job_text job (codes " ASSEMBLED " ++ file_text name blocks)
 
--- what is said in one line
-abbrev pub said_text : Said → List ℕ
-said_text (Stored name blocks) = codes "STORED " ++ file_text name blocks
-said_text (Deleted name) = codes "DELETED " ++ shown name
-said_text (Job job) = job_text job []
-said_text (Working job) = codes "WORKING " ++ decimal job
-said_text (Assembled job name blocks) = assembled_text job name blocks
-said_text (Loaded job name) = job_text job (codes " LOADED " ++ shown name)
-said_text (Squeezed job) = job_text job (codes " SQUEEZED")
-said_text Finished = codes "FINISHED"
-said_text (Started cell) = codes "STARTED " ++ cell_text cell
-said_text (Steps steps why cell) = codes "STEPS " ++ decimal steps ++ 0o40 ∷ why_text why ++ 0o40 ∷ cell_text cell
-said_text (Key character) = codes "KEY " ++ character_text character
-said_text Done = codes "DONE"
-said_text (Switches word) = codes "SWITCHES " ++ octal4 word
-said_text (Core cell word) = cell_text cell ++ 0o40 ∷ octal4 word
-said_text (Break cell is_on) = codes "BREAK " ++ cell_text cell ++ 0o40 ∷ setting_text is_on
+-- the text of a reply of one line
+abbrev pub line_reply_text : LineReply → List ℕ
+line_reply_text (Stored name blocks) = codes "STORED " ++ file_text name blocks
+line_reply_text (Deleted name) = codes "DELETED " ++ shown name
+line_reply_text (Job job) = job_text job []
+line_reply_text (Working job) = codes "WORKING " ++ decimal job
+line_reply_text (Assembled job name blocks) = assembled_text job name blocks
+line_reply_text (Loaded job name) = job_text job (codes " LOADED " ++ shown name)
+line_reply_text (Squeezed job) = job_text job (codes " SQUEEZED")
+line_reply_text Finished = codes "FINISHED"
+line_reply_text (Started cell) = codes "STARTED " ++ cell_text cell
+line_reply_text (Steps steps why cell) =
+    codes "STEPS " ++ decimal steps ++ 0o40 ∷ why_text why ++ 0o40 ∷ cell_text cell
+line_reply_text (Key character) = codes "KEY " ++ character_text character
+line_reply_text Done = codes "DONE"
+line_reply_text (Switches word) = codes "SWITCHES " ++ octal4 word
+line_reply_text (Core cell word) = cell_text cell ++ 0o40 ∷ octal4 word
+line_reply_text (Break cell is_on) = codes "BREAK " ++ cell_text cell ++ 0o40 ∷ setting_text is_on
 
 -- a blank, and the octal digits of a character
 abbrev pub printed_character : ℕ → List ℕ
@@ -104,30 +107,21 @@ report_lines (Printed characters) = line_of (codes "PRINTED" ++ printed_text cha
 
 -- the lines of a reply
 abbrev pub reply_lines : Reply → List ℕ
-reply_lines (Line said) = line_of (said_text said)
+reply_lines (Line reply) = line_of (line_reply_text reply)
 reply_lines (reply.Report report) = report_lines report
+
+-- the job to which an entry of jobs gives a turn
+abbrev pub job_of_turn : JobEntry → Option ℕ
+job_of_turn (job.Assemble to from) = None
+job_of_turn (job.Load name) = None
+job_of_turn job.Squeeze = None
+job_of_turn (job.Turn number) = Some number
 
 -- the job to which an entry gives a turn
 abbrev pub job_of_entry : Entry → Option ℕ
-job_of_entry (entry.Store name text) = None
-job_of_entry (entry.Delete name) = None
-job_of_entry entry.Direct = None
-job_of_entry (entry.Assemble to from) = None
-job_of_entry (entry.Load name) = None
-job_of_entry entry.Squeeze = None
-job_of_entry (entry.Turn job) = Some job
-job_of_entry (entry.Start cell) = None
-job_of_entry (entry.Step steps) = None
-job_of_entry (entry.Go steps) = None
-job_of_entry (entry.Run cell steps) = None
-job_of_entry (entry.Key character) = None
-job_of_entry entry.Done = None
-job_of_entry (entry.Switches word) = None
-job_of_entry (entry.Examine cell) = None
-job_of_entry (entry.Deposit cell word) = None
-job_of_entry (entry.Break cell is_on) = None
-job_of_entry entry.Registers = None
-job_of_entry entry.Printed = None
+job_of_entry (entry.Files it) = None
+job_of_entry (entry.Jobs it) = job_of_turn it
+job_of_entry (entry.Console it) = None
 
 -- the job of an entry, where there is an entry
 abbrev pub job_of : Option Entry → Option ℕ
@@ -135,36 +129,31 @@ job_of None = None
 job_of (Some entry) = job_of_entry entry
 
 -- the fault of a job's end begins with the job
-abbrev pub end_text : ℕ → SessionFault → List ℕ
-end_text job BadLine = []
-end_text job NoJob = []
-end_text job TooManyJobs = []
-end_text job (File fault) = job_text job (codes " ")
-end_text job (Asm fault) = job_text job (codes " ")
-end_text job (Tape fault) = job_text job (codes " ")
-end_text job BadText = []
-end_text job Reader = []
-end_text job Writer = []
-end_text job Memory = []
-end_text job TooManyBreaks = []
+abbrev pub job_prefix : ℕ → SessionFault → List ℕ
+job_prefix job BadLine = []
+job_prefix job NoJob = []
+job_prefix job TooManyJobs = []
+job_prefix job (File fault) = job_text job (codes " ")
+job_prefix job (Asm fault) = job_text job (codes " ")
+job_prefix job (Tape fault) = job_text job (codes " ")
+job_prefix job BadText = []
+job_prefix job Reader = []
+job_prefix job Writer = []
+job_prefix job Memory = []
+job_prefix job TooManyBreaks = []
 
 -- what stands before a fault of a job's turn, or of no job's
-abbrev pub begin_text : Option ℕ → SessionFault → List ℕ
-begin_text None fault = []
-begin_text (Some job) fault = end_text job fault
-
--- the entry that is lent, where one is
-abbrev pub lent : Option (Bor Entry) → Option Entry
-lent None = None
-lent (Some entry) = Some entry.now
+abbrev pub fault_prefix : Option ℕ → SessionFault → List ℕ
+fault_prefix None fault = []
+fault_prefix (Some job) fault = job_prefix job fault
 
 -- the lines of an answer to an entry, or to none
 abbrev pub answer_lines : Option Entry → Result Reply SessionFault → List ℕ
 answer_lines entry (Ok reply) = reply_lines reply
-answer_lines entry (Err fault) = begin_text (job_of entry) fault ++ fault_line fault
+answer_lines entry (Err fault) = fault_prefix (job_of entry) fault ++ fault_line fault
 
 -- an answer of one line
 abbrev pub IsShort : Result Reply SessionFault → Type 0
-IsShort (Ok (Line said)) = Unit {0}
+IsShort (Ok (Line reply)) = Unit {0}
 IsShort (Ok (reply.Report report)) = ⊥
 IsShort (Err fault) = Unit {0}

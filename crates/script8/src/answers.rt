@@ -1,12 +1,12 @@
-ghost use Rattle.std.specs.Prelude.{◌≡◌, ◌+◌, ◌≤◌, ◌++◌, OnOk, OnErr, IsOk, IsOkUnless, vec_len, vec_capacity, Ok, Err};
-ghost use Rattle.script8.specs.Replies.{answer_lines, lent, reply_lines, said_text, line_of, IsShort};
+ghost use Rattle.std.specs.Prelude.{◌≡◌, ◌+◌, ◌≤◌, ◌++◌, OnOk, OnErr, IsOk, IsOkUnless, vec_len, vec_capacity, Ok, Err, option_copied};
+ghost use Rattle.script8.specs.Replies.{answer_lines, reply_lines, line_reply_text, line_of, IsShort};
 ghost use Rattle.script8.specs.declared.faults.SessionFault.TheVariants.{Memory};
 
-use crate::refusals::{job_of, put_begin, put_text};
+use crate::line_replies::put_line_reply;
+use crate::refusals::{job_of, put_fault_prefix, put_text};
 use crate::reports::put_report;
-use crate::said::put_said;
 use crate::text_lines::{TextLine, put};
-use crate::{Entry, Reply, Said, SessionFault};
+use crate::{Entry, LineReply, Reply, SessionFault};
 use std::alloc::AllocError;
 
 /// Appends the lines of an answer, each with its LF (this project's profile). The entry is that of the answer, where it
@@ -19,7 +19,8 @@ pub fn put_reply(
     answer: &Result<Reply, SessionFault>,
     out: &mut Vec<u8>,
 ) -> Result<(), SessionFault>
-    ensures ok { OnOk result (out.new.items ≡ out.old.items ++ answer_lines (lent entry.entry) answer.now) }
+    ensures ok { OnOk result
+        (out.new.items ≡ out.old.items ++ answer_lines (option_copied entry.entry) answer.now) }
     ensures err { OnErr result (out.new.items ≡ out.old.items) }
     ensures room { IsShort answer.now → vec_len out.old + 80 ≤ vec_capacity out.old → IsOk result }
     ensures capacity { vec_capacity out.old ≤ vec_capacity out.new }
@@ -40,20 +41,20 @@ fn put_lines(reply: &Reply, out: &mut Vec<u8>) -> Result<(), AllocError>
     ensures capacity { vec_capacity out.old ≤ vec_capacity out.new }
 {
     match reply {
-        Reply::Line(said) => put_line(said, out),
+        Reply::Line(reply) => put_line(reply, out),
         Reply::Report(report) => put_report(report, out),
     }
 }
 
-/// Appends what is said in one line. Where the vector has room for 80 bytes, no memory is taken.
-fn put_line(said: &Said, out: &mut Vec<u8>) -> Result<(), AllocError>
-    ensures ok { OnOk result (out.new.items ≡ out.old.items ++ line_of (said_text said.now)) }
+/// Appends a reply of one line. Where the vector has room for 80 bytes, no memory is taken.
+fn put_line(reply: &LineReply, out: &mut Vec<u8>) -> Result<(), AllocError>
+    ensures ok { OnOk result (out.new.items ≡ out.old.items ++ line_of (line_reply_text reply.now)) }
     ensures err { OnErr result (out.new.items ≡ out.old.items) }
     ensures room { vec_len out.old + 80 ≤ vec_capacity out.old → IsOk result }
     ensures capacity { vec_capacity out.old ≤ vec_capacity out.new }
 {
     let mut line = TextLine::new();
-    put_said(&mut line, said);
+    put_line_reply(&mut line, reply);
     put(&mut line, b"\n");
     out.extend_from_slice(line.as_slice())
 }
@@ -65,14 +66,15 @@ fn put_fault(
     fault: SessionFault,
     out: &mut Vec<u8>,
 ) -> Result<(), AllocError>
-    ensures ok { OnOk result (out.new.items ≡ out.old.items ++ answer_lines (lent entry.entry) (Err fault)) }
+    ensures ok { OnOk result
+        (out.new.items ≡ out.old.items ++ answer_lines (option_copied entry.entry) (Err fault)) }
     ensures err { OnErr result (out.new.items ≡ out.old.items) }
     ensures room { vec_len out.old + 80 ≤ vec_capacity out.old → IsOk result }
     ensures capacity { vec_capacity out.old ≤ vec_capacity out.new }
 {
     let mut line = TextLine::new();
     let again = fault;
-    put_begin(&mut line, job_of(entry), fault);
+    put_fault_prefix(&mut line, job_of(entry), fault);
     let mut text = TextLine::new();
     put_text(&mut text, again);
     put(&mut line, text.as_slice());

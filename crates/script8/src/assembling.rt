@@ -1,13 +1,14 @@
-//! What `ASSEMBLE` is said of: a target and its sources.
+//! The operand of `ASSEMBLE`: a target and its sources.
 ghost use Rattle.std.specs.Prelude.{◌≡◌, ◌≤◌, ◌&&◌, ◌⊎◌, ◌++◌, OnOk, IfOk, nat_le, length, Ok, Err};
 ghost use Rattle.std.specs.List.{list_all};
 ghost use Rattle.script8.specs.Lines.{Parses, whole, assemble_of, lists_names, listed, is_name};
 ghost use Rattle.script8.specs.declared.entries.Entry.TheVariants as entry;
+ghost use Rattle.script8.specs.declared.entries.JobEntry.TheVariants as job;
 ghost use Rattle.script8.specs.declared.faults.SessionFault.TheVariants.{Memory};
 ghost use Rattle.script8.specs.declared.lines.Line.TheVariants.{Whole};
 
 use crate::parts::first_part;
-use crate::{Bytes, Entry, Line, Names, SessionFault};
+use crate::{Bytes, Entry, JobEntry, Line, Names, SessionFault};
 use std::alloc::{AllocError, Global};
 
 /// What `ASSEMBLE` of a word says: a target, `<`, and 1 to 8 sources with commas between.
@@ -44,15 +45,16 @@ fn are_names(list: &[u8], most: usize) -> bool
 
 /// The `ASSEMBLE` of a target and of the sources of a list.
 fn target_and_sources(alloc: Global, to: &[u8], from: &[u8]) -> Result<Line, SessionFault>
-    ensures { (result ≡ Ok (Whole (entry.Assemble to.now (listed from.now)))) ⊎ (result ≡ Err Memory) }
+    ensures { (result ≡ Ok (Whole (entry.Jobs (job.Assemble to.now (listed from.now)))))
+        ⊎ (result ≡ Err Memory) }
 {
     let to = Vec::from_slice(alloc, to)?;
     let mut names = Vec::new(alloc);
     put_names(alloc, from, &mut names)?;
-    Ok(Line::Whole(Entry::Assemble {
+    Ok(Line::Whole(Entry::Jobs(JobEntry::Assemble {
         to: Bytes::new(to),
         from: Names::new(names),
-    }))
+    })))
 }
 
 /// Puts the names of a list behind others.

@@ -1,9 +1,23 @@
 use crate::{Bytes, Names};
 use word12::{Cell, Word};
 
-/// What a session is asked to do. Names are the bytes of the line; whether they name a file is judged where the entry is done.
+/// What a session is asked to do: of its files, of its jobs, or at its console. Names are the bytes of the line; whether they name a
+/// file is judged where the entry is done.
 #[derive(Drop)]
 pub enum Entry {
+    /// Of the files of the volume.
+    Files(FileEntry),
+
+    /// Of the jobs: it begins one, or lets one take a turn.
+    Jobs(JobEntry),
+
+    /// At the operator's console.
+    Console(ConsoleEntry),
+}
+
+/// An entry of files.
+#[derive(Drop)]
+pub enum FileEntry {
     /// `STORE`: makes a file of a text, in place of any of its name.
     Store { name: Bytes, text: Bytes },
 
@@ -12,7 +26,11 @@ pub enum Entry {
 
     /// `DIRECT`: the files of the volume with their lengths, and the free blocks.
     Direct,
+}
 
+/// An entry of jobs.
+#[derive(Drop)]
+pub enum JobEntry {
     /// `ASSEMBLE`: begins a job that assembles 1 to 8 sources, one behind the other, to a tape in a file.
     Assemble { to: Bytes, from: Names },
 
@@ -24,7 +42,12 @@ pub enum Entry {
 
     /// `TURN`: lets the job of a number take a turn.
     Turn(u32),
+}
 
+/// An entry of the console (Small Computer Handbook; breaks, runs of many steps and the characters that are kept are this project's
+/// profile).
+#[derive(Clone, Copy)]
+pub enum ConsoleEntry {
     /// `START`: clears the accumulator, link and input/output, and makes the processor run from a cell on.
     Start(Cell),
 

@@ -1,13 +1,13 @@
 //! The items of a script, one after another.
 ghost use Rattle.std.specs.Prelude.{◌≡◌, if◌then◌else◌, ◌∷◌, ◌++◌, ◌-◌, ◌<◌, ◌≤◌, ℕ, List, [], length, drop, Ok, Err, IfOk, true, false};
-ghost use Rattle.script8.specs.CutSteps.{Cuts, Cut, Opens, ended};
-ghost use Rattle.script8.specs.Items.{Begins, Waits, ended_lines};
+ghost use Rattle.script8.specs.CutSteps.{Cuts, Cut, FirstLineSays, ended};
+ghost use Rattle.script8.specs.Items.{BeginsWith, WaitsForLines, ended_lines};
 ghost use Rattle.script8.specs.declared.faults.SessionFault.TheVariants.{BadLine};
 ghost use Rattle.script8.specs.declared.items.Item.TheVariants.{Refused};
 ghost use Rattle.script8.specs.declared.lines.Line.TheVariants.{Store};
 ghost use Rattle.script8.specs.declared.items.Next.TheVariants as next;
 
-use crate::{Bytes, Entry, Line, SessionFault, parse_line};
+use crate::{Bytes, Entry, FileEntry, Line, SessionFault, parse_line};
 use std::alloc::{AllocError, Global};
 
 /// An item of a script.
@@ -40,7 +40,7 @@ pub enum Next {
 /// not all there, it is refused as `BadLine` at a script's end, and is no whole item otherwise (this project's profile). So a text
 /// that comes in parts needs no second look before the lines that are wanted have come.
 pub fn next_item(alloc: Global, text: &[u8], is_end: bool) -> Result<Next, SessionFault>
-    ensures { Begins text.now is_end result }
+    ensures { BeginsWith text.now is_end result }
 {
     match lines_length(text, 1, is_end) {
         Ok(bytes) => line_item(alloc, text, bytes, is_end),
@@ -51,7 +51,7 @@ pub fn next_item(alloc: Global, text: &[u8], is_end: bool) -> Result<Next, Sessi
 /// How many lines a text wants yet that wanted so many, behind these bytes of it.
 pub fn lines_left(lines: u32, bytes: &[u8]) -> u32
     ensures number { result ≡ lines - length (ended_lines bytes.now) }
-    ensures waits { (text : List ℕ) → Waits text lines → Waits (text ++ bytes.now) result }
+    ensures waits { (text : List ℕ) → WaitsForLines text lines → WaitsForLines (text ++ bytes.now) result }
 {
     (lines as usize).saturating_sub(ends_in(bytes)) as u32
 }
@@ -72,7 +72,7 @@ fn ends_in(text: &[u8]) -> usize
 /// What a text begins with whose first line has so many bytes, its LF with them.
 fn line_item(alloc: Global, text: &[u8], bytes: usize, is_end: bool) -> Result<Next, SessionFault>
     requires { Cuts text.now is_end 1 bytes }
-    ensures { Begins text.now is_end result }
+    ensures { BeginsWith text.now is_end result }
 {
     let (line, _) = text.split_at(bytes);
     match parse_line(alloc, without_end(line)) {
@@ -105,8 +105,8 @@ fn store_item(
     lines: u32,
     is_end: bool,
 ) -> Result<Next, SessionFault>
-    requires { Opens text.now is_end (Ok (Store name lines)) bytes }
-    ensures { Begins text.now is_end result }
+    requires { FirstLineSays text.now is_end (Ok (Store name lines)) bytes }
+    ensures { BeginsWith text.now is_end result }
 {
     let (_, behind) = text.split_at(bytes);
     match lines_length(behind, lines, is_end) {
@@ -114,7 +114,7 @@ fn store_item(
             let (lines, _) = behind.split_at(more);
             match ended_text(alloc, lines) {
                 Ok(text) => Ok(Next::Item {
-                    item: Item::Do(Entry::Store { name, text }),
+                    item: Item::Do(Entry::Files(FileEntry::Store { name, text })),
                     bytes: bytes + more,
                 }),
                 Err(_) => Err(SessionFault::Memory),
@@ -140,7 +140,7 @@ fn cut_off(text: &[u8], missing: u32, is_end: bool) -> Next
 
 /// A law: a text of no byte has no whole item before a line is ended. The function does nothing.
 pub fn one_line_wanted()
-    ensures { Waits [] 1 }
+    ensures { WaitsForLines [] 1 }
 {}
 
 /// How many bytes so many lines have, the LFs with them, or how many are missing; the last line of a script may lack its own.

@@ -1,10 +1,10 @@
 ghost use Rattle.std.specs.Prelude.{◌≡◌};
-ghost use Rattle.script8.specs.Lines.{says, Parses, form_of, command_of, words_of, bare, with_word, with_words, whole as whole_of, bare_entry, entry_with_word, entry_with_words};
+ghost use Rattle.script8.specs.Lines.{says, Parses, form_of, command_of, words_of, bare, with_word, with_words, whole as whole_of, bare_entry, entry_with_word, at_console, bare_console, console_with_word, console_with_words};
 
 use crate::assembling::assemble;
 use crate::operands::{cell, character, name, number, octal_word, setting, steps, within};
 use crate::parts::first_part;
-use crate::{Entry, Line, SessionFault};
+use crate::{ConsoleEntry, Entry, FileEntry, JobEntry, Line, SessionFault};
 use std::alloc::Global;
 
 /// What a line of a script says: one CR at its end is dropped, an empty line is nothing, and a line of none of the forms, or
@@ -55,11 +55,11 @@ fn parse_with_word(alloc: Global, verb: &[u8], word: &[u8]) -> Result<Line, Sess
 {
     if verb == b"DELETE".as_slice() {
         let name = name(alloc, word)?;
-        return Ok(Line::Whole(Entry::Delete { name }));
+        return Ok(Line::Whole(Entry::Files(FileEntry::Delete { name })));
     }
     if verb == b"LOAD".as_slice() {
         let name = name(alloc, word)?;
-        return Ok(Line::Whole(Entry::Load { name }));
+        return Ok(Line::Whole(Entry::Jobs(JobEntry::Load { name })));
     }
     if verb == b"ASSEMBLE".as_slice() {
         return assemble(alloc, word);
@@ -83,7 +83,7 @@ fn parse_with_words(
         let name = name(alloc, first)?;
         return Ok(Line::Store { name, lines });
     }
-    whole(parse_entry_with_words(verb, first, second))
+    whole(console(parse_console_with_words(verb, first, second)))
 }
 
 /// What a line of one entry says.
@@ -101,21 +101,12 @@ fn parse_bare_entry(verb: &[u8]) -> Option<Entry>
     ensures { result ≡ bare_entry verb.now }
 {
     if verb == b"DIRECT".as_slice() {
-        return Some(Entry::Direct);
+        return Some(Entry::Files(FileEntry::Direct));
     }
     if verb == b"SQUEEZE".as_slice() {
-        return Some(Entry::Squeeze);
+        return Some(Entry::Jobs(JobEntry::Squeeze));
     }
-    if verb == b"DONE".as_slice() {
-        return Some(Entry::Done);
-    }
-    if verb == b"REGISTERS".as_slice() {
-        return Some(Entry::Registers);
-    }
-    if verb == b"PRINTED".as_slice() {
-        return Some(Entry::Printed);
-    }
-    None
+    console(parse_bare_console(verb))
 }
 
 /// The entries of two words, but those with names.
@@ -123,47 +114,77 @@ fn parse_entry_with_word(verb: &[u8], word: &[u8]) -> Option<Entry>
     ensures { result ≡ entry_with_word verb.now word.now }
 {
     if verb == b"TURN".as_slice() {
-        return Some(Entry::Turn(number(word)?));
+        return Some(Entry::Jobs(JobEntry::Turn(number(word)?)));
     }
-    if verb == b"START".as_slice() {
-        return Some(Entry::Start(cell(word)?));
+    console(parse_console_with_word(verb, word))
+}
+
+/// An entry of the console.
+fn console(entry: Option<ConsoleEntry>) -> Option<Entry>
+    ensures { result ≡ at_console entry }
+{
+    Some(Entry::Console(entry?))
+}
+
+/// The entries of the console of one word.
+fn parse_bare_console(verb: &[u8]) -> Option<ConsoleEntry>
+    ensures { result ≡ bare_console verb.now }
+{
+    if verb == b"DONE".as_slice() {
+        return Some(ConsoleEntry::Done);
     }
-    if verb == b"STEP".as_slice() {
-        return Some(Entry::Step(steps(word)?));
+    if verb == b"REGISTERS".as_slice() {
+        return Some(ConsoleEntry::Registers);
     }
-    if verb == b"GO".as_slice() {
-        return Some(Entry::Go(steps(word)?));
-    }
-    if verb == b"KEY".as_slice() {
-        return Some(Entry::Key(character(word)?));
-    }
-    if verb == b"SWITCHES".as_slice() {
-        return Some(Entry::Switches(octal_word(word)?));
-    }
-    if verb == b"EXAMINE".as_slice() {
-        return Some(Entry::Examine(cell(word)?));
+    if verb == b"PRINTED".as_slice() {
+        return Some(ConsoleEntry::Printed);
     }
     None
 }
 
-/// The entries of three words.
-fn parse_entry_with_words(verb: &[u8], first: &[u8], second: &[u8]) -> Option<Entry>
-    ensures { result ≡ entry_with_words verb.now first.now second.now }
+/// The entries of the console of two words.
+fn parse_console_with_word(verb: &[u8], word: &[u8]) -> Option<ConsoleEntry>
+    ensures { result ≡ console_with_word verb.now word.now }
+{
+    if verb == b"START".as_slice() {
+        return Some(ConsoleEntry::Start(cell(word)?));
+    }
+    if verb == b"STEP".as_slice() {
+        return Some(ConsoleEntry::Step(steps(word)?));
+    }
+    if verb == b"GO".as_slice() {
+        return Some(ConsoleEntry::Go(steps(word)?));
+    }
+    if verb == b"KEY".as_slice() {
+        return Some(ConsoleEntry::Key(character(word)?));
+    }
+    if verb == b"SWITCHES".as_slice() {
+        return Some(ConsoleEntry::Switches(octal_word(word)?));
+    }
+    if verb == b"EXAMINE".as_slice() {
+        return Some(ConsoleEntry::Examine(cell(word)?));
+    }
+    None
+}
+
+/// The entries of the console of three words.
+fn parse_console_with_words(verb: &[u8], first: &[u8], second: &[u8]) -> Option<ConsoleEntry>
+    ensures { result ≡ console_with_words verb.now first.now second.now }
 {
     if verb == b"RUN".as_slice() {
         let cell = cell(first)?;
         let steps = steps(second)?;
-        return Some(Entry::Run { cell, steps });
+        return Some(ConsoleEntry::Run { cell, steps });
     }
     if verb == b"DEPOSIT".as_slice() {
         let cell = cell(first)?;
         let word = octal_word(second)?;
-        return Some(Entry::Deposit { cell, word });
+        return Some(ConsoleEntry::Deposit { cell, word });
     }
     if verb == b"BREAK".as_slice() {
         let cell = cell(first)?;
         let is_on = setting(second)?;
-        return Some(Entry::Break { cell, is_on });
+        return Some(ConsoleEntry::Break { cell, is_on });
     }
     None
 }

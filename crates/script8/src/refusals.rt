@@ -1,12 +1,12 @@
 //! The texts of refusals.
-ghost use Rattle.std.specs.Prelude.{◌≡◌, ◌≤◌, ◌++◌};
+ghost use Rattle.std.specs.Prelude.{◌≡◌, ◌≤◌, ◌++◌, option_copied};
 ghost use Rattle.arrayvec.specs.ArrayVec.{array_vec_len};
 ghost use Rattle.script8.specs.Faults.{fault_text, code_text, asm_fault_text, tape_fault_text, file_fault_text};
-ghost use Rattle.script8.specs.Replies.{lent, begin_text, end_text, job_of as the_job, job_of_entry as the_job_of};
+ghost use Rattle.script8.specs.Replies.{fault_prefix, job_prefix, job_of as the_job, job_of_turn};
 
-use crate::said::put_job;
+use crate::line_replies::put_job;
 use crate::text_lines::{put, put_name, put_number};
-use crate::{Entry, SessionFault};
+use crate::{Entry, JobEntry, SessionFault};
 use arrayvec::ArrayVec;
 use bin_tape::TapeFault;
 use os8_files::FileFault;
@@ -121,56 +121,39 @@ fn put_tape_fault(line: &mut ArrayVec<u8, 80>, fault: TapeFault)
 
 /// The job to which an entry gives a turn, where there is an entry.
 pub(crate) fn job_of(entry: Option<&Entry>) -> Option<u32>
-    ensures { result ≡ the_job (lent entry.entry) }
+    ensures { result ≡ the_job (option_copied entry.entry) }
 {
     match entry {
-        Some(entry) => job_of_entry(entry),
-        None => None,
+        Some(Entry::Jobs(entry)) => job_of_turn(entry),
+        Some(Entry::Files(_) | Entry::Console(_)) | None => None,
     }
 }
 
-/// The job to which an entry gives a turn.
-fn job_of_entry(entry: &Entry) -> Option<u32>
-    ensures { result ≡ the_job_of entry.now }
+/// The job to which an entry of jobs gives a turn.
+fn job_of_turn(entry: &JobEntry) -> Option<u32>
+    ensures { result ≡ job_of_turn entry.now }
 {
     match entry {
-        Entry::Turn(job) => Some(*job),
-        Entry::Store { .. }
-        | Entry::Delete { .. }
-        | Entry::Direct
-        | Entry::Assemble { .. }
-        | Entry::Load { .. }
-        | Entry::Squeeze
-        | Entry::Start(_)
-        | Entry::Step(_)
-        | Entry::Go(_)
-        | Entry::Run { .. }
-        | Entry::Key(_)
-        | Entry::Done
-        | Entry::Switches(_)
-        | Entry::Examine(_)
-        | Entry::Deposit { .. }
-        | Entry::Break { .. }
-        | Entry::Registers
-        | Entry::Printed => None,
+        JobEntry::Turn(job) => Some(*job),
+        JobEntry::Assemble { .. } | JobEntry::Load { .. } | JobEntry::Squeeze => None,
     }
 }
 
 /// Puts what stands before a fault of a job's turn, or of no job's, into an empty line.
-pub(crate) fn put_begin(line: &mut ArrayVec<u8, 80>, job: Option<u32>, fault: SessionFault)
+pub(crate) fn put_fault_prefix(line: &mut ArrayVec<u8, 80>, job: Option<u32>, fault: SessionFault)
     requires { array_vec_len line.old ≡ 0 }
-    ensures text { line.new.items ≡ line.old.items ++ begin_text job fault }
+    ensures text { line.new.items ≡ line.old.items ++ fault_prefix job fault }
     ensures short { array_vec_len line.new ≤ 25 }
 {
     if let Some(job) = job {
-        put_end(line, job, fault);
+        put_job_prefix(line, job, fault);
     }
 }
 
 /// Puts the job of a fault that is its end into an empty line.
-fn put_end(line: &mut ArrayVec<u8, 80>, job: u32, fault: SessionFault)
+fn put_job_prefix(line: &mut ArrayVec<u8, 80>, job: u32, fault: SessionFault)
     requires { array_vec_len line.old ≡ 0 }
-    ensures text { line.new.items ≡ line.old.items ++ end_text job fault }
+    ensures text { line.new.items ≡ line.old.items ++ job_prefix job fault }
     ensures short { array_vec_len line.new ≤ 25 }
 {
     if let SessionFault::File(_) | SessionFault::Asm(_) | SessionFault::Tape(_) = fault {

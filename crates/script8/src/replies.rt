@@ -5,16 +5,16 @@ use word12::{Cell, Word};
 /// What a session answers to an entry that it does.
 #[derive(Drop)]
 pub enum Reply {
-    /// What is said in one line of at most 80 bytes.
-    Line(Said),
+    /// One line, of at most 80 bytes.
+    Line(LineReply),
 
-    /// What may take more.
+    /// What may take more bytes, or more lines.
     Report(Report),
 }
 
-/// What is said in one line. Jobs are shown by their numbers.
+/// A reply of one line. Jobs are shown by their numbers.
 #[derive(Clone, Copy)]
-pub enum Said {
+pub enum LineReply {
     /// A text was stored in a file of so many blocks.
     Stored {
         name: Name,

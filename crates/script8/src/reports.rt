@@ -3,7 +3,7 @@ ghost use Rattle.std.specs.Prelude.{◌≡◌, ◌≤◌, ◌++◌, ℕ, List, c
 ghost use Rattle.script8.specs.Replies.{report_lines, printed_character, printed_text, line_of, file_line, file_lines, free_line};
 
 use crate::Report;
-use crate::said::octal3;
+use crate::line_replies::octal3;
 use crate::text_lines::{TextLine, put, put_name, put_number};
 use os8_dir::Name;
 use std::alloc::AllocError;

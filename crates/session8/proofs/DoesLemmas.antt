@@ -1,19 +1,20 @@
 -- What doing an entry comes to, by what happened to the volume: a lemma for each kind of answer, whatever the entry is.
-use Rattle.std.proofs.Common.{◌≡◌, ◌≢◌, ℕ, ◌<◌, ◌≤◌, false, true, true≢false, List, Ok, Err, refl, ap, sym, subst, ◌∙◌, arith, inl, inr}
+use Rattle.std.proofs.Common.{◌≡◌, ◌≢◌, ℕ, ◌<◌, ◌≤◌, false, true, true≢false, List, Ok, Err, refl, ap, sym, ◌∙◌, arith, inr}
 use Rattle.os8_files.specs.Failed.{Survives}
 use Rattle.os8_files.specs.Mounted.{Mounted}
 use Rattle.os8_files.specs.declared.faults.FileFault.{FileFault}
 use Rattle.os8_files.specs.declared.faults.FileFault.TheVariants as file
+use Rattle.script8.specs.declared.entries.ConsoleEntry.{ConsoleEntry}
 use Rattle.script8.specs.declared.entries.Entry.{Entry}
+use Rattle.script8.specs.declared.entries.Entry.TheVariants as entry
 use Rattle.script8.specs.declared.faults.SessionFault.{SessionFault}
 use Rattle.script8.specs.declared.faults.SessionFault.TheVariants as fault
 use Rattle.script8.specs.declared.replies.Reply.{Reply}
-use Rattle.session8.specs.Console.{is_console}
-use Rattle.session8.specs.Refusals.{May, MayLack, after_refusal}
-use Rattle.session8.specs.Failing.{StoppedFor, StepsStopped}
-use Rattle.session8.specs.Session.{Seen, state_of, IsQuiet, Tells}
-use Rattle.session8.specs.SessionSteps.{Does}
-use Rattle.session8.specs.System.{Answer, Done}
+use Rattle.session8.specs.Refusals.{MayRefuse, MayLack, after_refusal}
+use Rattle.session8.specs.Failing.{MayAnswerStopped}
+use Rattle.session8.specs.Session.{Seen, state_of, IsQuiet, IsSteadied, TellsBlockCalls}
+use Rattle.session8.specs.SessionSteps.{DoesEntry}
+use Rattle.session8.specs.System.{Answer, MayReply, ConsoleMayReply}
 
 -- an answer that is a refusal, and one that is a reply
 abbrev refusal : SessionFault → Answer
@@ -44,8 +45,14 @@ steady v v' blocks reads writes is = record {
 pub steady_same : (v v' : Mounted) → v' ≡ v → IsSteady v v'
 steady_same v v' is = steady v v' v.blocks v.reads v.writes is
 
+-- where no block call failed, the entry needed none that did
+steadied : (e : Entry) (old new : Seen) → IsQuiet old new → IsSteadied e old new
+steadied (entry.Files it) old new quiet = quiet
+steadied (entry.Jobs it) old new quiet = quiet
+steadied (entry.Console it) old new quiet = tt
+
 -- a reply
-pub replied : (e : Entry) (old new : Seen) (reply : Reply) → old.volume.stopped ≡ false → IsSteady old.volume new.volume → Done (state_of old) e reply (state_of new) → Does e old (Ok reply) new
+pub replied : (e : Entry) (old new : Seen) (reply : Reply) → old.volume.stopped ≡ false → IsSteady old.volume new.volume → MayReply (state_of old) e reply (state_of new) → DoesEntry e old (Ok reply) new
 replied e old new reply running still done = record {
   step = λ quiet. done;
   later = record { reads = omega (arith, still.reads); writes = omega (arith, still.writes) };
@@ -55,12 +62,12 @@ replied e old new reply running still done = record {
   reply = tt;
   tells = λ running. record { running = running; reads = still.reads; writes = still.writes };
   stopped = λ halted. absurd (true≢false (sym halted ∙ running));
-  done = (done, inr (record { running = running; reads = still.reads; writes = still.writes }));
+  done = (done, steadied e old new (record { running = running; reads = still.reads; writes = still.writes }));
 }
 
 -- a reply of the console, which leaves the volume alone, whatever failed before
-pub shown : (e : Entry) (old new : Seen) (reply : Reply) → is_console e ≡ true → new.volume ≡ old.volume → Done (state_of old) e reply (state_of new) → Does e old (Ok reply) new
-shown e old new reply is same done = record {
+pub shown : (it : ConsoleEntry) (old new : Seen) (reply : Reply) → new.volume ≡ old.volume → ConsoleMayReply (state_of old) it reply (state_of new) → DoesEntry (entry.Console it) old (Ok reply) new
+shown it old new reply same done = record {
   step = λ quiet. done;
   later = record { reads = omega (arith, still.reads); writes = omega (arith, still.writes) };
   files = λ running more. absurd (omega (arith, more, still.writes));
@@ -68,15 +75,15 @@ shown e old new reply is same done = record {
   memory = λ is. absurd (ok_not_memory _ is);
   reply = tt;
   tells = λ running. record { running = running; reads = still.reads; writes = still.writes };
-  stopped = λ halted. subst (λ b. StepsStopped b (state_of old) e (Ok reply) (state_of new)) (sym is) done;
-  done = (done, inl is);
+  stopped = λ halted. done;
+  done = (done, tt);
 }
   where
     still : IsSteady old.volume new.volume
     still = steady_same old.volume new.volume same
 
 -- a refusal of the file service, where no block call failed
-pub refused : (e : Entry) (old new : Seen) (why : FileFault) → old.volume.stopped ≡ false → (IsQuiet old new → Tells e old (Err (fault.File why)) new) → IsSteady old.volume new.volume → May (state_of old) e (fault.File why) → state_of new ≡ after_refusal (state_of old) e → Does e old (Err (fault.File why)) new
+pub refused : (e : Entry) (old new : Seen) (why : FileFault) → old.volume.stopped ≡ false → (IsQuiet old new → TellsBlockCalls e old (Err (fault.File why)) new) → IsSteady old.volume new.volume → MayRefuse (state_of old) e (fault.File why) → state_of new ≡ after_refusal (state_of old) e → DoesEntry e old (Err (fault.File why)) new
 refused e old new why running tells still may after = record {
   step = λ quiet. (may, after);
   later = record { reads = omega (arith, still.reads); writes = omega (arith, still.writes) };
@@ -90,7 +97,7 @@ refused e old new why running tells still may after = record {
 }
 
 -- what want of memory left undone
-pub undone : (e : Entry) (old new : Seen) → (old.volume.stopped ≡ true → StepsStopped (is_console e) (state_of old) e (Err fault.Memory) (state_of new)) → MayLack (state_of old) e → IsSteady old.volume new.volume → state_of new ≡ state_of old → Does e old (Err fault.Memory) new
+pub undone : (e : Entry) (old new : Seen) → (old.volume.stopped ≡ true → MayAnswerStopped (state_of old) e (Err fault.Memory) (state_of new)) → MayLack (state_of old) e → IsSteady old.volume new.volume → state_of new ≡ state_of old → DoesEntry e old (Err fault.Memory) new
 undone e old new halts may still same = record {
   step = λ quiet. (may, same);
   later = record { reads = omega (arith, still.reads); writes = omega (arith, still.writes) };
@@ -123,7 +130,7 @@ pub record HasFailed (old new : Mounted) : Type 0 where
   pub stopped : new.stopped ≡ true
 
 -- a write failed in an entry that neither changes the jobs nor the console
-pub failed : (e : Entry) (old new : Seen) → HasFailed old.volume new.volume → new.jobs ≡ (after_refusal (state_of old) e).jobs → new.console ≡ old.console → Does e old (Err (fault.File file.Device)) new
+pub failed : (e : Entry) (old new : Seen) → HasFailed old.volume new.volume → new.jobs ≡ (after_refusal (state_of old) e).jobs → new.console ≡ old.console → DoesEntry e old (Err (fault.File file.Device)) new
 failed e old new has jobs console = record {
   step = λ quiet. absurd (loud quiet);
   later = record { reads = has.behind.reads; writes = has.behind.writes };
@@ -140,8 +147,8 @@ failed e old new has jobs console = record {
     loud quiet = omega (arith, has.more, quiet.writes)
 
 -- a write had failed before
-pub stopped : (e : Entry) (old new : Seen) → is_console e ≡ false → StoppedFor (state_of old) e (fault.File file.Stopped) → state_of new ≡ after_refusal (state_of old) e → old.volume.stopped ≡ true → IsBehind old.volume new.volume → Does e old (Err (fault.File file.Stopped)) new
-stopped e old new other for after halted behind = record {
+pub stopped : (e : Entry) (old new : Seen) → MayAnswerStopped (state_of old) e (Err (fault.File file.Stopped)) (state_of new) → old.volume.stopped ≡ true → IsBehind old.volume new.volume → DoesEntry e old (Err (fault.File file.Stopped)) new
+stopped e old new step halted behind = record {
   step = λ quiet. absurd (true≢false (sym halted ∙ quiet.running));
   later = record { reads = behind.reads; writes = behind.writes };
   files = λ running more. absurd (true≢false (sym halted ∙ running));
@@ -149,6 +156,6 @@ stopped e old new other for after halted behind = record {
   memory = λ is. absurd (not_memory file.Stopped is);
   reply = tt;
   tells = λ running. absurd (true≢false (sym halted ∙ running));
-  stopped = λ halted. subst (λ b. StepsStopped b (state_of old) e (Err (fault.File file.Stopped)) (state_of new)) (sym other) (for, after);
+  stopped = λ halted. step;
   done = tt;
 }

@@ -4,7 +4,7 @@ use Rattle.script8.specs.declared.entries.Entry.{Entry}
 use Rattle.script8.specs.declared.faults.SessionFault.TheVariants as fault
 use Rattle.session8.specs.Refusals.{MayLack}
 use Rattle.session8.specs.State.{State}
-use Rattle.session8.specs.System.{Answer, Step, Run}
+use Rattle.session8.specs.System.{Answer, MayAnswer, Run}
 use Rattle.session8.specs.SessionSteps.{is_memory}
 
 pub memory_is : (a : Answer) → is_memory a ≡ true → a ≡ Err fault.Memory
@@ -25,8 +25,8 @@ pub no_memory : (a : Answer) → is_memory a ≡ false → a ≢ Err fault.Memor
 no_memory a other is = true≢false (sym (ap is_memory is) ∙ other)
 
 -- one more entry of a run
-pub run_more : (front : List Entry) (answers : List Answer) (old mid new : State) (entry : Entry) (answer : Answer) → Run old front answers false mid → Step mid entry answer new → answer ≢ Err fault.Memory → Run old (front ++ entry ∷ []) (answers ++ answer ∷ []) false new
-run_more [] [] old mid new entry answer run step other = (new, subst (λ (s : State). Step s entry answer new) run.1 step, other, (refl, refl))
+pub run_more : (front : List Entry) (answers : List Answer) (old mid new : State) (entry : Entry) (answer : Answer) → Run old front answers false mid → MayAnswer mid entry answer new → answer ≢ Err fault.Memory → Run old (front ++ entry ∷ []) (answers ++ answer ∷ []) false new
+run_more [] [] old mid new entry answer run step other = (new, subst (λ (s : State). MayAnswer s entry answer new) run.1 step, other, (refl, refl))
 run_more [] (a ∷ answers) old mid new entry answer run step other = absurd run
 run_more (e ∷ front) [] old mid new entry answer run step other = absurd (true≢false (sym run.0))
 run_more (e ∷ front) (a ∷ answers) old mid new entry answer run step other = (run.0, run.1, run.2, run_more front answers run.0 mid new entry answer run.3 step other)

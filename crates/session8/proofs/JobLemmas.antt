@@ -15,20 +15,22 @@ use Rattle.jobs8.specs.declared.faults.JobFault.{JobFault}
 use Rattle.jobs8.specs.declared.faults.JobFault.TheVariants as job
 use Rattle.jobs8.specs.declared.kinds.Job as kept
 use Rattle.jobs8.specs.declared.turned.Turned.{Turned}
+use Rattle.script8.specs.Replies.{job_of_turn}
 use Rattle.script8.specs.declared.entries.Entry.{Entry}
 use Rattle.script8.specs.declared.entries.Entry.TheVariants as entry
+use Rattle.script8.specs.declared.entries.JobEntry.{JobEntry}
+use Rattle.script8.specs.declared.entries.JobEntry.TheVariants as order
 use Rattle.script8.specs.declared.faults.SessionFault.TheVariants as fault
 use Rattle.script8.specs.declared.replies.Reply.TheVariants.{Line}
-use Rattle.script8.specs.declared.replies.Said.TheVariants as said
+use Rattle.script8.specs.declared.replies.LineReply.TheVariants as line
 use Rattle.session8.specs.Files.{name_before, parsed_names}
-use Rattle.session8.specs.Refusals.{May, after_refusal}
-use Rattle.session8.specs.Console.{is_console}
-use Rattle.session8.specs.Failing.{StoppedFor}
-use Rattle.session8.specs.Session.{Seen, state_of, IsQuiet, IsReply, Tells}
-use Rattle.session8.specs.SessionSteps.{Does}
+use Rattle.session8.specs.Refusals.{MayRefuse, after_refusal, jobs_without}
+use Rattle.session8.specs.Failing.{JobsStopFor}
+use Rattle.session8.specs.Session.{Seen, state_of, IsQuiet, IsReply, TellsBlockCalls}
+use Rattle.session8.specs.SessionSteps.{DoesEntry}
 use Rattle.session8.specs.State.{State}
-use Rattle.session8.specs.System.{Answer, Done, Step}
-use Rattle.session8.specs.Work.{job_state, with_core, with_work, said_of, fault_of_job}
+use Rattle.session8.specs.System.{Answer, MayReply, MayAnswer}
+use Rattle.session8.specs.Work.{job_state, with_core, with_work, turn_reply, fault_of_job}
 use Rattle.session8.proofs.DoesLemmas.{IsSteady, replied, undone, behind_same, stopped}
 use Rattle.session8.proofs.SessionLemmas.{over_with}
 
@@ -119,7 +121,7 @@ file_fault (job.Asm why) other is = cc
 file_fault (job.Tape why) other is = cc
 file_fault job.Memory other is = absurd (other refl)
 
-refused_step : (e : Entry) (old new : State) (why : JobFault) → why ≢ job.Memory → May old e (fault_of_job why) → new ≡ after_refusal old e → Step old e (Err (fault_of_job why)) new
+refused_step : (e : Entry) (old new : State) (why : JobFault) → why ≢ job.Memory → MayRefuse old e (fault_of_job why) → new ≡ after_refusal old e → MayAnswer old e (Err (fault_of_job why)) new
 refused_step e old new job.NoJob other may after = (may, after)
 refused_step e old new job.TooManyJobs other may after = (may, after)
 refused_step e old new (job.File why) other may after = (may, after)
@@ -167,15 +169,15 @@ still s v quiet running = record { stopped = running ∙ sym quiet.running; read
 
 -- an answer to a turn of a number with this job
 abbrev DoesTurn : Seen → Mounted → List ℕ → List (Option kept.Job) → ℕ → Answer → Type 0
-DoesTurn s v core js' number answer = Does (entry.Turn number) s answer (over_work s v (plain_jobs js') core)
+DoesTurn s v core js' number answer = DoesEntry (entry.Jobs (order.Turn number)) s answer (over_work s v (plain_jobs js') core)
 
 ok_not_err : (turned : Turned) (why : JobFault) → ok_turn turned ≡ Err why → ⊥
 ok_not_err turned why is = cc
 
-pub turn_done : (s : Seen) (v : Mounted) (core : List ℕ) (js js' : List (Option kept.Job)) (number : ℕ) (turned : Turned) → s.jobs ≡ plain_jobs js → turned_on s js number (Ok turned) v core js' → DoesTurn s v core js' number (Ok (Line (said_of number turned)))
+pub turn_done : (s : Seen) (v : Mounted) (core : List ℕ) (js js' : List (Option kept.Job)) (number : ℕ) (turned : Turned) → s.jobs ≡ plain_jobs js → turned_on s js number (Ok turned) v core js' → DoesTurn s v core js' number (Ok (Line (turn_reply number turned)))
 turn_done s v core js js' number turned is has = of_job (job_of number (plain_jobs js)) has.volume
   where
-    of_job : (it : Option Job) → NumberTurnsOver it s.volume (Ok turned) v → DoesTurn s v core js' number (Ok (Line (said_of number turned)))
+    of_job : (it : Option Job) → NumberTurnsOver it s.volume (Ok turned) v → DoesTurn s v core js' number (Ok (Line (turn_reply number turned)))
     of_job None over = absurd (ok_not_err turned _ over.0)
     of_job (Some it) over = replied _ _ _ _ over.tells.running (still s v over.tells (over.running over.tells)) (turned, refl, (_, turns_on s js number _ _ is (has.step over.tells), refl))
 
@@ -187,7 +189,7 @@ turn_undone s v core js js' number is has over = undone _ _ _ (λ halted. absurd
 
 -- what the state is where the blocks are the same, a job is taken away, and core is the same
 state_without : (s : Seen) (v : Mounted) (core : List ℕ) (js js' : List (Option kept.Job)) (number : ℕ) → s.jobs ≡ plain_jobs js → v.blocks ≡ s.volume.blocks → plain_jobs js' ≡ with_job number None (plain_jobs js) → core ≡ s.console.machine.core
-    → state_of (over_work s v (plain_jobs js') core) ≡ after_refusal (state_of s) (entry.Turn number)
+    → state_of (over_work s v (plain_jobs js') core) ≡ after_refusal (state_of s) (entry.Jobs (order.Turn number))
 state_without s v core js js' number is blocks left same =
     ap (λ b. at b (plain_jobs js') core) blocks
     ∙ ap (λ (l : List (Option Job)). at s.volume.blocks l core) (left ∙ ap (with_job number None) (sym is))
@@ -199,13 +201,13 @@ state_without s v core js js' number is blocks left same =
 -- a turn that is refused ends its job, whatever it tells of the block calls
 turn_ended : (s : Seen) (v : Mounted) (core : List ℕ) (js js' : List (Option kept.Job)) (number : ℕ) (why : JobFault) → why ≢ job.Memory → s.jobs ≡ plain_jobs js → turned_on s js number (Err why) v core js'
     → s.volume.failed_reads ≤ v.failed_reads → s.volume.failed_writes ≤ v.failed_writes → (s.volume.failed_writes < v.failed_writes → Outlives s.volume.blocks v.blocks) → (calls.IsQuiet s.volume v → v.stopped ≡ false)
-    → (s.volume.stopped ≡ false → Tells (entry.Turn number) s (Err (fault_of_job why)) (over_work s v (plain_jobs js') core))
-    → (s.volume.stopped ≡ true → StoppedFor (state_of s) (entry.Turn number) (fault_of_job why) × (state_of (over_work s v (plain_jobs js') core) ≡ after_refusal (state_of s) (entry.Turn number)))
+    → (s.volume.stopped ≡ false → TellsBlockCalls (entry.Jobs (order.Turn number)) s (Err (fault_of_job why)) (over_work s v (plain_jobs js') core))
+    → (s.volume.stopped ≡ true → JobsStopFor (state_of s) (order.Turn number) (fault_of_job why) × (state_of (over_work s v (plain_jobs js') core) ≡ after_refusal (state_of s) (entry.Jobs (order.Turn number))))
     → DoesTurn s v core js' number (Err (fault_of_job why))
 turn_ended s v core js js' number why other is has reads writes files running tells halts = record {
   step = λ quiet.
       let turn = turns_on s js number _ _ is (has.step quiet) in
-      refused_step (entry.Turn number) (state_of s) (state_of (over_work s v (plain_jobs js') core)) why other (why, refl, (_, turn)) (ap (with_work (state_of s)) (ends _ _ number why other turn));
+      refused_step (entry.Jobs (order.Turn number)) (state_of s) (state_of (over_work s v (plain_jobs js') core)) why other (why, refl, (_, turn)) (ap (with_work (state_of s)) (ends _ _ number why other turn));
   later = record { reads = reads; writes = writes };
   files = λ running more. files more;
   running = running;
@@ -218,7 +220,7 @@ turn_ended s v core js js' number why other is has reads writes files running te
 
 -- no block call failed, and none before
 turn_quiet : (s : Seen) (v : Mounted) (core : List ℕ) (js js' : List (Option kept.Job)) (number : ℕ) (why : JobFault) → why ≢ job.Memory → s.jobs ≡ plain_jobs js → turned_on s js number (Err why) v core js' → TurnsOver s.volume (Err why) v → calls.IsQuiet s.volume v
-    → (calls.IsQuiet s.volume v → Tells (entry.Turn number) s (Err (fault_of_job why)) (over_work s v (plain_jobs js') core)) → DoesTurn s v core js' number (Err (fault_of_job why))
+    → (calls.IsQuiet s.volume v → TellsBlockCalls (entry.Jobs (order.Turn number)) s (Err (fault_of_job why)) (over_work s v (plain_jobs js') core)) → DoesTurn s v core js' number (Err (fault_of_job why))
 turn_quiet s v core js js' number why other is has over quiet tells =
     turn_ended s v core js js' number why other is has over.reads over.writes over.files over.running (λ running. tells quiet) (λ halted. absurd (true≢false (sym halted ∙ quiet.running)))
 
@@ -299,7 +301,7 @@ not_lacking r (job.Tape why) other is same = cc
 -- ## Starts
 
 -- a refusal, behind which the volume is as steady as before
-pub declined : (e : Entry) (s new : Seen) (why : JobFault) → why ≢ job.Memory → s.volume.stopped ≡ false → (IsQuiet s new → Tells e s (Err (fault_of_job why)) new) → IsSteady s.volume new.volume → May (state_of s) e (fault_of_job why) → state_of new ≡ after_refusal (state_of s) e → Does e s (Err (fault_of_job why)) new
+pub declined : (e : Entry) (s new : Seen) (why : JobFault) → why ≢ job.Memory → s.volume.stopped ≡ false → (IsQuiet s new → TellsBlockCalls e s (Err (fault_of_job why)) new) → IsSteady s.volume new.volume → MayRefuse (state_of s) e (fault_of_job why) → state_of new ≡ after_refusal (state_of s) e → DoesEntry e s (Err (fault_of_job why)) new
 declined e s new why other running tells still may after = record {
   step = λ quiet. refused_step e (state_of s) (state_of new) why other may after;
   later = record { reads = omega (arith, still.reads); writes = omega (arith, still.writes) };
@@ -321,8 +323,8 @@ start_steady old new is = record {
 }
 
 -- where a write had failed before, nothing is begun
-pub start_stopped : (e : Entry) (s new : Seen) (why : JobFault) → is_console e ≡ false → StoppedFor (state_of s) e (fault.File file.Stopped) → state_of new ≡ after_refusal (state_of s) e → s.volume.stopped ≡ true → why ≡ job.File file.Stopped → new.volume ≡ s.volume → Does e s (Err (fault_of_job why)) new
-start_stopped e s new why other for after halted is same = subst (λ w. Does e s (Err (fault_of_job w)) new) (sym is) (stopped e s new other for after halted (behind_same _ _ same))
+pub start_stopped : (it : JobEntry) (s new : Seen) (why : JobFault) → JobsStopFor (state_of s) it (fault.File file.Stopped) → state_of new ≡ after_refusal (state_of s) (entry.Jobs it) → s.volume.stopped ≡ true → why ≡ job.File file.Stopped → new.volume ≡ s.volume → DoesEntry (entry.Jobs it) s (Err (fault_of_job why)) new
+start_stopped it s new why for after halted is same = subst (λ w. DoesEntry (entry.Jobs it) s (Err (fault_of_job w)) new) (sym is) (stopped _ s new (for, after) halted (behind_same _ _ same))
 
 pub never_number : {A E : Type 0} (number : A) (why : E) → Ok number ≡ Err why → ⊥
 never_number number why is = cc
@@ -338,20 +340,23 @@ same_fault one two is = ap fault_in is
     fault_in (Err why) = why
 
 -- a job is begun
-pub start_begun : (e : Entry) (s : Seen) (v : Mounted) (js js' : List (Option kept.Job)) (number : ℕ) → StartsOver s.volume js (Ok number) v js' → (s.volume.stopped ≡ false → Done (state_of s) e (Line (said.Job number)) (state_of (over_with s v (plain_jobs js'))))
-    → Does e s (Ok (Line (said.Job number))) (over_with s v (plain_jobs js'))
+pub start_begun : (e : Entry) (s : Seen) (v : Mounted) (js js' : List (Option kept.Job)) (number : ℕ) → StartsOver s.volume js (Ok number) v js' → (s.volume.stopped ≡ false → MayReply (state_of s) e (Line (line.Job number)) (state_of (over_with s v (plain_jobs js'))))
+    → DoesEntry e s (Ok (Line (line.Job number))) (over_with s v (plain_jobs js'))
 start_begun e s v js js' number over done = elim (bool_cases s.volume.stopped) [
   | inl halted ↦ absurd (never_number number _ (over.stopped halted).0)
   | inr running ↦ replied _ _ _ _ running (start_steady _ _ over.others) (done running)
 ]
 
 -- no job is begun
-pub start_refused : (e : Entry) (s : Seen) (v : Mounted) (js js' : List (Option kept.Job)) (why : JobFault) → is_console e ≡ false → after_refusal (state_of s) e ≡ state_of s → StoppedFor (state_of s) e (fault.File file.Stopped) → s.jobs ≡ plain_jobs js → StartsOver s.volume js (Err why) v js' → (s.volume.stopped ≡ false → Does e s (Err (fault_of_job why)) (over_with s v (plain_jobs js')))
-    → Does e s (Err (fault_of_job why)) (over_with s v (plain_jobs js'))
-start_refused e s v js js' why other after for is over does = elim (bool_cases s.volume.stopped) [
-  | inl halted ↦ start_stopped _ _ _ why other for (ap (λ (m : Mounted). state_of (over_with s m (plain_jobs js'))) (over.stopped halted).1 ∙ ap (λ (l : List (Option Job)). state_of (over_with s s.volume l)) (ap plain_jobs (over.stopped halted).2 ∙ sym is) ∙ sym after) halted (same_fault _ _ (over.stopped halted).0) (over.stopped halted).1
+pub start_refused : (it : JobEntry) (s : Seen) (v : Mounted) (js js' : List (Option kept.Job)) (why : JobFault) → job_of_turn it ≡ None → JobsStopFor (state_of s) it (fault.File file.Stopped) → s.jobs ≡ plain_jobs js → StartsOver s.volume js (Err why) v js' → (s.volume.stopped ≡ false → DoesEntry (entry.Jobs it) s (Err (fault_of_job why)) (over_with s v (plain_jobs js')))
+    → DoesEntry (entry.Jobs it) s (Err (fault_of_job why)) (over_with s v (plain_jobs js'))
+start_refused it s v js js' why none for is over does = elim (bool_cases s.volume.stopped) [
+  | inl halted ↦ start_stopped it _ _ why for (ap (λ (m : Mounted). state_of (over_with s m (plain_jobs js'))) (over.stopped halted).1 ∙ ap (λ (l : List (Option Job)). state_of (over_with s s.volume l)) (ap plain_jobs (over.stopped halted).2 ∙ sym is) ∙ sym after) halted (same_fault _ _ (over.stopped halted).0) (over.stopped halted).1
   | inr running ↦ does running
 ]
+  where
+    after : after_refusal (state_of s) (entry.Jobs it) ≡ state_of s
+    after = ap (λ turn. record (state_of s) { jobs = jobs_without turn s.jobs }) none
 
 -- ## Loading
 
@@ -359,18 +364,18 @@ load_on : (s : Seen) (js : List (Option kept.Job)) (name : ℕ) (answer : Begun)
 load_on s js name answer after is starts = subst (λ (l : List (Option Job)). LoadStarts (state_over s.volume s.console.machine.core l) name answer after) (sym is) starts
 
 pub load_begun : (s : Seen) (v : Mounted) (js js' : List (Option kept.Job)) (bytes : List ℕ) (name number : ℕ) → parsed_name bytes ≡ Some name → s.jobs ≡ plain_jobs js → StartsLoading s.volume js name (Ok number) v js'
-    → Does (entry.Load bytes) s (Ok (Line (said.Job number))) (over_with s v (plain_jobs js'))
+    → DoesEntry (entry.Jobs (order.Load bytes)) s (Ok (Line (line.Job number))) (over_with s v (plain_jobs js'))
 load_begun s v js js' bytes name number named is has =
     start_begun _ s v js js' number has.over (λ running. (name, named, (_, load_on s js name (Ok number) _ is (has.step running s.console.machine.core), refl)))
 
 pub load_refused : (s : Seen) (v : Mounted) (js js' : List (Option kept.Job)) (bytes : List ℕ) (name : ℕ) (why : JobFault) → parsed_name bytes ≡ Some name → s.jobs ≡ plain_jobs js → StartsLoading s.volume js name (Err why) v js'
-    → Does (entry.Load bytes) s (Err (fault_of_job why)) (over_with s v (plain_jobs js'))
-load_refused s v js js' bytes name why named is has = start_refused _ s v js js' why refl refl (name, named) is has.over (λ running. by_fault running why (load_on s js name (Err why) _ is (has.step running s.console.machine.core)))
+    → DoesEntry (entry.Jobs (order.Load bytes)) s (Err (fault_of_job why)) (over_with s v (plain_jobs js'))
+load_refused s v js js' bytes name why named is has = start_refused (order.Load bytes) s v js js' why refl (name, named) is has.over (λ running. by_fault running why (load_on s js name (Err why) _ is (has.step running s.console.machine.core)))
   where
     still : IsSteady s.volume v
     still = start_steady _ _ has.over.others
 
-    by_fault : s.volume.stopped ≡ false → (why : JobFault) → LoadStarts (job_state (state_of s)) name (Err why) (state_over v s.console.machine.core (plain_jobs js')) → Does (entry.Load bytes) s (Err (fault_of_job why)) (over_with s v (plain_jobs js'))
+    by_fault : s.volume.stopped ≡ false → (why : JobFault) → LoadStarts (job_state (state_of s)) name (Err why) (state_over v s.console.machine.core (plain_jobs js')) → DoesEntry (entry.Jobs (order.Load bytes)) s (Err (fault_of_job why)) (over_with s v (plain_jobs js'))
     by_fault running job.TooManyJobs starts = declined _ _ _ job.TooManyJobs (λ same. cc) running (λ quiet. quiet) still (name, named, (job.TooManyJobs, refl, (starts.0, refl))) (ap (with_work (state_of s)) starts.1)
     by_fault running (job.File file.NotFound) starts = declined _ _ _ (job.File file.NotFound) (λ same. cc) running (λ quiet. quiet) still (name, named, (job.File file.NotFound, refl, (starts.0, starts.1, refl))) (ap (with_work (state_of s)) starts.2)
     by_fault running job.Memory starts = undone _ _ _ (λ halted. absurd (true≢false (sym halted ∙ running))) (name, named, (starts.0, starts.1, refl)) still (ap (with_work (state_of s)) starts.2)
@@ -419,18 +424,18 @@ assemble_on : (s : Seen) (js : List (Option kept.Job)) (target : ℕ) (from : Li
 assemble_on s js target from answer after is starts = subst (λ (l : List (Option Job)). AssembleStarts (state_over s.volume s.console.machine.core l) target from answer after) (sym is) starts
 
 pub assemble_begun : (s : Seen) (v : Mounted) (js js' : List (Option kept.Job)) (to : List ℕ) (from : List (List ℕ)) (target : ℕ) (sources : List ℕ) (number : ℕ) → parsed_name to ≡ Some target → parsed_names from ≡ Some sources → s.jobs ≡ plain_jobs js
-    → StartsAssembling s.volume js target sources (Ok number) v js' → Does (entry.Assemble to from) s (Ok (Line (said.Job number))) (over_with s v (plain_jobs js'))
+    → StartsAssembling s.volume js target sources (Ok number) v js' → DoesEntry (entry.Jobs (order.Assemble to from)) s (Ok (Line (line.Job number))) (over_with s v (plain_jobs js'))
 assemble_begun s v js js' to from target sources number named are is has =
     start_begun _ s v js js' number has.over (λ running. (target, sources, named, are, (_, assemble_on s js target sources (Ok number) _ is (has.step running s.console.machine.core), refl)))
 
 pub assemble_refused : (s : Seen) (v : Mounted) (js js' : List (Option kept.Job)) (to : List ℕ) (from : List (List ℕ)) (target : ℕ) (sources : List ℕ) (why : JobFault) → parsed_name to ≡ Some target → parsed_names from ≡ Some sources → s.jobs ≡ plain_jobs js
-    → StartsAssembling s.volume js target sources (Err why) v js' → Does (entry.Assemble to from) s (Err (fault_of_job why)) (over_with s v (plain_jobs js'))
-assemble_refused s v js js' to from target sources why named are is has = start_refused _ s v js js' why refl refl (target, sources, named, are, tt) is has.over (λ running. by_fault running why (assemble_on s js target sources (Err why) _ is (has.step running s.console.machine.core)))
+    → StartsAssembling s.volume js target sources (Err why) v js' → DoesEntry (entry.Jobs (order.Assemble to from)) s (Err (fault_of_job why)) (over_with s v (plain_jobs js'))
+assemble_refused s v js js' to from target sources why named are is has = start_refused (order.Assemble to from) s v js js' why refl (target, sources, named, are, tt) is has.over (λ running. by_fault running why (assemble_on s js target sources (Err why) _ is (has.step running s.console.machine.core)))
   where
     still : IsSteady s.volume v
     still = start_steady _ _ has.over.others
 
-    by_fault : s.volume.stopped ≡ false → (why : JobFault) → AssembleStarts (job_state (state_of s)) target sources (Err why) (state_over v s.console.machine.core (plain_jobs js')) → Does (entry.Assemble to from) s (Err (fault_of_job why)) (over_with s v (plain_jobs js'))
+    by_fault : s.volume.stopped ≡ false → (why : JobFault) → AssembleStarts (job_state (state_of s)) target sources (Err why) (state_over v s.console.machine.core (plain_jobs js')) → DoesEntry (entry.Jobs (order.Assemble to from)) s (Err (fault_of_job why)) (over_with s v (plain_jobs js'))
     by_fault running job.TooManyJobs starts = declined _ _ _ job.TooManyJobs (λ same. cc) running (λ quiet. quiet) still (target, sources, named, are, (job.TooManyJobs, refl, (starts.0, refl))) (ap (with_work (state_of s)) starts.1)
     by_fault running (job.File file.NotFound) starts = declined _ _ _ (job.File file.NotFound) (λ same. cc) running (λ quiet. quiet) still (target, sources, named, are, (job.File file.NotFound, refl, (starts.0, starts.1, refl))) (ap (with_work (state_of s)) starts.2)
     by_fault running (job.File (file.Busy n)) starts = declined _ _ _ (job.File (file.Busy n)) (λ same. cc) running (λ quiet. quiet) still (target, sources, named, are, (job.File (file.Busy n), refl, (starts.0, starts.1, starts.2, starts.3, refl))) (ap (with_work (state_of s)) starts.4)
@@ -453,13 +458,13 @@ assemble_refused s v js js' to from target sources why named are is has = start_
 squeeze_on : (s : Seen) (js : List (Option kept.Job)) (answer : Begun) (after : jobs.State) → s.jobs ≡ plain_jobs js → SqueezeStarts (state_over s.volume s.console.machine.core (plain_jobs js)) answer after → SqueezeStarts (job_state (state_of s)) answer after
 squeeze_on s js answer after is starts = subst (λ (l : List (Option Job)). SqueezeStarts (state_over s.volume s.console.machine.core l) answer after) (sym is) starts
 
-pub squeeze_begun : (s : Seen) (v : Mounted) (js js' : List (Option kept.Job)) (number : ℕ) → s.jobs ≡ plain_jobs js → StartsSqueezing s.volume js (Ok number) v js' → Does entry.Squeeze s (Ok (Line (said.Job number))) (over_with s v (plain_jobs js'))
+pub squeeze_begun : (s : Seen) (v : Mounted) (js js' : List (Option kept.Job)) (number : ℕ) → s.jobs ≡ plain_jobs js → StartsSqueezing s.volume js (Ok number) v js' → DoesEntry (entry.Jobs order.Squeeze) s (Ok (Line (line.Job number))) (over_with s v (plain_jobs js'))
 squeeze_begun s v js js' number is has = start_begun _ s v js js' number has.over (λ running. (_, squeeze_on s js (Ok number) _ is (has.step running s.console.machine.core), refl))
 
-pub squeeze_refused : (s : Seen) (v : Mounted) (js js' : List (Option kept.Job)) (why : JobFault) → s.jobs ≡ plain_jobs js → StartsSqueezing s.volume js (Err why) v js' → Does entry.Squeeze s (Err (fault_of_job why)) (over_with s v (plain_jobs js'))
-squeeze_refused s v js js' why is has = start_refused _ s v js js' why refl refl tt is has.over (λ running. by_fault running why (squeeze_on s js (Err why) _ is (has.step running s.console.machine.core)))
+pub squeeze_refused : (s : Seen) (v : Mounted) (js js' : List (Option kept.Job)) (why : JobFault) → s.jobs ≡ plain_jobs js → StartsSqueezing s.volume js (Err why) v js' → DoesEntry (entry.Jobs order.Squeeze) s (Err (fault_of_job why)) (over_with s v (plain_jobs js'))
+squeeze_refused s v js js' why is has = start_refused order.Squeeze s v js js' why refl tt is has.over (λ running. by_fault running why (squeeze_on s js (Err why) _ is (has.step running s.console.machine.core)))
   where
-    by_fault : s.volume.stopped ≡ false → (why : JobFault) → SqueezeStarts (job_state (state_of s)) (Err why) (state_over v s.console.machine.core (plain_jobs js')) → Does entry.Squeeze s (Err (fault_of_job why)) (over_with s v (plain_jobs js'))
+    by_fault : s.volume.stopped ≡ false → (why : JobFault) → SqueezeStarts (job_state (state_of s)) (Err why) (state_over v s.console.machine.core (plain_jobs js')) → DoesEntry (entry.Jobs order.Squeeze) s (Err (fault_of_job why)) (over_with s v (plain_jobs js'))
     by_fault running job.TooManyJobs starts = declined _ _ _ job.TooManyJobs (λ same. cc) running (λ quiet. quiet) (start_steady _ _ has.over.others) starts.0 (ap (with_work (state_of s)) starts.1)
     by_fault running job.Memory starts = absurd starts
     by_fault running job.NoJob starts = absurd starts

@@ -10,10 +10,13 @@ use Rattle.jobs8.specs.Jobs.{job_of}
 use Rattle.jobs8.specs.Settled.{plain_job, plain_jobs, work_of}
 use Rattle.jobs8.specs.declared.kinds.Job.{Job}
 use Rattle.jobs8.specs.declared.kinds.Work.{Work}
+use Rattle.script8.specs.Replies.{job_of_entry, job_of_turn}
 use Rattle.script8.specs.declared.entries.Entry.{Entry}
 use Rattle.script8.specs.declared.entries.Entry.TheVariants as entry
-use Rattle.session8.specs.Interleaving.{EntryReads, EntryPlaces, KeepsPlacesBut, TurnReads, TurnPlaces}
-use Rattle.session8.specs.SessionSteps.{Leaves}
+use Rattle.script8.specs.declared.entries.FileEntry.TheVariants as filing
+use Rattle.script8.specs.declared.entries.JobEntry.TheVariants as order
+use Rattle.session8.specs.Interleaving.{EntryReads, EntryPlaces, KeepsPlacesBut, TurnReads, TurnPlaces, job_taking}
+use Rattle.session8.specs.SessionSteps.{LeavesAlone}
 use Rattle.session8.specs.Session.{Seen}
 
 -- ## Nothing is read or moved
@@ -42,63 +45,31 @@ turn_moves_none (Some it) old new keeps = of_work it.work
     of_work (plain.Squeezing clean) = (0, but_any (Some 0) old new keeps)
 
 reads_none : (e : Entry) (old new : Seen) → new.volume.reads ≡ old.volume.reads → EntryReads e old new
-reads_none (entry.Turn number) old new same = turn_reads_none (job_of number old.jobs) old.volume new.volume same
-reads_none (entry.Store name text) old new same = same
-reads_none (entry.Delete name) old new same = same
-reads_none entry.Direct old new same = same
-reads_none (entry.Assemble to from) old new same = same
-reads_none (entry.Load name) old new same = same
-reads_none entry.Squeeze old new same = same
-reads_none (entry.Start cell) old new same = same
-reads_none (entry.Step n) old new same = same
-reads_none (entry.Go n) old new same = same
-reads_none (entry.Run cell n) old new same = same
-reads_none (entry.Key character) old new same = same
-reads_none entry.Done old new same = same
-reads_none (entry.Switches word) old new same = same
-reads_none (entry.Examine cell) old new same = same
-reads_none (entry.Deposit cell word) old new same = same
-reads_none (entry.Break cell is_on) old new same = same
-reads_none entry.Registers old new same = same
-reads_none entry.Printed old new same = same
+reads_none e old new same = turn_reads_none (job_taking (job_of_entry e) old.jobs) old.volume new.volume same
 
 moves_none : (e : Entry) (old new : Seen) → KeepsPlaces old.volume new.volume → EntryPlaces e old new
-moves_none (entry.Turn number) old new keeps = turn_moves_none (job_of number old.jobs) old.volume new.volume keeps
-moves_none (entry.Store name text) old new keeps = but_any (parsed_name name) old.volume new.volume keeps
-moves_none (entry.Delete name) old new keeps = but_any (parsed_name name) old.volume new.volume keeps
-moves_none entry.Direct old new keeps = keeps
-moves_none (entry.Assemble to from) old new keeps = keeps
-moves_none (entry.Load name) old new keeps = keeps
-moves_none entry.Squeeze old new keeps = keeps
-moves_none (entry.Start cell) old new keeps = keeps
-moves_none (entry.Step n) old new keeps = keeps
-moves_none (entry.Go n) old new keeps = keeps
-moves_none (entry.Run cell n) old new keeps = keeps
-moves_none (entry.Key character) old new keeps = keeps
-moves_none entry.Done old new keeps = keeps
-moves_none (entry.Switches word) old new keeps = keeps
-moves_none (entry.Examine cell) old new keeps = keeps
-moves_none (entry.Deposit cell word) old new keeps = keeps
-moves_none (entry.Break cell is_on) old new keeps = keeps
-moves_none entry.Registers old new keeps = keeps
-moves_none entry.Printed old new keeps = keeps
+moves_none (entry.Files (filing.Store name text)) old new keeps = but_any (parsed_name name) old.volume new.volume keeps
+moves_none (entry.Files (filing.Delete name)) old new keeps = but_any (parsed_name name) old.volume new.volume keeps
+moves_none (entry.Files filing.Direct) old new keeps = keeps
+moves_none (entry.Jobs it) old new keeps = turn_moves_none (job_taking (job_of_turn it) old.jobs) old.volume new.volume keeps
+moves_none (entry.Console it) old new keeps = keeps
 
 -- an entry that changes holds of the volume at most
-pub leaves_all : (e : Entry) (old new : Seen) → new.volume ≡ record old.volume { holds = new.volume.holds } → Leaves e old new
+pub leaves_all : (e : Entry) (old new : Seen) → new.volume ≡ record old.volume { holds = new.volume.holds } → LeavesAlone e old new
 leaves_all e old new is = record {
   reads = reads_none e old new (ap (λ (m : Mounted). m.reads) is);
   places = moves_none e old new (λ name running. ap (λ (m : Mounted). extent_on m name) is);
 }
 
-pub leaves_same : (e : Entry) (old new : Seen) → new.volume ≡ old.volume → Leaves e old new
+pub leaves_same : (e : Entry) (old new : Seen) → new.volume ≡ old.volume → LeavesAlone e old new
 leaves_same e old new is = leaves_all e old new (is ∙ ap (λ (m : Mounted). record old.volume { holds = m.holds }) (sym is))
 
 -- ## A file is stored or deleted
 
-pub store_leaves : (bytes text : List ℕ) (old new : Seen) (name : ℕ) → parsed_name bytes ≡ Some name → new.volume.reads ≡ old.volume.reads → KeepsOtherPlaces name old.volume new.volume → Leaves (entry.Store bytes text) old new
+pub store_leaves : (bytes text : List ℕ) (old new : Seen) (name : ℕ) → parsed_name bytes ≡ Some name → new.volume.reads ≡ old.volume.reads → KeepsOtherPlaces name old.volume new.volume → LeavesAlone (entry.Files (filing.Store bytes text)) old new
 store_leaves bytes text old new name is same keeps = record { reads = same; places = subst (λ n. KeepsPlacesBut n old.volume new.volume) (sym is) keeps }
 
-pub delete_leaves : (bytes : List ℕ) (old new : Seen) (name : ℕ) → parsed_name bytes ≡ Some name → new.volume.reads ≡ old.volume.reads → KeepsOtherPlaces name old.volume new.volume → Leaves (entry.Delete bytes) old new
+pub delete_leaves : (bytes : List ℕ) (old new : Seen) (name : ℕ) → parsed_name bytes ≡ Some name → new.volume.reads ≡ old.volume.reads → KeepsOtherPlaces name old.volume new.volume → LeavesAlone (entry.Files (filing.Delete bytes)) old new
 delete_leaves bytes old new name is same keeps = record { reads = same; places = subst (λ n. KeepsPlacesBut n old.volume new.volume) (sym is) keeps }
 
 -- ## A job takes a turn
@@ -123,7 +94,7 @@ plain_at : (number : ℕ) (js : List (Option Job)) → job_of number (plain_jobs
 plain_at zero js = refl
 plain_at (suc place) js = get_or-map plain_job js place None
 
-pub turn_leaves : MovesLaw → ReadsLaw → (number : ℕ) (old new : Seen) (js : List (Option Job)) → old.jobs ≡ plain_jobs js → CallsOf (job_at number js) old.volume new.volume → Leaves (entry.Turn number) old new
+pub turn_leaves : MovesLaw → ReadsLaw → (number : ℕ) (old new : Seen) (js : List (Option Job)) → old.jobs ≡ plain_jobs js → CallsOf (job_at number js) old.volume new.volume → LeavesAlone (entry.Jobs (order.Turn number)) old new
 turn_leaves moves reads number old new js is calls = record {
   reads = subst (λ j. TurnReads j old.volume new.volume) (sym here) (turn_reads reads old.volume new.volume (job_at number js) calls);
   places = subst (λ j. TurnPlaces j old.volume new.volume) (sym here) (turn_places moves old.volume new.volume (job_at number js) calls);

@@ -15,20 +15,25 @@ use Rattle.jobs8.specs.Turns.{JobTurn, WorkTurn}
 use Rattle.jobs8.specs.declared.faults.JobFault.{JobFault}
 use Rattle.jobs8.specs.declared.faults.JobFault.TheVariants as job
 use Rattle.jobs8.specs.declared.turned.Turned.TheVariants as turned
+use Rattle.script8.specs.Replies.{job_of_entry}
 use Rattle.script8.specs.declared.entries.Entry.{Entry}
 use Rattle.script8.specs.declared.entries.Entry.TheVariants as entry
+use Rattle.script8.specs.declared.entries.ConsoleEntry.{ConsoleEntry}
+use Rattle.script8.specs.declared.entries.FileEntry.{FileEntry}
+use Rattle.script8.specs.declared.entries.FileEntry.TheVariants as filing
+use Rattle.script8.specs.declared.entries.JobEntry.{JobEntry}
+use Rattle.script8.specs.declared.entries.JobEntry.TheVariants as order
 use Rattle.script8.specs.declared.faults.SessionFault.{SessionFault}
 use Rattle.script8.specs.declared.faults.SessionFault.TheVariants as fault
 use Rattle.script8.specs.declared.replies.Reply.{Reply}
 use Rattle.script8.specs.declared.replies.Reply.TheVariants.{Line, Report}
 use Rattle.script8.specs.declared.replies.Report.TheVariants as report
-use Rattle.script8.specs.declared.replies.Said.TheVariants as said
-use Rattle.session8.specs.Console.{Shows}
+use Rattle.script8.specs.declared.replies.LineReply.TheVariants as line
 use Rattle.session8.specs.Files.{HasDeleted, DeleteRefused}
-use Rattle.session8.specs.Refusals.{Named, May, MayLack, after_refusal}
-use Rattle.session8.specs.Same.{lasting_job, lasting_jobs, lasting_work, unsqueezed, IsAlike, IsApart, speaks_of_room}
+use Rattle.session8.specs.Refusals.{Named, MayRefuse, FilesMayRefuse, JobsMayRefuse, MayLack, after_refusal, jobs_without}
+use Rattle.session8.specs.Same.{lasting_job, lasting_jobs, lasting_work, unsqueezed, IsAlike, IsApart, JobIsApart, speaks_of_room}
 use Rattle.session8.specs.State.{State}
-use Rattle.session8.specs.System.{Answer, Done, Step}
+use Rattle.session8.specs.System.{Answer, MayReply, FilesMayReply, JobsMayReply, ConsoleMayReply, MayAnswer}
 use Rattle.session8.specs.Work.{Works, job_state, with_work, fault_of_job}
 use Rattle.session8.proofs.ReplyLemmas.{stored_alone, deleted_alone, assembled_alone, loaded_alone, squeezed_alone}
 use Rattle.session8.proofs.SameLemmas.{lasting_put, alike}
@@ -107,13 +112,12 @@ worked one one' t js after other same is = ap unsqueezed is ∙ ap (with_work on
 
 -- two states may answer the same, and the second goes on to one that is the same but for its squeezing jobs
 abbrev Follows : State → Entry → Answer → State → Type 0
-Follows two e answer one' = (two' : State) × Step two e answer two' × IsAlike one' two'
+Follows two e answer one' = (two' : State) × MayAnswer two e answer two' × IsAlike one' two'
 
 -- ## The console
 
-shown : (one one' : State) (t : Bool) (js : Jobs) (e : Entry) (reply : Reply) → AreAlike one.jobs js → Shows one.console e reply one'.console × (one' ≡ record one { console = one'.console })
-    → (two' : State) × (Shows one.console e reply two'.console × (two' ≡ record (over one t js) { console = two'.console })) × IsAlike one' two'
-shown one one' t js e reply same step = (over one' t js, (step.0, ap (λ (s : State). over s t js) step.1), alike one' t js (sym same ∙ sym (ap (λ (s : State). lasting_jobs s.jobs) step.1)))
+shown : (one one' : State) (t : Bool) (js : Jobs) (it : ConsoleEntry) (reply : Reply) → AreAlike one.jobs js → ConsoleMayReply one it reply one' → Follows (over one t js) (entry.Console it) (Ok reply) one'
+shown one one' t js it reply same step = (over one' t js, (step.0, step.1, ap (λ (s : State). over s t js) step.2), alike one' t js (sym same ∙ sym (ap (λ (s : State). lasting_jobs s.jobs) step.2)))
 
 -- ## Refusals
 
@@ -264,7 +268,7 @@ turn_follows one t js number it answer after same lasting room turn = of_job it 
     of_job (Some it) answer lasting room turn = of_work it.work it.left answer lasting room turn
 
 -- the turn of a number
-number_follows : (one : State) (t : Bool) (js : Jobs) (number : ℕ) (answer : turns.Answer) (after : jobs.State) → AreAlike one.jobs js → IsApart (entry.Turn number) one (over one t js) → is_of_room answer ≡ false → turns.Turns (job_state one) number answer after
+number_follows : (one : State) (t : Bool) (js : Jobs) (number : ℕ) (answer : turns.Answer) (after : jobs.State) → AreAlike one.jobs js → JobIsApart (order.Turn number) one (over one t js) → is_of_room answer ≡ false → turns.Turns (job_state one) number answer after
     → (other : jobs.State) × turns.Turns (job_state (over one t js)) number answer other × (plain after ≡ plain other)
 number_follows one t js number answer after same apart room turn =
     subst (λ (o : Option Job). TurnFollows one (over one t js) number o answer after) (same_job one.jobs js number same apart.0 apart.1) (turn_follows one t js number (job_of number one.jobs) answer after same apart.0 room turn)
@@ -285,69 +289,61 @@ deleted one one' t js name same step = (with_work (over one t js) left, (left, h
     has : HasDeleted name (job_state (over one t js)) left
     has = record { file = step.1.file; there = step.1.there; free = same_held one.jobs js name false same step.1.free; others = refl }
 
-stores : (one one' : State) (t : Bool) (js : Jobs) (name text : List ℕ) (other blocks : ℕ) → AreAlike one.jobs js → Done one (entry.Store name text) (Line (said.Stored other blocks)) one' → Follows (over one t js) (entry.Store name text) (Ok (Line (said.Stored other blocks))) one'
+stores : (one one' : State) (t : Bool) (js : Jobs) (name text : List ℕ) (other blocks : ℕ) → AreAlike one.jobs js → FilesMayReply one (filing.Store name text) (Line (line.Stored other blocks)) one' → Follows (over one t js) (entry.Files (filing.Store name text)) (Ok (Line (line.Stored other blocks))) one'
 stores one one' t js name text other blocks same step =
     let put = has_put one t js other (stored text) one.jobs js step.2.0 same same step.2.1.1 in
     (with_work (over one t js) put.0, (step.0, step.1, (put.0, (step.2.1.0, put.1), refl)), worked one one' t js step.2.0 put.0 put.2 step.2.2)
 
-deletes : (one one' : State) (t : Bool) (js : Jobs) (name : List ℕ) (other : ℕ) → AreAlike one.jobs js → Done one (entry.Delete name) (Line (said.Deleted other)) one' → Follows (over one t js) (entry.Delete name) (Ok (Line (said.Deleted other))) one'
+deletes : (one one' : State) (t : Bool) (js : Jobs) (name : List ℕ) (other : ℕ) → AreAlike one.jobs js → FilesMayReply one (filing.Delete name) (Line (line.Deleted other)) one' → Follows (over one t js) (entry.Files (filing.Delete name)) (Ok (Line (line.Deleted other))) one'
 deletes one one' t js name other same step = let left = deleted one one' t js other same step.1 in (left.0, (step.0, left.1), left.2)
 
-begins_assembling : (one one' : State) (t : Bool) (js : Jobs) (to : List ℕ) (from : List (List ℕ)) (number : ℕ) → AreAlike one.jobs js → least_free one.jobs ≡ least_free js → Done one (entry.Assemble to from) (Line (said.Job number)) one' → Follows (over one t js) (entry.Assemble to from) (Ok (Line (said.Job number))) one'
+begins_assembling : (one one' : State) (t : Bool) (js : Jobs) (to : List ℕ) (from : List (List ℕ)) (number : ℕ) → AreAlike one.jobs js → least_free one.jobs ≡ least_free js → JobsMayReply one (order.Assemble to from) (Line (line.Job number)) one' → Follows (over one t js) (entry.Jobs (order.Assemble to from)) (Ok (Line (line.Job number))) one'
 begins_assembling one one' t js to from number same apart step = (
   _,
   (step.0, step.1, step.2, step.3, (_, (step.4.1.0, record { unheld = same_held one.jobs js step.0 false same step.4.1.1.unheld; other = step.4.1.1.other }, record { least = sym apart ∙ step.4.1.2.least; others = refl }), refl)),
   begins one one' t js number (new_assembling (job_state one) step.0 step.1) step.4.0 same step.4.1.2.others step.4.2,
 )
 
-begins_loading : (one one' : State) (t : Bool) (js : Jobs) (name : List ℕ) (number : ℕ) → AreAlike one.jobs js → least_free one.jobs ≡ least_free js → Done one (entry.Load name) (Line (said.Job number)) one' → Follows (over one t js) (entry.Load name) (Ok (Line (said.Job number))) one'
+begins_loading : (one one' : State) (t : Bool) (js : Jobs) (name : List ℕ) (number : ℕ) → AreAlike one.jobs js → least_free one.jobs ≡ least_free js → JobsMayReply one (order.Load name) (Line (line.Job number)) one' → Follows (over one t js) (entry.Jobs (order.Load name)) (Ok (Line (line.Job number))) one'
 begins_loading one one' t js name number same apart step = (
   _,
   (step.0, step.1, (_, (step.2.1.0, record { least = sym apart ∙ step.2.1.1.least; others = refl }), refl)),
   begins one one' t js number (new_loading (job_state one) step.0) step.2.0 same step.2.1.1.others step.2.2,
 )
 
-begins_squeezing : (one one' : State) (t : Bool) (js : Jobs) (number : ℕ) → AreAlike one.jobs js → least_free one.jobs ≡ least_free js → Done one entry.Squeeze (Line (said.Job number)) one' → Follows (over one t js) entry.Squeeze (Ok (Line (said.Job number))) one'
+begins_squeezing : (one one' : State) (t : Bool) (js : Jobs) (number : ℕ) → AreAlike one.jobs js → least_free one.jobs ≡ least_free js → JobsMayReply one order.Squeeze (Line (line.Job number)) one' → Follows (over one t js) (entry.Jobs order.Squeeze) (Ok (Line (line.Job number))) one'
 begins_squeezing one one' t js number same apart step = (
   _,
   (_, record { least = sym apart ∙ step.1.least; others = refl }, refl),
   begins one one' t js number (new_squeezing (job_state one)) step.0 same step.1.others step.2,
 )
 
-replies : (one one' : State) (t : Bool) (js : Jobs) (e : Entry) (reply : Reply) → AreAlike one.jobs js → IsApart e one (over one t js) → Done one e reply one' → Follows (over one t js) e (Ok reply) one'
-replies one one' t js (entry.Store name text) reply same apart step =
-    stored_alone one one' name text (λ (r : Reply). Follows (over one t js) (entry.Store name text) (Ok r) one') (λ other blocks step. stores one one' t js name text other blocks same step) reply step
-replies one one' t js (entry.Delete name) reply same apart step =
-    deleted_alone one one' name (λ (r : Reply). Follows (over one t js) (entry.Delete name) (Ok r) one') (λ other step. deletes one one' t js name other same step) reply step
-replies one one' t js (entry.Assemble to from) reply same apart step =
-    assembled_alone one one' to from (λ (r : Reply). Follows (over one t js) (entry.Assemble to from) (Ok r) one') (λ number step. begins_assembling one one' t js to from number same apart step) reply step
-replies one one' t js (entry.Load name) reply same apart step =
-    loaded_alone one one' name (λ (r : Reply). Follows (over one t js) (entry.Load name) (Ok r) one') (λ number step. begins_loading one one' t js name number same apart step) reply step
-replies one one' t js entry.Squeeze reply same apart step =
-    squeezed_alone one one' (λ (r : Reply). Follows (over one t js) entry.Squeeze (Ok r) one') (λ number step. begins_squeezing one one' t js number same apart step) reply step
-replies one one' t js entry.Direct (Report (report.Direct files free)) same apart step = (over one t js, (step.0, step.1, refl), ap unsqueezed step.2 ∙ alike one t js (sym same))
-replies one one' t js entry.Direct (Report (report.Registers text)) same apart step = absurd step.0
-replies one one' t js entry.Direct (Report (report.Printed characters)) same apart step = absurd step.0
-replies one one' t js entry.Direct (Line said) same apart step = absurd step.0
-replies one one' t js (entry.Turn number) (Line said) same apart step =
+reply_of_files : (one one' : State) (t : Bool) (js : Jobs) (it : FileEntry) (reply : Reply) → AreAlike one.jobs js → FilesMayReply one it reply one' → Follows (over one t js) (entry.Files it) (Ok reply) one'
+reply_of_files one one' t js (filing.Store name text) reply same step =
+    stored_alone one one' name text (λ (r : Reply). Follows (over one t js) (entry.Files (filing.Store name text)) (Ok r) one') (λ other blocks step. stores one one' t js name text other blocks same step) reply step
+reply_of_files one one' t js (filing.Delete name) reply same step =
+    deleted_alone one one' name (λ (r : Reply). Follows (over one t js) (entry.Files (filing.Delete name)) (Ok r) one') (λ other step. deletes one one' t js name other same step) reply step
+reply_of_files one one' t js filing.Direct (Report (report.Direct lengths free)) same step = (over one t js, (step.0, step.1, refl), ap unsqueezed step.2 ∙ alike one t js (sym same))
+reply_of_files one one' t js filing.Direct (Report (report.Registers text)) same step = absurd step
+reply_of_files one one' t js filing.Direct (Report (report.Printed characters)) same step = absurd step
+reply_of_files one one' t js filing.Direct (Line said) same step = absurd step
+
+reply_of_jobs : (one one' : State) (t : Bool) (js : Jobs) (it : JobEntry) (reply : Reply) → AreAlike one.jobs js → JobIsApart it one (over one t js) → JobsMayReply one it reply one' → Follows (over one t js) (entry.Jobs it) (Ok reply) one'
+reply_of_jobs one one' t js (order.Assemble to from) reply same apart step =
+    assembled_alone one one' to from (λ (r : Reply). Follows (over one t js) (entry.Jobs (order.Assemble to from)) (Ok r) one') (λ number step. begins_assembling one one' t js to from number same apart step) reply step
+reply_of_jobs one one' t js (order.Load name) reply same apart step =
+    loaded_alone one one' name (λ (r : Reply). Follows (over one t js) (entry.Jobs (order.Load name)) (Ok r) one') (λ number step. begins_loading one one' t js name number same apart step) reply step
+reply_of_jobs one one' t js order.Squeeze reply same apart step =
+    squeezed_alone one one' (λ (r : Reply). Follows (over one t js) (entry.Jobs order.Squeeze) (Ok r) one') (λ number step. begins_squeezing one one' t js number same apart step) reply step
+reply_of_jobs one one' t js (order.Turn number) (Line said) same apart step =
     let done = number_follows one t js number (Ok step.0) step.2.0 same apart refl step.2.1 in
     (with_work (over one t js) done.0, (step.0, step.1, (done.0, done.1, refl)), worked one one' t js step.2.0 done.0 done.2 step.2.2)
-replies one one' t js (entry.Turn number) (Report report) same apart step = absurd step.0
-replies one one' t js (entry.Start cell) reply same apart step = shown one one' t js (entry.Start cell) reply same step
-replies one one' t js (entry.Step n) reply same apart step =
-    let it = shown one one' t js (entry.Step n) reply same (step.1, step.2) in (it.0, (step.0, it.1.0, it.1.1), it.2)
-replies one one' t js (entry.Go n) reply same apart step =
-    let it = shown one one' t js (entry.Go n) reply same (step.1, step.2) in (it.0, (step.0, it.1.0, it.1.1), it.2)
-replies one one' t js (entry.Run cell n) reply same apart step =
-    let it = shown one one' t js (entry.Run cell n) reply same (step.1, step.2) in (it.0, (step.0, it.1.0, it.1.1), it.2)
-replies one one' t js (entry.Key character) reply same apart step = shown one one' t js (entry.Key character) reply same step
-replies one one' t js entry.Done reply same apart step = shown one one' t js entry.Done reply same step
-replies one one' t js (entry.Switches word) reply same apart step = shown one one' t js (entry.Switches word) reply same step
-replies one one' t js (entry.Examine cell) reply same apart step = shown one one' t js (entry.Examine cell) reply same step
-replies one one' t js (entry.Deposit cell word) reply same apart step = shown one one' t js (entry.Deposit cell word) reply same step
-replies one one' t js (entry.Break cell is_on) reply same apart step = shown one one' t js (entry.Break cell is_on) reply same step
-replies one one' t js entry.Registers reply same apart step = shown one one' t js entry.Registers reply same step
-replies one one' t js entry.Printed reply same apart step = shown one one' t js entry.Printed reply same step
+reply_of_jobs one one' t js (order.Turn number) (Report report) same apart step = absurd step
+
+replies : (one one' : State) (t : Bool) (js : Jobs) (e : Entry) (reply : Reply) → AreAlike one.jobs js → IsApart e one (over one t js) → MayReply one e reply one' → Follows (over one t js) e (Ok reply) one'
+replies one one' t js (entry.Files it) reply same apart step = reply_of_files one one' t js it reply same step
+replies one one' t js (entry.Jobs it) reply same apart step = reply_of_jobs one one' t js it reply same apart step
+replies one one' t js (entry.Console it) reply same apart step = shown one one' t js it reply same step
 
 -- ## Refusals of entries
 
@@ -361,211 +357,141 @@ load_may : (one : State) (t : Bool) (js : Jobs) (name : List ℕ) (why : Session
     → (n : ℕ) × (parsed_name name ≡ Some n) × ((fault : JobFault) × (why ≡ fault_of_job fault) × LoadStarts (job_state (over one t js)) n (Err fault) (job_state (over one t js)))
 load_may one t js name why free may = (may.0, may.1, (may.2.0, may.2.1, load_refused one t js may.0 may.2.0 free may.2.2))
 
-refuses : (one : State) (t : Bool) (js : Jobs) (e : Entry) (why : SessionFault) → AreAlike one.jobs js → IsApart e one (over one t js) → speaks_of_room (Err why) ≡ false → May one e why → May (over one t js) e why
-refuses one t js (entry.Store name text) (fault.File file.NotFound) same apart room may = (may.0, may.1, may.2, put_refused one t js may.0 (stored text) file.NotFound same room may.3)
-refuses one t js (entry.Store name text) (fault.File (file.NoRoom n)) same apart room may = (may.0, may.1, may.2, put_refused one t js may.0 (stored text) (file.NoRoom n) same room may.3)
-refuses one t js (entry.Store name text) (fault.File file.DirectoryFull) same apart room may = (may.0, may.1, may.2, put_refused one t js may.0 (stored text) file.DirectoryFull same room may.3)
-refuses one t js (entry.Store name text) (fault.File (file.Busy n)) same apart room may = (may.0, may.1, may.2, put_refused one t js may.0 (stored text) (file.Busy n) same room may.3)
-refuses one t js (entry.Store name text) (fault.File file.BadName) same apart room may = may
-refuses one t js (entry.Store name text) (fault.File file.TooLong) same apart room may = (may.0, may.1, may.2, put_refused one t js may.0 (stored text) file.TooLong same room may.3)
-refuses one t js (entry.Store name text) (fault.File file.TentativeOpen) same apart room may = (may.0, may.1, may.2, put_refused one t js may.0 (stored text) file.TentativeOpen same room may.3)
-refuses one t js (entry.Store name text) (fault.File file.Device) same apart room may = (may.0, may.1, may.2, put_refused one t js may.0 (stored text) file.Device same room may.3)
-refuses one t js (entry.Store name text) (fault.File file.Stopped) same apart room may = (may.0, may.1, may.2, put_refused one t js may.0 (stored text) file.Stopped same room may.3)
-refuses one t js (entry.Store name text) (fault.File file.Memory) same apart room may = (may.0, may.1, may.2, put_refused one t js may.0 (stored text) file.Memory same room may.3)
-refuses one t js (entry.Store name text) (fault.File file.NothingWritten) same apart room may = (may.0, may.1, may.2, put_refused one t js may.0 (stored text) file.NothingWritten same room may.3)
-refuses one t js (entry.Store name text) fault.BadLine same apart room may = absurd may
-refuses one t js (entry.Store name text) fault.NoJob same apart room may = absurd may
-refuses one t js (entry.Store name text) fault.TooManyJobs same apart room may = absurd may
-refuses one t js (entry.Store name text) (fault.Asm a) same apart room may = absurd may
-refuses one t js (entry.Store name text) (fault.Tape a) same apart room may = absurd may
-refuses one t js (entry.Store name text) fault.BadText same apart room may = may
-refuses one t js (entry.Store name text) fault.Reader same apart room may = absurd may
-refuses one t js (entry.Store name text) fault.Writer same apart room may = absurd may
-refuses one t js (entry.Store name text) fault.Memory same apart room may = absurd may
-refuses one t js (entry.Store name text) fault.TooManyBreaks same apart room may = absurd may
-refuses one t js (entry.Delete name) (fault.File file.NotFound) same apart room may = (may.0, may.1, delete_refused one t js may.0 file.NotFound same room may.2)
-refuses one t js (entry.Delete name) (fault.File (file.NoRoom n)) same apart room may = (may.0, may.1, delete_refused one t js may.0 (file.NoRoom n) same room may.2)
-refuses one t js (entry.Delete name) (fault.File file.DirectoryFull) same apart room may = (may.0, may.1, delete_refused one t js may.0 file.DirectoryFull same room may.2)
-refuses one t js (entry.Delete name) (fault.File (file.Busy n)) same apart room may = (may.0, may.1, delete_refused one t js may.0 (file.Busy n) same room may.2)
-refuses one t js (entry.Delete name) (fault.File file.BadName) same apart room may = may
-refuses one t js (entry.Delete name) (fault.File file.TooLong) same apart room may = (may.0, may.1, delete_refused one t js may.0 file.TooLong same room may.2)
-refuses one t js (entry.Delete name) (fault.File file.TentativeOpen) same apart room may = (may.0, may.1, delete_refused one t js may.0 file.TentativeOpen same room may.2)
-refuses one t js (entry.Delete name) (fault.File file.Device) same apart room may = (may.0, may.1, delete_refused one t js may.0 file.Device same room may.2)
-refuses one t js (entry.Delete name) (fault.File file.Stopped) same apart room may = (may.0, may.1, delete_refused one t js may.0 file.Stopped same room may.2)
-refuses one t js (entry.Delete name) (fault.File file.Memory) same apart room may = (may.0, may.1, delete_refused one t js may.0 file.Memory same room may.2)
-refuses one t js (entry.Delete name) (fault.File file.NothingWritten) same apart room may = (may.0, may.1, delete_refused one t js may.0 file.NothingWritten same room may.2)
-refuses one t js (entry.Delete name) fault.BadLine same apart room may = absurd may
-refuses one t js (entry.Delete name) fault.NoJob same apart room may = absurd may
-refuses one t js (entry.Delete name) fault.TooManyJobs same apart room may = absurd may
-refuses one t js (entry.Delete name) (fault.Asm a) same apart room may = absurd may
-refuses one t js (entry.Delete name) (fault.Tape a) same apart room may = absurd may
-refuses one t js (entry.Delete name) fault.BadText same apart room may = absurd may
-refuses one t js (entry.Delete name) fault.Reader same apart room may = absurd may
-refuses one t js (entry.Delete name) fault.Writer same apart room may = absurd may
-refuses one t js (entry.Delete name) fault.Memory same apart room may = absurd may
-refuses one t js (entry.Delete name) fault.TooManyBreaks same apart room may = absurd may
-refuses one t js entry.Direct why same apart room may = absurd may
-refuses one t js (entry.Assemble to from) (fault.File file.NotFound) same apart room may = assemble_may one t js to from (fault.File file.NotFound) same apart may
-refuses one t js (entry.Assemble to from) (fault.File (file.NoRoom n)) same apart room may = assemble_may one t js to from (fault.File (file.NoRoom n)) same apart may
-refuses one t js (entry.Assemble to from) (fault.File file.DirectoryFull) same apart room may = assemble_may one t js to from (fault.File file.DirectoryFull) same apart may
-refuses one t js (entry.Assemble to from) (fault.File (file.Busy n)) same apart room may = assemble_may one t js to from (fault.File (file.Busy n)) same apart may
-refuses one t js (entry.Assemble to from) (fault.File file.BadName) same apart room may = may
-refuses one t js (entry.Assemble to from) (fault.File file.TooLong) same apart room may = assemble_may one t js to from (fault.File file.TooLong) same apart may
-refuses one t js (entry.Assemble to from) (fault.File file.TentativeOpen) same apart room may = assemble_may one t js to from (fault.File file.TentativeOpen) same apart may
-refuses one t js (entry.Assemble to from) (fault.File file.Device) same apart room may = assemble_may one t js to from (fault.File file.Device) same apart may
-refuses one t js (entry.Assemble to from) (fault.File file.Stopped) same apart room may = assemble_may one t js to from (fault.File file.Stopped) same apart may
-refuses one t js (entry.Assemble to from) (fault.File file.Memory) same apart room may = assemble_may one t js to from (fault.File file.Memory) same apart may
-refuses one t js (entry.Assemble to from) (fault.File file.NothingWritten) same apart room may = assemble_may one t js to from (fault.File file.NothingWritten) same apart may
-refuses one t js (entry.Assemble to from) fault.BadLine same apart room may = may
-refuses one t js (entry.Assemble to from) fault.NoJob same apart room may = assemble_may one t js to from fault.NoJob same apart may
-refuses one t js (entry.Assemble to from) fault.TooManyJobs same apart room may = assemble_may one t js to from fault.TooManyJobs same apart may
-refuses one t js (entry.Assemble to from) (fault.Asm a) same apart room may = assemble_may one t js to from (fault.Asm a) same apart may
-refuses one t js (entry.Assemble to from) (fault.Tape a) same apart room may = assemble_may one t js to from (fault.Tape a) same apart may
-refuses one t js (entry.Assemble to from) fault.BadText same apart room may = assemble_may one t js to from fault.BadText same apart may
-refuses one t js (entry.Assemble to from) fault.Reader same apart room may = assemble_may one t js to from fault.Reader same apart may
-refuses one t js (entry.Assemble to from) fault.Writer same apart room may = assemble_may one t js to from fault.Writer same apart may
-refuses one t js (entry.Assemble to from) fault.Memory same apart room may = assemble_may one t js to from fault.Memory same apart may
-refuses one t js (entry.Assemble to from) fault.TooManyBreaks same apart room may = assemble_may one t js to from fault.TooManyBreaks same apart may
-refuses one t js (entry.Load name) (fault.File file.NotFound) same apart room may = load_may one t js name (fault.File file.NotFound) apart may
-refuses one t js (entry.Load name) (fault.File (file.NoRoom n)) same apart room may = load_may one t js name (fault.File (file.NoRoom n)) apart may
-refuses one t js (entry.Load name) (fault.File file.DirectoryFull) same apart room may = load_may one t js name (fault.File file.DirectoryFull) apart may
-refuses one t js (entry.Load name) (fault.File (file.Busy n)) same apart room may = load_may one t js name (fault.File (file.Busy n)) apart may
-refuses one t js (entry.Load name) (fault.File file.BadName) same apart room may = may
-refuses one t js (entry.Load name) (fault.File file.TooLong) same apart room may = load_may one t js name (fault.File file.TooLong) apart may
-refuses one t js (entry.Load name) (fault.File file.TentativeOpen) same apart room may = load_may one t js name (fault.File file.TentativeOpen) apart may
-refuses one t js (entry.Load name) (fault.File file.Device) same apart room may = load_may one t js name (fault.File file.Device) apart may
-refuses one t js (entry.Load name) (fault.File file.Stopped) same apart room may = load_may one t js name (fault.File file.Stopped) apart may
-refuses one t js (entry.Load name) (fault.File file.Memory) same apart room may = load_may one t js name (fault.File file.Memory) apart may
-refuses one t js (entry.Load name) (fault.File file.NothingWritten) same apart room may = load_may one t js name (fault.File file.NothingWritten) apart may
-refuses one t js (entry.Load name) fault.BadLine same apart room may = load_may one t js name fault.BadLine apart may
-refuses one t js (entry.Load name) fault.NoJob same apart room may = load_may one t js name fault.NoJob apart may
-refuses one t js (entry.Load name) fault.TooManyJobs same apart room may = load_may one t js name fault.TooManyJobs apart may
-refuses one t js (entry.Load name) (fault.Asm a) same apart room may = load_may one t js name (fault.Asm a) apart may
-refuses one t js (entry.Load name) (fault.Tape a) same apart room may = load_may one t js name (fault.Tape a) apart may
-refuses one t js (entry.Load name) fault.BadText same apart room may = load_may one t js name fault.BadText apart may
-refuses one t js (entry.Load name) fault.Reader same apart room may = load_may one t js name fault.Reader apart may
-refuses one t js (entry.Load name) fault.Writer same apart room may = load_may one t js name fault.Writer apart may
-refuses one t js (entry.Load name) fault.Memory same apart room may = load_may one t js name fault.Memory apart may
-refuses one t js (entry.Load name) fault.TooManyBreaks same apart room may = load_may one t js name fault.TooManyBreaks apart may
-refuses one t js entry.Squeeze fault.BadLine same apart room may = absurd may
-refuses one t js entry.Squeeze fault.NoJob same apart room may = absurd may
-refuses one t js entry.Squeeze fault.TooManyJobs same apart room may = sym apart ∙ may
-refuses one t js entry.Squeeze (fault.Asm a) same apart room may = absurd may
-refuses one t js entry.Squeeze (fault.Tape a) same apart room may = absurd may
-refuses one t js entry.Squeeze fault.BadText same apart room may = absurd may
-refuses one t js entry.Squeeze fault.Reader same apart room may = absurd may
-refuses one t js entry.Squeeze fault.Writer same apart room may = absurd may
-refuses one t js entry.Squeeze fault.Memory same apart room may = absurd may
-refuses one t js entry.Squeeze fault.TooManyBreaks same apart room may = absurd may
-refuses one t js entry.Squeeze (fault.File why) same apart room may = absurd may
-refuses one t js (entry.Turn number) why same apart room may =
+refusal_of_files : (one : State) (t : Bool) (js : Jobs) (it : FileEntry) (why : SessionFault) → AreAlike one.jobs js → speaks_of_room (Err why) ≡ false → FilesMayRefuse one it why → FilesMayRefuse (over one t js) it why
+refusal_of_files one t js (filing.Store name text) (fault.File file.NotFound) same room may = (may.0, may.1, may.2, put_refused one t js may.0 (stored text) file.NotFound same room may.3)
+refusal_of_files one t js (filing.Store name text) (fault.File (file.NoRoom n)) same room may = (may.0, may.1, may.2, put_refused one t js may.0 (stored text) (file.NoRoom n) same room may.3)
+refusal_of_files one t js (filing.Store name text) (fault.File file.DirectoryFull) same room may = (may.0, may.1, may.2, put_refused one t js may.0 (stored text) file.DirectoryFull same room may.3)
+refusal_of_files one t js (filing.Store name text) (fault.File (file.Busy n)) same room may = (may.0, may.1, may.2, put_refused one t js may.0 (stored text) (file.Busy n) same room may.3)
+refusal_of_files one t js (filing.Store name text) (fault.File file.BadName) same room may = may
+refusal_of_files one t js (filing.Store name text) (fault.File file.TooLong) same room may = (may.0, may.1, may.2, put_refused one t js may.0 (stored text) file.TooLong same room may.3)
+refusal_of_files one t js (filing.Store name text) (fault.File file.TentativeOpen) same room may = (may.0, may.1, may.2, put_refused one t js may.0 (stored text) file.TentativeOpen same room may.3)
+refusal_of_files one t js (filing.Store name text) (fault.File file.Device) same room may = (may.0, may.1, may.2, put_refused one t js may.0 (stored text) file.Device same room may.3)
+refusal_of_files one t js (filing.Store name text) (fault.File file.Stopped) same room may = (may.0, may.1, may.2, put_refused one t js may.0 (stored text) file.Stopped same room may.3)
+refusal_of_files one t js (filing.Store name text) (fault.File file.Memory) same room may = (may.0, may.1, may.2, put_refused one t js may.0 (stored text) file.Memory same room may.3)
+refusal_of_files one t js (filing.Store name text) (fault.File file.NothingWritten) same room may = (may.0, may.1, may.2, put_refused one t js may.0 (stored text) file.NothingWritten same room may.3)
+refusal_of_files one t js (filing.Store name text) fault.BadLine same room may = absurd may
+refusal_of_files one t js (filing.Store name text) fault.NoJob same room may = absurd may
+refusal_of_files one t js (filing.Store name text) fault.TooManyJobs same room may = absurd may
+refusal_of_files one t js (filing.Store name text) (fault.Asm a) same room may = absurd may
+refusal_of_files one t js (filing.Store name text) (fault.Tape a) same room may = absurd may
+refusal_of_files one t js (filing.Store name text) fault.BadText same room may = may
+refusal_of_files one t js (filing.Store name text) fault.Reader same room may = absurd may
+refusal_of_files one t js (filing.Store name text) fault.Writer same room may = absurd may
+refusal_of_files one t js (filing.Store name text) fault.Memory same room may = absurd may
+refusal_of_files one t js (filing.Store name text) fault.TooManyBreaks same room may = absurd may
+refusal_of_files one t js (filing.Delete name) (fault.File file.NotFound) same room may = (may.0, may.1, delete_refused one t js may.0 file.NotFound same room may.2)
+refusal_of_files one t js (filing.Delete name) (fault.File (file.NoRoom n)) same room may = (may.0, may.1, delete_refused one t js may.0 (file.NoRoom n) same room may.2)
+refusal_of_files one t js (filing.Delete name) (fault.File file.DirectoryFull) same room may = (may.0, may.1, delete_refused one t js may.0 file.DirectoryFull same room may.2)
+refusal_of_files one t js (filing.Delete name) (fault.File (file.Busy n)) same room may = (may.0, may.1, delete_refused one t js may.0 (file.Busy n) same room may.2)
+refusal_of_files one t js (filing.Delete name) (fault.File file.BadName) same room may = may
+refusal_of_files one t js (filing.Delete name) (fault.File file.TooLong) same room may = (may.0, may.1, delete_refused one t js may.0 file.TooLong same room may.2)
+refusal_of_files one t js (filing.Delete name) (fault.File file.TentativeOpen) same room may = (may.0, may.1, delete_refused one t js may.0 file.TentativeOpen same room may.2)
+refusal_of_files one t js (filing.Delete name) (fault.File file.Device) same room may = (may.0, may.1, delete_refused one t js may.0 file.Device same room may.2)
+refusal_of_files one t js (filing.Delete name) (fault.File file.Stopped) same room may = (may.0, may.1, delete_refused one t js may.0 file.Stopped same room may.2)
+refusal_of_files one t js (filing.Delete name) (fault.File file.Memory) same room may = (may.0, may.1, delete_refused one t js may.0 file.Memory same room may.2)
+refusal_of_files one t js (filing.Delete name) (fault.File file.NothingWritten) same room may = (may.0, may.1, delete_refused one t js may.0 file.NothingWritten same room may.2)
+refusal_of_files one t js (filing.Delete name) fault.BadLine same room may = absurd may
+refusal_of_files one t js (filing.Delete name) fault.NoJob same room may = absurd may
+refusal_of_files one t js (filing.Delete name) fault.TooManyJobs same room may = absurd may
+refusal_of_files one t js (filing.Delete name) (fault.Asm a) same room may = absurd may
+refusal_of_files one t js (filing.Delete name) (fault.Tape a) same room may = absurd may
+refusal_of_files one t js (filing.Delete name) fault.BadText same room may = absurd may
+refusal_of_files one t js (filing.Delete name) fault.Reader same room may = absurd may
+refusal_of_files one t js (filing.Delete name) fault.Writer same room may = absurd may
+refusal_of_files one t js (filing.Delete name) fault.Memory same room may = absurd may
+refusal_of_files one t js (filing.Delete name) fault.TooManyBreaks same room may = absurd may
+refusal_of_files one t js filing.Direct why same room may = absurd may
+
+refusal_of_jobs : (one : State) (t : Bool) (js : Jobs) (it : JobEntry) (why : SessionFault) → AreAlike one.jobs js → JobIsApart it one (over one t js) → speaks_of_room (Err why) ≡ false → JobsMayRefuse one it why → JobsMayRefuse (over one t js) it why
+refusal_of_jobs one t js (order.Assemble to from) (fault.File file.NotFound) same apart room may = assemble_may one t js to from (fault.File file.NotFound) same apart may
+refusal_of_jobs one t js (order.Assemble to from) (fault.File (file.NoRoom n)) same apart room may = assemble_may one t js to from (fault.File (file.NoRoom n)) same apart may
+refusal_of_jobs one t js (order.Assemble to from) (fault.File file.DirectoryFull) same apart room may = assemble_may one t js to from (fault.File file.DirectoryFull) same apart may
+refusal_of_jobs one t js (order.Assemble to from) (fault.File (file.Busy n)) same apart room may = assemble_may one t js to from (fault.File (file.Busy n)) same apart may
+refusal_of_jobs one t js (order.Assemble to from) (fault.File file.BadName) same apart room may = may
+refusal_of_jobs one t js (order.Assemble to from) (fault.File file.TooLong) same apart room may = assemble_may one t js to from (fault.File file.TooLong) same apart may
+refusal_of_jobs one t js (order.Assemble to from) (fault.File file.TentativeOpen) same apart room may = assemble_may one t js to from (fault.File file.TentativeOpen) same apart may
+refusal_of_jobs one t js (order.Assemble to from) (fault.File file.Device) same apart room may = assemble_may one t js to from (fault.File file.Device) same apart may
+refusal_of_jobs one t js (order.Assemble to from) (fault.File file.Stopped) same apart room may = assemble_may one t js to from (fault.File file.Stopped) same apart may
+refusal_of_jobs one t js (order.Assemble to from) (fault.File file.Memory) same apart room may = assemble_may one t js to from (fault.File file.Memory) same apart may
+refusal_of_jobs one t js (order.Assemble to from) (fault.File file.NothingWritten) same apart room may = assemble_may one t js to from (fault.File file.NothingWritten) same apart may
+refusal_of_jobs one t js (order.Assemble to from) fault.BadLine same apart room may = may
+refusal_of_jobs one t js (order.Assemble to from) fault.NoJob same apart room may = assemble_may one t js to from fault.NoJob same apart may
+refusal_of_jobs one t js (order.Assemble to from) fault.TooManyJobs same apart room may = assemble_may one t js to from fault.TooManyJobs same apart may
+refusal_of_jobs one t js (order.Assemble to from) (fault.Asm a) same apart room may = assemble_may one t js to from (fault.Asm a) same apart may
+refusal_of_jobs one t js (order.Assemble to from) (fault.Tape a) same apart room may = assemble_may one t js to from (fault.Tape a) same apart may
+refusal_of_jobs one t js (order.Assemble to from) fault.BadText same apart room may = assemble_may one t js to from fault.BadText same apart may
+refusal_of_jobs one t js (order.Assemble to from) fault.Reader same apart room may = assemble_may one t js to from fault.Reader same apart may
+refusal_of_jobs one t js (order.Assemble to from) fault.Writer same apart room may = assemble_may one t js to from fault.Writer same apart may
+refusal_of_jobs one t js (order.Assemble to from) fault.Memory same apart room may = assemble_may one t js to from fault.Memory same apart may
+refusal_of_jobs one t js (order.Assemble to from) fault.TooManyBreaks same apart room may = assemble_may one t js to from fault.TooManyBreaks same apart may
+refusal_of_jobs one t js (order.Load name) (fault.File file.NotFound) same apart room may = load_may one t js name (fault.File file.NotFound) apart may
+refusal_of_jobs one t js (order.Load name) (fault.File (file.NoRoom n)) same apart room may = load_may one t js name (fault.File (file.NoRoom n)) apart may
+refusal_of_jobs one t js (order.Load name) (fault.File file.DirectoryFull) same apart room may = load_may one t js name (fault.File file.DirectoryFull) apart may
+refusal_of_jobs one t js (order.Load name) (fault.File (file.Busy n)) same apart room may = load_may one t js name (fault.File (file.Busy n)) apart may
+refusal_of_jobs one t js (order.Load name) (fault.File file.BadName) same apart room may = may
+refusal_of_jobs one t js (order.Load name) (fault.File file.TooLong) same apart room may = load_may one t js name (fault.File file.TooLong) apart may
+refusal_of_jobs one t js (order.Load name) (fault.File file.TentativeOpen) same apart room may = load_may one t js name (fault.File file.TentativeOpen) apart may
+refusal_of_jobs one t js (order.Load name) (fault.File file.Device) same apart room may = load_may one t js name (fault.File file.Device) apart may
+refusal_of_jobs one t js (order.Load name) (fault.File file.Stopped) same apart room may = load_may one t js name (fault.File file.Stopped) apart may
+refusal_of_jobs one t js (order.Load name) (fault.File file.Memory) same apart room may = load_may one t js name (fault.File file.Memory) apart may
+refusal_of_jobs one t js (order.Load name) (fault.File file.NothingWritten) same apart room may = load_may one t js name (fault.File file.NothingWritten) apart may
+refusal_of_jobs one t js (order.Load name) fault.BadLine same apart room may = load_may one t js name fault.BadLine apart may
+refusal_of_jobs one t js (order.Load name) fault.NoJob same apart room may = load_may one t js name fault.NoJob apart may
+refusal_of_jobs one t js (order.Load name) fault.TooManyJobs same apart room may = load_may one t js name fault.TooManyJobs apart may
+refusal_of_jobs one t js (order.Load name) (fault.Asm a) same apart room may = load_may one t js name (fault.Asm a) apart may
+refusal_of_jobs one t js (order.Load name) (fault.Tape a) same apart room may = load_may one t js name (fault.Tape a) apart may
+refusal_of_jobs one t js (order.Load name) fault.BadText same apart room may = load_may one t js name fault.BadText apart may
+refusal_of_jobs one t js (order.Load name) fault.Reader same apart room may = load_may one t js name fault.Reader apart may
+refusal_of_jobs one t js (order.Load name) fault.Writer same apart room may = load_may one t js name fault.Writer apart may
+refusal_of_jobs one t js (order.Load name) fault.Memory same apart room may = load_may one t js name fault.Memory apart may
+refusal_of_jobs one t js (order.Load name) fault.TooManyBreaks same apart room may = load_may one t js name fault.TooManyBreaks apart may
+refusal_of_jobs one t js order.Squeeze fault.BadLine same apart room may = absurd may
+refusal_of_jobs one t js order.Squeeze fault.NoJob same apart room may = absurd may
+refusal_of_jobs one t js order.Squeeze fault.TooManyJobs same apart room may = sym apart ∙ may
+refusal_of_jobs one t js order.Squeeze (fault.Asm a) same apart room may = absurd may
+refusal_of_jobs one t js order.Squeeze (fault.Tape a) same apart room may = absurd may
+refusal_of_jobs one t js order.Squeeze fault.BadText same apart room may = absurd may
+refusal_of_jobs one t js order.Squeeze fault.Reader same apart room may = absurd may
+refusal_of_jobs one t js order.Squeeze fault.Writer same apart room may = absurd may
+refusal_of_jobs one t js order.Squeeze fault.Memory same apart room may = absurd may
+refusal_of_jobs one t js order.Squeeze fault.TooManyBreaks same apart room may = absurd may
+refusal_of_jobs one t js order.Squeeze (fault.File why) same apart room may = absurd may
+refusal_of_jobs one t js (order.Turn number) why same apart room may =
     let ended = number_follows one t js number (Err may.0) may.2.0 same apart (sym (ap (λ (f : SessionFault). speaks_of_room (Err f)) may.1) ∙ room) may.2.1 in
     (may.0, may.1, (ended.0, ended.1))
-refuses one t js (entry.Start cell) why same apart room may = absurd may
-refuses one t js (entry.Step n) fault.BadLine same apart room may = may
-refuses one t js (entry.Step n) fault.NoJob same apart room may = absurd may
-refuses one t js (entry.Step n) fault.TooManyJobs same apart room may = absurd may
-refuses one t js (entry.Step n) (fault.Asm a) same apart room may = absurd may
-refuses one t js (entry.Step n) (fault.Tape a) same apart room may = absurd may
-refuses one t js (entry.Step n) fault.BadText same apart room may = absurd may
-refuses one t js (entry.Step n) fault.Reader same apart room may = absurd may
-refuses one t js (entry.Step n) fault.Writer same apart room may = absurd may
-refuses one t js (entry.Step n) fault.Memory same apart room may = absurd may
-refuses one t js (entry.Step n) fault.TooManyBreaks same apart room may = absurd may
-refuses one t js (entry.Step n) (fault.File why) same apart room may = absurd may
-refuses one t js (entry.Go n) fault.BadLine same apart room may = may
-refuses one t js (entry.Go n) fault.NoJob same apart room may = absurd may
-refuses one t js (entry.Go n) fault.TooManyJobs same apart room may = absurd may
-refuses one t js (entry.Go n) (fault.Asm a) same apart room may = absurd may
-refuses one t js (entry.Go n) (fault.Tape a) same apart room may = absurd may
-refuses one t js (entry.Go n) fault.BadText same apart room may = absurd may
-refuses one t js (entry.Go n) fault.Reader same apart room may = absurd may
-refuses one t js (entry.Go n) fault.Writer same apart room may = absurd may
-refuses one t js (entry.Go n) fault.Memory same apart room may = absurd may
-refuses one t js (entry.Go n) fault.TooManyBreaks same apart room may = absurd may
-refuses one t js (entry.Go n) (fault.File why) same apart room may = absurd may
-refuses one t js (entry.Run cell n) fault.BadLine same apart room may = may
-refuses one t js (entry.Run cell n) fault.NoJob same apart room may = absurd may
-refuses one t js (entry.Run cell n) fault.TooManyJobs same apart room may = absurd may
-refuses one t js (entry.Run cell n) (fault.Asm a) same apart room may = absurd may
-refuses one t js (entry.Run cell n) (fault.Tape a) same apart room may = absurd may
-refuses one t js (entry.Run cell n) fault.BadText same apart room may = absurd may
-refuses one t js (entry.Run cell n) fault.Reader same apart room may = absurd may
-refuses one t js (entry.Run cell n) fault.Writer same apart room may = absurd may
-refuses one t js (entry.Run cell n) fault.Memory same apart room may = absurd may
-refuses one t js (entry.Run cell n) fault.TooManyBreaks same apart room may = absurd may
-refuses one t js (entry.Run cell n) (fault.File why) same apart room may = absurd may
-refuses one t js (entry.Key character) why same apart room may = absurd may
-refuses one t js entry.Done why same apart room may = absurd may
-refuses one t js (entry.Switches word) why same apart room may = absurd may
-refuses one t js (entry.Examine cell) why same apart room may = absurd may
-refuses one t js (entry.Deposit cell word) why same apart room may = absurd may
-refuses one t js (entry.Break cell is_on) fault.BadLine same apart room may = absurd may
-refuses one t js (entry.Break cell is_on) fault.NoJob same apart room may = absurd may
-refuses one t js (entry.Break cell is_on) fault.TooManyJobs same apart room may = absurd may
-refuses one t js (entry.Break cell is_on) (fault.Asm a) same apart room may = absurd may
-refuses one t js (entry.Break cell is_on) (fault.Tape a) same apart room may = absurd may
-refuses one t js (entry.Break cell is_on) fault.BadText same apart room may = absurd may
-refuses one t js (entry.Break cell is_on) fault.Reader same apart room may = absurd may
-refuses one t js (entry.Break cell is_on) fault.Writer same apart room may = absurd may
-refuses one t js (entry.Break cell is_on) fault.Memory same apart room may = absurd may
-refuses one t js (entry.Break cell is_on) fault.TooManyBreaks same apart room may = may
-refuses one t js (entry.Break cell is_on) (fault.File why) same apart room may = absurd may
-refuses one t js entry.Registers why same apart room may = absurd may
-refuses one t js entry.Printed why same apart room may = absurd may
 
--- what a refusal leaves
+refuses : (one : State) (t : Bool) (js : Jobs) (e : Entry) (why : SessionFault) → AreAlike one.jobs js → IsApart e one (over one t js) → speaks_of_room (Err why) ≡ false → MayRefuse one e why → MayRefuse (over one t js) e why
+refuses one t js (entry.Files it) why same apart room may = refusal_of_files one t js it why same room may
+refuses one t js (entry.Jobs it) why same apart room may = refusal_of_jobs one t js it why same apart room may
+refuses one t js (entry.Console it) why same apart room may = may
+
+-- the jobs that a refusal leaves
+without_alike : (ended : Option ℕ) (one two : Jobs) → AreAlike one two → AreAlike (jobs_without ended one) (jobs_without ended two)
+without_alike None one two same = same
+without_alike (Some number) one two same = same_put number None one two same
+
 refused_alike : (one : State) (t : Bool) (js : Jobs) (e : Entry) → AreAlike one.jobs js → IsAlike (after_refusal one e) (after_refusal (over one t js) e)
-refused_alike one t js (entry.Store name text) same = alike one t js (sym same)
-refused_alike one t js (entry.Delete name) same = alike one t js (sym same)
-refused_alike one t js entry.Direct same = alike one t js (sym same)
-refused_alike one t js (entry.Assemble to from) same = alike one t js (sym same)
-refused_alike one t js (entry.Load name) same = alike one t js (sym same)
-refused_alike one t js entry.Squeeze same = alike one t js (sym same)
-refused_alike one t js (entry.Turn number) same = ap (λ (l : Jobs). record one { tight = false; jobs = l }) (same_put number None one.jobs js same)
-refused_alike one t js (entry.Start cell) same = alike one t js (sym same)
-refused_alike one t js (entry.Step n) same = alike one t js (sym same)
-refused_alike one t js (entry.Go n) same = alike one t js (sym same)
-refused_alike one t js (entry.Run cell n) same = alike one t js (sym same)
-refused_alike one t js (entry.Key character) same = alike one t js (sym same)
-refused_alike one t js entry.Done same = alike one t js (sym same)
-refused_alike one t js (entry.Switches word) same = alike one t js (sym same)
-refused_alike one t js (entry.Examine cell) same = alike one t js (sym same)
-refused_alike one t js (entry.Deposit cell word) same = alike one t js (sym same)
-refused_alike one t js (entry.Break cell is_on) same = alike one t js (sym same)
-refused_alike one t js entry.Registers same = alike one t js (sym same)
-refused_alike one t js entry.Printed same = alike one t js (sym same)
+refused_alike one t js e same = ap (λ (l : Jobs). record one { tight = false; jobs = l }) (without_alike (job_of_entry e) one.jobs js same)
 
 -- ## Want of memory
 
 lacks : (one : State) (t : Bool) (js : Jobs) (e : Entry) → AreAlike one.jobs js → IsApart e one (over one t js) → MayLack one e → MayLack (over one t js) e
-lacks one t js (entry.Store name text) same apart lack = (lack.0, lack.1, lack.2, same_held one.jobs js lack.0 false same lack.3)
-lacks one t js (entry.Delete name) same apart lack = (lack.0, lack.1, lack.2, same_held one.jobs js lack.0 false same lack.3)
-lacks one t js entry.Direct same apart lack = lack
-lacks one t js (entry.Assemble to from) same apart lack = (lack.0, lack.1, lack.2, lack.3, (same_number one t js apart lack.4.0, refl))
-lacks one t js (entry.Load name) same apart lack = (lack.0, lack.1, (same_number one t js apart lack.2.0, lack.2.1, refl))
-lacks one t js entry.Squeeze same apart lack = lack
-lacks one t js (entry.Turn number) same apart lack = (lack.0, sym (same_job one.jobs js number same apart.0 apart.1) ∙ lack.1)
-lacks one t js (entry.Start cell) same apart lack = lack
-lacks one t js (entry.Step n) same apart lack = lack
-lacks one t js (entry.Go n) same apart lack = lack
-lacks one t js (entry.Run cell n) same apart lack = lack
-lacks one t js (entry.Key character) same apart lack = lack
-lacks one t js entry.Done same apart lack = lack
-lacks one t js (entry.Switches word) same apart lack = lack
-lacks one t js (entry.Examine cell) same apart lack = lack
-lacks one t js (entry.Deposit cell word) same apart lack = lack
-lacks one t js (entry.Break cell is_on) same apart lack = lack
-lacks one t js entry.Registers same apart lack = lack
-lacks one t js entry.Printed same apart lack = lack
+lacks one t js (entry.Files (filing.Store name text)) same apart lack = (lack.0, lack.1, lack.2, same_held one.jobs js lack.0 false same lack.3)
+lacks one t js (entry.Files (filing.Delete name)) same apart lack = (lack.0, lack.1, lack.2, same_held one.jobs js lack.0 false same lack.3)
+lacks one t js (entry.Files filing.Direct) same apart lack = lack
+lacks one t js (entry.Jobs (order.Assemble to from)) same apart lack = (lack.0, lack.1, lack.2, lack.3, (same_number one t js apart lack.4.0, refl))
+lacks one t js (entry.Jobs (order.Load name)) same apart lack = (lack.0, lack.1, (same_number one t js apart lack.2.0, lack.2.1, refl))
+lacks one t js (entry.Jobs order.Squeeze) same apart lack = lack
+lacks one t js (entry.Jobs (order.Turn number)) same apart lack = (lack.0, sym (same_job one.jobs js number same apart.0 apart.1) ∙ lack.1)
+lacks one t js (entry.Console it) same apart lack = lack
 
 -- ## Entries
 
 refusal : (one one' : State) (t : Bool) (js : Jobs) (e : Entry) (why : SessionFault) → AreAlike one.jobs js → IsApart e one (over one t js) → speaks_of_room (Err why) ≡ false
-    → May one e why × (one' ≡ after_refusal one e) → (two' : State) × (May (over one t js) e why × (two' ≡ after_refusal (over one t js) e)) × IsAlike one' two'
+    → MayRefuse one e why × (one' ≡ after_refusal one e) → (two' : State) × (MayRefuse (over one t js) e why × (two' ≡ after_refusal (over one t js) e)) × IsAlike one' two'
 refusal one one' t js e why same apart room step = (after_refusal (over one t js) e, (refuses one t js e why same apart room step.0, refl), ap unsqueezed step.1 ∙ refused_alike one t js e same)
 
-entry_follows : (one one' : State) (t : Bool) (js : Jobs) (e : Entry) (answer : Answer) → AreAlike one.jobs js → IsApart e one (over one t js) → speaks_of_room answer ≡ false → Step one e answer one' → Follows (over one t js) e answer one'
+entry_follows : (one one' : State) (t : Bool) (js : Jobs) (e : Entry) (answer : Answer) → AreAlike one.jobs js → IsApart e one (over one t js) → speaks_of_room answer ≡ false → MayAnswer one e answer one' → Follows (over one t js) e answer one'
 entry_follows one one' t js e (Ok reply) same apart room step = replies one one' t js e reply same apart step
 entry_follows one one' t js e (Err fault.Memory) same apart room step = (over one t js, (lacks one t js e same apart step.0, refl), ap unsqueezed step.1 ∙ alike one t js (sym same))
 entry_follows one one' t js e (Err fault.BadLine) same apart room step = refusal one one' t js e fault.BadLine same apart room step
@@ -583,7 +509,7 @@ entry_follows one one' t js e (Err (fault.File why)) same apart room step = refu
 over_is : (one two : State) → IsAlike one two → two ≡ over one two.tight two.jobs
 over_is one two same = sym (ap (λ (s : State). over s two.tight two.jobs) same)
 
-pub others_follow : (one two one' : State) (e : Entry) (answer : Answer) → IsAlike one two → IsApart e one two → speaks_of_room answer ≡ false → Step one e answer one' → (two' : State) × Step two e answer two' × IsAlike one' two'
+pub others_follow : (one two one' : State) (e : Entry) (answer : Answer) → IsAlike one two → IsApart e one two → speaks_of_room answer ≡ false → MayAnswer one e answer one' → (two' : State) × MayAnswer two e answer two' × IsAlike one' two'
 others_follow one two one' e answer same apart room step = subst (λ (s : State). Follows s e answer one') (sym is) (entry_follows one one' two.tight two.jobs e answer (ap (λ (s : State). s.jobs) same) (subst (λ (s : State). IsApart e one s) is apart) room step)
   where
     is : two ≡ over one two.tight two.jobs

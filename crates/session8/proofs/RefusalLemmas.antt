@@ -2,14 +2,13 @@
 use Rattle.std.proofs.Common.{◌≡◌, ◌⊎◌, inl, inr, None, Err, refl, sym, ◌∙◌, ap}
 use Rattle.script8.specs.Replies.{job_of_entry}
 use Rattle.script8.specs.declared.entries.Entry.{Entry}
-use Rattle.script8.specs.declared.entries.Entry.TheVariants as entry
 use Rattle.script8.specs.declared.faults.SessionFault.{SessionFault}
 use Rattle.script8.specs.declared.faults.SessionFault.TheVariants as fault
-use Rattle.session8.specs.Refusals.{after_refusal}
+use Rattle.session8.specs.Refusals.{after_refusal, jobs_without}
 use Rattle.session8.specs.State.{State}
-use Rattle.session8.specs.System.{Step}
+use Rattle.session8.specs.System.{MayAnswer}
 
-pub left_by : (old new : State) (e : Entry) (why : SessionFault) → Step old e (Err why) new → (new ≡ old) ⊎ (new ≡ after_refusal old e)
+pub left_by : (old new : State) (e : Entry) (why : SessionFault) → MayAnswer old e (Err why) new → (new ≡ old) ⊎ (new ≡ after_refusal old e)
 left_by old new e fault.Memory step = inl step.1
 left_by old new e fault.BadLine step = inr step.1
 left_by old new e fault.NoJob step = inr step.1
@@ -23,52 +22,16 @@ left_by old new e fault.Writer step = inr step.1
 left_by old new e fault.TooManyBreaks step = inr step.1
 
 after_is : (old : State) (e : Entry) → job_of_entry e ≡ None → after_refusal old e ≡ old
-after_is old (entry.Store name text) none = refl
-after_is old (entry.Delete name) none = refl
-after_is old entry.Direct none = refl
-after_is old (entry.Assemble to from) none = refl
-after_is old (entry.Load name) none = refl
-after_is old entry.Squeeze none = refl
-after_is old (entry.Turn number) none = cc
-after_is old (entry.Start cell) none = refl
-after_is old (entry.Step n) none = refl
-after_is old (entry.Go n) none = refl
-after_is old (entry.Run cell n) none = refl
-after_is old (entry.Key character) none = refl
-after_is old entry.Done none = refl
-after_is old (entry.Switches word) none = refl
-after_is old (entry.Examine cell) none = refl
-after_is old (entry.Deposit cell word) none = refl
-after_is old (entry.Break cell is_on) none = refl
-after_is old entry.Registers none = refl
-after_is old entry.Printed none = refl
+after_is old e none = ap (λ job. record old { jobs = jobs_without job old.jobs }) none
 
 after_others : (old : State) (e : Entry) → after_refusal old e ≡ record old { jobs = (after_refusal old e).jobs }
-after_others old (entry.Store name text) = refl
-after_others old (entry.Delete name) = refl
-after_others old entry.Direct = refl
-after_others old (entry.Assemble to from) = refl
-after_others old (entry.Load name) = refl
-after_others old entry.Squeeze = refl
-after_others old (entry.Turn number) = refl
-after_others old (entry.Start cell) = refl
-after_others old (entry.Step n) = refl
-after_others old (entry.Go n) = refl
-after_others old (entry.Run cell n) = refl
-after_others old (entry.Key character) = refl
-after_others old entry.Done = refl
-after_others old (entry.Switches word) = refl
-after_others old (entry.Examine cell) = refl
-after_others old (entry.Deposit cell word) = refl
-after_others old (entry.Break cell is_on) = refl
-after_others old entry.Registers = refl
-after_others old entry.Printed = refl
+after_others old e = refl
 
-pub refused_others : (old new : State) (e : Entry) (why : SessionFault) → Step old e (Err why) new → new ≡ record old { jobs = new.jobs }
+pub refused_others : (old new : State) (e : Entry) (why : SessionFault) → MayAnswer old e (Err why) new → new ≡ record old { jobs = new.jobs }
 refused_others old new e why step = elim (left_by old new e why step) [
   | inl is ↦ is ∙ ap (λ (s : State). record old { jobs = s.jobs }) (sym is)
   | inr is ↦ is ∙ after_others old e ∙ ap (λ (s : State). record old { jobs = s.jobs }) (sym is)
 ]
 
-pub refused_all : (old new : State) (e : Entry) (why : SessionFault) → job_of_entry e ≡ None → Step old e (Err why) new → new ≡ old
+pub refused_all : (old new : State) (e : Entry) (why : SessionFault) → job_of_entry e ≡ None → MayAnswer old e (Err why) new → new ≡ old
 refused_all old new e why none step = elim (left_by old new e why step) [ inl is ↦ is | inr is ↦ is ∙ after_is old e none ]

@@ -22,18 +22,21 @@ use Rattle.jobs8.specs.declared.turned.Turned.{Turned}
 use Rattle.jobs8.specs.declared.turned.Turned.TheVariants as turned
 use Rattle.script8.specs.declared.entries.Entry.{Entry}
 use Rattle.script8.specs.declared.entries.Entry.TheVariants as entry
+use Rattle.script8.specs.declared.entries.FileEntry.{FileEntry}
+use Rattle.script8.specs.declared.entries.FileEntry.TheVariants as filing
+use Rattle.script8.specs.declared.entries.JobEntry.{JobEntry}
+use Rattle.script8.specs.declared.entries.JobEntry.TheVariants as order
 use Rattle.script8.specs.declared.faults.SessionFault.{SessionFault}
 use Rattle.script8.specs.declared.faults.SessionFault.TheVariants as fault
 use Rattle.script8.specs.declared.replies.Reply.{Reply}
 use Rattle.script8.specs.declared.replies.Reply.TheVariants.{Line, Report}
 use Rattle.script8.specs.declared.replies.Report.TheVariants as report
-use Rattle.script8.specs.declared.replies.Said.{Said}
-use Rattle.script8.specs.declared.replies.Said.TheVariants as said
-use Rattle.session8.specs.Console.{is_console}
-use Rattle.session8.specs.Road.{changes_file, is_loaded, NoneTells, Operates, GoesOn, HasMade, IsLaid, Arrives}
+use Rattle.script8.specs.declared.replies.LineReply.{LineReply}
+use Rattle.script8.specs.declared.replies.LineReply.TheVariants as line
+use Rattle.session8.specs.Road.{changes_file, is_loaded, NoneTells, OperatesConsole, ConsoleGoesOn, HasMade, IsLaid, Arrives}
 use Rattle.session8.specs.State.{Console, State}
-use Rattle.session8.specs.System.{Answer, Done, Run, Step}
-use Rattle.session8.specs.Work.{job_state, with_core, with_work, said_of, fault_of_job}
+use Rattle.session8.specs.System.{Answer, MayReply, FilesMayReply, JobsMayReply, Run, MayAnswer}
+use Rattle.session8.specs.Work.{job_state, with_core, with_work, turn_reply, fault_of_job}
 use Rattle.session8.proofs.RefusalLemmas.{refused_others}
 use Rattle.session8.proofs.ReplyLemmas.{stored_alone, deleted_alone, assembled_alone, loaded_alone, squeezed_alone}
 
@@ -58,19 +61,19 @@ gone_other m name q other = get-remove nat_cmp_total m name q ∙ ap (λ b. cond
 
 -- What an entry with an answer leaves: the files that the answer doesn't tell of, and the console, but for core where a tape was
 -- laid.
-record Leaves (e : Entry) (old : State) (answer : Answer) (new : State) : Type 0 where
+record LeavesAlone (e : Entry) (old : State) (answer : Answer) (new : State) : Type 0 where
   files : (name : ℕ) → changes_file name answer ≡ false → get new.files name ≡ get old.files name
-  console : is_loaded answer ≡ false → Operates (is_console e) old.console e answer new.console
+  console : is_loaded answer ≡ false → OperatesConsole old.console e answer new.console
 
 -- the same of work on files, core and jobs
 record WorkLeaves (old : State) (answer : Answer) (after : jobs.State) : Type 0 where
   files : (name : ℕ) → changes_file name answer ≡ false → get after.files name ≡ get old.files name
   core : is_loaded answer ≡ false → after.core ≡ old.console.machine.core
 
-worked : (e : Entry) (old new : State) (answer : Answer) (after : jobs.State) → is_console e ≡ false → WorkLeaves old answer after → new ≡ with_work old after → Leaves e old answer new
+worked : (e : Entry) (old new : State) (answer : Answer) (after : jobs.State) → (new.console ≡ old.console → OperatesConsole old.console e answer new.console) → WorkLeaves old answer after → new ≡ with_work old after → LeavesAlone e old answer new
 worked e old new answer after away left is = record {
   files = λ name other. ap (λ (s : State). get s.files name) is ∙ left.files name other;
-  console = λ other. subst (λ b. Operates b old.console e answer new.console) (sym away) (ap (λ (s : State). s.console) is ∙ ap (with_core old.console) (left.core other));
+  console = λ other. away (ap (λ (s : State). s.console) is ∙ ap (with_core old.console) (left.core other));
 }
 
 -- only the jobs are others, and what is known of free blocks
@@ -82,10 +85,10 @@ of_files : (old : State) (answer : Answer) (after : jobs.State) (files : Files) 
     → after ≡ record (job_state old) { files = files; tight = tight; jobs = js } → WorkLeaves old answer after
 of_files old answer after files tight js others is = record { files = λ name other. ap (λ (s : jobs.State). get s.files name) is ∙ others name other; core = λ other. ap (λ (s : jobs.State). s.core) is }
 
-turn_leaves : (old : State) (number : ℕ) (it : Option Job) (does : Turned) (after : jobs.State) → JobTurn (job_state old) number it (Ok does) after → WorkLeaves old (Ok (Line (said_of number does))) after
+turn_leaves : (old : State) (number : ℕ) (it : Option Job) (does : Turned) (after : jobs.State) → JobTurn (job_state old) number it (Ok does) after → WorkLeaves old (Ok (Line (turn_reply number does))) after
 turn_leaves old number it does after turn = of_job it turn
   where
-    of_work : (w : Work) (left : ℕ) (does : Turned) → WorkTurn (job_state old) number w left (Ok does) after → WorkLeaves old (Ok (Line (said_of number does))) after
+    of_work : (w : Work) (left : ℕ) (does : Turned) → WorkTurn (job_state old) number w left (Ok does) after → WorkLeaves old (Ok (Line (turn_reply number does))) after
     of_work (Assembling to from) left turned.Working turn = of_jobs old _ after _ _ turn.1.others
     of_work (Assembling to from) left (turned.Assembled name blocks) turn = of_files old _ after _ _ _ (λ q other. put_other old.files to _ q (subst (λ n. nat_eq n q ≡ false) turn.0 other)) turn.3.put.others
     of_work (Assembling to from) left (turned.Loaded name) turn = absurd turn
@@ -99,57 +102,46 @@ turn_leaves old number it does after turn = of_job it turn
     of_work (Squeezing clean) left (turned.Assembled name blocks) turn = absurd turn
     of_work (Squeezing clean) left (turned.Loaded name) turn = absurd turn
 
-    of_job : (it : Option Job) → JobTurn (job_state old) number it (Ok does) after → WorkLeaves old (Ok (Line (said_of number does))) after
+    of_job : (it : Option Job) → JobTurn (job_state old) number it (Ok does) after → WorkLeaves old (Ok (Line (turn_reply number does))) after
     of_job None turn = absurd turn
     of_job (Some it) turn = of_work it.work it.left does turn
 
--- an entry of the console
-shown : (e : Entry) (old new : State) (reply : Reply) → is_console e ≡ true → Operates true old.console e (Ok reply) new.console × (new ≡ record old { console = new.console }) → Leaves e old (Ok reply) new
-shown e old new reply is done = record {
-  files = λ name other. ap (λ (s : State). get s.files name) done.1;
-  console = λ other. subst (λ b. Operates b old.console e (Ok reply) new.console) (sym is) done.0;
-}
+files_leave : (it : FileEntry) (old new : State) (reply : Reply) → FilesMayReply old it reply new → LeavesAlone (entry.Files it) old (Ok reply) new
+files_leave (filing.Store name text) old new reply done = stored_alone old new name text (λ (r : Reply). LeavesAlone (entry.Files (filing.Store name text)) old (Ok r) new) (λ other blocks done.
+    worked (entry.Files (filing.Store name text)) old new _ done.2.0 (λ same. same) (of_files old _ done.2.0 _ _ _ (λ q away. put_other old.files other _ q away) done.2.1.1.others) done.2.2) reply done
+files_leave (filing.Delete name) old new reply done = deleted_alone old new name (λ (r : Reply). LeavesAlone (entry.Files (filing.Delete name)) old (Ok r) new) (λ other done.
+    worked (entry.Files (filing.Delete name)) old new _ done.1.0 (λ same. same) (of_files old _ done.1.0 _ _ _ (λ q away. gone_other old.files other q away) done.1.1.others) done.1.2) reply done
+files_leave filing.Direct old new (Report (report.Direct lengths free)) done = record { files = λ name other. ap (λ (s : State). get s.files name) done.2; console = λ other. ap (λ (s : State). s.console) done.2 }
+files_leave filing.Direct old new (Report (report.Registers text)) done = absurd done
+files_leave filing.Direct old new (Report (report.Printed characters)) done = absurd done
+files_leave filing.Direct old new (Line it) done = absurd done
 
-reply_leaves : (e : Entry) (old new : State) (reply : Reply) → Done old e reply new → Leaves e old (Ok reply) new
-reply_leaves (entry.Store name text) old new reply done = stored_alone old new name text (λ (r : Reply). Leaves (entry.Store name text) old (Ok r) new) (λ other blocks done.
-    worked (entry.Store name text) old new _ done.2.0 refl (of_files old _ done.2.0 _ _ _ (λ q away. put_other old.files other _ q away) done.2.1.1.others) done.2.2) reply done
-reply_leaves (entry.Delete name) old new reply done = deleted_alone old new name (λ (r : Reply). Leaves (entry.Delete name) old (Ok r) new) (λ other done.
-    worked (entry.Delete name) old new _ done.1.0 refl (of_files old _ done.1.0 _ _ _ (λ q away. gone_other old.files other q away) done.1.1.others) done.1.2) reply done
-reply_leaves (entry.Assemble to from) old new reply done = assembled_alone old new to from (λ (r : Reply). Leaves (entry.Assemble to from) old (Ok r) new) (λ number done.
-    worked (entry.Assemble to from) old new _ done.4.0 refl (of_jobs old _ done.4.0 _ _ done.4.1.2.others) done.4.2) reply done
-reply_leaves (entry.Load name) old new reply done = loaded_alone old new name (λ (r : Reply). Leaves (entry.Load name) old (Ok r) new) (λ number done.
-    worked (entry.Load name) old new _ done.2.0 refl (of_jobs old _ done.2.0 _ _ done.2.1.1.others) done.2.2) reply done
-reply_leaves entry.Squeeze old new reply done = squeezed_alone old new (λ (r : Reply). Leaves entry.Squeeze old (Ok r) new) (λ number done.
-    worked entry.Squeeze old new _ done.0 refl (of_jobs old _ done.0 _ _ done.1.others) done.2) reply done
-reply_leaves (entry.Turn number) old new (Line it) done = subst (λ (s : Said). Leaves (entry.Turn number) old (Ok (Line s)) new) (sym done.1)
-    (worked (entry.Turn number) old new _ done.2.0 refl (turn_leaves old number (job_of number old.jobs) done.0 done.2.0 done.2.1) done.2.2)
-reply_leaves (entry.Turn number) old new (Report report) done = absurd done.0
-reply_leaves entry.Direct old new (Report (report.Direct files free)) done = record { files = λ name other. ap (λ (s : State). get s.files name) done.2; console = λ other. ap (λ (s : State). s.console) done.2 }
-reply_leaves entry.Direct old new (Report (report.Registers text)) done = absurd done.0
-reply_leaves entry.Direct old new (Report (report.Printed characters)) done = absurd done.0
-reply_leaves entry.Direct old new (Line it) done = absurd done.0
-reply_leaves (entry.Start cell) old new reply done = shown (entry.Start cell) old new reply refl done
-reply_leaves (entry.Step n) old new reply done = shown (entry.Step n) old new reply refl (done.1, done.2)
-reply_leaves (entry.Go n) old new reply done = shown (entry.Go n) old new reply refl (done.1, done.2)
-reply_leaves (entry.Run cell n) old new reply done = shown (entry.Run cell n) old new reply refl (done.1, done.2)
-reply_leaves (entry.Key character) old new reply done = shown (entry.Key character) old new reply refl done
-reply_leaves entry.Done old new reply done = shown entry.Done old new reply refl done
-reply_leaves (entry.Switches word) old new reply done = shown (entry.Switches word) old new reply refl done
-reply_leaves (entry.Examine cell) old new reply done = shown (entry.Examine cell) old new reply refl done
-reply_leaves (entry.Deposit cell word) old new reply done = shown (entry.Deposit cell word) old new reply refl done
-reply_leaves (entry.Break cell is_on) old new reply done = shown (entry.Break cell is_on) old new reply refl done
-reply_leaves entry.Registers old new reply done = shown entry.Registers old new reply refl done
-reply_leaves entry.Printed old new reply done = shown entry.Printed old new reply refl done
+jobs_leave : (it : JobEntry) (old new : State) (reply : Reply) → JobsMayReply old it reply new → LeavesAlone (entry.Jobs it) old (Ok reply) new
+jobs_leave (order.Assemble to from) old new reply done = assembled_alone old new to from (λ (r : Reply). LeavesAlone (entry.Jobs (order.Assemble to from)) old (Ok r) new) (λ number done.
+    worked (entry.Jobs (order.Assemble to from)) old new _ done.4.0 (λ same. same) (of_jobs old _ done.4.0 _ _ done.4.1.2.others) done.4.2) reply done
+jobs_leave (order.Load name) old new reply done = loaded_alone old new name (λ (r : Reply). LeavesAlone (entry.Jobs (order.Load name)) old (Ok r) new) (λ number done.
+    worked (entry.Jobs (order.Load name)) old new _ done.2.0 (λ same. same) (of_jobs old _ done.2.0 _ _ done.2.1.1.others) done.2.2) reply done
+jobs_leave order.Squeeze old new reply done = squeezed_alone old new (λ (r : Reply). LeavesAlone (entry.Jobs order.Squeeze) old (Ok r) new) (λ number done.
+    worked (entry.Jobs order.Squeeze) old new _ done.0 (λ same. same) (of_jobs old _ done.0 _ _ done.1.others) done.2) reply done
+jobs_leave (order.Turn number) old new (Line it) done = subst (λ (s : LineReply). LeavesAlone (entry.Jobs (order.Turn number)) old (Ok (Line s)) new) (sym done.1)
+    (worked (entry.Jobs (order.Turn number)) old new _ done.2.0 (λ same. same) (turn_leaves old number (job_of number old.jobs) done.0 done.2.0 done.2.1) done.2.2)
+jobs_leave (order.Turn number) old new (Report report) done = absurd done
 
-still : (b : Bool) (e : Entry) (why : SessionFault) (old new : Console) → new ≡ old → Operates b old e (Err why) new
-still true e why old new is = is
-still false e why old new is = is
+reply_leaves : (e : Entry) (old new : State) (reply : Reply) → MayReply old e reply new → LeavesAlone e old (Ok reply) new
+reply_leaves (entry.Files it) old new reply done = files_leave it old new reply done
+reply_leaves (entry.Jobs it) old new reply done = jobs_leave it old new reply done
+reply_leaves (entry.Console it) old new reply done = record { files = λ name other. ap (λ (s : State). get s.files name) done.2; console = λ other. done.1 }
 
-step_leaves : (e : Entry) (old new : State) (answer : Answer) → Step old e answer new → Leaves e old answer new
+still : (e : Entry) (why : SessionFault) (old new : Console) → new ≡ old → OperatesConsole old e (Err why) new
+still (entry.Files it) why old new is = is
+still (entry.Jobs it) why old new is = is
+still (entry.Console it) why old new is = is
+
+step_leaves : (e : Entry) (old new : State) (answer : Answer) → MayAnswer old e answer new → LeavesAlone e old answer new
 step_leaves e old new (Ok reply) step = reply_leaves e old new reply step
 step_leaves e old new (Err why) step = record {
   files = λ name other. ap (λ (s : State). get s.files name) (refused_others old new e why step);
-  console = λ other. still (is_console e) e why old.console new.console (ap (λ (s : State). s.console) (refused_others old new e why step));
+  console = λ other. still e why old.console new.console (ap (λ (s : State). s.console) (refused_others old new e why step));
 }
 
 -- ## Runs
@@ -161,7 +153,7 @@ file_kept old new name [] (answer ∷ answers) stopped run none = absurd run
 file_kept old new name (e ∷ entries) (answer ∷ answers) stopped run none =
     file_kept run.0 new name entries answers stopped run.3 none.1 ∙ (step_leaves e old run.0 answer run.1).files name none.0
 
-pub console_goes : (old new : State) (entries : List Entry) (answers : List Answer) (stopped : Bool) → Run old entries answers stopped new → NoneTells is_loaded answers → GoesOn old.console entries answers new.console
+pub console_goes : (old new : State) (entries : List Entry) (answers : List Answer) (stopped : Bool) → Run old entries answers stopped new → NoneTells is_loaded answers → ConsoleGoesOn old.console entries answers new.console
 console_goes old new [] [] stopped run none = ap (λ (s : State). s.console) run.1
 console_goes old new (e ∷ entries) [] stopped run none = ap (λ (s : State). s.console) run.2
 console_goes old new [] (answer ∷ answers) stopped run none = absurd run
@@ -187,7 +179,7 @@ made number name sources old new has = of_turned has.step.0 has.step.1 (subst (�
     after : jobs.State
     after = has.step.2.0
 
-    of_turned : (turned : Turned) → said.Assembled number name has.blocks ≡ said_of number turned → JobTurn (job_state old) number (Some (assembling name has.from has.left)) (Ok turned) after → IsMade name sources new
+    of_turned : (turned : Turned) → line.Assembled number name has.blocks ≡ turn_reply number turned → JobTurn (job_state old) number (Some (assembling name has.from has.left)) (Ok turned) after → IsMade name sources new
     of_turned turned.Working is turn = cc
     of_turned (turned.Loaded other) is turn = cc
     of_turned turned.Squeezed is turn = cc
@@ -198,12 +190,12 @@ made number name sources old new has = of_turned has.step.0 has.step.1 (subst (�
         words = ap (λ (s : State). words_or (get s.files name)) has.step.2.2 ∙ ap (λ (s : jobs.State). words_or (get s.files name)) turn.3.put.others ∙ ap words_or (put_it old.files name _) ∙ ap assembled_words (sym has.words)
 
 arrives : OneReading → NoFault → (old new : State) (loader name left : ℕ) (sources : List (List ℕ)) (answer : Answer) → IsMade name sources old → job_of loader old.jobs ≡ Some (loading name left)
-    → Step old (entry.Turn loader) answer new → Arrives sources old answer new
+    → MayAnswer old (entry.Jobs (order.Turn loader)) answer new → Arrives sources old answer new
 arrives one_reading no_fault old new loader name left sources answer tape is step = record {
   no_fault = without;
   core = ended.0;
   laid = λ told. (ended.1 told).0;
-  goes_on = λ told last entries answers stopped run none. subst (λ (c : Console). GoesOn c entries answers last.console) (ended.1 told).1 (console_goes new last entries answers stopped run none);
+  goes_on = λ told last entries answers stopped run none. subst (λ (c : Console). ConsoleGoesOn c entries answers last.console) (ended.1 told).1 (console_goes new last entries answers stopped run none);
 }
   where
     turn_of_it : (t : Turned) (after : jobs.State) → Turns (job_state old) loader (Ok t) after → JobTurn (job_state old) loader (Some (loading name left)) (Ok t) after
@@ -229,11 +221,11 @@ arrives one_reading no_fault old new loader name left sources answer tape is ste
     not_fault f job.Memory after this turn = cc
     not_fault f (job.Tape other) after this turn = no_fault (frames (words_of (job_state old) name)) tape.items other tape.is_tape turn.1.whole
 
-    not_tape : (f : TapeFault) → Step old (entry.Turn loader) (Err (fault.Tape f)) new → ⊥
+    not_tape : (f : TapeFault) → MayAnswer old (entry.Jobs (order.Turn loader)) (Err (fault.Tape f)) new → ⊥
     not_tape f step = not_fault f step.0.0 step.0.2.0 step.0.1 (fault_of_it step.0.0 step.0.2.0 step.0.2.1)
 
     without : (f : TapeFault) → answer ≢ Err (fault.Tape f)
-    without f same = not_tape f (subst (λ (a : Answer). Step old (entry.Turn loader) a new) same step)
+    without f same = not_tape f (subst (λ (a : Answer). MayAnswer old (entry.Jobs (order.Turn loader)) a new) same step)
 
     -- what holds where the answer tells of a load
     AtEnd : Answer → List ℕ → Type 0
@@ -242,22 +234,22 @@ arrives one_reading no_fault old new loader name left sources answer tape is ste
     other : (a : Answer) → is_loaded a ≡ false → (core : List ℕ) × AtEnd a core
     other a away = (old.console.machine.core, λ told. absurd (true≢false (sym told ∙ away)))
 
-    of_turned : (t : Turned) (after : jobs.State) → JobTurn (job_state old) loader (Some (loading name left)) (Ok t) after → new ≡ with_work old after → (core : List ℕ) × AtEnd (Ok (Line (said_of loader t))) core
-    of_turned turned.Working after turn same = other (Ok (Line (said.Working loader))) refl
+    of_turned : (t : Turned) (after : jobs.State) → JobTurn (job_state old) loader (Some (loading name left)) (Ok t) after → new ≡ with_work old after → (core : List ℕ) × AtEnd (Ok (Line (turn_reply loader t))) core
+    of_turned turned.Working after turn same = other (Ok (Line (line.Working loader))) refl
     of_turned (turned.Assembled n blocks) after turn same = absurd turn
     of_turned (turned.Loaded n) after turn same = (after.core, λ told. (laid after.core turn.2.laid, ap (λ (s : State). s.console) same))
     of_turned turned.Squeezed after turn same = absurd turn
 
-    of_answer : (a : Answer) → Step old (entry.Turn loader) a new → (core : List ℕ) × AtEnd a core
-    of_answer (Ok (Line it)) step = subst (λ (s : Said). (core : List ℕ) × AtEnd (Ok (Line s)) core) (sym step.1) (of_turned step.0 step.2.0 (turn_of_it step.0 step.2.0 step.2.1) step.2.2)
-    of_answer (Ok (Report report)) step = absurd step.0
+    of_answer : (a : Answer) → MayAnswer old (entry.Jobs (order.Turn loader)) a new → (core : List ℕ) × AtEnd a core
+    of_answer (Ok (Line it)) step = subst (λ (s : LineReply). (core : List ℕ) × AtEnd (Ok (Line s)) core) (sym step.1) (of_turned step.0 step.2.0 (turn_of_it step.0 step.2.0 step.2.1) step.2.2)
+    of_answer (Ok (Report report)) step = absurd step
     of_answer (Err why) step = other (Err why) refl
 
     ended : (core : List ℕ) × AtEnd answer core
     ended = of_answer answer step
 
 pub leads : OneReading → NoFault → (one two three four : State) (maker loader name left : ℕ) (sources : List (List ℕ)) (entries : List Entry) (answers : List Answer) (stopped : Bool) (answer : Answer)
-    → HasMade maker name sources one two → Run two entries answers stopped three → NoneTells (changes_file name) answers → job_of loader three.jobs ≡ Some (loading name left) → Step three (entry.Turn loader) answer four
+    → HasMade maker name sources one two → Run two entries answers stopped three → NoneTells (changes_file name) answers → job_of loader three.jobs ≡ Some (loading name left) → MayAnswer three (entry.Jobs (order.Turn loader)) answer four
     → Arrives sources three answer four
 leads one_reading no_fault one two three four maker loader name left sources entries answers stopped answer has run none is step =
     arrives one_reading no_fault three four loader name left sources answer (subst (λ o. IsTapeOfSources sources (words_or o)) (sym (file_kept two three name entries answers stopped run none)) (made maker name sources one two has)) is step

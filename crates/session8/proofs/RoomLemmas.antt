@@ -1,6 +1,5 @@
 -- What refusals for want of room tell of the store's blocks.
-use Rattle.std.proofs.Common.{◌≡◌, ℕ, Bool, true, false, List, Option, Some, Ok, Err, refl, sym, subst, ap}
-use Rattle.os8_dir.specs.Names.{parsed_name}
+use Rattle.std.proofs.Common.{◌≡◌, ℕ, Bool, true, false, List, Err, refl, sym, subst}
 use Rattle.os8_files.specs.Mounted.{Mounted}
 use Rattle.os8_files.specs.Puts.{Puts, TellsRoom}
 use Rattle.os8_files.specs.declared.faults.FileFault.{FileFault}
@@ -9,14 +8,9 @@ use Rattle.jobs8.specs.Calls as calls
 use Rattle.jobs8.specs.declared.faults.JobFault.{JobFault}
 use Rattle.jobs8.specs.declared.faults.JobFault.TheVariants as job
 use Rattle.script8.specs.Faults.{fault_of_file}
-use Rattle.script8.specs.declared.entries.Entry.{Entry}
-use Rattle.script8.specs.declared.entries.Entry.TheVariants as entry
 use Rattle.script8.specs.declared.faults.SessionFault.{SessionFault}
 use Rattle.script8.specs.declared.faults.SessionFault.TheVariants as fault
-use Rattle.session8.specs.Console.{is_console}
-use Rattle.session8.specs.Room.{IfFile, EntryTellsRoom}
-use Rattle.session8.specs.Session.{Seen}
-use Rattle.session8.specs.System.{Answer}
+use Rattle.session8.specs.Room.{IfFile}
 use Rattle.session8.specs.Work.{fault_of_job}
 
 -- ## A text is stored
@@ -67,32 +61,3 @@ turn_room has job.TooManyJobs is = tt
 turn_room has (job.Asm why) is = tt
 turn_room has (job.Tape why) is = tt
 turn_room has job.Memory is = tt
-
--- ## The console
-
-pub console_room : (e : Entry) (old : Seen) (answer : Answer) → is_console e ≡ true → EntryTellsRoom e old answer
-console_room (entry.Store bytes text) old answer is = absurd (never is)
-  where
-    never : false ≡ true → ⊥
-    never it = cc
-console_room (entry.Turn number) old answer is = absurd (never is)
-  where
-    never : false ≡ true → ⊥
-    never it = cc
-console_room (entry.Delete name) old answer is = tt
-console_room entry.Direct old answer is = tt
-console_room (entry.Assemble to from) old answer is = tt
-console_room (entry.Load name) old answer is = tt
-console_room entry.Squeeze old answer is = tt
-console_room (entry.Start cell) old answer is = tt
-console_room (entry.Step n) old answer is = tt
-console_room (entry.Go n) old answer is = tt
-console_room (entry.Run cell n) old answer is = tt
-console_room (entry.Key character) old answer is = tt
-console_room entry.Done old answer is = tt
-console_room (entry.Switches word) old answer is = tt
-console_room (entry.Examine cell) old answer is = tt
-console_room (entry.Deposit cell word) old answer is = tt
-console_room (entry.Break cell is_on) old answer is = tt
-console_room entry.Registers old answer is = tt
-console_room entry.Printed old answer is = tt

@@ -6,10 +6,11 @@ use Rattle.jobs8.specs.Turns.{Turns, JobTurn, SqueezingTurn}
 use Rattle.jobs8.specs.declared.turned.Turned.{Turned}
 use Rattle.jobs8.specs.declared.turned.Turned.TheVariants as turned
 use Rattle.script8.specs.declared.entries.Entry.TheVariants as entry
+use Rattle.script8.specs.declared.entries.JobEntry.TheVariants as order
 use Rattle.script8.specs.declared.replies.Reply.TheVariants.{Line, Report}
 use Rattle.session8.specs.Same.{lasting_job, lasting_jobs, IsAlike}
 use Rattle.session8.specs.State.{State}
-use Rattle.session8.specs.System.{Answer, Step}
+use Rattle.session8.specs.System.{Answer, MayAnswer}
 use Rattle.session8.specs.Work.{job_state, with_work}
 use Rattle.session8.proofs.RefusalLemmas.{left_by}
 
@@ -75,7 +76,7 @@ but_kept number old = ap (λ (l : List (Option Job)). record old { jobs = l }) (
 -- what holds of a state that stays, or gets another job under a number that is none or squeezes, holds behind a turn that squeezes
 squeezed : (holds : State → Type 0) (old new : State) (number : ℕ) (clean : Bool) (left : ℕ) (answer : Answer) → holds old
     → ((tight : Bool) (j : Option Job) → lasting_job j ≡ None → holds (record old { tight = tight; jobs = with_job number j old.jobs }))
-    → job_of number old.jobs ≡ Some (squeezing clean left) → Step old (entry.Turn number) answer new → holds new
+    → job_of number old.jobs ≡ Some (squeezing clean left) → MayAnswer old (entry.Jobs (order.Turn number)) answer new → holds new
 squeezed holds old new number clean left answer same put is step = of_answer answer step
   where
     -- the turn is one of a squeezing job
@@ -88,16 +89,16 @@ squeezed holds old new number clean left answer same put is step = of_answer ans
     moved (turned.Loaded name) after turn = absurd turn
     moved turned.Squeezed after turn = subst holds (ap (with_work old) (sym turn.2.others)) (put after.tight None refl)
 
-    of_answer : (answer : Answer) → Step old (entry.Turn number) answer new → holds new
+    of_answer : (answer : Answer) → MayAnswer old (entry.Jobs (order.Turn number)) answer new → holds new
     of_answer (Ok (Line said)) step = subst holds (sym step.2.2) (moved step.0 step.2.0 (squeezes step.0 step.2.0 step.2.1))
-    of_answer (Ok (Report report)) step = absurd step.0
-    of_answer (Err why) step = elim (left_by old new (entry.Turn number) why step) [
+    of_answer (Ok (Report report)) step = absurd step
+    of_answer (Err why) step = elim (left_by old new (entry.Jobs (order.Turn number)) why step) [
       | inl is ↦ subst holds (sym is) same
       | inr ended ↦ subst holds (sym ended) (put old.tight None refl)
     ]
 
-pub squeezer_own : (old new : State) (number : ℕ) (clean : Bool) (left : ℕ) (answer : Answer) → job_of number old.jobs ≡ Some (squeezing clean left) → Step old (entry.Turn number) answer new → new ≡ record old { tight = new.tight; jobs = with_job number (job_of number new.jobs) old.jobs }
+pub squeezer_own : (old new : State) (number : ℕ) (clean : Bool) (left : ℕ) (answer : Answer) → job_of number old.jobs ≡ Some (squeezing clean left) → MayAnswer old (entry.Jobs (order.Turn number)) answer new → new ≡ record old { tight = new.tight; jobs = with_job number (job_of number new.jobs) old.jobs }
 squeezer_own old new number clean left answer is step = squeezed (IsBut number old) old new number clean left answer (but_kept number old) (λ tight j none. but_put number old tight j) is step
 
-pub squeezer_turn : (old new : State) (number : ℕ) (clean : Bool) (left : ℕ) (answer : Answer) → job_of number old.jobs ≡ Some (squeezing clean left) → Step old (entry.Turn number) answer new → IsAlike old new
+pub squeezer_turn : (old new : State) (number : ℕ) (clean : Bool) (left : ℕ) (answer : Answer) → job_of number old.jobs ≡ Some (squeezing clean left) → MayAnswer old (entry.Jobs (order.Turn number)) answer new → IsAlike old new
 squeezer_turn old new number clean left answer is step = squeezed (IsAlike old) old new number clean left answer refl (λ tight j none. alike old tight (with_job number j old.jobs) (squeezer_put number j old.jobs (ap lasting_job is) none)) is step

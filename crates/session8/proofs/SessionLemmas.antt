@@ -21,22 +21,20 @@ use Rattle.jobs8.specs.declared.kinds.Job as kept
 use Rattle.jobs8.specs.State as jobs
 use Rattle.jobs8.specs.State.{IsCrowded, IsFull}
 use Rattle.script8.specs.Faults.{fault_of_file}
-use Rattle.script8.specs.declared.entries.Entry.{Entry}
+use Rattle.script8.specs.declared.entries.ConsoleEntry.{ConsoleEntry}
 use Rattle.script8.specs.declared.entries.Entry.TheVariants as entry
+use Rattle.script8.specs.declared.entries.FileEntry.TheVariants as filing
 use Rattle.script8.specs.declared.faults.SessionFault.{SessionFault}
 use Rattle.script8.specs.declared.faults.SessionFault.TheVariants as fault
 use Rattle.script8.specs.declared.replies.Reply.{Reply}
 use Rattle.script8.specs.declared.replies.Reply.TheVariants.{Line}
-use Rattle.script8.specs.declared.replies.Said.TheVariants.{Stored, Deleted}
-use Rattle.session8.specs.Console.{is_console, IsBreakTooMany}
-use Rattle.session8.specs.ConsoleSteps.{ConsoleDoes, TakesMemory, is_counted}
-use Rattle.session8.specs.Failing.{StepsStopped}
+use Rattle.script8.specs.declared.replies.LineReply.TheVariants.{Stored, Deleted}
+use Rattle.session8.specs.Console.{IsBreakTooMany, TakesMemory, is_within_limits}
+use Rattle.session8.specs.ConsoleSteps.{ConsoleDoes}
 use Rattle.session8.specs.Files.{text_blocks}
-use Rattle.session8.specs.Refusals.{May, MayLack, after_refusal}
 use Rattle.session8.specs.Session.{Seen, state_of}
-use Rattle.session8.specs.SessionSteps.{Does}
+use Rattle.session8.specs.SessionSteps.{DoesEntry}
 use Rattle.session8.specs.State.{Console, State}
-use Rattle.session8.specs.System.{Done}
 use Rattle.session8.specs.Work.{job_state}
 use Rattle.session8.proofs.DoesLemmas.{steady, steady_same, shown, replied, refused, undone, HasFailed, failed, behind_same, stopped}
 
@@ -103,12 +101,12 @@ same_state : (s : Seen) (v : Mounted) → v ≡ s.volume → state_of (over s v)
 same_state s v is = ap (λ (w : Mounted). state_of (over s w)) is
 
 -- a file that is not taken out
-pub delete_refused : (s : Seen) (v : Mounted) (bytes : List ℕ) (name : ℕ) (why : FileFault) → parsed_name bytes ≡ Some name → s.volume.tentative ≡ None → HoldAlike s → Deletes s.volume name (Err why) v → Does (entry.Delete bytes) s (Err (fault_of_file why)) (over s v)
+pub delete_refused : (s : Seen) (v : Mounted) (bytes : List ℕ) (name : ℕ) (why : FileFault) → parsed_name bytes ≡ Some name → s.volume.tentative ≡ None → HoldAlike s → Deletes s.volume name (Err why) v → DoesEntry (entry.Files (filing.Delete bytes)) s (Err (fault_of_file why)) (over s v)
 delete_refused s v bytes name file.NotFound is none alike has = refused _ _ _ _ has.0.running (λ quiet. quiet) (steady_same _ _ has.2) (name, is, has.1) (same_state s v has.2)
 delete_refused s v bytes name (file.Busy other) is none alike has = refused _ _ _ _ has.0.running (λ quiet. quiet) (steady_same _ _ has.4) (name, is, (has.1, has.2, sym (alike name) ∙ has.3)) (same_state s v has.4)
 delete_refused s v bytes name file.DirectoryFull is none alike has = refused _ _ _ _ has.0.running (λ quiet. quiet) (steady_same _ _ has.5) (name, is, (has.1, sym (alike name) ∙ has.2, full s _ has.4)) (same_state s v has.5)
 delete_refused s v bytes name file.Device is none alike has = failed _ _ _ (write_failed s.volume v has.ready.running has.others (inr (inr (inl (record { files = has.files; directory = has.written.0; part = has.written.2.part }))))) refl refl
-delete_refused s v bytes name file.Stopped is none alike has = stopped _ _ _ refl (name, is) (same_state s v has.1) has.0 (behind_same s.volume v has.1)
+delete_refused s v bytes name file.Stopped is none alike has = stopped _ _ _ ((name, is), same_state s v has.1) has.0 (behind_same s.volume v has.1)
 delete_refused s v bytes name file.Memory is none alike has = undone _ _ _ (λ halted. absurd (true≢false (sym halted ∙ has.0.running))) (name, is, has.1, sym (alike name) ∙ has.2) (steady_same _ _ has.3) (same_state s v has.3)
 delete_refused s v bytes name file.TentativeOpen is none alike has = absurd (not_open s.volume has.1 none has.2)
 delete_refused s v bytes name (file.NoRoom n) is none alike has = absurd has
@@ -123,7 +121,7 @@ delete_settled old new js js' name told kept settled is has =
     subst (λ l. IsSettled new l) (sym is) (told old new js settled (kept old new name (Ok tt) has) (ap (λ (m : Mounted). m.tentative) has.others ∙ settled.none))
 
 -- a file that is taken out
-pub delete_done : (s : Seen) (v : Mounted) (js : List (Option Job)) (bytes : List ℕ) (name : ℕ) → parsed_name bytes ≡ Some name → HoldAlike s → js ≡ disturbed s.jobs → HasDeleted s.volume name v → Does (entry.Delete bytes) s (Ok (Line (Deleted name))) (over_with s v js)
+pub delete_done : (s : Seen) (v : Mounted) (js : List (Option Job)) (bytes : List ℕ) (name : ℕ) → parsed_name bytes ≡ Some name → HoldAlike s → js ≡ disturbed s.jobs → HasDeleted s.volume name v → DoesEntry (entry.Files (filing.Delete bytes)) s (Ok (Line (Deleted name))) (over_with s v js)
 delete_done s v js bytes name is alike told has = replied _ _ _ _ has.ready.running (steady _ _ _ _ _ has.others) (
   is,
   (
@@ -160,12 +158,12 @@ put_settled old new js js' name words told kept settled is has none = subst (λ 
 
 -- a text that is not stored
 pub store_refused : (s : Seen) (v : Mounted) (bytes : List ℕ) (name : ℕ) (text words : List ℕ) (why : FileFault) → parsed_name bytes ≡ Some name → HoldAlike s → is_storable text ≡ true → words ≡ stored text
-    → Puts s.volume name words (Err why) v → Does (entry.Store bytes text) s (Err (fault_of_file why)) (over s v)
+    → Puts s.volume name words (Err why) v → DoesEntry (entry.Files (filing.Store bytes text)) s (Err (fault_of_file why)) (over s v)
 store_refused s v bytes name text words (file.Busy other) is alike storable words_are has = refused _ _ _ _ has.0.running (λ quiet. quiet) (steady_same _ _ has.3) (name, is, storable, (has.1, sym (alike name) ∙ has.2)) (same_state s v has.3)
 store_refused s v bytes name text words (file.NoRoom n) is alike storable words_are has = refused _ _ _ _ has.0.running (λ quiet. quiet) (steady_same _ _ has.4) (name, is, storable, (sym (alike name) ∙ has.1, crowded s _ n (subst (λ (l : List ℕ). n < blocks_filled l) words_are has.2) has.3)) (same_state s v has.4)
 store_refused s v bytes name text words file.DirectoryFull is alike storable words_are has = refused _ _ _ _ has.0.running (λ quiet. quiet) (steady _ _ _ _ _ has.3.others) (name, is, storable, (sym (alike name) ∙ has.1, full s _ (subst (λ (l : List ℕ). IsOver s.volume.blocks (insert (files_of s.volume.blocks) name (plain_file s.volume l))) words_are has.2))) (kept_state s v _ has.3)
 store_refused s v bytes name text words file.Device is alike storable words_are has = failed _ _ _ (put_failed s.volume v name _ has) refl refl
-store_refused s v bytes name text words file.Stopped is alike storable words_are has = stopped _ _ _ refl ((name, is), storable) (same_state s v has.1) has.0 (behind_same _ _ has.1)
+store_refused s v bytes name text words file.Stopped is alike storable words_are has = stopped _ _ _ (((name, is), storable), same_state s v has.1) has.0 (behind_same _ _ has.1)
 store_refused s v bytes name text words file.Memory is alike storable words_are has = undone _ _ _ (λ halted. absurd (true≢false (sym halted ∙ has.0.running))) (name, is, storable, sym (alike name) ∙ has.1) (steady _ _ _ _ _ has.2.others) (kept_state s v _ has.2)
 store_refused s v bytes name text words file.NotFound is alike storable words_are has = absurd has
 store_refused s v bytes name text words file.BadName is alike storable words_are has = absurd has
@@ -174,7 +172,7 @@ store_refused s v bytes name text words file.TentativeOpen is alike storable wor
 store_refused s v bytes name text words file.NothingWritten is alike storable words_are has = absurd has
 
 -- a text that can't be stored
-pub no_text_stored : (s : Seen) (bytes : List ℕ) (name : ℕ) (text : List ℕ) → parsed_name bytes ≡ Some name → is_storable text ≡ false → Does (entry.Store bytes text) s (Err fault.BadText) s
+pub no_text_stored : (s : Seen) (bytes : List ℕ) (name : ℕ) (text : List ℕ) → parsed_name bytes ≡ Some name → is_storable text ≡ false → DoesEntry (entry.Files (filing.Store bytes text)) s (Err fault.BadText) s
 no_text_stored s bytes name text is no_text = record {
   step = λ quiet. ((name, is, no_text), refl);
   later = record { reads = omega arith; writes = omega arith };
@@ -188,25 +186,25 @@ no_text_stored s bytes name text is no_text = record {
 }
 
 -- a text for whose words memory was lacking
-pub text_lacks : (s : Seen) (bytes : List ℕ) (name : ℕ) (text : List ℕ) → parsed_name bytes ≡ Some name → HoldAlike s → is_storable text ≡ true → s.volume.stopped ≡ false → contains s.volume.holds name ≡ false → Does (entry.Store bytes text) s (Err fault.Memory) s
+pub text_lacks : (s : Seen) (bytes : List ℕ) (name : ℕ) (text : List ℕ) → parsed_name bytes ≡ Some name → HoldAlike s → is_storable text ≡ true → s.volume.stopped ≡ false → contains s.volume.holds name ≡ false → DoesEntry (entry.Files (filing.Store bytes text)) s (Err fault.Memory) s
 text_lacks s bytes name text is alike storable running free = undone _ _ _ (λ halted. absurd (true≢false (sym halted ∙ running))) (name, is, storable, sym (alike name) ∙ free) (steady_same _ _ refl) refl
 
 -- a text that is not stored, since it can't be, or a write has failed, or a job holds the name
 pub unstored : (s : Seen) (bytes : List ℕ) (name : ℕ) (text : List ℕ) (why : SessionFault) → parsed_name bytes ≡ Some name → HoldAlike s → (s.volume.stopped ≡ false → contains s.volume.holds name ≡ true) → (is_storable text ≡ false → why ≡ fault.BadText)
-    → (is_storable text ≡ true → s.volume.stopped ≡ true → why ≡ fault.File file.Stopped) → (is_storable text ≡ true → s.volume.stopped ≡ false → why ≡ fault.File (file.Busy name)) → Does (entry.Store bytes text) s (Err why) s
+    → (is_storable text ≡ true → s.volume.stopped ≡ true → why ≡ fault.File file.Stopped) → (is_storable text ≡ true → s.volume.stopped ≡ false → why ≡ fault.File (file.Busy name)) → DoesEntry (entry.Files (filing.Store bytes text)) s (Err why) s
 unstored s bytes name text why is alike held bad halts busy = by_text (is_storable text) (s.volume.stopped) refl refl
   where
     it : SessionFault → Type 0
-    it f = Does (entry.Store bytes text) s (Err f) s
+    it f = DoesEntry (entry.Files (filing.Store bytes text)) s (Err f) s
 
     by_text : (storable halted : Bool) → is_storable text ≡ storable → s.volume.stopped ≡ halted → it why
     by_text false halted no_text stands = subst it (sym (bad no_text)) (no_text_stored s bytes name text is no_text)
-    by_text true true storable stands = subst it (sym (halts storable stands)) (stopped _ _ _ refl ((name, is), storable) refl stands (behind_same _ _ refl))
+    by_text true true storable stands = subst it (sym (halts storable stands)) (stopped _ _ _ (((name, is), storable), refl) stands (behind_same _ _ refl))
     by_text true false storable stands = subst it (sym (busy storable stands)) (refused _ _ _ _ stands (λ quiet. quiet) (steady_same _ _ refl) (name, is, storable, (refl, sym (alike name) ∙ held stands)) refl)
 
 -- a text that is stored
 pub store_done : (s : Seen) (v : Mounted) (js : List (Option Job)) (bytes : List ℕ) (name : ℕ) (text words : List ℕ) (blocks : ℕ) → parsed_name bytes ≡ Some name → HoldAlike s → js ≡ disturbed s.jobs → is_storable text ≡ true → words ≡ stored text → blocks ≡ text_blocks text
-    → HasPut s.volume name words v → Does (entry.Store bytes text) s (Ok (Line (Stored name blocks))) (over_with s v js)
+    → HasPut s.volume name words v → DoesEntry (entry.Files (filing.Store bytes text)) s (Ok (Line (Stored name blocks))) (over_with s v js)
 store_done s v js bytes name text words blocks is alike told storable words_are blocks_are has = replied _ _ _ _ has.ready.running (steady _ _ _ _ _ has.others) (
   is,
   blocks_are,
@@ -226,122 +224,42 @@ store_done s v js bytes name text words blocks is alike told storable words_are 
 )
 
 -- what the console shows is a step
-console_done : (e : Entry) (s : Seen) (reply : Reply) (console : Console) → is_console e ≡ true → is_counted e ≡ true → ConsoleDoes e s.console (Ok reply) console → Done (state_of s) e reply (state_of (record s { console = console }))
-console_done (entry.Store name text) s reply console is counted has = absurd (true≢false (sym is))
-console_done (entry.Delete name) s reply console is counted has = absurd (true≢false (sym is))
-console_done entry.Direct s reply console is counted has = absurd (true≢false (sym is))
-console_done (entry.Assemble to from) s reply console is counted has = absurd (true≢false (sym is))
-console_done (entry.Load name) s reply console is counted has = absurd (true≢false (sym is))
-console_done entry.Squeeze s reply console is counted has = absurd (true≢false (sym is))
-console_done (entry.Turn number) s reply console is counted has = absurd (true≢false (sym is))
-console_done (entry.Start cell) s reply console is counted has = (has, refl)
-console_done (entry.Step n) s reply console is counted has = (counted, has, refl)
-console_done (entry.Go n) s reply console is counted has = (counted, has, refl)
-console_done (entry.Run cell n) s reply console is counted has = (counted, has, refl)
-console_done (entry.Key character) s reply console is counted has = (has, refl)
-console_done entry.Done s reply console is counted has = (has, refl)
-console_done (entry.Switches word) s reply console is counted has = (has, refl)
-console_done (entry.Examine cell) s reply console is counted has = (has, refl)
-console_done (entry.Deposit cell word) s reply console is counted has = (has, refl)
-console_done (entry.Break cell is_on) s reply console is counted has = (has, refl)
-console_done entry.Registers s reply console is counted has = (has, refl)
-console_done entry.Printed s reply console is counted has = (has, refl)
+pub console_shown : (it : ConsoleEntry) (s : Seen) (reply : Reply) (console : Console) → is_within_limits it ≡ true → ConsoleDoes it s.console (Ok reply) console → DoesEntry (entry.Console it) s (Ok reply) (record s { console = console })
+console_shown it s reply console within has = shown it s _ reply refl (within, has, refl)
 
-pub console_shown : (e : Entry) (s : Seen) (reply : Reply) (console : Console) → is_console e ≡ true → is_counted e ≡ true → ConsoleDoes e s.console (Ok reply) console → Does e s (Ok reply) (record s { console = console })
-console_shown e s reply console is counted has = shown e s _ reply is refl (console_done e s reply console is counted has)
+-- a console that is the same
+same_console : (s : Seen) (console : Console) → console ≡ s.console → state_of (record s { console = console }) ≡ state_of s
+same_console s console is = ap (λ (c : Console). record (state_of s) { console = c }) is
 
 -- an entry of the console for which memory was lacking
-long_lacks : (e : Entry) (s : State) → is_counted e ≡ true → TakesMemory e → MayLack s e
-long_lacks (entry.Step n) s counted long = counted
-long_lacks (entry.Go n) s counted long = counted
-long_lacks (entry.Run cell n) s counted long = counted
-long_lacks entry.Registers s counted long = tt
-long_lacks entry.Printed s counted long = tt
-long_lacks (entry.Store name text) s counted long = absurd long
-long_lacks (entry.Delete name) s counted long = absurd long
-long_lacks entry.Direct s counted long = absurd long
-long_lacks (entry.Assemble to from) s counted long = absurd long
-long_lacks (entry.Load name) s counted long = absurd long
-long_lacks entry.Squeeze s counted long = absurd long
-long_lacks (entry.Turn number) s counted long = absurd long
-long_lacks (entry.Start cell) s counted long = absurd long
-long_lacks (entry.Key character) s counted long = absurd long
-long_lacks entry.Done s counted long = absurd long
-long_lacks (entry.Switches word) s counted long = absurd long
-long_lacks (entry.Examine cell) s counted long = absurd long
-long_lacks (entry.Deposit cell word) s counted long = absurd long
-long_lacks (entry.Break cell is_on) s counted long = absurd long
-
-pub console_undone : (e : Entry) (s : Seen) (console : Console) → is_console e ≡ true → is_counted e ≡ true → TakesMemory e → console ≡ s.console → Does e s (Err fault.Memory) (record s { console = console })
-console_undone e s console at counted long is = undone e s _ (λ halted. subst (λ b. StepsStopped b (state_of s) e (Err fault.Memory) (state_of (record s { console = console }))) (sym at) (long_lacks e (state_of s) counted long, same)) (long_lacks e (state_of s) counted long) (steady_same _ _ refl) same
-  where
-    same : state_of (record s { console = console }) ≡ state_of s
-    same = ap (λ (c : Console). record (state_of s) { console = c }) is
+pub console_undone : (it : ConsoleEntry) (s : Seen) (console : Console) → is_within_limits it ≡ true → TakesMemory it → console ≡ s.console → DoesEntry (entry.Console it) s (Err fault.Memory) (record s { console = console })
+console_undone it s console within takes is = undone (entry.Console it) s _ (λ halted. ((takes, within), same_console s console is)) (takes, within) (steady_same _ _ refl) (same_console s console is)
 
 -- fewer or more steps than an entry may make are refused
-uncounted : (e : Entry) (s : State) → is_counted e ≡ false → May s e fault.BadLine × (s ≡ after_refusal s e)
-uncounted (entry.Store name text) s is = absurd (true≢false is)
-uncounted (entry.Delete name) s is = absurd (true≢false is)
-uncounted entry.Direct s is = absurd (true≢false is)
-uncounted (entry.Assemble to from) s is = absurd (true≢false is)
-uncounted (entry.Load name) s is = absurd (true≢false is)
-uncounted entry.Squeeze s is = absurd (true≢false is)
-uncounted (entry.Turn number) s is = absurd (true≢false is)
-uncounted (entry.Start cell) s is = absurd (true≢false is)
-uncounted (entry.Step n) s is = (is, refl)
-uncounted (entry.Go n) s is = (is, refl)
-uncounted (entry.Run cell n) s is = (is, refl)
-uncounted (entry.Key character) s is = absurd (true≢false is)
-uncounted entry.Done s is = absurd (true≢false is)
-uncounted (entry.Switches word) s is = absurd (true≢false is)
-uncounted (entry.Examine cell) s is = absurd (true≢false is)
-uncounted (entry.Deposit cell word) s is = absurd (true≢false is)
-uncounted (entry.Break cell is_on) s is = absurd (true≢false is)
-uncounted entry.Registers s is = absurd (true≢false is)
-uncounted entry.Printed s is = absurd (true≢false is)
-
-pub console_uncounted : (e : Entry) (s : Seen) → is_console e ≡ true → is_counted e ≡ false → Does e s (Err fault.BadLine) s
-console_uncounted e s at is = record {
-  step = λ quiet. uncounted e (state_of s) is;
+pub console_unlimited : (it : ConsoleEntry) (s : Seen) → is_within_limits it ≡ false → DoesEntry (entry.Console it) s (Err fault.BadLine) s
+console_unlimited it s past = record {
+  step = λ quiet. (past, refl);
   later = record { reads = omega arith; writes = omega arith };
   files = λ running more. absurd (omega (arith, more));
   running = λ quiet. quiet.running;
   memory = λ is. cc;
   reply = tt;
   tells = λ running. record { running = running; reads = refl; writes = refl };
-  stopped = λ halted. subst (λ b. StepsStopped b (state_of s) e (Err fault.BadLine) (state_of s)) (sym at) (uncounted e (state_of s) is);
+  stopped = λ halted. (past, refl);
   done = tt;
 }
 
 -- a break too many is refused
-pub console_full : (e : Entry) (s : Seen) (console : Console) → IsBreakTooMany s.console e → console ≡ s.console → Does e s (Err fault.TooManyBreaks) (record s { console = console })
-console_full (entry.Store name text) s console is same = absurd is
-console_full (entry.Delete name) s console is same = absurd is
-console_full entry.Direct s console is same = absurd is
-console_full (entry.Assemble to from) s console is same = absurd is
-console_full (entry.Load name) s console is same = absurd is
-console_full entry.Squeeze s console is same = absurd is
-console_full (entry.Turn number) s console is same = absurd is
-console_full (entry.Start cell) s console is same = absurd is
-console_full (entry.Step n) s console is same = absurd is
-console_full (entry.Go n) s console is same = absurd is
-console_full (entry.Run cell n) s console is same = absurd is
-console_full (entry.Key character) s console is same = absurd is
-console_full entry.Done s console is same = absurd is
-console_full (entry.Switches word) s console is same = absurd is
-console_full (entry.Examine cell) s console is same = absurd is
-console_full (entry.Deposit cell word) s console is same = absurd is
-console_full entry.Registers s console is same = absurd is
-console_full entry.Printed s console is same = absurd is
-console_full (entry.Break cell is_on) s console is same = record {
-  step = λ quiet. (is, ap (λ (c : Console). record (state_of s) { console = c }) same);
+pub console_full : (it : ConsoleEntry) (s : Seen) (console : Console) → IsBreakTooMany s.console it → console ≡ s.console → DoesEntry (entry.Console it) s (Err fault.TooManyBreaks) (record s { console = console })
+console_full it s console full is = record {
+  step = λ quiet. (full, same_console s console is);
   later = record { reads = omega arith; writes = omega arith };
   files = λ running more. absurd (omega (arith, more));
   running = λ quiet. quiet.running;
   memory = λ is. cc;
   reply = tt;
   tells = λ running. record { running = running; reads = refl; writes = refl };
-  stopped = λ halted. (is, ap (λ (c : Console). record (state_of s) { console = c }) same);
+  stopped = λ halted. (full, same_console s console is);
   done = tt;
 }
 

@@ -2,69 +2,70 @@
 use Rattle.std.proofs.Common.{arith, true, false, Bool, ℕ, ◌+◌, ◌≡◌, ◌<◌, ◌≤◌, ◌⊎◌, OnOk, IfErr, inl, inr, refl, sym, ◌∙◌, ap, subst, List, [], ◌∷◌, ◌++◌, drop, drop-drop, length, length-append, append_assoc, append-nil, Option, Result, Ok, Err}
 use Rattle.std.specs.Io.KnownBytes.{Appends, Consumes}
 use Rattle.std.proofs.KnownBytes.{Appends-nil}
-use Rattle.script8.specs.Items.{script_of, whole_of, Leads, Gives, Waits}
+use Rattle.script8.specs.Items.{script_of, whole_of, LeadsWith, GivesItems, WaitsForLines}
 use Rattle.script8.specs.Replies.{fault_line}
 use Rattle.script8.specs.declared.faults.SessionFault.{SessionFault}
 use Rattle.script8.specs.declared.faults.SessionFault.TheVariants as fault
 use Rattle.script8.specs.declared.items.Item.{Item}
-use Rattle.session8.specs.Reading.{IsRead, IsReadWithin, IsTaken, Takes}
+use Rattle.session8.specs.Reading.{IsRead, IsReadWithin, IsTaken, TakesBytes}
 use Rattle.session8.specs.declared.endings.Ending.{Ending}
 use Rattle.session8.specs.declared.endings.Ending.TheVariants as ending
+use Rattle.session8.specs.declared.pending.Begun.TheVariants.{Ran}
 use Rattle.session8.specs.State.{State}
-use Rattle.session8.specs.RunSteps.{RunsItems, RunsNext, RunsFront, RunsGiven, RunsRead, IsRunTo, IsEnded, Heads, items_in, fault_of}
-use Rattle.session8.specs.Script.{all_lines, Writes, WritesFront, RunsText}
+use Rattle.session8.specs.RunSteps.{RunsItems, RunsNext, RunsPrefix, RunsGiven, RunsRead, IsRunTo, IsEnded, StartsWithItems, items_in, fault_of}
+use Rattle.session8.specs.Script.{all_lines, WritesAnswers, WritesPrefix, RunsText}
 use Rattle.session8.proofs.ByteLemmas.{appends_more, consumes_more, consumes_none}
 use Rattle.session8.proofs.ToldLemmas.{front_all, front_none, front_more, behind_more, writes_front_more, writes_append}
 
 -- a last line behind what is written
-pub writes_last : (old : State) (items : List Item) (new : State) (w w1 w2 : Option (List ℕ)) (last : List ℕ) → Writes old items new w w1 [] → Appends w1 w2 last → Writes old items new w w2 last
+pub writes_last : (old : State) (items : List Item) (new : State) (w w1 w2 : Option (List ℕ)) (last : List ℕ) → WritesAnswers old items new w w1 [] → Appends w1 w2 last → WritesAnswers old items new w w2 last
 writes_last old items new w w1 w2 last told more = record {
   lines = told.lines;
   told = told.told;
   written = subst (λ (l : List ℕ). Appends w w2 l) (ap (λ l. l ++ last) (append-nil _)) (appends_more w w1 w2 (all_lines told.lines ++ []) last told.written more);
 }
 
-front_last : (old : State) (items : List Item) (new : State) (w w1 w2 : Option (List ℕ)) (last : List ℕ) → WritesFront old items new w w1 [] → Appends w1 w2 last → WritesFront old items new w w2 last
+front_last : (old : State) (items : List Item) (new : State) (w w1 w2 : Option (List ℕ)) (last : List ℕ) → WritesPrefix old items new w w1 [] → Appends w1 w2 last → WritesPrefix old items new w w2 last
 front_last old items new w w1 w2 last told more = (told.0, told.1, subst (λ (l : List ℕ). Appends w w2 l) (ap (λ l. l ++ last) (append-nil _)) (appends_more w w1 w2 (told.0 ++ []) last told.2 more))
 
 -- the items of a text are those at its front and those of the rest
-heads_items : (text rest : List ℕ) (is_end : Bool) (front : List Item) → Heads text is_end front rest → items_in text is_end ≡ front ++ items_in rest is_end
+heads_items : (text rest : List ℕ) (is_end : Bool) (front : List Item) → StartsWithItems text is_end front rest → items_in text is_end ≡ front ++ items_in rest is_end
 heads_items text rest true front heads = heads
 heads_items text rest false front heads = ap whole_of (sym (append-nil text)) ∙ heads.whole [] ∙ ap (λ r. front ++ whole_of r) (append-nil rest)
 
-leads_script : (text rest : List ℕ) (front : List Item) → Leads text front rest → script_of text ≡ front ++ script_of rest
+leads_script : (text rest : List ℕ) (front : List Item) → LeadsWith text front rest → script_of text ≡ front ++ script_of rest
 leads_script text rest front leads = ap script_of (sym (append-nil text)) ∙ leads.script [] ∙ ap (λ r. front ++ script_of r) (append-nil rest)
 
 -- a front, and the front of what stands behind it
-heads_more : (a b c : List ℕ) (is_end : Bool) (f g : List Item) → Heads a is_end f b → Heads b is_end g c → Heads a is_end (f ++ g) c
+heads_more : (a b c : List ℕ) (is_end : Bool) (f g : List Item) → StartsWithItems a is_end f b → StartsWithItems b is_end g c → StartsWithItems a is_end (f ++ g) c
 heads_more a b c true f g first second = first ∙ ap (λ (l : List Item). f ++ l) second ∙ sym (append_assoc f g _)
 heads_more a b c false f g first second = record {
   script = λ more. first.script more ∙ ap (λ (l : List Item). f ++ l) (second.script more) ∙ sym (append_assoc f g _);
   whole = λ more. first.whole more ∙ ap (λ (l : List Item). f ++ l) (second.whole more) ∙ sym (append_assoc f g _);
 }
 
-gives_heads : (text : List ℕ) (is_end : Bool) (items : List Item) (bytes : ℕ) → Gives text is_end items bytes → Heads text is_end items (drop bytes text)
+gives_heads : (text : List ℕ) (is_end : Bool) (items : List Item) (bytes : ℕ) → GivesItems text is_end items bytes → StartsWithItems text is_end items (drop bytes text)
 gives_heads text true items bytes gives = gives.script
 gives_heads text false items bytes gives = gives.on refl
 
 -- nothing is run
-pub heads_none : (text : List ℕ) (is_end : Bool) → Heads text is_end [] text
+pub heads_none : (text : List ℕ) (is_end : Bool) → StartsWithItems text is_end [] text
 heads_none text true = refl
 heads_none text false = record { script = λ more. refl; whole = λ more. refl }
 
-pub writes_none : (old : State) (w : Option (List ℕ)) → Writes old [] old w w []
+pub writes_none : (old : State) (w : Option (List ℕ)) → WritesAnswers old [] old w w []
 writes_none old w = record { lines = []; told = refl; written = Appends-nil w }
 
 -- the rest of a text begins with an item that want of memory or the writer stopped
 pub front_stopped : (text rest : List ℕ) (is_end : Bool) (front : List Item) (old mid new : State) (w w1 w2 : Option (List ℕ)) (why : Ending)
-    → Heads text is_end front rest → Writes old front mid w w1 [] → RunsNext rest is_end mid new w1 w2 (Err why) → RunsFront text is_end old new w w2 (Err why)
+    → StartsWithItems text is_end front rest → WritesAnswers old front mid w w1 [] → RunsNext rest is_end mid new w1 w2 (Err why) → RunsPrefix text is_end old new w w2 (Err why)
 front_stopped text rest is_end front old mid new w w1 w2 ending.Memory heads first run = writes_front_more (items_in text is_end) front (items_in rest is_end) [] old mid new w w1 w2 (heads_items text rest is_end front heads ∙ ap (λ (l : List Item). front ++ l) (sym (append-nil _))) first run
 front_stopped text rest is_end front old mid new w w1 w2 ending.Writer heads first run = (_, front_more (items_in text is_end) front (items_in rest is_end) [] old mid new w w1 run.0 (heads_items text rest is_end front heads ∙ ap (λ (l : List Item). front ++ l) (sym (append-nil _))) first run.1)
 front_stopped text rest is_end front old mid new w w1 w2 ending.Reader heads first run = absurd run
 
 -- an item that want of memory or the writer stopped
 pub item_stopped : (text : List ℕ) (is_end : Bool) (item : Item) (bytes : ℕ) (old new : State) (w w' : Option (List ℕ)) (why : Ending)
-    → Gives text is_end (item ∷ []) bytes → RunsItems (item ∷ []) old new w w' (Err why) → RunsNext text is_end old new w w' (Err why)
+    → GivesItems text is_end (item ∷ []) bytes → RunsItems (item ∷ []) old new w w' (Err why) → RunsNext text is_end old new w w' (Err why)
 item_stopped text is_end item bytes old new w w' ending.Memory gives run =
     (run.0, behind_more (item ∷ []) (items_in (drop bytes text) is_end) (items_in text is_end) old new run.0 (heads_items text _ is_end (item ∷ []) (gives_heads text is_end (item ∷ []) bytes gives)) run.1, run.2)
 item_stopped text is_end item bytes old new w w' ending.Writer gives run =
@@ -72,31 +73,50 @@ item_stopped text is_end item bytes old new w w' ending.Writer gives run =
 item_stopped text is_end item bytes old new w w' ending.Reader gives run = absurd run
 
 -- one more item, or a blank line
-pub front_next : (text : List ℕ) (is_end : Bool) (done bytes : ℕ) (front items : List Item) → Heads text is_end front (drop done text) → Gives (drop done text) is_end items bytes
-    → Heads text is_end (front ++ items) (drop (done + bytes) text)
+pub front_next : (text : List ℕ) (is_end : Bool) (done bytes : ℕ) (front items : List Item) → StartsWithItems text is_end front (drop done text) → GivesItems (drop done text) is_end items bytes
+    → StartsWithItems text is_end (front ++ items) (drop (done + bytes) text)
 front_next text is_end done bytes front items heads gives =
-    heads_more text (drop done text) (drop (done + bytes) text) is_end front items heads (subst (λ (r : List ℕ). Heads (drop done text) is_end items r) (drop-drop bytes done text) (gives_heads (drop done text) is_end items bytes gives))
+    heads_more text (drop done text) (drop (done + bytes) text) is_end front items heads (subst (λ (r : List ℕ). StartsWithItems (drop done text) is_end items r) (drop-drop bytes done text) (gives_heads (drop done text) is_end items bytes gives))
+
+-- a text of which a prefix is answered up to some bytes, behind which these lines are written
+abbrev pub IsRunUpTo : List ℕ → Bool → List ℕ → State → State → Option (List ℕ) → Option (List ℕ) → Type 0
+IsRunUpTo text is_end rest old new w w' = (items : List Item) × StartsWithItems text is_end items rest × WritesAnswers old items new w w' []
+
+-- one more item
+pub up_to_next : (text rest : List ℕ) (is_end : Bool) (done bytes : ℕ) (old mid new : State) (w w1 w2 : Option (List ℕ)) → rest ≡ drop done text
+    → IsRunUpTo text is_end (drop done text) old mid w w1 → RunsNext rest is_end mid new w1 w2 (Ok (Ran bytes)) → IsRunUpTo text is_end (drop (done + bytes) text) old new w w2
+up_to_next text rest is_end done bytes old mid new w w1 w2 back first next = (
+  first.0 ++ next.0,
+  front_next text is_end done bytes first.0 next.0 first.1 (subst (λ (l : List ℕ). GivesItems l is_end next.0 bytes) back next.1),
+  writes_append first.0 next.0 old mid new w w1 w2 [] first.2 next.2,
+)
+
+-- an item that ends the run
+pub up_to_stopped : (text rest : List ℕ) (is_end : Bool) (done : ℕ) (old mid new : State) (w w1 w2 : Option (List ℕ)) (why : Ending) → rest ≡ drop done text
+    → IsRunUpTo text is_end (drop done text) old mid w w1 → RunsNext rest is_end mid new w1 w2 (Err why) → RunsPrefix text is_end old new w w2 (Err why)
+up_to_stopped text rest is_end done old mid new w w1 w2 why back first next =
+    front_stopped text rest is_end first.0 old mid new w w1 w2 why (subst (λ (l : List ℕ). StartsWithItems text is_end first.0 l) (sym back) first.1) first.2 next
 
 -- a text that is run to its end
-pub runs_end : (text : List ℕ) (old new : State) (w w' : Option (List ℕ)) (why : Ending) → RunsFront text true old new w w' (Err why) → RunsItems (script_of text) old new w w' (Err why)
+pub runs_end : (text : List ℕ) (old new : State) (w w' : Option (List ℕ)) (why : Ending) → RunsPrefix text true old new w w' (Err why) → RunsItems (script_of text) old new w w' (Err why)
 runs_end text old new w w' ending.Memory run = run
 runs_end text old new w w' ending.Writer run = run
 runs_end text old new w w' ending.Reader run = absurd run
 
-pub runs_all : (text : List ℕ) (done : ℕ × ℕ) (old new : State) (w w' : Option (List ℕ)) → RunsFront text true old new w w' (Ok done) → Writes old (script_of text) new w w' []
+pub runs_all : (text : List ℕ) (done : ℕ × ℕ) (old new : State) (w w' : Option (List ℕ)) → RunsPrefix text true old new w w' (Ok done) → WritesAnswers old (script_of text) new w w' []
 runs_all text done old new w w' run =
-    subst (λ (l : List Item). Writes old l new w w' []) (sym (run.1 ∙ ap (λ (l : List Item). run.0 ++ l) run.2.0 ∙ append-nil run.0)) run.3
+    subst (λ (l : List Item). WritesAnswers old l new w w' []) (sym (run.1 ∙ ap (λ (l : List Item). run.0 ++ l) run.2.0 ∙ append-nil run.0)) run.3
 
 -- the whole items of what a reader gave
-pub given_stopped : (text rest : List ℕ) (old new : State) (w w' : Option (List ℕ)) (why : Ending) → RunsFront text false old new w w' (Err why) → RunsGiven text rest old new w w' (Err why)
+pub given_stopped : (text rest : List ℕ) (old new : State) (w w' : Option (List ℕ)) (why : Ending) → RunsPrefix text false old new w w' (Err why) → RunsGiven text rest old new w w' (Err why)
 given_stopped text rest old new w w' ending.Memory run = run
 given_stopped text rest old new w w' ending.Writer run = run
 given_stopped text rest old new w w' ending.Reader run = absurd run
 
-pub given_done : (text rest : List ℕ) (bytes lines : ℕ) (old new : State) (w w1 w2 : Option (List ℕ)) (r : Result (Unit {0}) Ending) → rest ≡ drop bytes text → RunsFront text false old new w w1 (Ok (bytes, lines))
+pub given_done : (text rest : List ℕ) (bytes lines : ℕ) (old new : State) (w w1 w2 : Option (List ℕ)) (r : Result (Unit {0}) Ending) → rest ≡ drop bytes text → RunsPrefix text false old new w w1 (Ok (bytes, lines))
     → OnOk r (Appends w1 w2 []) → IfErr r (λ e. e ≡ ending.Writer) → RunsGiven text rest old new w w2 r
 given_done text rest bytes lines old new w w1 w2 (Ok done) is run ok err =
-    (run.0, subst (λ (l : List ℕ). Leads text run.0 l) (sym is) run.1, writes_last old run.0 new w w1 w2 [] run.3 ok)
+    (run.0, subst (λ (l : List ℕ). LeadsWith text run.0 l) (sym is) run.1, writes_last old run.0 new w w1 w2 [] run.3 ok)
 given_done text rest bytes lines old new w w1 w2 (Err e) is run ok err =
     let all : whole_of text ≡ run.0 ++ whole_of (drop bytes text) = heads_items text (drop bytes text) false run.0 run.1 in
     subst (λ (e : Ending). RunsGiven text rest old new w w2 (Err e)) (sym err) (_, behind_more run.0 (whole_of (drop bytes text)) (whole_of text) old new _ all (front_all run.0 old new run.3.lines run.3.told))
@@ -166,7 +186,7 @@ run_unread most old mid r r1 r2 w w1 count rest lost run taken within =
     run_stopped most old mid mid r r2 w w1 w1 (count + length lost) (rest ++ lost) rest ending.Memory fed within ([], front_none _ mid mid refl, Appends-nil w1)
 
 -- the reader failed, or gave one byte more than may be taken, where no whole item is left
-pub run_cut : (most : ℕ) (old mid : State) (r r1 r2 w w1 : Option (List ℕ)) (count lines : ℕ) (rest more : List ℕ) → IsRunTo old mid r r1 w w1 count rest → 0 < lines → Waits rest lines → Consumes r1 r2 more → count ≤ most
+pub run_cut : (most : ℕ) (old mid : State) (r r1 r2 w w1 : Option (List ℕ)) (count lines : ℕ) (rest more : List ℕ) → IsRunTo old mid r r1 w w1 count rest → 0 < lines → WaitsForLines rest lines → Consumes r1 r2 more → count ≤ most
     → (more ≡ []) ⊎ ((count ≡ most) × (length more ≤ 1)) → RunsRead most old mid r r2 w w1 (Err ending.Reader)
 run_cut most old mid r r1 r2 w w1 count lines rest more run some waits taken within past = (
   run.text,
@@ -177,7 +197,7 @@ run_cut most old mid r r1 r2 w w1 count lines rest more run some waits taken wit
     past = elim past [ inl is ↦ inl is | inr is ↦ inr (run.size ∙ is.0, is.1) ];
   },
   (script_of rest, leads_script run.text rest run.front run.leads ∙ ap (λ (l : List Item). l ++ script_of rest) (sym all)),
-  subst (λ (l : List Item). Writes old l mid w w1 []) (sym all) run.writes,
+  subst (λ (l : List Item). WritesAnswers old l mid w w1 []) (sym all) run.writes,
 )
   where
     none : whole_of rest ≡ []
@@ -205,7 +225,7 @@ run_over most old mid new r r1 r2 w w1 w2 count rest text result run within read
     over (Ok done) items = (
       run.text,
       record { read = record { taken = taken; at_end = read.at_end }; within = omega (arith, run.size, within) },
-      subst (λ (l : List Item). Writes old l new w w2 []) (sym all) (writes_append run.front (script_of rest) old mid new w w1 w2 [] run.writes items),
+      subst (λ (l : List Item). WritesAnswers old l new w w2 []) (sym all) (writes_append run.front (script_of rest) old mid new w w1 w2 [] run.writes items),
     )
     over (Err ending.Memory) items = (
       run.text,
@@ -224,7 +244,7 @@ run_over most old mid new r r1 r2 w w1 w2 count rest text result run within read
     over (Err ending.Reader) items = absurd items
 
 -- so many bytes were taken, and more
-pub takes_more : (r r1 r2 : Option (List ℕ)) (count : ℕ) (bytes : List ℕ) → Takes r r1 count → Consumes r1 r2 bytes → Takes r r2 (count + length bytes)
+pub takes_more : (r r1 r2 : Option (List ℕ)) (count : ℕ) (bytes : List ℕ) → TakesBytes r r1 count → Consumes r1 r2 bytes → TakesBytes r r2 (count + length bytes)
 takes_more r r1 r2 count bytes takes more = record {
   bytes = takes.bytes ++ bytes;
   taken = consumes_more r r1 r2 takes.bytes bytes takes.taken more;

@@ -5,24 +5,31 @@ use Rattle.session8.proofs.ByteLemmas.{appends_more}
 use Rattle.script8.specs.Replies.{answer_lines, reply_lines, fault_line, IsShort}
 use Rattle.script8.specs.declared.entries.Entry.{Entry}
 use Rattle.script8.specs.declared.entries.Entry.TheVariants as kinds
-use Rattle.script8.specs.declared.replies.Reply.TheVariants.{Line, Report}
+use Rattle.script8.specs.declared.entries.ConsoleEntry.{ConsoleEntry}
+use Rattle.script8.specs.declared.entries.ConsoleEntry.TheVariants as console
+use Rattle.script8.specs.declared.entries.FileEntry.TheVariants as filing
+use Rattle.script8.specs.declared.entries.JobEntry.TheVariants as order
+use Rattle.session8.specs.Console.{ConsoleReplies}
+use Rattle.script8.specs.declared.replies.Reply.TheVariants.{Line}
+use Rattle.script8.specs.declared.replies.Reply.TheVariants as reply
+use Rattle.script8.specs.declared.replies.Report.{Report}
 use Rattle.script8.specs.declared.replies.Report.TheVariants as report
-use Rattle.script8.specs.declared.replies.Said.TheVariants.{Finished}
+use Rattle.script8.specs.declared.replies.LineReply.TheVariants.{Finished}
 use Rattle.script8.specs.declared.faults.SessionFault.{SessionFault}
 use Rattle.script8.specs.declared.faults.SessionFault.TheVariants as fault
 use Rattle.script8.specs.declared.items.Item.{Item}
 use Rattle.script8.specs.declared.items.Item.TheVariants.{Do, Finish, Refused}
 use Rattle.jobs8.specs.Jobs.{lowest_job}
 use Rattle.session8.specs.State.{Console, State}
-use Rattle.session8.specs.System.{Answer, Step}
+use Rattle.session8.specs.System.{Answer, MayAnswer}
 use Rattle.session8.specs.declared.endings.Ending.{Ending}
 use Rattle.session8.specs.declared.endings.Ending.TheVariants as ending
 use Rattle.session8.specs.RunSteps.{RunsItems, RunsTurn}
-use Rattle.session8.specs.Script.{Told, Turns, all_lines, turn_lines, is_working, HasBegun, Writes, AnswersFront, WritesFront}
+use Rattle.session8.specs.Script.{AnswersItems, Turns, all_lines, turn_lines, is_working, HasBegun, WritesAnswers, AnswersPrefix, WritesPrefix}
 
 -- answers to items and to further items
-told_append : (a b : List Item) (xs ys : List (List ℕ)) (old mid new : State) → Told old a xs mid → Told mid b ys new → Told old (a ++ b) (xs ++ ys) new
-told_append [] b [] ys old mid new first second = subst (λ (s : State). Told s b ys new) first second
+told_append : (a b : List Item) (xs ys : List (List ℕ)) (old mid new : State) → AnswersItems old a xs mid → AnswersItems mid b ys new → AnswersItems old (a ++ b) (xs ++ ys) new
+told_append [] b [] ys old mid new first second = subst (λ (s : State). AnswersItems s b ys new) first second
 told_append [] b (x ∷ xs) ys old mid new first second = absurd first
 told_append (Do e ∷ a) b [] ys old mid new first second = absurd first
 told_append (Do e ∷ a) b (x ∷ xs) ys old mid new first second = (first.0, first.1, first.2, first.3, first.4, told_append a b xs ys first.0 mid new first.5 second)
@@ -42,10 +49,10 @@ turns_append ((n, answer) ∷ xs) ys old mid new first second = (first.0, first.
 
 pub turn_lines_append : (xs ys : List (ℕ × Answer)) → turn_lines (xs ++ ys) ≡ turn_lines xs ++ turn_lines ys
 turn_lines_append [] ys = refl
-turn_lines_append ((n, answer) ∷ xs) ys = ap (λ l. (if is_working answer then [] else answer_lines (Some (kinds.Turn n)) answer) ++ l) (turn_lines_append xs ys) ∙ sym (append_assoc (if is_working answer then [] else answer_lines (Some (kinds.Turn n)) answer) (turn_lines xs) (turn_lines ys))
+turn_lines_append ((n, answer) ∷ xs) ys = ap (λ l. (if is_working answer then [] else answer_lines (Some (kinds.Jobs (order.Turn n))) answer) ++ l) (turn_lines_append xs ys) ∙ sym (append_assoc (if is_working answer then [] else answer_lines (Some (kinds.Jobs (order.Turn n))) answer) (turn_lines xs) (turn_lines ys))
 
 -- what is written for items and for further items
-pub writes_append : (a b : List Item) (old mid new : State) (w w1 w2 : Option (List ℕ)) (last : List ℕ) → Writes old a mid w w1 [] → Writes mid b new w1 w2 last → Writes old (a ++ b) new w w2 last
+pub writes_append : (a b : List Item) (old mid new : State) (w w1 w2 : Option (List ℕ)) (last : List ℕ) → WritesAnswers old a mid w w1 [] → WritesAnswers mid b new w1 w2 last → WritesAnswers old (a ++ b) new w w2 last
 writes_append a b old mid new w w1 w2 last first second = record {
   lines = first.lines ++ second.lines;
   told = told_append a b first.lines second.lines old mid new first.told second.told;
@@ -64,7 +71,7 @@ begun_more (t ∷ turns) (Finish ∷ rest) c begun = tt
 begun_more (t ∷ turns) (Refused why ∷ rest) c begun = absurd begun
 
 -- a front of items before others
-pub behind_more : (b c items : List Item) (old new : State) (bytes : List ℕ) → items ≡ b ++ c → AnswersFront old b new bytes → AnswersFront old items new bytes
+pub behind_more : (b c items : List Item) (old new : State) (bytes : List ℕ) → items ≡ b ++ c → AnswersPrefix old b new bytes → AnswersPrefix old items new bytes
 behind_more b c items old new bytes is told = record {
   front = told.front;
   rest = told.rest ++ c;
@@ -79,7 +86,7 @@ behind_more b c items old new bytes is told = record {
 }
 
 -- a front of items behind others, before others
-pub front_more : (items a b c : List Item) (old mid new : State) (w w1 : Option (List ℕ)) (bytes : List ℕ) → items ≡ a ++ (b ++ c) → (first : Writes old a mid w w1 []) → AnswersFront mid b new bytes → AnswersFront old items new (all_lines first.lines ++ bytes)
+pub front_more : (items a b c : List Item) (old mid new : State) (w w1 : Option (List ℕ)) (bytes : List ℕ) → items ≡ a ++ (b ++ c) → (first : WritesAnswers old a mid w w1 []) → AnswersPrefix mid b new bytes → AnswersPrefix old items new (all_lines first.lines ++ bytes)
 front_more items a b c old mid new w w1 bytes is first second = record {
   front = a ++ second.front;
   rest = second.rest ++ c;
@@ -97,7 +104,7 @@ front_more items a b c old mid new w w1 bytes is first second = record {
     inner = ap (λ (l : List Item). l ++ c) second.parts ∙ append_assoc second.front second.rest c
 
 -- the same where its lines are written
-pub writes_front_more : (items a b c : List Item) (old mid new : State) (w w1 w2 : Option (List ℕ)) → items ≡ a ++ (b ++ c) → Writes old a mid w w1 [] → WritesFront mid b new w1 w2 [] → WritesFront old items new w w2 []
+pub writes_front_more : (items a b c : List Item) (old mid new : State) (w w1 w2 : Option (List ℕ)) → items ≡ a ++ (b ++ c) → WritesAnswers old a mid w w1 [] → WritesPrefix mid b new w1 w2 [] → WritesPrefix old items new w w2 []
 writes_front_more items a b c old mid new w w1 w2 is first second = (
   all_lines first.lines ++ second.0,
   front_more items a b c old mid new w w1 second.0 is first second.1,
@@ -105,53 +112,57 @@ writes_front_more items a b c old mid new w w1 w2 is first second = (
 )
 
 -- nothing of the items is answered
-pub front_none : (items : List Item) (old new : State) → new ≡ old → AnswersFront old items new []
+pub front_none : (items : List Item) (old new : State) → new ≡ old → AnswersPrefix old items new []
 front_none items old new same = record { front = []; rest = items; parts = refl; lines = []; mid = new; told = same; turns = []; taken = refl; begun = tt; shown = refl }
 
 -- all of the items are answered
-pub front_all : (items : List Item) (old new : State) (lines : List (List ℕ)) → Told old items lines new → AnswersFront old items new (all_lines lines)
+pub front_all : (items : List Item) (old new : State) (lines : List (List ℕ)) → AnswersItems old items lines new → AnswersPrefix old items new (all_lines lines)
 front_all items old new lines told = record { front = items; rest = []; parts = sym (append-nil items); lines = lines; mid = new; told = told; turns = []; taken = refl; begun = tt; shown = sym (append-nil _) }
 
+-- a report of the console leaves it as it was
+console_unchanged : (it : ConsoleEntry) (report : Report) (old new : Console) → ConsoleReplies old it (reply.Report report) new → new ≡ old
+console_unchanged console.Registers (report.Registers text) old new shows = shows.1
+console_unchanged console.Printed (report.Printed characters) old new shows = shows.1
+console_unchanged console.Registers (report.Direct lengths free) old new shows = absurd shows
+console_unchanged console.Registers (report.Printed characters) old new shows = absurd shows
+console_unchanged console.Printed (report.Direct lengths free) old new shows = absurd shows
+console_unchanged console.Printed (report.Registers text) old new shows = absurd shows
+console_unchanged (console.Start cell) report old new shows = absurd shows
+console_unchanged (console.Step n) report old new shows = absurd shows
+console_unchanged (console.Go n) report old new shows = absurd shows
+console_unchanged (console.Run cell n) report old new shows = absurd shows
+console_unchanged (console.Key character) report old new shows = absurd shows
+console_unchanged console.Done report old new shows = absurd shows
+console_unchanged (console.Switches word) report old new shows = absurd shows
+console_unchanged (console.Examine cell) report old new shows = absurd shows
+console_unchanged (console.Deposit cell word) report old new shows = absurd shows
+console_unchanged (console.Break cell true) report old new shows = absurd shows
+console_unchanged (console.Break cell false) report old new shows = absurd shows
+
 -- a report leaves all as it was
-unchanged : (entry : Entry) (answer : Answer) (old new : State) → Step old entry answer new → (IsShort answer → ⊥) → new ≡ old
+unchanged : (entry : Entry) (answer : Answer) (old new : State) → MayAnswer old entry answer new → (IsShort answer → ⊥) → new ≡ old
 unchanged entry (Ok (Line said)) old new step long = absurd (long tt)
 unchanged entry (Err why) old new step long = absurd (long tt)
-unchanged (kinds.Store name text) (Ok (Report shown)) old new step long = absurd step.0
-unchanged (kinds.Delete name) (Ok (Report shown)) old new step long = absurd step.0
-unchanged (kinds.Assemble to from) (Ok (Report shown)) old new step long = absurd step.0
-unchanged (kinds.Load name) (Ok (Report shown)) old new step long = absurd step.0
-unchanged kinds.Squeeze (Ok (Report shown)) old new step long = absurd step.0
-unchanged (kinds.Turn n) (Ok (Report shown)) old new step long = absurd step.0
-unchanged (kinds.Start cell) (Ok (Report shown)) old new step long = absurd step.0
-unchanged (kinds.Step n) (Ok (Report shown)) old new step long = absurd step.1
-unchanged (kinds.Go n) (Ok (Report shown)) old new step long = absurd step.1
-unchanged (kinds.Run cell n) (Ok (Report shown)) old new step long = absurd step.1
-unchanged (kinds.Key character) (Ok (Report shown)) old new step long = absurd step.0
-unchanged kinds.Done (Ok (Report shown)) old new step long = absurd step.0
-unchanged (kinds.Switches word) (Ok (Report shown)) old new step long = absurd step.0
-unchanged (kinds.Examine cell) (Ok (Report shown)) old new step long = absurd step.0
-unchanged (kinds.Deposit cell word) (Ok (Report shown)) old new step long = absurd step.0
-unchanged (kinds.Break cell true) (Ok (Report shown)) old new step long = absurd step.0
-unchanged (kinds.Break cell false) (Ok (Report shown)) old new step long = absurd step.0
-unchanged kinds.Direct (Ok (Report (report.Direct files free))) old new step long = step.2
-unchanged kinds.Direct (Ok (Report (report.Registers text))) old new step long = absurd step.0
-unchanged kinds.Direct (Ok (Report (report.Printed characters))) old new step long = absurd step.0
-unchanged kinds.Registers (Ok (Report (report.Direct files free))) old new step long = absurd step.0
-unchanged kinds.Registers (Ok (Report (report.Registers text))) old new step long = step.1 ∙ ap (λ (c : Console). record old { console = c }) step.0.1
-unchanged kinds.Registers (Ok (Report (report.Printed characters))) old new step long = absurd step.0
-unchanged kinds.Printed (Ok (Report (report.Direct files free))) old new step long = absurd step.0
-unchanged kinds.Printed (Ok (Report (report.Registers text))) old new step long = absurd step.0
-unchanged kinds.Printed (Ok (Report (report.Printed characters))) old new step long = step.1 ∙ ap (λ (c : Console). record old { console = c }) step.0.1
+unchanged (kinds.Console it) (Ok (reply.Report report)) old new step long = step.2 ∙ ap (λ (c : Console). record old { console = c }) (console_unchanged it report old.console new.console step.1)
+unchanged (kinds.Files (filing.Store name text)) (Ok (reply.Report shown)) old new step long = absurd step
+unchanged (kinds.Files (filing.Delete name)) (Ok (reply.Report shown)) old new step long = absurd step
+unchanged (kinds.Files filing.Direct) (Ok (reply.Report (report.Direct lengths free))) old new step long = step.2
+unchanged (kinds.Files filing.Direct) (Ok (reply.Report (report.Registers text))) old new step long = absurd step
+unchanged (kinds.Files filing.Direct) (Ok (reply.Report (report.Printed characters))) old new step long = absurd step
+unchanged (kinds.Jobs (order.Assemble to from)) (Ok (reply.Report shown)) old new step long = absurd step
+unchanged (kinds.Jobs (order.Load name)) (Ok (reply.Report shown)) old new step long = absurd step
+unchanged (kinds.Jobs order.Squeeze) (Ok (reply.Report shown)) old new step long = absurd step
+unchanged (kinds.Jobs (order.Turn n)) (Ok (reply.Report shown)) old new step long = absurd step
 
 -- a turn's answer is one line
-pub short_turn : (n : ℕ) (answer : Answer) (old new : State) → Step old (kinds.Turn n) answer new → (IsShort answer → ⊥) → ⊥
+pub short_turn : (n : ℕ) (answer : Answer) (old new : State) → MayAnswer old (kinds.Jobs (order.Turn n)) answer new → (IsShort answer → ⊥) → ⊥
 short_turn n (Ok (Line said)) old new step long = long tt
 short_turn n (Err why) old new step long = long tt
-short_turn n (Ok (Report shown)) old new step long = step.0
+short_turn n (Ok (reply.Report shown)) old new step long = step
 
 -- an entry that was done, and its answer
 pub entry_told : (entry : Entry) (answer : Answer) (old new : State) (w w' : Option (List ℕ)) (r : Result (Unit {0}) Ending)
-    → Step old entry answer new → answer ≢ Err fault.Memory → OnOk r (Appends w w' (answer_lines (Some entry) answer))
+    → MayAnswer old entry answer new → answer ≢ Err fault.Memory → OnOk r (Appends w w' (answer_lines (Some entry) answer))
     → IfErr r (λ e. (e ≡ ending.Writer) ⊎ ((e ≡ ending.Memory) × Appends w w' [] × (IsShort answer → ⊥)))
     → RunsItems (Do entry ∷ []) old new w w' r
 entry_told entry answer old new w w' (Ok done) step other ok err = record {
@@ -179,10 +190,16 @@ refused_told why old new w w' (Ok done) same ok err = record {
 refused_told why old new w w' (Err e) same ok err =
     subst (λ (e : Ending). RunsItems (Refused why ∷ []) old new w w' (Err e)) (sym err) (_, front_all (Refused why ∷ []) old new (fault_line why ∷ []) (refl, same))
 
+-- a turn that left its job, whose line is not shown
+pub turn_working : (n : ℕ) (answer : Answer) (old new : State) (w : Option (List ℕ))
+    → MayAnswer old (kinds.Jobs (order.Turn n)) answer new → answer ≢ Err fault.Memory → is_working answer ≡ true → Appends w w []
+    → RunsTurn n old new w w (Ok tt)
+turn_working n answer old new w step other working none = (answer, step, other, subst (λ (l : List ℕ). Appends w w l) (sym (append-nil _ ∙ rw working refl)) none)
+
 -- a turn whose line is written
 pub turn_told : (n : ℕ) (answer : Answer) (old new : State) (w w' : Option (List ℕ)) (r : Result (Unit {0}) Ending)
-    → Step old (kinds.Turn n) answer new → answer ≢ Err fault.Memory → is_working answer ≡ false
-    → OnOk r (Appends w w' (answer_lines (Some (kinds.Turn n)) answer))
+    → MayAnswer old (kinds.Jobs (order.Turn n)) answer new → answer ≢ Err fault.Memory → is_working answer ≡ false
+    → OnOk r (Appends w w' (answer_lines (Some (kinds.Jobs (order.Turn n))) answer))
     → IfErr r (λ e. (e ≡ ending.Writer) ⊎ ((e ≡ ending.Memory) × Appends w w' [] × (IsShort answer → ⊥)))
     → RunsTurn n old new w w' r
 turn_told n answer old new w w' (Ok done) step other ended ok err = (answer, step, other, subst (λ (l : List ℕ). Appends w w' l) (sym (append-nil _ ∙ rw ended refl)) ok)
@@ -192,7 +209,7 @@ turn_told n answer old new w w' (Err e) step other ended ok err = elim err [
 ]
 
 -- turns of a FINISH that goes on
-pub turns_front : (turns : List (ℕ × Answer)) (old new : State) → Turns old turns new → AnswersFront old (Finish ∷ []) new (turn_lines turns)
+pub turns_front : (turns : List (ℕ × Answer)) (old new : State) → Turns old turns new → AnswersPrefix old (Finish ∷ []) new (turn_lines turns)
 turns_front turns old new taken = record { front = []; rest = Finish ∷ []; parts = refl; lines = []; mid = old; told = refl; turns = turns; taken = taken; begun = begun turns; shown = refl }
   where
     begun : (turns : List (ℕ × Answer)) → HasBegun turns (Finish ∷ [])

@@ -38,11 +38,14 @@ pub record HasDeleted (name : ℕ) (old new : State) : Type 0 where
   pub file : Held
   pub there : get old.files name ≡ Some file
   pub free : IsUnheld old name
-  pub others : new ≡ record old { files = remove old.files name; tight = new.tight; jobs = disturbed old.jobs }
+  pub others : new
+      ≡ record old { files = remove old.files name; tight = new.tight; jobs = disturbed old.jobs }
 
 -- a name is not taken out
 abbrev pub DeleteRefused : State → ℕ → FileFault → Type 0
 DeleteRefused old name file.NotFound = get old.files name ≡ None
-DeleteRefused old name (file.Busy other) = IsThere old name × (other ≡ name) × (contains (held_by old.jobs) name ≡ true)
-DeleteRefused old name file.DirectoryFull = IsThere old name × IsUnheld old name × IsFull old (remove old.files name)
+DeleteRefused old name (file.Busy other) =
+    IsThere old name × (other ≡ name) × (contains (held_by old.jobs) name ≡ true)
+DeleteRefused old name file.DirectoryFull =
+    IsThere old name × IsUnheld old name × IsFull old (remove old.files name)
 DeleteRefused old name fault = ⊥

@@ -10,7 +10,7 @@ pub record IsRead (old new : Option (List ℕ)) (bytes : List ℕ) : Type 0 wher
   pub at_end : IsAtEnd new
 
 -- so many bytes of the reader were taken
-pub record Takes (old new : Option (List ℕ)) (count : ℕ) : Type 0 where
+pub record TakesBytes (old new : Option (List ℕ)) (count : ℕ) : Type 0 where
   pub bytes : List ℕ
   pub taken : Consumes old new bytes
   pub count_is : length bytes ≡ count
@@ -23,7 +23,7 @@ pub record IsReadWithin (most : ℕ) (old new : Option (List ℕ)) (bytes : List
 -- reading ended with a fault, the reader's where one byte more was taken than may be read
 pub record IsReadFault (most : ℕ) (old new : Option (List ℕ)) (fault : SessionFault) : Type 0 where
   pub count : ℕ
-  pub takes : Takes old new count
+  pub takes : TakesBytes old new count
   pub within : count ≤ most + 1
   pub last : count ≡ most + 1 → fault ≡ Reader
   pub kind : (fault ≡ Reader) ⊎ (fault ≡ Memory)

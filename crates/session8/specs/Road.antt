@@ -6,13 +6,14 @@ use Rattle.pal_blocks.specs.Sources.{meaning_of}
 use Rattle.jobs8.specs.Jobs.{assembling, job_of}
 use Rattle.jobs8.specs.State.{words_among}
 use Rattle.script8.specs.declared.entries.Entry.{Entry}
-use Rattle.script8.specs.declared.entries.Entry.TheVariants.{Turn}
+use Rattle.script8.specs.declared.entries.Entry.TheVariants as entry
+use Rattle.script8.specs.declared.entries.JobEntry.TheVariants.{Turn}
 use Rattle.script8.specs.declared.faults.SessionFault.TheVariants.{Tape}
 use Rattle.script8.specs.declared.replies.Reply.TheVariants.{Line}
-use Rattle.script8.specs.declared.replies.Said.TheVariants.{Stored, Deleted, Assembled, Loaded}
-use Rattle.session8.specs.Console.{Shows, is_console}
+use Rattle.script8.specs.declared.replies.LineReply.TheVariants.{Stored, Deleted, Assembled, Loaded}
+use Rattle.session8.specs.Console.{ConsoleReplies}
 use Rattle.session8.specs.State.{Console, State}
-use Rattle.session8.specs.System.{Answer, Run, Step}
+use Rattle.session8.specs.System.{Answer, Run, MayAnswer}
 use Rattle.session8.specs.Work.{job_state, with_core}
 
 -- ## What answers tell
@@ -37,18 +38,20 @@ NoneTells tells (answer ∷ answers) = (tells answer ≡ false) × NoneTells tel
 -- ## The console by itself
 
 -- an entry of the console that is replied to does there what it shows, and any other entry nothing
-abbrev pub Operates : Bool → Console → Entry → Answer → Console → Type 0
-Operates true old entry (Ok reply) new = Shows old entry reply new
-Operates true old entry (Err why) new = new ≡ old
-Operates false old entry answer new = new ≡ old
+abbrev pub OperatesConsole : Console → Entry → Answer → Console → Type 0
+OperatesConsole old (entry.Console it) (Ok reply) new = ConsoleReplies old it reply new
+OperatesConsole old (entry.Console it) (Err why) new = new ≡ old
+OperatesConsole old (entry.Files it) answer new = new ≡ old
+OperatesConsole old (entry.Jobs it) answer new = new ≡ old
 
 -- Entries with these answers do this to the console, one after another, whatever the files and the jobs are. Want of memory ends
 -- them.
-abbrev pub GoesOn : Console → List Entry → List Answer → Console → Type 0
-GoesOn old [] [] new = new ≡ old
-GoesOn old (entry ∷ entries) [] new = new ≡ old
-GoesOn old (entry ∷ entries) (answer ∷ answers) new = (mid : Console) × Operates (is_console entry) old entry answer mid × GoesOn mid entries answers new
-GoesOn old [] (answer ∷ answers) new = ⊥
+abbrev pub ConsoleGoesOn : Console → List Entry → List Answer → Console → Type 0
+ConsoleGoesOn old [] [] new = new ≡ old
+ConsoleGoesOn old (entry ∷ entries) [] new = new ≡ old
+ConsoleGoesOn old (entry ∷ entries) (answer ∷ answers) new =
+    (mid : Console) × OperatesConsole old entry answer mid × ConsoleGoesOn mid entries answers new
+ConsoleGoesOn old [] (answer ∷ answers) new = ⊥
 
 -- ## From sources to core
 
@@ -59,12 +62,13 @@ pub record HasMade (number name : ℕ) (sources : List (List ℕ)) (old new : St
   pub blocks : ℕ
   pub job : job_of number old.jobs ≡ Some (assembling name from left)
   pub words : sources ≡ words_among (job_state old) from
-  pub step : Step old (Turn number) (Ok (Line (Assembled number name blocks))) new
+  pub step : MayAnswer old (entry.Jobs (Turn number)) (Ok (Line (Assembled number name blocks))) new
 
 -- each cell has the word that the sources put into it, and where they put none the word that it had
 pub record IsLaid (sources : List (List ℕ)) (old new : List ℕ) : Type 0 where
   pub same_size : length new ≡ length old
-  pub cells : (cell : ℕ) → cell < length old → slice_index new cell ≡ unwrap_or (meaning_of sources cell) (slice_index old cell)
+  pub cells : (cell : ℕ) → cell < length old
+      → slice_index new cell ≡ unwrap_or (meaning_of sources cell) (slice_index old cell)
 
 -- A load of what was made from the sources met no fault of a tape. Where it came to its end, the console goes on, up to the next
 -- load, as it does with core overlaid with what the sources put into it.
@@ -72,5 +76,6 @@ pub record Arrives (sources : List (List ℕ)) (old : State) (answer : Answer) (
   pub no_fault : (fault : TapeFault) → answer ≢ Err (Tape fault)
   pub core : List ℕ
   pub laid : is_loaded answer ≡ true → IsLaid sources old.console.machine.core core
-  pub goes_on : is_loaded answer ≡ true → (last : State) → (entries : List Entry) → (answers : List Answer) → (stopped : Bool) → Run new entries answers stopped last
-      → NoneTells is_loaded answers → GoesOn (with_core old.console core) entries answers last.console
+  pub goes_on : is_loaded answer ≡ true → (last : State) → (entries : List Entry) → (answers : List Answer)
+      → (stopped : Bool) → Run new entries answers stopped last
+      → NoneTells is_loaded answers → ConsoleGoesOn (with_core old.console core) entries answers last.console

@@ -1,6 +1,6 @@
 -- What a refusal for want of room tells of the store's blocks, of which the system machine, to which a volume is a map of files, says
 -- bounds alone.
-use Rattle.std.specs.Prelude.{◌≡◌, ℕ, Option, Some, Ok, Err}
+use Rattle.std.specs.Prelude.{◌≡◌, ℕ, Some, List, Ok, Err}
 use Rattle.char_pack.specs.Texts.{stored}
 use Rattle.os8_dir.specs.Names.{parsed_name}
 use Rattle.os8_files.specs.Puts.{TellsRoom}
@@ -9,6 +9,8 @@ use Rattle.jobs8.specs.Calls.{NumberTellsRoom}
 use Rattle.jobs8.specs.Jobs.{job_of}
 use Rattle.script8.specs.declared.entries.Entry.{Entry}
 use Rattle.script8.specs.declared.entries.Entry.TheVariants as entry
+use Rattle.script8.specs.declared.entries.FileEntry.TheVariants as files
+use Rattle.script8.specs.declared.entries.JobEntry.TheVariants as job
 use Rattle.script8.specs.declared.faults.SessionFault.TheVariants.{File}
 use Rattle.session8.specs.Session.{Seen}
 use Rattle.session8.specs.System.{Answer}
@@ -21,7 +23,15 @@ IfFile has (Err fault) = Unit {0}
 
 -- Where a text is stored, and where a turn puts a target, NO ROOM tells the blocks of the store's largest empty, and DIRECTORY FULL that
 -- the list of its entries would be too long with the file.
+abbrev pub StoreTellsRoom : List ℕ → List ℕ → Seen → Answer → Type 0
+StoreTellsRoom bytes text old answer =
+    (name : ℕ) → parsed_name bytes ≡ Some name
+    → IfFile (TellsRoom old.volume.blocks name (stored text)) answer
+
+abbrev pub TurnTellsRoom : ℕ → Seen → Answer → Type 0
+TurnTellsRoom number old answer = IfFile (NumberTellsRoom (job_of number old.jobs) old.volume) answer
+
 abbrev pub EntryTellsRoom : Entry → Seen → Answer → Type 0
-EntryTellsRoom (entry.Store bytes text) old answer = (name : ℕ) → parsed_name bytes ≡ Some name → IfFile (TellsRoom old.volume.blocks name (stored text)) answer
-EntryTellsRoom (entry.Turn number) old answer = IfFile (NumberTellsRoom (job_of number old.jobs) old.volume) answer
+EntryTellsRoom (entry.Files (files.Store name text)) old answer = StoreTellsRoom name text old answer
+EntryTellsRoom (entry.Jobs (job.Turn number)) old answer = TurnTellsRoom number old answer
 EntryTellsRoom entry old answer = Unit {0}

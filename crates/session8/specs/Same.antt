@@ -4,6 +4,8 @@ use Rattle.os8_files.specs.declared.faults.FileFault.TheVariants as file
 use Rattle.jobs8.specs.Jobs.{Job, Work, Assembling, Loading, Squeezing, assembling, loading, job_of, least_free}
 use Rattle.script8.specs.declared.entries.Entry.{Entry}
 use Rattle.script8.specs.declared.entries.Entry.TheVariants as entry
+use Rattle.script8.specs.declared.entries.JobEntry.{JobEntry}
+use Rattle.script8.specs.declared.entries.JobEntry.TheVariants as job
 use Rattle.script8.specs.declared.faults.SessionFault.TheVariants.{File}
 use Rattle.session8.specs.State.{State}
 use Rattle.session8.specs.System.{Answer}
@@ -36,12 +38,16 @@ IsLasting number s = lasting_job (job_of number s.jobs) ≡ job_of number s.jobs
 
 -- An entry has nothing to do with squeezing jobs in two states: the job of a turn squeezes in neither, and where a job is to be
 -- begun, or refused, the least free number is the same in both.
+abbrev pub JobIsApart : JobEntry → State → State → Type 0
+JobIsApart (job.Assemble to from) one two = least_free one.jobs ≡ least_free two.jobs
+JobIsApart (job.Load name) one two = least_free one.jobs ≡ least_free two.jobs
+JobIsApart job.Squeeze one two = least_free one.jobs ≡ least_free two.jobs
+JobIsApart (job.Turn number) one two = IsLasting number one × IsLasting number two
+
 abbrev pub IsApart : Entry → State → State → Type 0
-IsApart (entry.Assemble to from) one two = least_free one.jobs ≡ least_free two.jobs
-IsApart (entry.Load name) one two = least_free one.jobs ≡ least_free two.jobs
-IsApart entry.Squeeze one two = least_free one.jobs ≡ least_free two.jobs
-IsApart (entry.Turn number) one two = IsLasting number one × IsLasting number two
-IsApart entry one two = Unit {0}
+IsApart (entry.Files it) one two = Unit {0}
+IsApart (entry.Jobs it) one two = JobIsApart it one two
+IsApart (entry.Console it) one two = Unit {0}
 
 -- an answer is a refusal that speaks of room: of the blocks or of the entries of the directory
 abbrev pub speaks_of_room : Answer → Bool

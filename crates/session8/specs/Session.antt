@@ -1,5 +1,5 @@
 -- What is seen of a session, and the state of the system machine in it.
-use Rattle.std.specs.Prelude.{◌≡◌, ◌≤◌, ◌⊎◌, true, nat_eq, Option, List, Err}
+use Rattle.std.specs.Prelude.{◌≡◌, ◌≤◌, ◌⊎◌, nat_eq, Option, List, Err}
 use Rattle.os8_dir.specs.Files.{files_of, capacity_of, limit_of, above_of}
 use Rattle.os8_files.specs.Calls.{info_of}
 use Rattle.os8_files.specs.Mounted.{Mounted}
@@ -8,8 +8,8 @@ use Rattle.jobs8.specs.Calls as calls
 use Rattle.jobs8.specs.Calls.{Outlives, ReadFailed, WriteFailed}
 use Rattle.jobs8.specs.Jobs.{Job}
 use Rattle.script8.specs.declared.entries.Entry.{Entry}
+use Rattle.script8.specs.declared.entries.Entry.TheVariants as entry
 use Rattle.script8.specs.declared.faults.SessionFault.TheVariants.{File, Reader, Writer}
-use Rattle.session8.specs.Console.{is_console}
 use Rattle.session8.specs.Refusals.{after_refusal}
 use Rattle.session8.specs.State.{State, Console}
 use Rattle.session8.specs.System.{Answer}
@@ -56,9 +56,9 @@ pub record HasFailed (entry : Entry) (old new : Seen) : Type 0 where
   pub console : new.console ≡ old.console
 
 -- What an answer tells of the block calls where no write has failed before: `Device` comes just where one failed.
-abbrev pub Tells : Entry → Seen → Answer → Seen → Type 0
-Tells entry old (Err (File file.Device)) new = HasFailed entry old new
-Tells entry old answer new = IsQuiet old new
+abbrev pub TellsBlockCalls : Entry → Seen → Answer → Seen → Type 0
+TellsBlockCalls entry old (Err (File file.Device)) new = HasFailed entry old new
+TellsBlockCalls entry old answer new = IsQuiet old new
 
 -- an answer to an entry is neither the reader's nor the writer's fault
 abbrev pub IsReply : Answer → Type 0
@@ -68,4 +68,6 @@ IsReply answer = Unit {0}
 
 -- an entry of the console needs no block; of another that was replied to, no block call failed
 abbrev pub IsSteadied : Entry → Seen → Seen → Type 0
-IsSteadied entry old new = (is_console entry ≡ true) ⊎ IsQuiet old new
+IsSteadied (entry.Files it) old new = IsQuiet old new
+IsSteadied (entry.Jobs it) old new = IsQuiet old new
+IsSteadied (entry.Console it) old new = Unit {0}

@@ -1,18 +1,17 @@
 -- What doing an entry comes to, for private clauses.
 use Rattle.script8.specs.declared.entries.Entry.{Entry}
-use Rattle.session8.specs.Session.{Seen, state_of, IsQuiet, IsLater, IsSame, Tells, IsReply, IsSteadied}
+use Rattle.session8.specs.Session.{Seen, state_of, IsQuiet, IsLater, IsSame, TellsBlockCalls, IsReply, IsSteadied}
 use Rattle.session8.specs.Interleaving.{EntryReads, EntryPlaces}
 use Rattle.std.specs.Prelude.{◌≡◌, ◌<◌, true, false, OnOk, Err, Bool}
 use Rattle.jobs8.specs.Calls.{Outlives}
 use Rattle.script8.specs.declared.faults.SessionFault.TheVariants.{Memory}
-use Rattle.session8.specs.Console.{is_console}
-use Rattle.session8.specs.Failing.{StepsStopped}
-use Rattle.session8.specs.System.{Answer, Step}
+use Rattle.session8.specs.Failing.{MayAnswerStopped}
+use Rattle.session8.specs.System.{Answer, MayAnswer}
 
 -- ## Places
 
 -- what an entry leaves alone
-pub record Leaves (entry : Entry) (old new : Seen) : Type 0 where
+pub record LeavesAlone (entry : Entry) (old new : Seen) : Type 0 where
   pub reads : EntryReads entry old new
   pub places : EntryPlaces entry old new
 
@@ -20,16 +19,17 @@ pub record Leaves (entry : Entry) (old new : Seen) : Type 0 where
 
 -- What doing an entry comes to: a step of the system machine where no block call fails, or where there is a reply, and nothing
 -- for want of memory; and what is refused where one fails, or a write has failed before.
-pub record Does (entry : Entry) (old : Seen) (answer : Answer) (new : Seen) : Type 0 where
-  pub step : IsQuiet old new → Step (state_of old) entry answer (state_of new)
+pub record DoesEntry (entry : Entry) (old : Seen) (answer : Answer) (new : Seen) : Type 0 where
+  pub step : IsQuiet old new → MayAnswer (state_of old) entry answer (state_of new)
   pub later : IsLater old new
-  pub files : old.volume.stopped ≡ false → old.volume.failed_writes < new.volume.failed_writes → Outlives old.volume.blocks new.volume.blocks
+  pub files : old.volume.stopped ≡ false → old.volume.failed_writes < new.volume.failed_writes
+      → Outlives old.volume.blocks new.volume.blocks
   pub running : IsQuiet old new → new.volume.stopped ≡ false
   pub memory : answer ≡ Err Memory → IsSame old new
   pub reply : IsReply answer
-  pub tells : old.volume.stopped ≡ false → Tells entry old answer new
-  pub stopped : old.volume.stopped ≡ true → StepsStopped (is_console entry) (state_of old) entry answer (state_of new)
-  pub done : OnOk answer (Step (state_of old) entry answer (state_of new) × IsSteadied entry old new)
+  pub tells : old.volume.stopped ≡ false → TellsBlockCalls entry old answer new
+  pub stopped : old.volume.stopped ≡ true → MayAnswerStopped (state_of old) entry answer (state_of new)
+  pub done : OnOk answer (MayAnswer (state_of old) entry answer (state_of new) × IsSteadied entry old new)
 
 -- ## System
 

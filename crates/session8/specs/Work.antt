@@ -7,8 +7,8 @@ use Rattle.jobs8.specs.declared.turned.Turned.{Turned}
 use Rattle.jobs8.specs.declared.turned.Turned.TheVariants as turned
 use Rattle.script8.specs.declared.faults.SessionFault.{SessionFault}
 use Rattle.script8.specs.declared.faults.SessionFault.TheVariants as fault
-use Rattle.script8.specs.declared.replies.Said.{Said}
-use Rattle.script8.specs.declared.replies.Said.TheVariants as said
+use Rattle.script8.specs.declared.replies.LineReply.{LineReply}
+use Rattle.script8.specs.declared.replies.LineReply.TheVariants as line
 use Rattle.session8.specs.State.{Console, State}
 
 -- what jobs do their work on: the files, core and the jobs
@@ -43,12 +43,12 @@ with_work s after = record {
 abbrev pub Works : (jobs.State → jobs.State → Type 0) → State → State → Type 0
 Works does old new = (after : jobs.State) × does (job_state old) after × (new ≡ with_work old after)
 
--- what is said of a turn
-abbrev pub said_of : ℕ → Turned → Said
-said_of number turned.Working = said.Working number
-said_of number (turned.Assembled name blocks) = said.Assembled number name blocks
-said_of number (turned.Loaded name) = said.Loaded number name
-said_of number turned.Squeezed = said.Squeezed number
+-- the reply to a turn
+abbrev pub turn_reply : ℕ → Turned → LineReply
+turn_reply number turned.Working = line.Working number
+turn_reply number (turned.Assembled name blocks) = line.Assembled number name blocks
+turn_reply number (turned.Loaded name) = line.Loaded number name
+turn_reply number turned.Squeezed = line.Squeezed number
 
 -- a job's fault among those of a session
 abbrev pub fault_of_job : JobFault → SessionFault

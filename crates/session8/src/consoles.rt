@@ -6,18 +6,18 @@ ghost use Rattle.debug8.specs.Breaks.{no_breaks};
 ghost use Rattle.jobs8.specs.Calls.{TakesTurn};
 ghost use Rattle.jobs8.specs.Settled.{IsSettled};
 ghost use Rattle.session8.specs.Work.{with_core};
-ghost use Rattle.session8.specs.Console.{is_console, Shows, why_of};
+ghost use Rattle.session8.specs.Console.{ConsoleReplies, why_of};
 ghost use Rattle.session8.specs.ConsoleSteps.{ConsoleDoes};
-ghost use Rattle.script8.specs.declared.entries.Entry.TheVariants as entry;
+ghost use Rattle.script8.specs.declared.entries.ConsoleEntry.TheVariants as entry;
 ghost use Rattle.script8.specs.declared.replies.Reply.TheVariants.{Line};
-ghost use Rattle.script8.specs.declared.replies.Said.TheVariants as said;
+ghost use Rattle.script8.specs.declared.replies.LineReply.TheVariants as line;
 
 use core_load::Core;
 use cpu8::{Gone, Machine};
 use debug8::{DebugFault, Debugger};
 use jobs8::{JobFault, Jobs, Turned};
 use os8_files::FileService;
-use script8::{Bytes, Entry, Reply, Report, Said, Why};
+use script8::{Bytes, ConsoleEntry, LineReply, Reply, Report, Why};
 use std::alloc::Global;
 use std::marker::Model;
 use volume_image::BlockStore;
@@ -42,7 +42,8 @@ impl Model for Console {
 impl Console {
     /// A console with a stopped processor whose core is 0, no breaks, and nothing printed.
     pub(crate) fn new(alloc: Global) -> Result<Console, DebugFault>
-        ensures { IfOk result (λ c. c ≡ record { machine = stopped (zeros 0o100000); breaks = no_breaks 0o100000; printed = [] }) }
+        ensures { IfOk result (λ c. c
+            ≡ record { machine = stopped (zeros 0o100000); breaks = no_breaks 0o100000; printed = [] }) }
     {
         let core = match Core::new(alloc) {
             Ok(core) => core,
@@ -57,31 +58,23 @@ impl Console {
     }
 
     /// Does an entry of the console (Small Computer Handbook).
-    pub(crate) fn enter(&mut self, alloc: Global, entry: &Entry) -> Result<Reply, DebugFault>
-        requires { is_console entry.now ≡ true }
+    pub(crate) fn enter(&mut self, alloc: Global, entry: &ConsoleEntry) -> Result<Reply, DebugFault>
         ensures { ConsoleDoes entry.now self.old result self.new }
     {
         match entry {
-            Entry::Start(cell) => Ok(self.start(*cell)),
-            Entry::Step(steps) => self.step(*steps),
-            Entry::Go(steps) => self.go(*steps),
-            Entry::Run { cell, steps } => self.run(*cell, *steps),
-            Entry::Key(character) => Ok(self.key(*character)),
-            Entry::Done => Ok(self.done()),
-            Entry::Switches(word) => Ok(self.switches(*word)),
-            Entry::Examine(cell) => Ok(self.examine(*cell)),
-            Entry::Deposit { cell, word } => Ok(self.deposit(*cell, *word)),
-            Entry::Break { cell, is_on: true } => self.set_break(*cell),
-            Entry::Break { cell, is_on: false } => Ok(self.clear_break(*cell)),
-            Entry::Registers => self.registers(alloc),
-            Entry::Printed => self.printed(alloc),
-            Entry::Store { .. }
-            | Entry::Delete { .. }
-            | Entry::Direct
-            | Entry::Assemble { .. }
-            | Entry::Load { .. }
-            | Entry::Squeeze
-            | Entry::Turn(_) => unreachable!(),
+            ConsoleEntry::Start(cell) => Ok(self.start(*cell)),
+            ConsoleEntry::Step(steps) => self.step(*steps),
+            ConsoleEntry::Go(steps) => self.go(*steps),
+            ConsoleEntry::Run { cell, steps } => self.run(*cell, *steps),
+            ConsoleEntry::Key(character) => Ok(self.key(*character)),
+            ConsoleEntry::Done => Ok(self.done()),
+            ConsoleEntry::Switches(word) => Ok(self.switches(*word)),
+            ConsoleEntry::Examine(cell) => Ok(self.examine(*cell)),
+            ConsoleEntry::Deposit { cell, word } => Ok(self.deposit(*cell, *word)),
+            ConsoleEntry::Break { cell, is_on: true } => self.set_break(*cell),
+            ConsoleEntry::Break { cell, is_on: false } => Ok(self.clear_break(*cell)),
+            ConsoleEntry::Registers => self.registers(alloc),
+            ConsoleEntry::Printed => self.printed(alloc),
         }
     }
 
@@ -94,17 +87,18 @@ impl Console {
         number: u32,
     ) -> Result<Turned, JobFault>
         requires { IsSettled files.old jobs.old }
-        ensures turn { TakesTurn files.old self.old.machine.core jobs.old number result files.new self.new.machine.core jobs.new }
+        ensures turn { TakesTurn files.old self.old.machine.core jobs.old number result files.new
+            self.new.machine.core jobs.new }
         ensures others { self.new ≡ with_core self.old self.new.machine.core }
     {
         jobs.turn(alloc, files, self.machine.core_mut(), number)
     }
 
     fn start(&mut self, cell: Cell) -> Reply
-        ensures { Shows self.old (entry.Start cell) result self.new }
+        ensures { ConsoleReplies self.old (entry.Start cell) result self.new }
     {
         self.machine.start(cell);
-        Reply::Line(Said::Started(cell))
+        Reply::Line(LineReply::Started(cell))
     }
 
     /// So many steps, whatever breaks are set.
@@ -113,7 +107,7 @@ impl Console {
     {
         self.printed.reserve(steps as usize)?;
         let gone = Debugger::step(&mut self.machine, steps as usize, &mut self.printed);
-        Ok(self.gone(gone))
+        Ok(self.steps_reply(gone))
     }
 
     fn go(&mut self, steps: u32) -> Result<Reply, DebugFault>
@@ -121,7 +115,7 @@ impl Console {
     {
         self.printed.reserve(steps as usize)?;
         let gone = self.debugger.go(&mut self.machine, steps as usize, false, &mut self.printed);
-        Ok(self.gone(gone))
+        Ok(self.steps_reply(gone))
     }
 
     /// A start, and then a go with a printer that is always quick.
@@ -133,15 +127,15 @@ impl Console {
         let gone = self
             .debugger
             .go(&mut self.machine, steps as usize, true, &mut self.printed);
-        Ok(self.gone(gone))
+        Ok(self.steps_reply(gone))
     }
 
-    /// What is said of steps that were made.
-    fn gone(&self, gone: Gone) -> Reply
+    /// The reply to steps that were made.
+    fn steps_reply(&self, gone: Gone) -> Reply
         requires { gone.steps ≤ 4294967295 }
-        ensures { result ≡ Line (said.Steps gone.steps (why_of gone.why) (next_cell self.now.machine)) }
+        ensures { result ≡ Line (line.Steps gone.steps (why_of gone.why) (next_cell self.now.machine)) }
     {
-        Reply::Line(Said::Steps {
+        Reply::Line(LineReply::Steps {
             steps: gone.steps as u32,
             why: why_of(gone.why),
             cell: self.machine.next_cell(),
@@ -149,52 +143,52 @@ impl Console {
     }
 
     fn key(&mut self, character: u8) -> Reply
-        ensures { Shows self.old (entry.Key character) result self.new }
+        ensures { ConsoleReplies self.old (entry.Key character) result self.new }
     {
         self.machine.key(character);
-        Reply::Line(Said::Key(character))
+        Reply::Line(LineReply::Key(character))
     }
 
     fn done(&mut self) -> Reply
-        ensures { Shows self.old entry.Done result self.new }
+        ensures { ConsoleReplies self.old entry.Done result self.new }
     {
         self.machine.done();
-        Reply::Line(Said::Done)
+        Reply::Line(LineReply::Done)
     }
 
     fn switches(&mut self, word: Word) -> Reply
-        ensures { Shows self.old (entry.Switches word) result self.new }
+        ensures { ConsoleReplies self.old (entry.Switches word) result self.new }
     {
         self.machine.switches(word);
-        Reply::Line(Said::Switches(word))
+        Reply::Line(LineReply::Switches(word))
     }
 
     fn examine(&self, cell: Cell) -> Reply
-        ensures { Shows self.now (entry.Examine cell) result self.now }
+        ensures { ConsoleReplies self.now (entry.Examine cell) result self.now }
     {
         let word = Debugger::examine(&self.machine, cell);
-        Reply::Line(Said::Core { cell, word })
+        Reply::Line(LineReply::Core { cell, word })
     }
 
     fn deposit(&mut self, cell: Cell, word: Word) -> Reply
-        ensures { Shows self.old (entry.Deposit cell word) result self.new }
+        ensures { ConsoleReplies self.old (entry.Deposit cell word) result self.new }
     {
         Debugger::deposit(&mut self.machine, cell, word);
-        Reply::Line(Said::Core { cell, word })
+        Reply::Line(LineReply::Core { cell, word })
     }
 
     fn set_break(&mut self, cell: Cell) -> Result<Reply, DebugFault>
         ensures { ConsoleDoes (entry.Break cell true) self.old result self.new }
     {
         self.debugger.set_break(cell)?;
-        Ok(Reply::Line(Said::Break { cell, is_on: true }))
+        Ok(Reply::Line(LineReply::Break { cell, is_on: true }))
     }
 
     fn clear_break(&mut self, cell: Cell) -> Reply
-        ensures { Shows self.old (entry.Break cell false) result self.new }
+        ensures { ConsoleReplies self.old (entry.Break cell false) result self.new }
     {
         self.debugger.clear_break(cell);
-        Reply::Line(Said::Break { cell, is_on: false })
+        Reply::Line(LineReply::Break { cell, is_on: false })
     }
 
     fn registers(&self, alloc: Global) -> Result<Reply, DebugFault>

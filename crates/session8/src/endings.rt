@@ -2,6 +2,7 @@ ghost use Rattle.std.specs.Prelude.{◌≡◌};
 ghost use Rattle.session8.specs.RunSteps.{fault_of};
 
 use script8::SessionFault;
+use std::io;
 
 /// Why a run of a script ends before its last item is answered.
 #[derive(Clone, Copy)]
@@ -26,5 +27,15 @@ impl Ending {
             Ending::Writer => SessionFault::Writer,
             Ending::Memory => SessionFault::Memory,
         }
+    }
+}
+
+impl From<io::Error> for Ending {
+    ghost use Rattle.session8.specs.declared.endings.Ending.TheVariants.{Writer};
+
+    ghost from_gives = { λ _ ending. ending ≡ Writer };
+
+    fn from(_error: io::Error) -> Ending {
+        Ending::Writer
     }
 }

@@ -1,8 +1,8 @@
 //! What a reader gave of a script, and is not run yet.
 
 ghost use Rattle.std.specs.Prelude.{◌≡◌, ◌≤◌, ◌<◌, [], length, drop};
-ghost use Rattle.script8.specs.Items.{Waits};
-ghost use Rattle.session8.specs.ReadSteps.{Feeds};
+ghost use Rattle.script8.specs.Items.{WaitsForLines};
+ghost use Rattle.session8.specs.ReadSteps.{ReadsPiece};
 
 use crate::readings::{MOST, read_piece};
 use script8::{SessionFault, lines_left, one_line_wanted};
@@ -35,7 +35,7 @@ impl Pending {
     /// Nothing was read.
     pub(crate) fn new(alloc: Global) -> Pending
         ensures bytes { result.bytes.items ≡ [] }
-        ensures lines { (0 < result.lines) × Waits [] result.lines }
+        ensures lines { (0 < result.lines) × WaitsForLines [] result.lines }
         ensures count { result.count ≡ 0 }
     {
         one_line_wanted();
@@ -55,8 +55,9 @@ impl Pending {
     ) -> Result<bool, SessionFault>
         requires piece { 0 < length piece.old }
         requires count { self.old.count < 16777216 }
-        requires waits { (0 < self.old.lines) × Waits self.old.bytes.items self.old.lines }
-        ensures { Feeds 16777216 (R.remaining reader.old) (R.remaining reader.new) self.old.bytes.items self.old.count self.new.bytes.items self.new.lines self.new.count result }
+        requires waits { (0 < self.old.lines) × WaitsForLines self.old.bytes.items self.old.lines }
+        ensures { ReadsPiece 16777216 (R.remaining reader.old) (R.remaining reader.new)
+            self.old.bytes.items self.old.count self.new.bytes.items self.new.lines self.new.count result }
     {
         let room = piece.len().min(MOST - self.count);
         let before = self.bytes.len();
@@ -68,7 +69,7 @@ impl Pending {
     }
 
     /// Lets go of bytes at the front, which are run; so many lines are wanted of the others.
-    pub(crate) fn done(&mut self, bytes: usize, lines: u32)
+    pub(crate) fn consume(&mut self, bytes: usize, lines: u32)
         requires { bytes ≤ length self.old.bytes.items }
         ensures bytes { self.new.bytes.items ≡ drop bytes self.old.bytes.items }
         ensures lines { self.new.lines ≡ lines }

@@ -1,7 +1,7 @@
 ghost use Rattle.std.specs.Prelude.{◌≡◌, ◌<◌, [], true, length, vec_len, IfOk, MatchResult};
 ghost use Rattle.std.specs.IoError.{error_kind};
 ghost use Rattle.std.specs.declared.io.ErrorKind.TheVariants.{Interrupted};
-ghost use Rattle.session8.specs.ReadSteps.{Reads, ReadsWithin, Ends};
+ghost use Rattle.session8.specs.ReadSteps.{ReadsOnce, ReadsWithin, IsReaderEnd};
 ghost use Rattle.session8.specs.Reading.{IsReadWithin, IsReadFault};
 
 use script8::SessionFault;
@@ -16,7 +16,8 @@ pub(crate) const PIECE: usize = 65_536;
 
 /// Reads to the reader's end. Of more than `MOST` bytes it takes one more, and answers `Reader`.
 pub fn read_all<R: Read>(alloc: Global, reader: &mut R) -> Result<Vec<u8>, SessionFault>
-    ensures { MatchResult result (λ bytes. IsReadWithin 16777216 (R.remaining reader.old) (R.remaining reader.new) bytes.items)
+    ensures { MatchResult result
+        (λ bytes. IsReadWithin 16777216 (R.remaining reader.old) (R.remaining reader.new) bytes.items)
         (λ fault. IsReadFault 16777216 (R.remaining reader.old) (R.remaining reader.new) fault) }
 {
     let mut bytes = Vec::new(alloc);
@@ -60,7 +61,8 @@ pub(crate) fn read_piece<R: Read>(
     bytes: &mut Vec<u8>,
 ) -> Result<bool, SessionFault>
     requires piece { 0 < length piece.old }
-    ensures { Reads (length piece.old) (R.remaining reader.old) (R.remaining reader.new) bytes.old.items bytes.new.items result }
+    ensures { ReadsOnce (length piece.old) (R.remaining reader.old) (R.remaining reader.new)
+        bytes.old.items bytes.new.items result }
 {
     match reader.read(piece) {
         Ok(0) => Ok(true),
@@ -80,7 +82,7 @@ pub(crate) fn read_piece<R: Read>(
 
 /// Whether the reader has no byte more; else it takes one more, or the reader failed.
 pub fn ends<R: Read>(reader: &mut R) -> bool
-    ensures { Ends (R.remaining reader.old) (R.remaining reader.new) result }
+    ensures { IsReaderEnd (R.remaining reader.old) (R.remaining reader.new) result }
 {
     for _ in 0..u64::MAX {
         let mut byte = [0u8];

@@ -1,16 +1,15 @@
-ghost use Rattle.std.specs.Prelude.{◌≡◌, ◌+◌, ◌<◌, ◌≤◌, ◌↔◌, [], false, true, None, OnOk, IfOk, IfErr, IsErrOf, ◌++◌, ◌∷◌, vec_len, vec_capacity, Err};
+ghost use Rattle.std.specs.Prelude.{◌≡◌, ◌+◌, ◌<◌, ◌≤◌, ◌↔◌, [], false, true, None, OnOk, IfOk, IfErr, IsErrOf, vec_len, vec_capacity, Err};
 ghost use Rattle.os8_dir.specs.Reading.{Sound, Meets, directory_of};
 ghost use Rattle.os8_dir.specs.declared.faults.DirFault.TheVariants.{Device};
 ghost use Rattle.jobs8.specs.Jobs.{no_jobs};
 ghost use Rattle.jobs8.specs.Calls.{Outlives};
-ghost use Rattle.session8.specs.Console.{is_console};
-ghost use Rattle.session8.specs.ConsoleSteps.{is_counted};
-ghost use Rattle.session8.specs.Failing.{StepsStopped};
-ghost use Rattle.session8.specs.System.{Step, Run};
-ghost use Rattle.session8.specs.SessionSteps.{is_memory, Leaves, Does};
+ghost use Rattle.session8.specs.Console.{is_within_limits};
+ghost use Rattle.session8.specs.Failing.{MayAnswerStopped};
+ghost use Rattle.session8.specs.System.{MayAnswer, Run};
+ghost use Rattle.session8.specs.SessionSteps.{is_memory, LeavesAlone, DoesEntry};
 ghost use Rattle.session8.specs.Interleaving.{EntryReads, EntryPlaces};
 ghost use Rattle.session8.specs.Room.{EntryTellsRoom};
-ghost use Rattle.session8.specs.Session.{state_of, IsQuiet, IsLater, IsSame, IsReply, IsSteadied, Tells};
+ghost use Rattle.session8.specs.Session.{state_of, IsQuiet, IsLater, IsSame, IsReply, IsSteadied, TellsBlockCalls};
 ghost use Rattle.core_load.specs.Core.{zeros};
 ghost use Rattle.cpu8.specs.State.{stopped};
 ghost use Rattle.debug8.specs.Breaks.{no_breaks};
@@ -22,7 +21,7 @@ use debug8::DebugFault;
 use jobs8::Jobs;
 use os8_dir::DirFault;
 use os8_files::FileService;
-use script8::{Entry, Reply, SessionFault, are_steps};
+use script8::{ConsoleEntry, Entry, Reply, SessionFault, are_steps};
 use std::alloc::Global;
 use std::marker::Model;
 use volume_image::BlockStore;
@@ -119,7 +118,8 @@ impl<S: BlockStore> Session<S> {
     /// of files or jobs is `Stopped`, but for a bad form, name or text and a turn of no job, and one of the console goes on. No
     /// steps, and more than 1,000,000, are a `BadLine`.
     pub fn enter(&mut self, alloc: Global, entry: Entry) -> Result<Reply, SessionFault>
-        ensures step { IsQuiet self.old self.new → Step (state_of self.old) entry result (state_of self.new) }
+        ensures step { IsQuiet self.old self.new
+            → MayAnswer (state_of self.old) entry result (state_of self.new) }
         ensures later { IsLater self.old self.new }
         ensures files { self.old.volume.stopped ≡ false
             → self.old.volume.failed_writes < self.new.volume.failed_writes
@@ -127,11 +127,11 @@ impl<S: BlockStore> Session<S> {
         ensures running { IsQuiet self.old self.new → self.new.volume.stopped ≡ false }
         ensures memory { IsErrOf result Memory → IsSame self.old self.new }
         ensures reply { IsReply result }
-        ensures done { OnOk result (Step (state_of self.old) entry result (state_of self.new)
+        ensures done { OnOk result (MayAnswer (state_of self.old) entry result (state_of self.new)
             × IsSteadied entry self.old self.new) }
-        ensures tells { self.old.volume.stopped ≡ false → Tells entry self.old result self.new }
+        ensures tells { self.old.volume.stopped ≡ false → TellsBlockCalls entry self.old result self.new }
         ensures stopped { self.old.volume.stopped ≡ true
-            → StepsStopped (is_console entry) (state_of self.old) entry result (state_of self.new) }
+            → MayAnswerStopped (state_of self.old) entry result (state_of self.new) }
         ensures reads { EntryReads entry self.old self.new }
         ensures places { EntryPlaces entry self.old self.new }
         ensures room { EntryTellsRoom entry self.old result }
@@ -143,7 +143,8 @@ impl<S: BlockStore> Session<S> {
     /// was done by then, it is answered.
     pub fn run(&mut self, alloc: Global, entries: &[Entry]) -> Result<Ran, SessionFault>
         ensures run { IsQuiet self.old self.new
-            → IfOk result (λ ran. Run (state_of self.old) entries.now ran.replies.items ran.stopped (state_of self.new)) }
+            → IfOk result
+            (λ ran. Run (state_of self.old) entries.now ran.replies.items ran.stopped (state_of self.new)) }
         ensures later { IsLater self.old self.new }
         ensures running { IsQuiet self.old self.new → self.new.volume.stopped ≡ false }
         ensures stopped { IfOk result (λ ran. ran.stopped ≡ true → 0 < vec_len ran.replies) }
@@ -161,7 +162,7 @@ impl<S: BlockStore> Session<S> {
                     stopped: true,
                 });
             }
-            push_reserved(&mut replies, answer);
+            replies.push_reserved(answer);
         }
         Ok(Ran {
             replies,
@@ -169,46 +170,28 @@ impl<S: BlockStore> Session<S> {
         })
     }
 
-    /// Does an entry that is lent.
+    /// Does an entry.
     fn step(&mut self, alloc: Global, entry: &Entry) -> Result<Reply, SessionFault>
-        ensures does { Does entry.now self.old result self.new }
-        ensures leaves { Leaves entry.now self.old self.new }
+        ensures does { DoesEntry entry.now self.old result self.new }
+        ensures leaves { LeavesAlone entry.now self.old self.new }
         ensures room { EntryTellsRoom entry.now self.old result }
     {
         match entry {
-            Entry::Store { name, text } => self.store(alloc, name.as_slice(), text.as_slice()),
-            Entry::Delete { name } => self.delete(alloc, name.as_slice()),
-            Entry::Direct => self.direct(alloc),
-            Entry::Assemble { to, from } => self.assemble(alloc, to.as_slice(), from.as_slice()),
-            Entry::Load { name } => self.load(alloc, name.as_slice()),
-            Entry::Squeeze => self.squeeze(),
-            Entry::Turn(number) => self.turn(alloc, *number),
-            Entry::Start(_)
-            | Entry::Step(_)
-            | Entry::Go(_)
-            | Entry::Run { .. }
-            | Entry::Key(_)
-            | Entry::Done
-            | Entry::Switches(_)
-            | Entry::Examine(_)
-            | Entry::Deposit { .. }
-            | Entry::Break { .. }
-            | Entry::Registers
-            | Entry::Printed => self.console(alloc, entry),
+            Entry::Files(entry) => self.enter_files(alloc, entry),
+            Entry::Jobs(entry) => self.enter_jobs(alloc, entry),
+            Entry::Console(entry) => self.operate(alloc, entry),
         }
     }
 
     /// Does an entry of the console.
-    fn console(&mut self, alloc: Global, entry: &Entry) -> Result<Reply, SessionFault>
-        requires { is_console entry.now ≡ true }
-        ensures does { Does entry.now self.old result self.new }
-        ensures leaves { Leaves entry.now self.old self.new }
-        ensures room { EntryTellsRoom entry.now self.old result }
+    fn operate(&mut self, alloc: Global, asked: &ConsoleEntry) -> Result<Reply, SessionFault>
+        ensures does { DoesEntry (entry.Console asked.now) self.old result self.new }
+        ensures leaves { LeavesAlone (entry.Console asked.now) self.old self.new }
     {
-        if !is_counted(entry) {
+        if !is_within_limits(asked) {
             return Err(SessionFault::BadLine);
         }
-        match self.console.enter(alloc, entry) {
+        match self.console.enter(alloc, asked) {
             Ok(reply) => Ok(reply),
             Err(DebugFault::TooManyBreaks) => Err(SessionFault::TooManyBreaks),
             Err(DebugFault::Memory) => Err(SessionFault::Memory),
@@ -228,29 +211,22 @@ fn parts(alloc: Global) -> Result<(Vec<u8>, Console), DebugFault>
 }
 
 /// Whether an entry that makes steps asks for as many as it may.
-fn is_counted(entry: &Entry) -> bool
-    ensures { result ≡ is_counted entry.now }
+fn is_within_limits(entry: &ConsoleEntry) -> bool
+    ensures { result ≡ is_within_limits entry.now }
 {
     match entry {
-        Entry::Step(steps) => are_steps(*steps),
-        Entry::Go(steps) => are_steps(*steps),
-        Entry::Run { steps, .. } => are_steps(*steps),
-        Entry::Store { .. }
-        | Entry::Delete { .. }
-        | Entry::Direct
-        | Entry::Assemble { .. }
-        | Entry::Load { .. }
-        | Entry::Squeeze
-        | Entry::Turn(_)
-        | Entry::Start(_)
-        | Entry::Key(_)
-        | Entry::Done
-        | Entry::Switches(_)
-        | Entry::Examine(_)
-        | Entry::Deposit { .. }
-        | Entry::Break { .. }
-        | Entry::Registers
-        | Entry::Printed => true,
+        ConsoleEntry::Step(steps) | ConsoleEntry::Go(steps) | ConsoleEntry::Run { steps, .. } => {
+            are_steps(*steps)
+        }
+        ConsoleEntry::Start(_)
+        | ConsoleEntry::Key(_)
+        | ConsoleEntry::Done
+        | ConsoleEntry::Switches(_)
+        | ConsoleEntry::Examine(_)
+        | ConsoleEntry::Deposit { .. }
+        | ConsoleEntry::Break { .. }
+        | ConsoleEntry::Registers
+        | ConsoleEntry::Printed => true,
     }
 }
 
@@ -261,18 +237,5 @@ fn is_memory(answer: &Result<Reply, SessionFault>) -> bool
     match answer {
         Err(SessionFault::Memory) => true,
         _ => false,
-    }
-}
-
-/// Adds an item for which there is room.
-fn push_reserved<T>(items: &mut Vec<T>, item: T)
-    requires { vec_len items.old < vec_capacity items.old }
-    ensures items { items.new.items ≡ items.old.items ++ item ∷ [] }
-    ensures len { vec_len items.new ≡ vec_len items.old + 1 }
-    ensures capacity { vec_capacity items.old ≤ vec_capacity items.new }
-{
-    match items.push(item) {
-        Ok(()) => {}
-        Err(_) => unreachable!(),
     }
 }

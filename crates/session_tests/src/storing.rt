@@ -1,7 +1,7 @@
 //! The block calls that sessions make, and a run of very many entries.
 
 use crate::items::{do_items, expanded};
-use script8::Entry;
+use script8::{Entry, JobEntry};
 use session8::Session;
 use std::alloc::{AllocError, Global};
 use std::test::Fail;
@@ -54,7 +54,7 @@ fn reads_and_writes(rt: HostRuntime) {
 fn turns(alloc: Global, count: u32) -> Result<Vec<Entry>, AllocError> {
     let mut entries = Vec::new(alloc);
     for number in 0..count {
-        entries.push(Entry::Turn(number))?;
+        entries.push(Entry::Jobs(JobEntry::Turn(number)))?;
     }
     Ok(entries)
 }

@@ -3,7 +3,7 @@
 use bin_tape::TapeFault;
 use os8_files::FileFault;
 use pal_asm::{AsmFault, Code};
-use script8::{Entry, SessionFault, put_reply};
+use script8::{Entry, JobEntry, SessionFault, put_reply};
 use std::alloc::Global;
 use word12::Word;
 
@@ -51,7 +51,7 @@ const LINES: &[u8] = b"? 1 BAD LINE\n? 7 BAD TEXT\n? 9 WRITER\n? 10 MEMORY\n? 11
 
 /// Appends the lines that faults have as answers to a turn.
 fn put_lines(out: &mut Vec<u8>) {
-    let turn = Entry::Turn(u32::MAX);
+    let turn = Entry::Jobs(JobEntry::Turn(u32::MAX));
     for fault in faults() {
         let _ = put_reply(Some(&turn), &Err(fault), out);
     }

@@ -5,7 +5,7 @@ use super::images::{Image, seen};
 use super::{Ended, print_line};
 use crate::ProgramLine;
 use archive8::{ArchiveFault, GetForm, PutForm, check, get, list, put};
-use script8::{Reply, Said, SessionFault, put_reply};
+use script8::{LineReply, Reply, SessionFault, put_reply};
 use session8::read_all;
 use std::fs::{File, Files};
 use std::io::Input;
@@ -57,7 +57,7 @@ pub fn put_file<R: Files<File = File> + Input + Print + Eprint + AllocGlobal>(
             return Err(ended(rt, held.bytes().len(), fault));
         }
     };
-    let stored = Reply::Line(Said::Stored {
+    let stored = Reply::Line(LineReply::Stored {
         name: new.name,
         blocks: new.blocks,
     });

@@ -5,7 +5,7 @@ use super::hints::{line_hint, refused_image};
 use super::images::Image;
 use crate::ProgramLine;
 use command8::{RunForm, Saving};
-use script8::{Reply, Said, SessionFault};
+use script8::{LineReply, Reply, SessionFault};
 use session8::{Session, Watcher};
 use std::fs::{File, Files};
 use std::io::{self, BufWriter, Input, IsTerminal};
@@ -148,21 +148,21 @@ fn may_have_changed(answer: &Result<Reply, SessionFault>) -> bool {
     match answer {
         Ok(Reply::Report(_)) => false,
         Ok(Reply::Line(said)) => match said {
-            Said::Stored { .. }
-            | Said::Deleted(_)
-            | Said::Working(_)
-            | Said::Assembled { .. }
-            | Said::Loaded { .. }
-            | Said::Squeezed(_)
-            | Said::Finished => true,
-            Said::Job(_)
-            | Said::Started(_)
-            | Said::Steps { .. }
-            | Said::Key(_)
-            | Said::Done
-            | Said::Switches(_)
-            | Said::Core { .. }
-            | Said::Break { .. } => false,
+            LineReply::Stored { .. }
+            | LineReply::Deleted(_)
+            | LineReply::Working(_)
+            | LineReply::Assembled { .. }
+            | LineReply::Loaded { .. }
+            | LineReply::Squeezed(_)
+            | LineReply::Finished => true,
+            LineReply::Job(_)
+            | LineReply::Started(_)
+            | LineReply::Steps { .. }
+            | LineReply::Key(_)
+            | LineReply::Done
+            | LineReply::Switches(_)
+            | LineReply::Core { .. }
+            | LineReply::Break { .. } => false,
         },
         Err(_) => true,
     }

@@ -6,9 +6,10 @@ ghost use Rattle.os8_dir.specs.Names.{parsed_name};
 ghost use Rattle.os8_files.specs.Puts.{TellsRoom};
 ghost use Rattle.os8_files.specs.declared.faults.FileFault.TheVariants.{Busy, Stopped};
 ghost use Rattle.script8.specs.declared.entries.Entry.TheVariants as entry;
+ghost use Rattle.script8.specs.declared.entries.FileEntry.TheVariants as filing;
 ghost use Rattle.script8.specs.declared.faults.SessionFault.TheVariants.{BadText, File};
 ghost use Rattle.session8.specs.Room.{IfFile, EntryTellsRoom};
-ghost use Rattle.session8.specs.SessionSteps.{Leaves, Does};
+ghost use Rattle.session8.specs.SessionSteps.{LeavesAlone, DoesEntry};
 
 use super::Session;
 use char_pack::{TextFault, is_storable, store};
@@ -16,21 +17,33 @@ use jobs8::laws::{disturbed_jobs, held_names, settled_calls};
 use os8_dir::Name;
 use os8_files::FileFault;
 use os8_files::laws::{block_reads, file_places, kept_holds};
-use script8::{FileLengths, Reply, Report, Said, SessionFault};
+use script8::{FileEntry, FileLengths, LineReply, Reply, Report, SessionFault};
 use std::alloc::Global;
 use volume_image::BlockStore;
 
 impl<S: BlockStore> Session<S> {
-    /// Makes a file of a text.
-    pub(super) fn store(
+    /// Does an entry of files.
+    pub(super) fn enter_files(
         &mut self,
         alloc: Global,
-        name: &[u8],
-        text: &[u8],
+        asked: &FileEntry,
     ) -> Result<Reply, SessionFault>
-        ensures does { Does (entry.Store name.now text.now) self.old result self.new }
-        ensures leaves { Leaves (entry.Store name.now text.now) self.old self.new }
-        ensures room { EntryTellsRoom (entry.Store name.now text.now) self.old result }
+        ensures does { DoesEntry (entry.Files asked.now) self.old result self.new }
+        ensures leaves { LeavesAlone (entry.Files asked.now) self.old self.new }
+        ensures room { EntryTellsRoom (entry.Files asked.now) self.old result }
+    {
+        match asked {
+            FileEntry::Store { name, text } => self.store(alloc, name.as_slice(), text.as_slice()),
+            FileEntry::Delete { name } => self.delete(alloc, name.as_slice()),
+            FileEntry::Direct => self.direct(alloc),
+        }
+    }
+
+    /// Makes a file of a text.
+    fn store(&mut self, alloc: Global, name: &[u8], text: &[u8]) -> Result<Reply, SessionFault>
+        ensures does { DoesEntry (entry.Files (filing.Store name.now text.now)) self.old result self.new }
+        ensures leaves { LeavesAlone (entry.Files (filing.Store name.now text.now)) self.old self.new }
+        ensures room { EntryTellsRoom (entry.Files (filing.Store name.now text.now)) self.old result }
     {
         match Name::parse(name) {
             None => Err(SessionFault::File(FileFault::BadName)),
@@ -42,9 +55,9 @@ impl<S: BlockStore> Session<S> {
     fn store_named(&mut self, alloc: Global, name: Name, text: &[u8]) -> Result<Reply, SessionFault>
         requires { IsNamed name }
         ensures does { (bytes : List ℕ) → parsed_name bytes ≡ Some name
-            → Does (entry.Store bytes text.now) self.old result self.new }
+            → DoesEntry (entry.Files (filing.Store bytes text.now)) self.old result self.new }
         ensures leaves { (bytes : List ℕ) → parsed_name bytes ≡ Some name
-            → Leaves (entry.Store bytes text.now) self.old self.new }
+            → LeavesAlone (entry.Files (filing.Store bytes text.now)) self.old self.new }
         ensures room { IfFile (TellsRoom self.old.volume.blocks name (spec.stored text.now)) result }
     {
         block_reads();
@@ -63,15 +76,15 @@ impl<S: BlockStore> Session<S> {
                 self.files.put(alloc, name, &words)?;
                 self.jobs.disturb();
                 let blocks = words.len() / 256;
-                Ok(Reply::Line(Said::Stored { name, blocks }))
+                Ok(Reply::Line(LineReply::Stored { name, blocks }))
             }
         }
     }
 
     /// Takes a file out.
-    pub(super) fn delete(&mut self, alloc: Global, name: &[u8]) -> Result<Reply, SessionFault>
-        ensures does { Does (entry.Delete name.now) self.old result self.new }
-        ensures leaves { Leaves (entry.Delete name.now) self.old self.new }
+    fn delete(&mut self, alloc: Global, name: &[u8]) -> Result<Reply, SessionFault>
+        ensures does { DoesEntry (entry.Files (filing.Delete name.now)) self.old result self.new }
+        ensures leaves { LeavesAlone (entry.Files (filing.Delete name.now)) self.old self.new }
     {
         block_reads();
         disturbed_jobs();
@@ -84,15 +97,15 @@ impl<S: BlockStore> Session<S> {
             Some(name) => {
                 self.files.delete(alloc, &name)?;
                 self.jobs.disturb();
-                Ok(Reply::Line(Said::Deleted(name)))
+                Ok(Reply::Line(LineReply::Deleted(name)))
             }
         }
     }
 
     /// The files in name order, and the free blocks.
-    pub(super) fn direct(&mut self, alloc: Global) -> Result<Reply, SessionFault>
-        ensures does { Does entry.Direct self.old result self.new }
-        ensures leaves { Leaves entry.Direct self.old self.new }
+    fn direct(&mut self, alloc: Global) -> Result<Reply, SessionFault>
+        ensures does { DoesEntry (entry.Files filing.Direct) self.old result self.new }
+        ensures leaves { LeavesAlone (entry.Files filing.Direct) self.old self.new }
     {
         let files = self.files.listing(alloc)?;
         let free = self.files.free();

@@ -1,15 +1,15 @@
 //! Scripts: the lines of a reader, whose answers a writer gets.
 
-ghost use Rattle.std.specs.Prelude.{◌≡◌, ◌≢◌, ℕ, ◌<◌, ◌≤◌, ◌∷◌, [], length, drop, vec_capacity, OnOk, IfOk, IfErr, ◌⊎◌, true, false, Ok, Err, None, Some};
+ghost use Rattle.std.specs.Prelude.{◌≡◌, ◌≢◌, ℕ, ◌<◌, ◌≤◌, ◌∷◌, [], length, drop, vec_capacity, OnOk, IfOk, IfErr, ◌⊎◌, true, false, Ok, Err, None, Some, option_copied};
 ghost use Rattle.std.specs.Io.KnownBytes.{Appends};
-ghost use Rattle.script8.specs.Items.{script_of, Waits, IsOut};
-ghost use Rattle.script8.specs.Replies.{answer_lines, lent, fault_line, IsShort};
+ghost use Rattle.script8.specs.Items.{script_of, WaitsForLines, HasNoItem};
+ghost use Rattle.script8.specs.Replies.{answer_lines, fault_line, IsShort};
 ghost use Rattle.script8.specs.declared.faults.SessionFault.TheVariants as fault;
 ghost use Rattle.script8.specs.declared.items.Item.TheVariants.{Do, Finish};
 ghost use Rattle.jobs8.specs.Jobs.{lowest_job, turns_left};
-ghost use Rattle.session8.specs.Reading.{Takes};
-ghost use Rattle.session8.specs.RunSteps.{RunsItems, RunsTurn, RunsNext, RunsFront, RunsGiven, RunsRead, IsBegun, IsEnded, fault_of};
-ghost use Rattle.session8.specs.Script.{RunsText};
+ghost use Rattle.session8.specs.Reading.{TakesBytes};
+ghost use Rattle.session8.specs.RunSteps.{RunsItems, RunsTurn, RunsNext, RunsPrefix, RunsGiven, RunsRead, IsBegun, IsEnded, fault_of};
+ghost use Rattle.session8.specs.Script.{RunsText, is_working};
 ghost use Rattle.session8.specs.declared.endings.Ending.TheVariants as ending;
 ghost use Rattle.session8.specs.Session.{state_of, IsQuiet, IsLater};
 
@@ -18,7 +18,7 @@ use crate::endings::Ending;
 use crate::pending::{Begun, Pending};
 use crate::readings::{MOST, PIECE, ends, zero_bytes};
 use crate::watchers::{Unwatched, Watcher};
-use script8::{Entry, Item, Next, Reply, Said, SessionFault, next_item, put_reply};
+use script8::{Entry, Item, JobEntry, LineReply, Next, Reply, SessionFault, next_item, put_reply};
 use std::alloc::Global;
 use std::io::{Read, Write};
 use volume_image::BlockStore;
@@ -38,10 +38,12 @@ impl<S: BlockStore> Session<S> {
         writer: &mut W,
     ) -> Result<(), SessionFault>
         ensures told { IsQuiet self.old self.new → RunsText 16777216 (state_of self.old) (state_of self.new)
-            (R.remaining reader.old) (R.remaining reader.new) (W.contents writer.old) (W.contents writer.new) result }
+            (R.remaining reader.old) (R.remaining reader.new)
+            (W.contents writer.old) (W.contents writer.new) result }
         ensures later { IsLater self.old self.new }
         ensures running { IsQuiet self.old self.new → self.new.volume.stopped ≡ false }
-        ensures taken { (count : ℕ) × Takes (R.remaining reader.old) (R.remaining reader.new) count × (count ≤ 16777217)
+        ensures taken { (count : ℕ) × TakesBytes (R.remaining reader.old) (R.remaining reader.new) count
+            × (count ≤ 16777217)
             × (count ≡ 16777217 → (result ≡ Err fault.Reader) ⊎ (result ≡ Err fault.Writer)) }
         ensures kind { IfErr result (λ e. (e ≡ fault.Reader) ⊎ (e ≡ fault.Memory) ⊎ (e ≡ fault.Writer)) }
     {
@@ -58,10 +60,12 @@ impl<S: BlockStore> Session<S> {
         watcher: &mut K,
     ) -> Result<(), SessionFault>
         ensures told { IsQuiet self.old self.new → RunsText 16777216 (state_of self.old) (state_of self.new)
-            (R.remaining reader.old) (R.remaining reader.new) (W.contents writer.old) (W.contents writer.new) result }
+            (R.remaining reader.old) (R.remaining reader.new)
+            (W.contents writer.old) (W.contents writer.new) result }
         ensures later { IsLater self.old self.new }
         ensures running { IsQuiet self.old self.new → self.new.volume.stopped ≡ false }
-        ensures taken { (count : ℕ) × Takes (R.remaining reader.old) (R.remaining reader.new) count × (count ≤ 16777217)
+        ensures taken { (count : ℕ) × TakesBytes (R.remaining reader.old) (R.remaining reader.new) count
+            × (count ≤ 16777217)
             × (count ≡ 16777217 → (result ≡ Err fault.Reader) ⊎ (result ≡ Err fault.Writer)) }
         ensures kind { IfErr result (λ e. (e ≡ fault.Reader) ⊎ (e ≡ fault.Memory) ⊎ (e ≡ fault.Writer)) }
     {
@@ -78,10 +82,12 @@ impl<S: BlockStore> Session<S> {
         watcher: &mut K,
     ) -> Result<(), Ending>
         ensures told { IsQuiet self.old self.new → RunsRead 16777216 (state_of self.old) (state_of self.new)
-            (R.remaining reader.old) (R.remaining reader.new) (W.contents writer.old) (W.contents writer.new) result }
+            (R.remaining reader.old) (R.remaining reader.new)
+            (W.contents writer.old) (W.contents writer.new) result }
         ensures later { IsLater self.old self.new }
         ensures running { IsQuiet self.old self.new → self.new.volume.stopped ≡ false }
-        ensures taken { (count : ℕ) × Takes (R.remaining reader.old) (R.remaining reader.new) count × (count ≤ 16777217)
+        ensures taken { (count : ℕ) × TakesBytes (R.remaining reader.old) (R.remaining reader.new) count
+            × (count ≤ 16777217)
             × (count ≡ 16777217 → result ≡ Err ending.Reader) }
     {
         let Ok(mut piece) = zero_bytes(alloc, PIECE) else {
@@ -113,11 +119,11 @@ impl<S: BlockStore> Session<S> {
         writer: &mut W,
         watcher: &mut K,
     ) -> Result<(), Ending>
-        requires { Waits pending.old.bytes.items pending.old.lines }
+        requires { WaitsForLines pending.old.bytes.items pending.old.lines }
         ensures told { IsQuiet self.old self.new → RunsGiven pending.old.bytes.items pending.new.bytes.items
             (state_of self.old) (state_of self.new) (W.contents writer.old) (W.contents writer.new) result }
         ensures waits { OnOk result ((0 < pending.new.lines)
-            × Waits pending.new.bytes.items pending.new.lines) }
+            × WaitsForLines pending.new.bytes.items pending.new.lines) }
         ensures count { pending.new.count ≡ pending.old.count }
         ensures later { IsLater self.old self.new }
         ensures running { IsQuiet self.old self.new → self.new.volume.stopped ≡ false }
@@ -126,7 +132,7 @@ impl<S: BlockStore> Session<S> {
             return Ok(());
         }
         let (bytes, lines) = self.run_items(alloc, &pending.bytes, false, writer, watcher)?;
-        pending.done(bytes, lines);
+        pending.consume(bytes, lines);
         flush(writer)
     }
 
@@ -139,7 +145,8 @@ impl<S: BlockStore> Session<S> {
         watcher: &mut K,
     ) -> Result<(), Ending>
         ensures told { IsQuiet self.old self.new
-            → RunsItems (script_of text.now) (state_of self.old) (state_of self.new) (W.contents writer.old) (W.contents writer.new) result }
+            → RunsItems (script_of text.now) (state_of self.old) (state_of self.new)
+            (W.contents writer.old) (W.contents writer.new) result }
         ensures later { IsLater self.old self.new }
         ensures running { IsQuiet self.old self.new → self.new.volume.stopped ≡ false }
     {
@@ -158,9 +165,10 @@ impl<S: BlockStore> Session<S> {
         watcher: &mut K,
     ) -> Result<(usize, u32), Ending>
         ensures told { IsQuiet self.old self.new
-            → RunsFront text.now is_end (state_of self.old) (state_of self.new) (W.contents writer.old) (W.contents writer.new) result }
+            → RunsPrefix text.now is_end (state_of self.old) (state_of self.new)
+            (W.contents writer.old) (W.contents writer.new) result }
         ensures rest { IfOk result (λ done. (done.0 ≤ length text.now)
-            × IsOut (drop done.0 text.now) is_end done.1) }
+            × HasNoItem (drop done.0 text.now) is_end done.1) }
         ensures later { IsLater self.old self.new }
         ensures running { IsQuiet self.old self.new → self.new.volume.stopped ≡ false }
     {
@@ -184,7 +192,8 @@ impl<S: BlockStore> Session<S> {
         watcher: &mut K,
     ) -> Result<Begun, Ending>
         ensures told { IsQuiet self.old self.new
-            → RunsNext text.now is_end (state_of self.old) (state_of self.new) (W.contents writer.old) (W.contents writer.new) result }
+            → RunsNext text.now is_end (state_of self.old) (state_of self.new)
+            (W.contents writer.old) (W.contents writer.new) result }
         ensures begun { IfOk result (IsBegun text.now is_end) }
         ensures later { IsLater self.old self.new }
         ensures running { IsQuiet self.old self.new → self.new.volume.stopped ≡ false }
@@ -211,7 +220,8 @@ impl<S: BlockStore> Session<S> {
         watcher: &mut K,
     ) -> Result<(), Ending>
         ensures told { IsQuiet self.old self.new
-            → RunsItems (item.now ∷ []) (state_of self.old) (state_of self.new) (W.contents writer.old) (W.contents writer.new) result }
+            → RunsItems (item.now ∷ []) (state_of self.old) (state_of self.new)
+            (W.contents writer.old) (W.contents writer.new) result }
         ensures later { IsLater self.old self.new }
         ensures running { IsQuiet self.old self.new → self.new.volume.stopped ≡ false }
     {
@@ -231,7 +241,8 @@ impl<S: BlockStore> Session<S> {
         watcher: &mut K,
     ) -> Result<(), Ending>
         ensures told { IsQuiet self.old self.new
-            → RunsItems (Do entry.now ∷ []) (state_of self.old) (state_of self.new) (W.contents writer.old) (W.contents writer.new) result }
+            → RunsItems (Do entry.now ∷ []) (state_of self.old) (state_of self.new)
+            (W.contents writer.old) (W.contents writer.new) result }
         ensures later { IsLater self.old self.new }
         ensures running { IsQuiet self.old self.new → self.new.volume.stopped ≡ false }
     {
@@ -250,14 +261,15 @@ impl<S: BlockStore> Session<S> {
         watcher: &mut K,
     ) -> Result<(), Ending>
         ensures told { IsQuiet self.old self.new
-            → RunsItems (Finish ∷ []) (state_of self.old) (state_of self.new) (W.contents writer.old) (W.contents writer.new) result }
+            → RunsItems (Finish ∷ []) (state_of self.old) (state_of self.new)
+            (W.contents writer.old) (W.contents writer.new) result }
         ensures later { IsLater self.old self.new }
         ensures running { IsQuiet self.old self.new → self.new.volume.stopped ≡ false }
     {
         while let Some(number) = self.jobs.lowest() {
             self.run_turn(alloc, number, writer, watcher)?;
         }
-        self.tell(None, &Ok(Reply::Line(Said::Finished)), writer, watcher)
+        self.tell(None, &Ok(Reply::Line(LineReply::Finished)), writer, watcher)
     }
 
     /// Lets the lowest job take a turn, and writes the line of its end.
@@ -270,7 +282,8 @@ impl<S: BlockStore> Session<S> {
     ) -> Result<(), Ending>
         requires { lowest_job self.old.jobs ≡ Some number }
         ensures told { IsQuiet self.old self.new
-            → RunsTurn number (state_of self.old) (state_of self.new) (W.contents writer.old) (W.contents writer.new) result }
+            → RunsTurn number (state_of self.old) (state_of self.new)
+            (W.contents writer.old) (W.contents writer.new) result }
         ensures fewer { OnOk result (turns_left self.new.jobs < turns_left self.old.jobs) }
         ensures later { IsLater self.old self.new }
         ensures running { IsQuiet self.old self.new → self.new.volume.stopped ≡ false }
@@ -279,10 +292,11 @@ impl<S: BlockStore> Session<S> {
         if is_memory(&answer) {
             return Err(Ending::Memory);
         }
-        if let Ok(Reply::Line(Said::Working(_))) = answer {
+        if is_working(&answer) {
             return Ok(());
         }
-        self.tell(Some(&Entry::Turn(number)), &answer, writer, watcher)
+        let turn = Entry::Jobs(JobEntry::Turn(number));
+        self.tell(Some(&turn), &answer, writer, watcher)
     }
 
     /// Tells the watcher of an answer, and writes its lines. `Memory` comes only where they are several, and then nothing is written.
@@ -293,7 +307,9 @@ impl<S: BlockStore> Session<S> {
         writer: &mut W,
         watcher: &mut K,
     ) -> Result<(), Ending>
-        ensures ok { OnOk result (Appends (W.contents writer.old) (W.contents writer.new) (answer_lines (lent entry.entry) answer.now)) }
+        ensures ok { OnOk result
+            (Appends (W.contents writer.old) (W.contents writer.new)
+            (answer_lines (option_copied entry.entry) answer.now)) }
         ensures err { IfErr result (λ e. (e ≡ ending.Writer)
             ⊎ ((e ≡ ending.Memory) × Appends (W.contents writer.old) (W.contents writer.new) []
             × (IsShort answer.now → ⊥))) }
@@ -364,7 +380,17 @@ impl<S: BlockStore> Session<S> {
     }
 }
 
-/// Writes the lines of an answer, which are built in a line that is lent.
+/// Whether an answer tells that a job took a turn, and is not at its end.
+fn is_working(answer: &Result<Reply, SessionFault>) -> bool
+    ensures { result ≡ is_working answer.now }
+{
+    match answer {
+        Ok(Reply::Line(LineReply::Working(_))) => true,
+        _ => false,
+    }
+}
+
+/// Writes the lines of an answer, which are built in a vector that is borrowed.
 fn write_lines<W: Write>(
     line: &mut Vec<u8>,
     entry: Option<&Entry>,
@@ -372,7 +398,9 @@ fn write_lines<W: Write>(
     writer: &mut W,
 ) -> Result<(), Ending>
     requires { 80 ≤ vec_capacity line.old }
-    ensures ok { OnOk result (Appends (W.contents writer.old) (W.contents writer.new) (answer_lines (lent entry.entry) answer.now)) }
+    ensures ok { OnOk result
+        (Appends (W.contents writer.old) (W.contents writer.new)
+        (answer_lines (option_copied entry.entry) answer.now)) }
     ensures err { IfErr result (λ e. (e ≡ ending.Writer)
         ⊎ ((e ≡ ending.Memory) × Appends (W.contents writer.old) (W.contents writer.new) []
         × (IsShort answer.now → ⊥))) }
@@ -382,9 +410,7 @@ fn write_lines<W: Write>(
     if put_reply(entry, answer, line).is_err() {
         return Err(Ending::Memory);
     }
-    if writer.write_all(line).is_err() {
-        return Err(Ending::Writer);
-    }
+    writer.write_all(line)?;
     Ok(())
 }
 
@@ -392,8 +418,6 @@ fn flush<W: Write>(writer: &mut W) -> Result<(), Ending>
     ensures ok { OnOk result (Appends (W.contents writer.old) (W.contents writer.new) []) }
     ensures err { IfErr result (λ e. e ≡ ending.Writer) }
 {
-    if writer.flush().is_err() {
-        return Err(Ending::Writer);
-    }
+    writer.flush()?;
     Ok(())
 }

@@ -2,18 +2,19 @@
 ghost use Rattle.std.specs.Prelude.{◌≡◌, ◌<◌, ◌≤◌, Some, None, IfSome, IsErrOf, length, take};
 ghost use Rattle.jobs8.specs.Jobs.{lowest_job, turns_left};
 ghost use Rattle.script8.specs.declared.entries.Entry.TheVariants as entry;
+ghost use Rattle.script8.specs.declared.entries.JobEntry.TheVariants as job;
 ghost use Rattle.script8.specs.declared.faults.SessionFault.TheVariants.{Memory};
 ghost use Rattle.session8.specs.Files.{parsed_names};
 ghost use Rattle.session8.specs.Room.{EntryTellsRoom};
-ghost use Rattle.session8.specs.SessionSteps.{Leaves, Does};
-ghost use Rattle.session8.specs.Work.{said_of, fault_of_job};
+ghost use Rattle.session8.specs.SessionSteps.{LeavesAlone, DoesEntry};
+ghost use Rattle.session8.specs.Work.{turn_reply, fault_of_job};
 
 use super::Session;
 use jobs8::laws::{job_calls, job_numbers};
 use jobs8::{JobFault, Turned};
 use os8_dir::Name;
 use os8_files::FileFault;
-use script8::{Bytes, Reply, Said, SessionFault};
+use script8::{Bytes, JobEntry, LineReply, Reply, SessionFault};
 use std::alloc::Global;
 use volume_image::BlockStore;
 
@@ -21,15 +22,28 @@ use volume_image::BlockStore;
 const SOURCES: usize = 8;
 
 impl<S: BlockStore> Session<S> {
-    /// Begins a job that assembles sources to a file. It has two turns for each of their blocks, and one more.
-    pub(super) fn assemble(
+    /// Does an entry of jobs.
+    pub(super) fn enter_jobs(
         &mut self,
         alloc: Global,
-        to: &[u8],
-        from: &[Bytes],
+        asked: &JobEntry,
     ) -> Result<Reply, SessionFault>
-        ensures does { Does (entry.Assemble to.now from.now) self.old result self.new }
-        ensures leaves { Leaves (entry.Assemble to.now from.now) self.old self.new }
+        ensures does { DoesEntry (entry.Jobs asked.now) self.old result self.new }
+        ensures leaves { LeavesAlone (entry.Jobs asked.now) self.old self.new }
+        ensures room { EntryTellsRoom (entry.Jobs asked.now) self.old result }
+    {
+        match asked {
+            JobEntry::Assemble { to, from } => self.assemble(alloc, to.as_slice(), from.as_slice()),
+            JobEntry::Load { name } => self.load(alloc, name.as_slice()),
+            JobEntry::Squeeze => self.squeeze(),
+            JobEntry::Turn(number) => self.turn(alloc, *number),
+        }
+    }
+
+    /// Begins a job that assembles sources to a file. It has two turns for each of their blocks, and one more.
+    fn assemble(&mut self, alloc: Global, to: &[u8], from: &[Bytes]) -> Result<Reply, SessionFault>
+        ensures does { DoesEntry (entry.Jobs (job.Assemble to.now from.now)) self.old result self.new }
+        ensures leaves { LeavesAlone (entry.Jobs (job.Assemble to.now from.now)) self.old self.new }
     {
         if from.is_empty() || from.len() > SOURCES {
             return Err(SessionFault::BadLine);
@@ -42,41 +56,41 @@ impl<S: BlockStore> Session<S> {
         };
         let sources = &names[..from.len()];
         match self.jobs.assemble(alloc, &mut self.files, target, sources) {
-            Ok(number) => Ok(Reply::Line(Said::Job(number))),
+            Ok(number) => Ok(Reply::Line(LineReply::Job(number))),
             Err(fault) => Err(fault_of_job(fault)),
         }
     }
 
     /// Begins a job that loads a file. It has a turn for each of its blocks, and one more.
-    pub(super) fn load(&mut self, alloc: Global, name: &[u8]) -> Result<Reply, SessionFault>
-        ensures does { Does (entry.Load name.now) self.old result self.new }
-        ensures leaves { Leaves (entry.Load name.now) self.old self.new }
+    fn load(&mut self, alloc: Global, name: &[u8]) -> Result<Reply, SessionFault>
+        ensures does { DoesEntry (entry.Jobs (job.Load name.now)) self.old result self.new }
+        ensures leaves { LeavesAlone (entry.Jobs (job.Load name.now)) self.old self.new }
     {
         let Some(name) = Name::parse(name) else {
             return Err(SessionFault::File(FileFault::BadName));
         };
         match self.jobs.load(alloc, &mut self.files, name) {
-            Ok(number) => Ok(Reply::Line(Said::Job(number))),
+            Ok(number) => Ok(Reply::Line(LineReply::Job(number))),
             Err(fault) => Err(fault_of_job(fault)),
         }
     }
 
     /// Begins a job that squeezes. It has a turn for each file, and one more.
-    pub(super) fn squeeze(&mut self) -> Result<Reply, SessionFault>
-        ensures does { Does entry.Squeeze self.old result self.new }
-        ensures leaves { Leaves entry.Squeeze self.old self.new }
+    fn squeeze(&mut self) -> Result<Reply, SessionFault>
+        ensures does { DoesEntry (entry.Jobs job.Squeeze) self.old result self.new }
+        ensures leaves { LeavesAlone (entry.Jobs job.Squeeze) self.old self.new }
     {
         match self.jobs.squeeze(&self.files) {
-            Ok(number) => Ok(Reply::Line(Said::Job(number))),
+            Ok(number) => Ok(Reply::Line(LineReply::Job(number))),
             Err(fault) => Err(fault_of_job(fault)),
         }
     }
 
     /// Lets the job of a number take a turn.
     pub(super) fn turn(&mut self, alloc: Global, number: u32) -> Result<Reply, SessionFault>
-        ensures does { Does (entry.Turn number) self.old result self.new }
-        ensures leaves { Leaves (entry.Turn number) self.old self.new }
-        ensures room { EntryTellsRoom (entry.Turn number) self.old result }
+        ensures does { DoesEntry (entry.Jobs (job.Turn number)) self.old result self.new }
+        ensures leaves { LeavesAlone (entry.Jobs (job.Turn number)) self.old self.new }
+        ensures room { EntryTellsRoom (entry.Jobs (job.Turn number)) self.old result }
         ensures fewer { (IsErrOf result Memory → ⊥) → lowest_job self.old.jobs ≡ Some number
             → turns_left self.new.jobs < turns_left self.old.jobs }
     {
@@ -86,7 +100,7 @@ impl<S: BlockStore> Session<S> {
             .console
             .turn(alloc, &mut self.jobs, &mut self.files, number)
         {
-            Ok(turned) => Ok(Reply::Line(said_of(number, turned))),
+            Ok(turned) => Ok(Reply::Line(turn_reply(number, turned))),
             Err(fault) => Err(fault_of_job(fault)),
         }
     }
@@ -108,19 +122,19 @@ fn parse_names(from: &[Bytes], behind: Name) -> Option<[Name; SOURCES]>
     Some(names)
 }
 
-/// What is said of a turn.
-fn said_of(number: u32, turned: Turned) -> Said
-    ensures { result ≡ said_of number turned }
+/// The reply to a turn.
+fn turn_reply(number: u32, turned: Turned) -> LineReply
+    ensures { result ≡ turn_reply number turned }
 {
     match turned {
-        Turned::Working => Said::Working(number),
-        Turned::Assembled { name, blocks } => Said::Assembled {
+        Turned::Working => LineReply::Working(number),
+        Turned::Assembled { name, blocks } => LineReply::Assembled {
             number,
             name,
             blocks,
         },
-        Turned::Loaded(name) => Said::Loaded { number, name },
-        Turned::Squeezed => Said::Squeezed(number),
+        Turned::Loaded(name) => LineReply::Loaded { number, name },
+        Turned::Squeezed => LineReply::Squeezed(number),
     }
 }
 

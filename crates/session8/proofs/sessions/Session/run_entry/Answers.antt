@@ -1,6 +1,6 @@
-use Rattle.std.proofs.Common.{sym, subst}
-use Rattle.session8.specs.Session.{state_of, IsQuiet, Seen}
-use Rattle.session8.specs.System.{Step}
+use Rattle.std.proofs.Common.{◌≡◌, false, sym, subst}
+use Rattle.session8.specs.Session.{state_of, IsQuiet, IsLater, Seen}
+use Rattle.session8.specs.System.{MayAnswer}
 use Rattle.std.proofs.KnownBytes.{Appends-nil}
 use Rattle.session8.proofs.ToldLemmas.{entry_told, entry_undone}
 use Rattle.session8.proofs.EntryLemmas.{memory_is, no_memory}
@@ -13,7 +13,21 @@ pub returns-clause-told : goal.returns-clause-told
 returns-clause-told g c quiet =
     let before = subst (λ (s : Seen). IsQuiet c.args.self.now s) c.tell.ensures.same quiet in
     entry_told _ c.step-answer.result _ _ _ _ c.tell.result
-    (subst (λ (s : Seen). Step (state_of c.args.self.now) c.args.entry.now c.step-answer.result (state_of s)) (sym c.tell.ensures.same) (c.step-answer.ensures.does.step before))
+    (subst (λ (s : Seen). MayAnswer (state_of c.args.self.now) c.args.entry.now c.step-answer.result (state_of s)) (sym c.tell.ensures.same) (c.step-answer.ensures.does.step before))
     (no_memory _ (sym c.if-is_memory.ensures))
     c.tell.ensures.ok
     c.tell.ensures.err
+
+pub returns-then-is_memory-clause-later : goal.returns-then-is_memory-clause-later
+returns-then-is_memory-clause-later g c = c.step-answer.ensures.does.later
+
+pub returns-then-is_memory-clause-running : goal.returns-then-is_memory-clause-running
+returns-then-is_memory-clause-running g c = c.step-answer.ensures.does.running
+
+pub returns-clause-later : goal.returns-clause-later
+returns-clause-later g c = subst (λ (s : Seen). IsLater c.args.self.now s) (sym c.tell.ensures.same) c.step-answer.ensures.does.later
+
+pub returns-clause-running : goal.returns-clause-running
+returns-clause-running g c quiet =
+    subst (λ (s : Seen). s.volume.stopped ≡ false) (sym c.tell.ensures.same)
+    (c.step-answer.ensures.does.running (subst (λ (s : Seen). IsQuiet c.args.self.now s) c.tell.ensures.same quiet))

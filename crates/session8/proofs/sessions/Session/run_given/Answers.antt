@@ -1,12 +1,12 @@
 use Rattle.std.proofs.Common.{ℕ, List, Ok, false, subst}
 use Rattle.session8.specs.Session.{state_of}
-use Rattle.session8.specs.RunSteps.{RunsFront}
+use Rattle.session8.specs.RunSteps.{RunsPrefix}
 use Rattle.session8.proofs.TextLemmas.{given_done}
 use Rattle.session8.proofs.sessions.Session.run_given.Goals as goal
 
 pub returns-clause-told : goal.returns-clause-told
 returns-clause-told g c quiet =
-    given_done c.args.pending.now.bytes.items c.done.new.self.bytes.items c.in_ok-bytes.bytes c.in_ok-bytes.lines _ _ _ (g.W.Write.contents c.run_items.new.writer) _ c.flush.result
-    c.done.ensures.bytes
-    (subst (λ (l : List ℕ). RunsFront l false (state_of c.args.self.now) (state_of c.run_items.new.self) (g.W.Write.contents c.args.writer.now) (g.W.Write.contents c.run_items.new.writer) (Ok (c.in_ok-bytes.bytes, c.in_ok-bytes.lines))) c.deref.ensures.value (c.in_ok-bytes.ensures.told quiet))
+    given_done c.args.pending.now.bytes.items c.consume.new.self.bytes.items c.in_ok-bytes.bytes c.in_ok-bytes.lines _ _ _ (g.W.Write.contents c.run_items.new.writer) _ c.flush.result
+    c.consume.ensures.bytes
+    (subst (λ (l : List ℕ). RunsPrefix l false (state_of c.args.self.now) (state_of c.run_items.new.self) (g.W.Write.contents c.args.writer.now) (g.W.Write.contents c.run_items.new.writer) (Ok (c.in_ok-bytes.bytes, c.in_ok-bytes.lines))) c.deref.ensures.value (c.in_ok-bytes.ensures.told quiet))
     c.flush.ensures.ok c.flush.ensures.err

@@ -1,15 +1,15 @@
 use Rattle.std.proofs.Common.{◌≡◌, ◌-◌, ◌≤◌, [], List, false, length, drop}
 use Rattle.script8.specs.declared.items.Item.{Item}
 use Rattle.session8.specs.Session.{state_of, IsQuiet, IsLater}
-use Rattle.session8.specs.RunSteps.{Heads}
-use Rattle.session8.specs.Script.{Writes}
+use Rattle.session8.specs.RunSteps.{StartsWithItems}
+use Rattle.session8.specs.Script.{WritesAnswers}
 use Rattle.session8.proofs.sessions.Session.run_items.Given as goal
 
 -- the items so far are answered
 abbrev pub invariant-loop-lines : goal.invariant-loop-lines
 invariant-loop-lines g l = record {
-  told : IsQuiet l.fn.self l.self → (front : List Item) × Heads l.text l.is_end front (drop l.done l.text)
-      × Writes (state_of l.fn.self) front (state_of l.self) (g.W.Write.contents l.fn.writer) (g.W.Write.contents l.writer) [];
+  told : IsQuiet l.fn.self l.self → (front : List Item) × StartsWithItems l.text l.is_end front (drop l.done l.text)
+      × WritesAnswers (state_of l.fn.self) front (state_of l.self) (g.W.Write.contents l.fn.writer) (g.W.Write.contents l.writer) [];
   within : l.done ≤ length l.text;
   later : IsLater l.fn.self l.self;
   running : IsQuiet l.fn.self l.self → l.self.volume.stopped ≡ false;

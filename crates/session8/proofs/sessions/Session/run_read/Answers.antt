@@ -1,11 +1,11 @@
 use Rattle.std.proofs.Common.{ℕ, ◌≡◌, ◌≤◌, ◌+◌, ◌++◌, ◌∙◌, ◌⊎◌, [], List, Option, Err, inl, inr, refl, sym, subst, Bool, true, false, Ok, arith, length}
 use Rattle.std.proofs.lemmas.Result.{err_from_is_err_and}
-use Rattle.script8.specs.Items.{Waits}
+use Rattle.script8.specs.Items.{WaitsForLines}
 use Rattle.std.specs.Io.KnownBytes.{Consumes}
 use Rattle.script8.specs.declared.faults.SessionFault.{SessionFault}
 use Rattle.script8.specs.declared.faults.SessionFault.TheVariants as fault
-use Rattle.session8.specs.Reading.{IsRead, Takes}
-use Rattle.session8.specs.ReadSteps.{Feeds}
+use Rattle.session8.specs.Reading.{IsRead, TakesBytes}
+use Rattle.session8.specs.ReadSteps.{ReadsPiece}
 use Rattle.session8.specs.RunSteps.{RunsGiven, IsRunTo}
 use Rattle.session8.specs.Session.{state_of}
 use Rattle.session8.proofs.ByteLemmas.{consumes_none}
@@ -18,13 +18,13 @@ not_past : (n : ℕ) → n ≤ 16777216 → n ≡ 16777217 → ⊥
 not_past n most is = omega (arith, most, is)
 
 -- a read that found the reader's end, or more bytes
-at_end : (r r' : Option (List ℕ)) (before : List ℕ) (count : ℕ) (after : List ℕ) (lines' count' : ℕ) {b : Bool} → b ≡ true → Feeds 16777216 r r' before count after lines' count' (Ok b)
+at_end : (r r' : Option (List ℕ)) (before : List ℕ) (count : ℕ) (after : List ℕ) (lines' count' : ℕ) {b : Bool} → b ≡ true → ReadsPiece 16777216 r r' before count after lines' count' (Ok b)
     → IsRead r r' [] × (after ≡ before)
-at_end r r' before count after lines' count' is fed = subst (λ b. Feeds 16777216 r r' before count after lines' count' (Ok b)) is fed
+at_end r r' before count after lines' count' is fed = subst (λ b. ReadsPiece 16777216 r r' before count after lines' count' (Ok b)) is fed
 
-more_read : (r r' : Option (List ℕ)) (before : List ℕ) (count : ℕ) (after : List ℕ) (lines' count' : ℕ) {b : Bool} → b ≡ false → Feeds 16777216 r r' before count after lines' count' (Ok b)
-    → (bytes : List ℕ) × Consumes r r' bytes × (after ≡ before ++ bytes) × (count' ≡ count + length bytes) × (count' ≤ 16777216) × Waits after lines'
-more_read r r' before count after lines' count' is fed = subst (λ b. Feeds 16777216 r r' before count after lines' count' (Ok b)) is fed
+more_read : (r r' : Option (List ℕ)) (before : List ℕ) (count : ℕ) (after : List ℕ) (lines' count' : ℕ) {b : Bool} → b ≡ false → ReadsPiece 16777216 r r' before count after lines' count' (Ok b)
+    → (bytes : List ℕ) × Consumes r r' bytes × (after ≡ before ++ bytes) × (count' ≡ count + length bytes) × (count' ≤ 16777216) × WaitsForLines after lines'
+more_read r r' before count after lines' count' is fed = subst (λ b. ReadsPiece 16777216 r r' before count after lines' count' (Ok b)) is fed
 
 -- a read that failed took nothing
 none_read : (r r' : Option (List ℕ)) (bytes : List ℕ) (e : SessionFault) → e ≡ fault.Reader → Consumes r r' bytes → ((e ≡ fault.Reader) × (bytes ≡ [])) ⊎ (e ≡ fault.Memory) → Consumes r r' []
@@ -44,7 +44,7 @@ pub loop-init : goal.loop-init
 loop-init g c = record {
   told = λ quiet. subst (λ n. IsRunTo (state_of c.args.self.now) (state_of c.args.self.now) (g.R.Read.remaining c.args.reader.now) (g.R.Read.remaining c.args.reader.now) (g.W.Write.contents c.args.writer.now) (g.W.Write.contents c.args.writer.now) n c.new-pending.result.bytes.items) (sym c.new-pending.ensures.count)
       (none_run (state_of c.args.self.now) (g.R.Read.remaining c.args.reader.now) (g.W.Write.contents c.args.writer.now) c.new-pending.result.bytes.items c.new-pending.ensures.bytes);
-  waits = (c.new-pending.ensures.lines.0, subst (λ (l : List ℕ). Waits l c.new-pending.result.lines) (sym c.new-pending.ensures.bytes) c.new-pending.ensures.lines.1);
+  waits = (c.new-pending.ensures.lines.0, subst (λ (l : List ℕ). WaitsForLines l c.new-pending.result.lines) (sym c.new-pending.ensures.bytes) c.new-pending.ensures.lines.1);
   taken = record { bytes = []; taken = consumes_none _; count_is = sym c.new-pending.ensures.count };
   within = omega (arith, c.new-pending.ensures.count);
   piece = omega (arith, c.in-Ok.ensures);
@@ -129,7 +129,7 @@ loop-preserved g c =
           (run_on _ (state_of c.loop.self) _ _ (g.R.Read.remaining c.read.new.reader) _ (g.W.Write.contents c.loop.writer) _ (c.loop.pending.count + length read.0) (c.loop.pending.bytes.items ++ read.0) c.run_given.new.pending.bytes.items fed
           (subst (λ (l : List ℕ). RunsGiven l c.run_given.new.pending.bytes.items (state_of c.loop.self) (state_of c.run_given.new.self) (g.W.Write.contents c.loop.writer) (g.W.Write.contents c.run_given.new.writer) (Ok tt)) read.2 (c.in_ok-run_given-in-Ok-false.ensures.told behind)));
       waits = c.in_ok-run_given-in-Ok-false.ensures.waits;
-      taken = subst (λ n. Takes (g.R.Read.remaining c.args.reader.now) (g.R.Read.remaining c.read.new.reader) n) (sym (c.run_given.ensures.count ∙ read.3)) (takes_more _ (g.R.Read.remaining c.loop.reader) _ c.loop.pending.count read.0 c.loop.invariant.taken read.1);
+      taken = subst (λ n. TakesBytes (g.R.Read.remaining c.args.reader.now) (g.R.Read.remaining c.read.new.reader) n) (sym (c.run_given.ensures.count ∙ read.3)) (takes_more _ (g.R.Read.remaining c.loop.reader) _ c.loop.pending.count read.0 c.loop.invariant.taken read.1);
       within = omega (arith, c.run_given.ensures.count, read.4);
       piece = c.loop.invariant.piece;
       later = later_trans _ _ _ c.loop.invariant.later c.run_given.ensures.later;

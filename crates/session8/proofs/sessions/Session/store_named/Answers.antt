@@ -11,6 +11,7 @@ use Rattle.session8.specs.Session.{Seen}
 use Rattle.session8.proofs.SessionLemmas.{store_refused, store_done, put_settled, storable_is, ok_err, unstored, no_text_stored, text_lacks}
 use Rattle.os8_dir.specs.Entries.{contains}
 use Rattle.script8.specs.declared.entries.Entry.TheVariants as entry
+use Rattle.script8.specs.declared.entries.FileEntry.TheVariants as filing
 use Rattle.session8.proofs.LeavesLemmas.{leaves_same, store_leaves}
 use Rattle.session8.proofs.RoomLemmas.{store_room, unstored_room}
 use Rattle.session8.proofs.sessions.Session.store_named.Goals.{then-stopped-via-then-stopped, then-stopped-via-else-stopped+then-is_held}
@@ -71,7 +72,7 @@ returns-in_err-put-in-Ok-clause-leaves g c bytes is =
     (c.file_places.ensures.put c.self.inside.files c.put.new.self c.args.name c.deref.result.now (Err c.in_err-put-in-Ok.field-0.0) c.in_err-put-in-Ok.ensures.call))
 
 pub returns-then-stopped-clause-leaves : goal.returns-then-stopped-clause-leaves
-returns-then-stopped-clause-leaves g c bytes is = leaves_same (entry.Store bytes c.args.text.now) c.args.self.now _ refl
+returns-then-stopped-clause-leaves g c bytes is = leaves_same (entry.Files (filing.Store bytes c.args.text.now)) c.args.self.now _ refl
 
 pub returns-in-Err-BadText-clause-does : goal.returns-in-Err-BadText-clause-does
 returns-in-Err-BadText-clause-does g c bytes is =
@@ -79,7 +80,7 @@ returns-in-Err-BadText-clause-does g c bytes is =
     (no_text_stored _ bytes c.args.name c.args.text.now is (c.store.ensures.bad_text.0 (subst (λ r. IsErrOf r BadText) (sym (c.in-Err-BadText.is ∙ ap Err c.in-Err-BadText.field-0-is)) refl)))
 
 pub returns-in-Err-BadText-clause-leaves : goal.returns-in-Err-BadText-clause-leaves
-returns-in-Err-BadText-clause-leaves g c bytes is = leaves_same (entry.Store bytes c.args.text.now) c.args.self.now _ refl
+returns-in-Err-BadText-clause-leaves g c bytes is = leaves_same (entry.Files (filing.Store bytes c.args.text.now)) c.args.self.now _ refl
 
 -- a fault of a text is one of two
 other_fault : {A : Type 0} → ◌≡◌ {A = Result A TextFault} (Err Memory) (Err BadText) → ⊥
@@ -93,4 +94,4 @@ returns-in-Err-Memory-clause-does g c bytes is =
     (sym c.stopped.ensures.value ∙ c.if-stopped.false) (sym c.is_held.ensures ∙ c.if-is_held.false))
 
 pub returns-in-Err-Memory-clause-leaves : goal.returns-in-Err-Memory-clause-leaves
-returns-in-Err-Memory-clause-leaves g c bytes is = leaves_same (entry.Store bytes c.args.text.now) c.args.self.now _ refl
+returns-in-Err-Memory-clause-leaves g c bytes is = leaves_same (entry.Files (filing.Store bytes c.args.text.now)) c.args.self.now _ refl

@@ -4,8 +4,9 @@ use Rattle.jobs8.specs.Calls.{NumberTellsRoom, TakesTurn}
 use Rattle.jobs8.specs.Jobs.{job_of, lowest_job, turns_left}
 use Rattle.jobs8.specs.Settled.{plain_jobs}
 use Rattle.script8.specs.declared.entries.Entry.TheVariants as entry
+use Rattle.script8.specs.declared.entries.JobEntry.TheVariants as order
 use Rattle.session8.specs.Session.{Seen}
-use Rattle.session8.specs.SessionSteps.{Does}
+use Rattle.session8.specs.SessionSteps.{DoesEntry}
 use Rattle.session8.specs.State.{Console}
 use Rattle.session8.proofs.LeavesLemmas.{turn_leaves}
 use Rattle.session8.proofs.RoomLemmas.{turn_room}
@@ -15,8 +16,8 @@ use Rattle.session8.proofs.sessions.Session.turn.Goals as goal
 
 pub returns-clause-does : goal.returns-clause-does
 returns-clause-does g c =
-    subst (λ (k : Console). Does (entry.Turn c.args.number) c.args.self.now c.match-turn.result (record { volume = c.turn.new.files; jobs = plain_jobs c.turn.new.jobs; console = k })) (sym c.turn.ensures.others) (elim c.match-turn.branch [
-      | in-Ok w ↦ rw (w.result-is, w.said_of.ensures, ← c.self.view_is)
+    subst (λ (k : Console). DoesEntry (entry.Jobs (order.Turn c.args.number)) c.args.self.now c.match-turn.result (record { volume = c.turn.new.files; jobs = plain_jobs c.turn.new.jobs; console = k })) (sym c.turn.ensures.others) (elim c.match-turn.branch [
+      | in-Ok w ↦ rw (w.result-is, w.turn_reply.ensures, ← c.self.view_is)
           (turn_done _ _ _ c.self.inside.jobs c.turn.new.jobs _ w.in-Ok.turned refl (subst (λ r. TakesTurn c.self.inside.files c.self.inside.console.machine.core c.self.inside.jobs c.args.number r c.turn.new.files c.turn.new.self.machine.core c.turn.new.jobs) w.in-Ok.is c.turn.ensures.turn))
       | in-Err w ↦ rw (w.result-is, w.fault_of_job.ensures, ← c.self.view_is)
           (turn_refused _ _ _ c.self.inside.jobs c.turn.new.jobs _ w.in-Err.fault refl (subst (λ r. TakesTurn c.self.inside.files c.self.inside.console.machine.core c.self.inside.jobs c.args.number r c.turn.new.files c.turn.new.self.machine.core c.turn.new.jobs) w.in-Err.is c.turn.ensures.turn))

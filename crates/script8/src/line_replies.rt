@@ -1,74 +1,74 @@
-//! The text of what is said in one line.
+//! The texts of replies of one line.
 ghost use Rattle.std.specs.Prelude.{◌≡◌, ◌+◌, ◌≤◌, ◌++◌, [], ◌∷◌};
 ghost use Rattle.arrayvec.specs.ArrayVec.{array_vec_len};
-ghost use Rattle.script8.specs.Replies.{said_text, assembled_text, file_text, why_text, setting_text, cell_text, character_text, job_text};
+ghost use Rattle.script8.specs.Replies.{line_reply_text, assembled_text, file_text, why_text, setting_text, cell_text, character_text, job_text};
 
 use crate::text_lines::{put, put_name, put_number};
-use crate::{Said, Why};
+use crate::{LineReply, Why};
 use arrayvec::ArrayVec;
 use os8_dir::Name;
 use word12::Cell;
 
-/// Puts what is said in one line into an empty line.
-pub(crate) fn put_said(line: &mut ArrayVec<u8, 80>, said: &Said)
+/// Puts the text of a reply of one line into an empty line.
+pub(crate) fn put_line_reply(line: &mut ArrayVec<u8, 80>, reply: &LineReply)
     requires { array_vec_len line.old ≡ 0 }
-    ensures text { line.new.items ≡ line.old.items ++ said_text said.now }
+    ensures text { line.new.items ≡ line.old.items ++ line_reply_text reply.now }
     ensures short { array_vec_len line.new ≤ 70 }
 {
-    match said {
-        Said::Stored { name, blocks } => {
+    match reply {
+        LineReply::Stored { name, blocks } => {
             put(line, b"STORED ");
             put_file(line, *name, *blocks);
         }
-        Said::Deleted(name) => {
+        LineReply::Deleted(name) => {
             put(line, b"DELETED ");
             put_name(line, *name);
         }
-        Said::Job(job) => put_job(line, *job),
-        Said::Working(job) => {
+        LineReply::Job(job) => put_job(line, *job),
+        LineReply::Working(job) => {
             put(line, b"WORKING ");
             put_number(line, u64::from(*job));
         }
-        Said::Assembled {
+        LineReply::Assembled {
             number,
             name,
             blocks,
         } => put_assembled(line, *number, *name, *blocks),
-        Said::Loaded { number, name } => {
+        LineReply::Loaded { number, name } => {
             put_job(line, *number);
             put(line, b" LOADED ");
             put_name(line, *name);
         }
-        Said::Squeezed(job) => {
+        LineReply::Squeezed(job) => {
             put_job(line, *job);
             put(line, b" SQUEEZED");
         }
-        Said::Finished => put(line, b"FINISHED"),
-        Said::Started(cell) => {
+        LineReply::Finished => put(line, b"FINISHED"),
+        LineReply::Started(cell) => {
             put(line, b"STARTED ");
             put_cell(line, *cell);
         }
-        Said::Steps { steps, why, cell } => {
+        LineReply::Steps { steps, why, cell } => {
             put(line, b"STEPS ");
             put_number(line, u64::from(*steps));
             put_why(line, *why);
             put_cell(line, *cell);
         }
-        Said::Key(character) => {
+        LineReply::Key(character) => {
             put(line, b"KEY ");
             put(line, &octal3(*character));
         }
-        Said::Done => put(line, b"DONE"),
-        Said::Switches(word) => {
+        LineReply::Done => put(line, b"DONE"),
+        LineReply::Switches(word) => {
             put(line, b"SWITCHES ");
             put(line, &word.octal4());
         }
-        Said::Core { cell, word } => {
+        LineReply::Core { cell, word } => {
             put_cell(line, *cell);
             put(line, b" ");
             put(line, &word.octal4());
         }
-        Said::Break { cell, is_on } => {
+        LineReply::Break { cell, is_on } => {
             put(line, b"BREAK ");
             put_cell(line, *cell);
             put_setting(line, *is_on);

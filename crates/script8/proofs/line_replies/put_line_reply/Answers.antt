@@ -4,7 +4,7 @@ use Rattle.word12.specs.Octal.{octal4}
 use Rattle.script8.specs.Shown.{shown}
 use Rattle.script8.specs.Replies.{why_text, setting_text, cell_text}
 use Rattle.script8.proofs.LineTextLemmas.{two_pieces, three_pieces, job_pieces, blank_pieces}
-use Rattle.script8.proofs.said.put_said.Goals as goal
+use Rattle.script8.proofs.line_replies.put_line_reply.Goals as goal
 
 pub returns-in-Stored-clause-text : goal.returns-in-Stored-clause-text
 returns-in-Stored-clause-text c = rw c.in-Stored.is (two_pieces _ _ _ _ _ c.put.ensures.items c.put_file.ensures.text)

@@ -1,6 +1,6 @@
 use Rattle.std.proofs.Common.{[], ◌∷◌, ◌∙◌, sym, append_assoc}
 use Rattle.std.specs.Prelude.{codes}
-use Rattle.script8.proofs.said.put_why.Goals as goal
+use Rattle.script8.proofs.line_replies.put_why.Goals as goal
 
 pub returns-in-Halt-clause-text : goal.returns-in-Halt-clause-text
 returns-in-Halt-clause-text c = rw c.in-Halt.is (c.put.ensures.items ∙ sym (append_assoc _ (32 ∷ codes "HALT") (32 ∷ [])))
