@@ -1,4 +1,5 @@
 pub mod Sources
 pub mod Places
 pub mod Answers
+pub mod Telling
 pub mod Steps

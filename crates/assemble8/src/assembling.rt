@@ -2,11 +2,11 @@
 ghost use Rattle.std.specs.Prelude.{IfOk, IfErr};
 ghost use Rattle.assemble8.specs.Answers.{IsAssembled, IsTold};
 
-use crate::SourceFault;
 use crate::joins::join_all;
 use crate::locating::fault_place;
 use crate::places::place_of;
-use bin_tape::write_tape;
+use crate::{Fault, SourceFault};
+use bin_tape::{TapeFault, write_tape};
 use pal_asm::laws::has_words;
 use pal_asm::{AsmFault, assemble};
 use std::alloc::Global;
@@ -26,13 +26,14 @@ pub fn assemble_sources(alloc: Global, sources: &[&[u8]]) -> Result<Vec<u8>, Sou
     match assemble(alloc, &join.text) {
         Ok(pairs) => match write_tape(alloc, &pairs) {
             Ok(frames) => Ok(frames),
-            Err(_) => Err(SourceFault::Memory),
+            Err(TapeFault::Memory) => Err(SourceFault::Memory),
+            Err(_) => unreachable!(),
         },
         Err(AsmFault::Memory) => Err(SourceFault::Memory),
-        Err(AsmFault::At(code, _)) => {
+        Err(AsmFault::At(code, line)) => {
             let place = fault_place(alloc, &join.text)?;
             let place = place_of(alloc, sources, &join.counts, place)?;
-            Err(SourceFault::At(code, place))
+            Err(SourceFault::At(Fault { code, line, place }))
         }
     }
 }

@@ -12,8 +12,11 @@ mod joins;
 mod locating;
 mod pauses;
 mod places;
+mod showing;
 mod starts;
+mod telling;
 mod texts;
 
 pub use assembling::assemble_sources;
-pub use faults::{Place, SourceFault};
+pub use faults::{Fault, Place, SourceFault};
+pub use telling::fault_text;
