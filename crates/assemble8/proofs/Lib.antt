@@ -4,3 +4,5 @@ pub mod LocateLemmas
 pub mod StartLemmas
 pub mod PlaceLemmas
 pub mod JoinLemmas
+pub mod RowLemmas
+pub mod NameLemmas

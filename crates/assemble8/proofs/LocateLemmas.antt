@@ -92,7 +92,7 @@ settled_stays last later text now = by_fault (words_fault last (statements text)
 
 -- ## A text that goes on behind a byte
 
-goes_on : (bytes : List ℕ) (end : ℕ) → end < length bytes → text_of bytes ≡ text_of (drop (end + 1) bytes) ++ (get_or bytes end 0 ∷ text_of (take end bytes))
+pub goes_on : (bytes : List ℕ) (end : ℕ) → end < length bytes → text_of bytes ≡ text_of (drop (end + 1) bytes) ++ (get_or bytes end 0 ∷ text_of (take end bytes))
 goes_on bytes end inside = whole_text bytes (end + 1) ∙ ap (λ l. text_of (drop (end + 1) bytes) ++ l) (next_byte bytes end (get_or bytes end 0) inside refl)
 
 shortest_of : (holds : List ℕ → Bool) → ((later text : List ℕ) → holds text ≡ true → holds (later ++ text) ≡ true) → (bytes : List ℕ) (end : ℕ) → end < length bytes
@@ -318,7 +318,7 @@ pub record FirstStands (bytes : List ℕ) (taken : ℕ) (lexer : Progress) (asse
   pub going : is_over (text_of (take taken bytes)) ≡ false
   pub may : lexer.may_pause ≡ false
 
-nothing_read : statements [] ≡ []
+pub nothing_read : statements [] ≡ []
 unfolding statements
 nothing_read = refl
 

@@ -2,4 +2,8 @@ pub mod Sources
 pub mod Places
 pub mod Answers
 pub mod Telling
+pub mod Rows
+pub mod Symbols
+pub mod Listings
+pub mod NameSteps
 pub mod Steps

@@ -10,13 +10,17 @@ mod assembling;
 mod faults;
 mod joins;
 mod locating;
+mod names;
 mod pauses;
 mod places;
+mod rows;
 mod showing;
 mod starts;
+mod tables;
 mod telling;
 mod texts;
+mod word_ends;
 
-pub use assembling::assemble_sources;
+pub use assembling::{assemble_sources, list_sources};
 pub use faults::{Fault, Place, SourceFault};
 pub use telling::fault_text;
