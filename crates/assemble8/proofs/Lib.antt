@@ -6,3 +6,4 @@ pub mod PlaceLemmas
 pub mod JoinLemmas
 pub mod RowLemmas
 pub mod NameLemmas
+pub mod FurtherLemmas

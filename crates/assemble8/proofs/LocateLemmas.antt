@@ -117,9 +117,13 @@ length_from : (bytes text : List ℕ) → length (text_from text bytes) ≡ leng
 length_from [] text = omega arith
 length_from (b ∷ bytes) text = length_from bytes (b ∷ text) ∙ omega arith
 
+pub refused_whole : (bytes : List ℕ) (end : ℕ) (assembler : asm.Progress) → Passes bytes (passed.Refused end) assembler → is_refused (text_of bytes) ≡ true
+refused_whole bytes end assembler p =
+    ap is_refused (whole_text bytes (end + 1)) ∙ refused_stays (text_of (drop (end + 1) bytes)) (text_of (take (end + 1) bytes)) p.1
+
 pub refused_place : (bytes : List ℕ) (end : ℕ) (assembler : asm.Progress) → Passes bytes (passed.Refused end) assembler → fault_place (text_of bytes) ≡ start_of (text_of (take end bytes))
 refused_place bytes end assembler p =
-    by_refused (text_of bytes) (ap is_refused (whole_text bytes (end + 1)) ∙ refused_stays (text_of (drop (end + 1) bytes)) (text_of (take (end + 1) bytes)) p.1)
+    by_refused (text_of bytes) (refused_whole bytes end assembler p)
     ∙ shortest_of is_refused refused_stays bytes end p.0 p.1 p.2
 
 pub open_place : (bytes : List ℕ) (assembler : asm.Progress) → Passes bytes passed.Open assembler → fault_place (text_of bytes) ≡ length bytes

@@ -158,13 +158,18 @@ same_place s older (Field x) e = omega arith
 same_place s older (Reference operation indirect address) e = next_place (last_setting older) (words_since older) e
 same_place s older (Word x) e = next_place (last_setting older) (words_since older) e
 
+-- what names stand for at the body of a statement with these tags
+pub tagged_names : (tags : List ℕ) (older : Source) (old middle : BTreeMap ℕ ℕ) (place : ℕ) → Follows old place older → ((n : ℕ) → known middle n ≡ tag_values tags place (known old) n)
+    → known middle ≡ values_at tags older
+tagged_names tags older old middle place follows tagged =
+    fun_ext (λ n. tagged n ∙ ap (λ k. tag_values tags place k n) (fun_ext follows.values) ∙ ap (λ p. tag_values tags p (values older) n) follows.at)
+
 pub follows_on : (s : Statement) (older : Source) (old middle new : BTreeMap ℕ ℕ) (place next : ℕ) → Follows old place older → first_order (Ok s ∷ older) ≡ None
     → ((n : ℕ) → known middle n ≡ tag_values s.tags place (known old) n) → middle.entries ≡ with_tags old.entries s.tags place
     → ((n : ℕ) → known new n ≡ values_by (known middle) place s.body n) → new.entries ≡ with_body middle.entries (known middle) place s.body
     → next ≡ place_by (known middle) place s.body → Follows new next (Ok s ∷ older)
 follows_on s older old middle new place next follows fine tagged tag_entries valued value_entries goes =
-    let names : known middle ≡ values_at s.tags older =
-    fun_ext (λ n. tagged n ∙ ap (λ k. tag_values s.tags place k n) (fun_ext follows.values) ∙ ap (λ p. tag_values s.tags p (values older) n) follows.at) in
+    let names = tagged_names s.tags older old middle place follows tagged in
     let body = fine_body s older fine in
     record {
       values = λ n. valued n ∙ ap (λ k. values_by k place s.body n) names ∙ ap (λ p. values_by (values_at s.tags older) p s.body n) follows.at

@@ -5,5 +5,7 @@ pub mod Telling
 pub mod Rows
 pub mod Symbols
 pub mod Listings
+pub mod Further
 pub mod NameSteps
+pub mod JudgeSteps
 pub mod Steps

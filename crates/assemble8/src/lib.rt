@@ -8,7 +8,9 @@
 
 mod assembling;
 mod faults;
+mod further;
 mod joins;
+mod judging;
 mod locating;
 mod names;
 mod pauses;
@@ -23,4 +25,5 @@ mod word_ends;
 
 pub use assembling::{assemble_sources, list_sources};
 pub use faults::{Fault, Place, SourceFault};
+pub use further::further_faults;
 pub use telling::fault_text;

@@ -96,7 +96,11 @@ fn take(names: &mut Names, statement: &Statement) -> Result<(), AllocError>
 }
 
 /// Gives tags the place of their statement.
-fn set_tags(symbols: &mut BTreeMap<u64, u16>, tags: &[Name], place: u16) -> Result<(), AllocError>
+pub(crate) fn set_tags(
+    symbols: &mut BTreeMap<u64, u16>,
+    tags: &[Name],
+    place: u16,
+) -> Result<(), AllocError>
     ensures values { OnOk result ((n : ℕ) → known symbols.new n ≡ tag_values tags.now place (known symbols.old) n) }
     ensures entries { OnOk result (symbols.new.entries ≡ with_tags symbols.old.entries tags.now place) }
 {
@@ -109,7 +113,11 @@ fn set_tags(symbols: &mut BTreeMap<u64, u16>, tags: &[Name], place: u16) -> Resu
 }
 
 /// Takes a body at a place, and answers the next place.
-fn take_body(symbols: &mut BTreeMap<u64, u16>, place: u16, body: &Body) -> Result<u16, AllocError>
+pub(crate) fn take_body(
+    symbols: &mut BTreeMap<u64, u16>,
+    place: u16,
+    body: &Body,
+) -> Result<u16, AllocError>
     ensures values { OnOk result ((n : ℕ) → known symbols.new n ≡ values_by (known symbols.old) place body.now n) }
     ensures entries { OnOk result (symbols.new.entries ≡ with_body symbols.old.entries (known symbols.old) place body.now) }
     ensures place { IfOk result (λ next. next ≡ place_by (known symbols.old) place body.now) }
@@ -156,7 +164,7 @@ fn term_value(symbols: &BTreeMap<u64, u16>, place: u16, term: Term) -> Option<u1
 }
 
 /// The value of a name, the permanent one where no statement defines it.
-fn name_value(symbols: &BTreeMap<u64, u16>, name: Name) -> Option<u16>
+pub(crate) fn name_value(symbols: &BTreeMap<u64, u16>, name: Name) -> Option<u16>
     ensures { result ≡ known symbols.now name }
 {
     match symbols.get(&name.number()) {
@@ -176,7 +184,7 @@ pub(crate) fn permanent_value(name: u64) -> Option<u16>
 }
 
 /// Two values joined: sum and difference modulo 0o10000, inclusive or.
-fn joined(joint: Joint, before: u16, value: u16) -> u16
+pub(crate) fn joined(joint: Joint, before: u16, value: u16) -> u16
     ensures { result ≡ spec.joined joint before value }
 {
     match joint {
