@@ -7,3 +7,4 @@ pub mod JoinLemmas
 pub mod RowLemmas
 pub mod NameLemmas
 pub mod FurtherLemmas
+pub mod ReferenceLemmas

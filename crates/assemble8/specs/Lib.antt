@@ -4,6 +4,7 @@ pub mod Answers
 pub mod Telling
 pub mod Rows
 pub mod Symbols
+pub mod References
 pub mod Listings
 pub mod Further
 pub mod NameSteps

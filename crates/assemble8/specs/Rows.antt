@@ -46,9 +46,9 @@ rows line words (b ∷ source) ends =
     else (if nat_eq b 0o12 then record { line = line; words = words + first_end ends; ended = true } ∷ rows [] 0 source (drop 2 ends)
     else rows (line ++ b ∷ []) (words + first_end ends) source (drop 1 ends))
 
--- the ends of a source of which so many bytes are in a join, where counts come for this and further ones; it has all that
--- are left where none comes
-abbrev pub own_ends : List ℕ → List Bool → List Bool
+-- what is said of the bytes of a source of which so many are in a join, where counts come for this and further ones; all of
+-- it where none comes
+abbrev pub own_ends : {A : Type 0} → List ℕ → List A → List A
 own_ends [] ends = ends
 own_ends (count ∷ counts) ends = take count ends
 

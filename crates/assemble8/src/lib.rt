@@ -7,23 +7,28 @@
 #![tactic(auto)]
 
 mod assembling;
+mod crossing;
 mod faults;
 mod further;
 mod joins;
 mod judging;
+mod listing;
 mod locating;
 mod names;
 mod pauses;
 mod places;
+mod references;
 mod rows;
 mod showing;
+mod spots;
 mod starts;
 mod tables;
 mod telling;
 mod texts;
 mod word_ends;
 
-pub use assembling::{assemble_sources, list_sources};
+pub use assembling::assemble_sources;
 pub use faults::{Fault, Place, SourceFault};
 pub use further::further_faults;
+pub use listing::{ListingForm, list_sources};
 pub use telling::fault_text;

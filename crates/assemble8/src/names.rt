@@ -167,9 +167,16 @@ fn term_value(symbols: &BTreeMap<u64, u16>, place: u16, term: Term) -> Option<u1
 pub(crate) fn name_value(symbols: &BTreeMap<u64, u16>, name: Name) -> Option<u16>
     ensures { result ≡ known symbols.now name }
 {
-    match symbols.get(&name.number()) {
+    value_by_number(symbols, name.number())
+}
+
+/// The value of the name of a number.
+pub(crate) fn value_by_number(symbols: &BTreeMap<u64, u16>, name: u64) -> Option<u16>
+    ensures { result ≡ known symbols.now name }
+{
+    match symbols.get(&name) {
         Some(value) => Some(*value),
-        None => permanent_value(name.number()),
+        None => permanent_value(name),
     }
 }
 

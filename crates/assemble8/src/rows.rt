@@ -51,7 +51,7 @@ fn later_ends<'a>(counts: &[usize], ends: &'a [bool]) -> &'a [bool]
 }
 
 /// The counts of the sources behind one.
-fn later_counts(counts: &[usize]) -> &[usize]
+pub(crate) fn later_counts(counts: &[usize]) -> &[usize]
     ensures { result.now ≡ drop 1 counts.now }
 {
     match counts {

@@ -32,7 +32,7 @@ fn put_entry(text: &mut Vec<u8>, name: u64, value: u16) -> Result<(), AllocError
 }
 
 /// Puts a name with its value.
-fn put_symbol(text: &mut Vec<u8>, name: u64, value: u16) -> Result<(), AllocError>
+pub(crate) fn put_symbol(text: &mut Vec<u8>, name: u64, value: u16) -> Result<(), AllocError>
     ensures { OnOk result (text.new.items ≡ text.old.items ++ symbol_text (name, value)) }
 {
     text.extend_from_slice(&name_text(name))?;

@@ -76,7 +76,7 @@ fn put_caret(text: &mut Vec<u8>, line: &[u8], column: usize) -> Result<(), Alloc
 }
 
 /// Puts a fault as scripts are told it.
-fn put_numbered(text: &mut Vec<u8>, fault: Fault) -> Result<(), AllocError>
+pub(crate) fn put_numbered(text: &mut Vec<u8>, fault: Fault) -> Result<(), AllocError>
     ensures { OnOk result (text.new.items ≡ text.old.items ++ numbered fault) }
 {
     text.extend_from_slice(b"? 5 ")?;
@@ -88,7 +88,7 @@ fn put_numbered(text: &mut Vec<u8>, fault: Fault) -> Result<(), AllocError>
 }
 
 /// Puts a number in decimal, without leading zeros.
-fn put_number(text: &mut Vec<u8>, number: u64) -> Result<(), AllocError>
+pub(crate) fn put_number(text: &mut Vec<u8>, number: u64) -> Result<(), AllocError>
     ensures { OnOk result (text.new.items ≡ text.old.items ++ decimal number) }
 {
     let mut digits = itoa::Buffer::new();
