@@ -8,3 +8,4 @@ pub mod RowLemmas
 pub mod NameLemmas
 pub mod FurtherLemmas
 pub mod ReferenceLemmas
+pub mod LawLemmas

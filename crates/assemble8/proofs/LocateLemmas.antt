@@ -36,10 +36,10 @@ shortest_at holds stays (c ∷ later) here b now earlier = rw (stays later (b �
 
 -- ## What stays
 
-abbrev newest : List ℕ → ℕ → Result Statement LexFault
+abbrev pub newest : List ℕ → ℕ → Result Statement LexFault
 newest text b = judged (line_after text) (nat_eq b 36) (stretch text) (radix_after (statements text))
 
-one_more : (b : ℕ) (text : List ℕ) → statements (b ∷ text) ≡ (if ends_statement text b then newest text b ∷ statements text else statements text)
+pub one_more : (b : ℕ) (text : List ℕ) → statements (b ∷ text) ≡ (if ends_statement text b then newest text b ∷ statements text else statements text)
 unfolding statements
 one_more b text = refl
 

@@ -81,11 +81,11 @@ added tag place old new updates n = ap (λ o. if_none o (permanent n)) (updates.
 
 -- ## A statement with no fault
 
-first_none : {A : Type 0} (a b : Option A) → first_of a b ≡ None → (a ≡ None) × (b ≡ None)
+pub first_none : {A : Type 0} (a b : Option A) → first_of a b ≡ None → (a ≡ None) × (b ≡ None)
 first_none None b e = (refl, e)
 first_none (Some x) b e = cc
 
-line_none : (line : ℕ) (code : Option Code) → at_line line code ≡ None → code ≡ None
+pub line_none : (line : ℕ) (code : Option Code) → at_line line code ≡ None → code ≡ None
 line_none line None e = refl
 line_none line (Some code) e = cc
 
@@ -107,7 +107,7 @@ term_some names place (Name n) e = by_value (names n) refl e
 term_some names place (Number n) e = (n, refl)
 term_some names place Here e = (place, refl)
 
-value_some : (names : Known) (place before : ℕ) (parts : List Part) → terms_fault names place parts ≡ None → (v : ℕ) × (value_behind names place (Some before) parts ≡ Some v)
+pub value_some : (names : Known) (place before : ℕ) (parts : List Part) → terms_fault names place parts ≡ None → (v : ℕ) × (value_behind names place (Some before) parts ≡ Some v)
 value_some names place before [] e = (before, refl)
 value_some names place before (part ∷ others) e =
     let faults = first_none (term_fault names place part.term) (terms_fault names place others) e in

@@ -9,4 +9,5 @@ pub mod Listings
 pub mod Further
 pub mod NameSteps
 pub mod JudgeSteps
+pub mod Laws
 pub mod Steps

@@ -37,13 +37,17 @@ first_end [] = 0
 first_end (true ∷ ends) = 1
 first_end (false ∷ ends) = 0
 
+-- as many words as the first two of some bytes end
+unfoldable pub two_ends : List Bool → ℕ
+two_ends ends = first_end ends + first_end (drop 1 ends)
+
 -- The rows of a source behind the beginning of a line, at which so many words stand. Each byte but CR has its end in the
 -- text, and LF has two, that of its CR and its own.
 abbrev pub rows : List ℕ → ℕ → List ℕ → List Bool → List Row
 rows line words [] ends = record { line = line; words = words; ended = false } ∷ []
 rows line words (b ∷ source) ends =
     if nat_eq b 0o15 then rows line words source ends
-    else (if nat_eq b 0o12 then record { line = line; words = words + first_end ends; ended = true } ∷ rows [] 0 source (drop 2 ends)
+    else (if nat_eq b 0o12 then record { line = line; words = words + two_ends ends; ended = true } ∷ rows [] 0 source (drop 2 ends)
     else rows (line ++ b ∷ []) (words + first_end ends) source (drop 1 ends))
 
 -- what is said of the bytes of a source of which so many are in a join, where counts come for this and further ones; all of

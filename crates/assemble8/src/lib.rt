@@ -12,6 +12,7 @@ mod faults;
 mod further;
 mod joins;
 mod judging;
+pub mod laws;
 mod listing;
 mod locating;
 mod names;

@@ -1,6 +1,6 @@
 //! The lines of a listing.
 ghost use Rattle.std.specs.Prelude.{◌≡◌, ◌++◌, ◌+◌, ◌∷◌, ◌≤◌, [], List, take, drop, length, IfOk, OnOk};
-ghost use Rattle.assemble8.specs.Rows.{Row, first_end, rows, own_ends, later_ends, all_rows, word_text, below_text, line_text, row_text, rows_text};
+ghost use Rattle.assemble8.specs.Rows.{Row, first_end, two_ends, rows, own_ends, later_ends, all_rows, word_text, below_text, line_text, row_text, rows_text};
 
 use std::alloc::{AllocError, Global};
 use word12::{Cell, Word};
@@ -80,7 +80,7 @@ fn put_source<'a>(
         match *byte {
             b'\r' => {}
             b'\n' => {
-                words += first_end(ends);
+                words += two_ends(ends);
                 let (here, later) = split_words(left, words);
                 put_line(text, &line, here)?;
                 line.clear();
@@ -122,6 +122,15 @@ fn before(ends: &[bool], count: usize) -> &[bool]
         return ends.split_at(count).0;
     }
     ends
+}
+
+/// As many words as the first two of some bytes end.
+#[tactic(auto, unfolding(crate::specs::Rows::two_ends))]
+fn two_ends(ends: &[bool]) -> usize
+    ensures value { result ≡ two_ends ends.now }
+    ensures range { result ≤ 2 }
+{
+    first_end(ends) + first_end(behind(ends, 1))
 }
 
 /// What stands behind so many.

@@ -1,0 +1,51 @@
+-- What holds of each listing, for the laws.
+use Rattle.std.specs.Prelude.{◌≡◌, ℕ, ◌+◌, nat_eq, if◌then◌else◌, None, length, take, drop, List, [], ◌∷◌, ◌++◌}
+use Rattle.std.specs.Borrow.{Bor}
+use Rattle.pal_asm.specs.Words.{pairs_of}
+use Rattle.pal_asm.specs.Faults.{fault_of}
+use Rattle.assemble8.specs.Sources.{newest_first}
+use Rattle.assemble8.specs.Rows.{Row, rows}
+use Rattle.assemble8.specs.Listings.{rows_of}
+
+-- ## Words
+
+-- the words that stand at rows, one row after the other
+abbrev pub words_at : List Row → List (ℕ × ℕ) → List (ℕ × ℕ)
+words_at [] pairs = []
+words_at (row ∷ rows) pairs = take row.words pairs ++ words_at rows (drop row.words pairs)
+
+abbrev pub word_count : List Row → ℕ
+word_count [] = 0
+word_count (row ∷ rows) = row.words + word_count rows
+
+-- The words that stand at the lines of a listing, one line after the other, are those of the join of the sources, in their
+-- order and no others, and each line has as many as stand there.
+abbrev pub WordsAreListed : Type 0
+WordsAreListed =
+    (sources : List (Bor (List ℕ))) → fault_of (newest_first sources) ≡ None
+    → (words_at (rows_of sources) (pairs_of (newest_first sources)) ≡ pairs_of (newest_first sources))
+    × (word_count (rows_of sources) ≡ length (pairs_of (newest_first sources)))
+
+-- ## Lines
+
+-- a byte in front of the first of lines
+abbrev pub in_front : ℕ → List (List ℕ) → List (List ℕ)
+in_front b [] = (b ∷ []) ∷ []
+in_front b (line ∷ lines) = (b ∷ line) ∷ lines
+
+-- the lines of a source: LF ends one, each CR is left out, and behind the last LF there is one more, which may be empty
+abbrev pub lines : List ℕ → List (List ℕ)
+lines [] = [] ∷ []
+lines (b ∷ source) = if nat_eq b 0o15 then lines source else (if nat_eq b 0o12 then [] ∷ lines source else in_front b (lines source))
+
+abbrev pub all_lines : List (Bor (List ℕ)) → List (List ℕ)
+all_lines [] = []
+all_lines (source ∷ others) = lines source.now ++ all_lines others
+
+abbrev pub row_lines : List Row → List (List ℕ)
+row_lines [] = []
+row_lines (row ∷ rows) = row.line ∷ row_lines rows
+
+-- The lines of a listing are those of the sources, whatever stands at them.
+abbrev pub LinesAreListed : Type 0
+LinesAreListed = (sources : List (Bor (List ℕ))) → row_lines (rows_of sources) ≡ all_lines sources
