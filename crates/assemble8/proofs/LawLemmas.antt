@@ -50,23 +50,19 @@ rows_if true lf a b c = refl
 rows_if false true a b c = refl
 rows_if false false a b c = refl
 
-nothing_before : (l : List (List ℕ)) (b : ℕ) (source : List ℕ) → l ≡ lines source → behind_line [] l ≡ l
-unfolding behind_line
-nothing_before [] b source e = absurd_nil source e
+pub some_line : (source : List ℕ) → (line : List ℕ) × ((others : List (List ℕ)) × (lines source ≡ line ∷ others))
+some_line [] = ([], ([], refl))
+some_line (b ∷ source) = by_tests (nat_eq b 13) (nat_eq b 10) (some_line source)
   where
-    some_line : (source : List ℕ) → (line : List ℕ) × ((others : List (List ℕ)) × (lines source ≡ line ∷ others))
-    some_line [] = ([], ([], refl))
-    some_line (b ∷ source) = by_tests (nat_eq b 13) (nat_eq b 10) (some_line source)
-      where
-        by_tests : (cr lf : Bool) → (line : List ℕ) × ((others : List (List ℕ)) × (lines source ≡ line ∷ others))
-            → (line : List ℕ) × ((others : List (List ℕ)) × ((if cr then lines source else (if lf then [] ∷ lines source else in_front b (lines source))) ≡ line ∷ others))
-        by_tests true lf some = some
-        by_tests false true some = ([], (lines source, refl))
-        by_tests false false some = (b ∷ some.0, (some.1.0, ap (in_front b) some.1.1))
+    by_tests : (cr lf : Bool) → (line : List ℕ) × ((others : List (List ℕ)) × (lines source ≡ line ∷ others))
+        → (line : List ℕ) × ((others : List (List ℕ)) × ((if cr then lines source else (if lf then [] ∷ lines source else in_front b (lines source))) ≡ line ∷ others))
+    by_tests true lf some = some
+    by_tests false true some = ([], (lines source, refl))
+    by_tests false false some = (b ∷ some.0, (some.1.0, ap (in_front b) some.1.1))
 
-    absurd_nil : {A : Type 0} (source : List ℕ) → [] ≡ lines source → A
-    absurd_nil source e = let some = some_line source in let same : [] ≡ some.0 ∷ some.1.0 = e ∙ some.1.1 in absurd cc
-nothing_before (line ∷ l) b source e = refl
+nothing_before : (source : List ℕ) → behind_line [] (lines source) ≡ lines source
+unfolding behind_line
+nothing_before source = let some = some_line source in ap (behind_line []) some.1.1 ∙ sym some.1.1
 
 row_by_row : (so_far : List ℕ) (words : ℕ) (source : List ℕ) (ends : List Bool) → row_lines (rows so_far words source ends) ≡ behind_line so_far (lines source)
 unfolding behind_line
@@ -76,7 +72,10 @@ row_by_row so_far words (b ∷ source) ends =
     (record { line = so_far; words = words + two_ends ends; ended = true } ∷ rows [] 0 source (drop 2 ends))
     (rows (so_far ++ b ∷ []) (words + first_end ends) source (drop 1 ends))
     ∙ lines_by (nat_eq b 13) (nat_eq b 10) so_far b source _ _ _ (row_by_row so_far words source ends)
-    (ap (λ x. so_far ∷ x) (row_by_row [] 0 source (drop 2 ends) ∙ nothing_before (lines source) b source refl)) (row_by_row (so_far ++ b ∷ []) (words + first_end ends) source (drop 1 ends))
+    (ap (λ x. so_far ∷ x) (row_by_row [] 0 source (drop 2 ends) ∙ nothing_before source)) (row_by_row (so_far ++ b ∷ []) (words + first_end ends) source (drop 1 ends))
+
+pub lines_by_row : (source : List ℕ) (ends : List Bool) → row_lines (rows [] 0 source ends) ≡ lines source
+lines_by_row source ends = row_by_row [] 0 source ends ∙ nothing_before source
 
 row_lines-append : (a b : List Row) → row_lines (a ++ b) ≡ row_lines a ++ row_lines b
 row_lines-append [] b = refl
@@ -87,7 +86,7 @@ source_by_source [] counts ends = refl
 source_by_source (source ∷ others) counts ends =
     row_lines-append (rows [] 0 source.now (own_ends counts ends)) (all_rows others (drop 1 counts) (later_ends counts ends))
     ∙ ap (λ l. l ++ row_lines (all_rows others (drop 1 counts) (later_ends counts ends)))
-    (row_by_row [] 0 source.now (own_ends counts ends) ∙ nothing_before (lines source.now) 0 source.now refl)
+    (row_by_row [] 0 source.now (own_ends counts ends) ∙ nothing_before source.now)
     ∙ ap (λ l. lines source.now ++ l) (source_by_source others (drop 1 counts) (later_ends counts ends))
 
 pub lines_listed : LinesAreListed
@@ -150,12 +149,24 @@ counted so_far words (b ∷ source) ends =
     counted_by (nat_eq b 13) (nat_eq b 10) b words (length (host_text source)) ends source _ _ _ refl (counted so_far words source ends)
     (ap (λ n. words + two_ends ends + n) (counted [] 0 source (drop 2 ends)) ∙ omega arith) (counted (so_far ++ b ∷ []) (words + first_end ends) source (drop 1 ends))
 
-abbrev no_ends : List Bool
+abbrev pub no_ends : List Bool
 no_ends = []
 
 take_none : (n : ℕ) → take n no_ends ≡ []
 take_none zero = refl
 take_none (suc n) = refl
+
+pub own_none : (counts : List ℕ) → own_ends counts no_ends ≡ []
+own_none [] = refl
+own_none (count ∷ counts) = take_none count
+
+drop_none : (n : ℕ) → drop n no_ends ≡ []
+drop_none zero = refl
+drop_none (suc n) = refl
+
+pub later_none : (counts : List ℕ) → later_ends counts [] ≡ []
+later_none [] = refl
+later_none (count ∷ counts) = drop_none count
 
 none_counted : (sources : List (Bor (List ℕ))) (counts : List ℕ) → word_count (all_rows sources counts []) ≡ 0
 unfolding ones
@@ -189,7 +200,7 @@ cut_shorter (b ∷ older) = by_tests (is_dead older b) (is_end b) (cut_shorter o
     by_tests false true e = omega arith
     by_tests false false e = omega (arith, e)
 
-front_shorter : (text front : List ℕ) → before_pause text ≡ Some front → length front ≤ length text
+pub front_shorter : (text front : List ℕ) → before_pause text ≡ Some front → length front ≤ length text
 front_shorter [] front e = absurd cc
 front_shorter (b ∷ older) front e = by_front (before_pause older) (pauses older b) refl (front_shorter older front) e
   where
@@ -238,7 +249,7 @@ all_counted (source ∷ next ∷ others) ends size = by_pause (before_pause (tex
 
 -- ## As many words as end
 
-length_ends : (text : List ℕ) → length (word_ends text) ≡ length text
+pub length_ends : (text : List ℕ) → length (word_ends text) ≡ length text
 length_ends [] = refl
 length_ends (b ∷ older) = length-append (word_ends older) (ends_word older b ∷ []) ∙ (let before = length_ends older in omega (arith, before))
 

@@ -9,3 +9,4 @@ pub mod NameLemmas
 pub mod FurtherLemmas
 pub mod ReferenceLemmas
 pub mod LawLemmas
+pub mod StandLemmas

@@ -1,11 +1,13 @@
 -- What holds of each listing, for the laws.
-use Rattle.std.specs.Prelude.{◌≡◌, ℕ, ◌+◌, nat_eq, if◌then◌else◌, None, length, take, drop, List, [], ◌∷◌, ◌++◌}
+use Rattle.std.specs.Prelude.{◌≡◌, ℕ, ◌+◌, nat_eq, if◌then◌else◌, None, length, take, drop, replicate, List, [], ◌∷◌, ◌++◌}
 use Rattle.std.specs.Borrow.{Bor}
 use Rattle.pal_asm.specs.Words.{pairs_of}
 use Rattle.pal_asm.specs.Faults.{fault_of}
 use Rattle.assemble8.specs.Sources.{newest_first}
-use Rattle.assemble8.specs.Rows.{Row, rows}
+use Rattle.assemble8.specs.Rows.{Row, ends_word}
 use Rattle.assemble8.specs.Listings.{rows_of}
+use Rattle.assemble8.specs.Further.{place_at_byte}
+use Rattle.assemble8.specs.declared.spots.Spot.{Spot}
 
 -- ## Words
 
@@ -49,3 +51,35 @@ row_lines (row ∷ rows) = row.line ∷ row_lines rows
 -- The lines of a listing are those of the sources, whatever stands at them.
 abbrev pub LinesAreListed : Type 0
 LinesAreListed = (sources : List (Bor (List ℕ))) → row_lines (rows_of sources) ≡ all_lines sources
+
+-- ## Where words stand
+
+-- a spot for each line of a source that has this number, from this line on
+abbrev pub line_spots : ℕ → ℕ → List (List ℕ) → List Spot
+line_spots number line [] = []
+line_spots number line (text ∷ lines) = record { source = number; line = line } ∷ line_spots number (line + 1) lines
+
+-- a spot for each line of sources, of which the first has this number
+abbrev pub row_spots : ℕ → List (Bor (List ℕ)) → List Spot
+row_spots number [] = []
+row_spots number (source ∷ others) = line_spots number 1 (lines source.now) ++ row_spots (number + 1) others
+
+-- the spots of the words that stand at rows with these spots
+abbrev pub word_spots : List Row → List Spot → List Spot
+word_spots [] spots = []
+word_spots (row ∷ rows) [] = []
+word_spots (row ∷ rows) (spot ∷ spots) = replicate row.words spot ++ word_spots rows spots
+
+-- the spot of a byte of the join of sources, by its place there
+abbrev pub spot_by : List (Bor (List ℕ)) → ℕ → Spot
+spot_by sources at = let place = place_at_byte sources at in record { source = place.source + 1; line = place.line }
+
+-- the spots of the words of a text, each that of the byte that ends its statement
+abbrev pub end_spots : (ℕ → Spot) → List ℕ → List Spot
+end_spots spot [] = []
+end_spots spot (b ∷ older) = end_spots spot older ++ (if ends_word older b then spot (length older) ∷ [] else [])
+
+-- The words of a listing stand each at the source and the line at which its statement ends.
+abbrev pub WordsStand : Type 0
+WordsStand =
+    (sources : List (Bor (List ℕ))) → word_spots (rows_of sources) (row_spots 1 sources) ≡ end_spots (spot_by sources) (newest_first sources)

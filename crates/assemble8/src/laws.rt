@@ -1,6 +1,6 @@
 //! Laws about listings, which hold whatever writes them. A call of one does nothing, and lets its caller use it.
 
-ghost use Rattle.assemble8.specs.Laws.{WordsAreListed, LinesAreListed};
+ghost use Rattle.assemble8.specs.Laws.{WordsAreListed, LinesAreListed, WordsStand};
 
 /// The words that stand at the lines of a listing are those of the sources, in their order and no others.
 pub fn words_are_listed()
@@ -10,4 +10,9 @@ pub fn words_are_listed()
 /// The lines of a listing are those of the sources.
 pub fn lines_are_listed()
     ensures { LinesAreListed }
+{}
+
+/// Each word of a listing stands at the source and the line at which its statement ends.
+pub fn words_stand()
+    ensures { WordsStand }
 {}
