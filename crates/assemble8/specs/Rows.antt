@@ -87,13 +87,14 @@ abbrev pub line_text : List ℕ → List (ℕ × ℕ) → List ℕ
 line_text line [] = margin line ++ line ++ codes "\n"
 line_text line (pair ∷ pairs) = word_text pair ++ codes "     " ++ line ++ codes "\n" ++ below_text pairs
 
-abbrev pub is_empty : List ℕ → Bool
-is_empty [] = true
-is_empty (b ∷ line) = false
+-- what stands behind the last LF of a source is no line if it is empty
+abbrev pub last_text : List ℕ → List (ℕ × ℕ) → List ℕ
+last_text [] pairs = []
+last_text (b ∷ line) pairs = line_text (b ∷ line) pairs
 
--- a row with its words; behind the last LF of a source there is none that is empty
+-- a row with its words
 abbrev pub row_text : Row → List (ℕ × ℕ) → List ℕ
-row_text row pairs = if row.ended || not (is_empty row.line) then line_text row.line pairs else []
+row_text row pairs = if row.ended then line_text row.line pairs else last_text row.line pairs
 
 -- rows, over which these words are spread
 abbrev pub rows_text : List Row → List (ℕ × ℕ) → List ℕ

@@ -1,6 +1,6 @@
 //! The lines of a listing.
 ghost use Rattle.std.specs.Prelude.{◌≡◌, ◌++◌, ◌+◌, ◌∷◌, ◌≤◌, [], List, take, drop, length, IfOk, OnOk};
-ghost use Rattle.assemble8.specs.Rows.{Row, first_end, two_ends, rows, own_ends, later_ends, all_rows, word_text, below_text, line_text, row_text, rows_text};
+ghost use Rattle.assemble8.specs.Rows.{Row, first_end, two_ends, rows, own_ends, later_ends, all_rows, word_text, below_text, line_text, last_text, row_text, rows_text};
 
 use std::alloc::{AllocError, Global};
 use word12::{Cell, Word};
@@ -97,10 +97,18 @@ fn put_source<'a>(
         rest = others;
     }
     let (here, later) = split_words(left, words);
-    if !line.is_empty() {
-        put_line(text, &line, here)?;
-    }
+    put_last(text, &line, here)?;
     Ok(later)
+}
+
+/// Puts the line behind the last LF of a source, if there is any.
+fn put_last(text: &mut Vec<u8>, line: &[u8], pairs: &[(Cell, Word)]) -> Result<(), AllocError>
+    ensures { OnOk result (text.new.items ≡ text.old.items ++ last_text line.now pairs.now) }
+{
+    if line.is_empty() {
+        return Ok(());
+    }
+    put_line(text, line, pairs)
 }
 
 /// One word, if the first of some bytes ends one.
