@@ -10,3 +10,4 @@ pub mod FurtherLemmas
 pub mod ReferenceLemmas
 pub mod LawLemmas
 pub mod StandLemmas
+pub mod SymbolLemmas

@@ -119,7 +119,7 @@ chosen : (test : Bool) (v : ℕ) (value before : Option ℕ) → value ≡ Some 
 chosen true v value before e = ap (λ o. if_none o before) e ∙ sym e
 chosen false v value before e = refl
 
-same_values : (fixed : ℕ → Bool) (names : Known) (place : ℕ) (body : Body) (n : ℕ) → body_fault fixed names place body ≡ None → values_by names place body n ≡ body_values names place body n
+pub same_values : (fixed : ℕ → Bool) (names : Known) (place : ℕ) (body : Body) (n : ℕ) → body_fault fixed names place body ≡ None → values_by names place body n ≡ body_values names place body n
 same_values fixed names place Nothing n e = refl
 same_values fixed names place (Origin x) n e = refl
 same_values fixed names place (Define name x) n e =

@@ -1,10 +1,18 @@
 -- What holds of each listing, for the laws.
-use Rattle.std.specs.Prelude.{◌≡◌, ℕ, ◌+◌, nat_eq, if◌then◌else◌, None, length, take, drop, replicate, List, [], ◌∷◌, ◌++◌}
+use Rattle.std.specs.Prelude.{◌≡◌, ℕ, Option, ◌+◌, nat_eq, if◌then◌else◌, None, length, take, drop, replicate, List, [], ◌∷◌, ◌++◌}
 use Rattle.std.specs.Borrow.{Bor}
+use Rattle.std.specs.Ordering.{nat_cmp}
+use Rattle.std.specs.Map.{lookup}
+use Rattle.std.specs.BTreeMap.{is_at}
+use Rattle.pal_sym.specs.Permanent.{permanent}
+use Rattle.pal_sym.specs.Values.{if_none}
+use Rattle.pal_lex.specs.Statements.{statements}
+use Rattle.pal_asm.specs.Places.{values}
 use Rattle.pal_asm.specs.Words.{pairs_of}
 use Rattle.pal_asm.specs.Faults.{fault_of}
 use Rattle.assemble8.specs.Sources.{newest_first}
 use Rattle.assemble8.specs.Rows.{Row, ends_word}
+use Rattle.assemble8.specs.Symbols.{Entries, symbols_of}
 use Rattle.assemble8.specs.Listings.{rows_of}
 use Rattle.assemble8.specs.Further.{place_at_byte}
 use Rattle.assemble8.specs.declared.spots.Spot.{Spot}
@@ -83,3 +91,15 @@ end_spots spot (b ∷ older) = end_spots spot older ++ (if ends_word older b the
 abbrev pub WordsStand : Type 0
 WordsStand =
     (sources : List (Bor (List ℕ))) → word_spots (rows_of sources) (row_spots 1 sources) ≡ end_spots (spot_by sources) (newest_first sources)
+
+-- ## Symbols
+
+-- what a name stands for by symbols, its permanent value where it is none of them
+abbrev pub value_by : Entries → ℕ → Option ℕ
+value_by entries name = if_none (lookup (is_at (nat_cmp name)) entries) (permanent name)
+
+-- The symbols of a listing have the values that names stand for behind all statements.
+abbrev pub SymbolsHaveLastValues : Type 0
+SymbolsHaveLastValues =
+    (sources : List (Bor (List ℕ))) → fault_of (newest_first sources) ≡ None
+    → (name : ℕ) → value_by (symbols_of (statements (newest_first sources))) name ≡ values (statements (newest_first sources)) name

@@ -1,6 +1,6 @@
 //! Laws about listings, which hold whatever writes them. A call of one does nothing, and lets its caller use it.
 
-ghost use Rattle.assemble8.specs.Laws.{WordsAreListed, LinesAreListed, WordsStand};
+ghost use Rattle.assemble8.specs.Laws.{WordsAreListed, LinesAreListed, WordsStand, SymbolsHaveLastValues};
 
 /// The words that stand at the lines of a listing are those of the sources, in their order and no others.
 pub fn words_are_listed()
@@ -15,4 +15,9 @@ pub fn lines_are_listed()
 /// Each word of a listing stands at the source and the line at which its statement ends.
 pub fn words_stand()
     ensures { WordsStand }
+{}
+
+/// The symbols of a listing have the values that names stand for behind all statements.
+pub fn symbols_have_last_values()
+    ensures { SymbolsHaveLastValues }
 {}
