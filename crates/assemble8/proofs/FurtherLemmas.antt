@@ -12,7 +12,7 @@ use Rattle.pal_lex.specs.declared.phrases.Body.{Body}
 use Rattle.pal_lex.specs.declared.phrases.Statement.{Statement}
 use Rattle.pal_asm.specs.declared.faults.Code.{Code}
 use Rattle.pal_asm.specs.Expressions.{Known}
-use Rattle.pal_asm.specs.Places.{Source, with_tags as tag_values, values, values_at, place_at}
+use Rattle.pal_asm.specs.Places.{Source, with_tags as tag_values, values, place_at}
 use Rattle.pal_asm.specs.Words.{word_values}
 use Rattle.pal_asm.specs.Faults.{word_fault}
 use Rattle.assemble8.specs.Sources.{texts_of, newest_first, counts_of}
@@ -21,7 +21,6 @@ use Rattle.assemble8.specs.NameSteps.{known, Follows}
 use Rattle.assemble8.specs.JudgeSteps.{known_last, placed}
 use Rattle.assemble8.specs.Further.{with_line, newest_fault, byte_fault, with_place, word_faults, place_at_byte, further_faults}
 use Rattle.assemble8.specs.declared.faults.Place.{Place}
-use Rattle.assemble8.specs.declared.faults.Fault.{Fault}
 use Rattle.assemble8.specs.declared.further.Found.{Found}
 use Rattle.assemble8.proofs.PauseLemmas.{none_ends, one_ends, next_byte}
 use Rattle.assemble8.proofs.LocateLemmas.{handed}

@@ -1,22 +1,20 @@
 -- The words and the lines of a listing.
-use Rattle.std.proofs.Common.{◌≡◌, ℕ, ◌+◌, ◌-◌, ◌≤◌, nat_eq, Bool, true, false, ◌&&◌, if◌then◌else◌, Option, Some, None, Result, Ok, Err, unwrap_or, zero, suc, length, take, drop, List, [], ◌∷◌, ◌++◌, refl, ap, sym, subst, ◌∙◌, append_assoc, append-nil, length-append, length-take, length-drop, arith}
+use Rattle.std.proofs.Common.{◌≡◌, ℕ, ◌+◌, ◌≤◌, nat_eq, Bool, true, false, ◌&&◌, if◌then◌else◌, Option, Some, None, Result, Ok, Err, unwrap_or, zero, suc, length, take, drop, List, [], ◌∷◌, ◌++◌, refl, ap, sym, ◌∙◌, append_assoc, append-nil, length-append, length-take, length-drop, arith}
 use Rattle.std.proofs.lemmas.List.{take_all, take-append-drop, drop-drop}
 use Rattle.std.specs.Borrow.{Bor}
-use Rattle.char_pack.specs.Texts.{line_ends, host_text}
-use Rattle.pal_lex.specs.Text.{is_dead, is_end, ends_statement, stretch, up_to_end, text_from, text_of, line_after}
-use Rattle.pal_lex.specs.Statements.{statements, judged, radix_after}
+use Rattle.char_pack.specs.Texts.{host_text}
+use Rattle.pal_lex.specs.Text.{is_dead, is_end, ends_statement, up_to_end, text_of}
+use Rattle.pal_lex.specs.Statements.{statements}
 use Rattle.pal_lex.specs.Joins.{pauses, first_text, before_pause, continued, join_of}
 use Rattle.pal_lex.specs.declared.faults.LexFault.{LexFault}
 use Rattle.pal_lex.specs.declared.phrases.Body.{Body}
 use Rattle.pal_lex.specs.declared.phrases.Body.TheVariants.{Nothing, Origin, Define, Decimal, Octal, Pause, Field, Reference, Word}
 use Rattle.pal_lex.specs.declared.phrases.Operation.{Operation}
-use Rattle.pal_lex.specs.declared.phrases.Part.{Part}
 use Rattle.pal_lex.specs.declared.phrases.Statement.{Statement}
-use Rattle.pal_asm.specs.declared.faults.AsmFault.{AsmFault}
-use Rattle.pal_asm.specs.Expressions.{Known, value_of, address_value}
+use Rattle.pal_asm.specs.Expressions.{Known, value_of}
 use Rattle.pal_asm.specs.Places.{Source, is_word, place_at, values}
 use Rattle.pal_asm.specs.Words.{offset_of, offset_to, with_offset, body_word, cell_at, with_pair, word_values, pairs_by, pairs_of}
-use Rattle.pal_asm.specs.Faults.{first_of, at_line, first_order, no_offset, out_of_reach, address_fault, terms_fault, word_fault, words_fault, no_end, no_word, fault_by, fault_of}
+use Rattle.pal_asm.specs.Faults.{first_of, at_line, first_order, no_offset, out_of_reach, terms_fault, word_fault, words_fault, no_end, no_word, fault_of}
 use Rattle.assemble8.specs.Sources.{texts_of, newest_first, counts_by, counts_of}
 use Rattle.assemble8.specs.Rows.{Row, is_newest_word, ends_word, word_ends, first_end, two_ends, rows, own_ends, later_ends, all_rows}
 use Rattle.assemble8.specs.Listings.{rows_of}

@@ -1,5 +1,5 @@
 -- What names stand for, one statement at a time.
-use Rattle.std.proofs.Common.{◌≡◌, ℕ, ◌+◌, ◌-◌, ◌≤◌, min, cond, nat_eq, nat_lt, Bool, true, false, if◌then◌else◌, Option, Some, None, Ok, unwrap_or, length, get_or, take, drop, List, [], ◌∷◌, refl, ap, sym, subst, ◌∙◌, suc, arith}
+use Rattle.std.proofs.Common.{◌≡◌, ℕ, ◌+◌, ◌-◌, ◌≤◌, min, cond, nat_eq, nat_lt, Bool, true, false, if◌then◌else◌, Option, Some, None, Ok, length, get_or, take, drop, List, [], ◌∷◌, refl, ap, sym, ◌∙◌, suc, arith}
 use Rattle.std.proofs.lemmas.List.{take_all}
 use Rattle.std.proofs.lemmas.Bool.Decides.{nat_tests}
 use Rattle.std.proofs.lemmas.Grind.{common_steps}
@@ -19,7 +19,7 @@ use Rattle.pal_asm.specs.declared.faults.Code.TheVariants.{PF}
 use Rattle.pal_asm.specs.Expressions.{Known, term_value, joined, joined_values, value_behind, value_of}
 use Rattle.pal_asm.specs.Places.{Source, set_by, sets_location, is_word, with_tags as tag_values, with_body as body_values, place_at, last_setting, words_since, values, values_at, fixed_at}
 use Rattle.pal_asm.specs.Faults.{first_of, past, undefined, term_fault, terms_fault, body_fault, tags_fault, statement_fault, at_line, first_order}
-use Rattle.assemble8.specs.Symbols.{Entries, with_tags, with_body, symbols_of}
+use Rattle.assemble8.specs.Symbols.{with_tags, with_body, symbols_of}
 use Rattle.assemble8.specs.NameSteps.{known, values_by, place_by, Follows}
 
 -- what stands behind the first of a list

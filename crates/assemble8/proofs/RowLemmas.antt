@@ -1,10 +1,10 @@
 -- Which bytes of a text end words.
-use Rattle.std.proofs.Common.{◌≡◌, ℕ, ◌+◌, ◌/◌, ◌%◌, ◌<◌, Bool, true, false, ◌&&◌, append_assoc, Option, Some, None, Ok, length, take, drop, get_or, List, [], ◌∷◌, ◌++◌, refl, ap, sym, ◌∙◌}
+use Rattle.std.proofs.Common.{◌≡◌, ℕ, ◌+◌, ◌/◌, ◌%◌, ◌<◌, Bool, false, ◌&&◌, append_assoc, Option, Some, None, Ok, length, take, drop, get_or, List, [], ◌∷◌, ◌++◌, refl, ap, sym, ◌∙◌}
 use Rattle.word12.specs.Octal.{octal4}
 use Rattle.pal_lex.specs.Text.{text_of}
 use Rattle.pal_lex.specs.Statements.{statements, first_fault}
 use Rattle.pal_lex.specs.Laws.{FaultStays}
-use Rattle.pal_lex.specs.Reading.{HasRead, Answers, tokens_behind, with_tokens}
+use Rattle.pal_lex.specs.Reading.{Answers, tokens_behind, with_tokens}
 use Rattle.pal_lex.specs.Progress.{Progress}
 use Rattle.pal_lex.specs.declared.faults.LexFault.{LexFault}
 use Rattle.pal_lex.specs.declared.phrases.Statement.{Statement}

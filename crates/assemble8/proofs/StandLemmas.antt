@@ -1,5 +1,5 @@
 -- Where the words of a listing stand.
-use Rattle.std.proofs.Common.{◌≡◌, ℕ, ◌+◌, ◌-◌, ◌≤◌, ◌<◌, nat_eq, nat_lt, Bool, true, false, ◌&&◌, if◌then◌else◌, Option, Some, None, zero, suc, length, take, drop, replicate, get_or, List, [], ◌∷◌, ◌++◌, refl, ap, sym, subst, ◌∙◌, append_assoc, append-nil, length-append, length-take, length-drop, arith}
+use Rattle.std.proofs.Common.{◌≡◌, ℕ, ◌+◌, ◌-◌, ◌≤◌, ◌<◌, nat_eq, nat_lt, Bool, true, false, if◌then◌else◌, Option, Some, None, zero, suc, length, take, drop, replicate, get_or, List, [], ◌∷◌, ◌++◌, refl, ap, sym, ◌∙◌, append_assoc, append-nil, length-append, length-drop, arith}
 use Rattle.std.proofs.lemmas.List.{take-append-drop, replicate-append-replicate, length-take-le, get_or_append_left, get_or-append_right, get_or-take}
 use Rattle.std.proofs.lemmas.Bool.Decides.{nat_tests}
 use Rattle.std.specs.Borrow.{Bor}
@@ -7,11 +7,9 @@ use Rattle.char_pack.specs.Texts.{host_text}
 use Rattle.pal_lex.specs.Text.{text_from, text_of}
 use Rattle.pal_lex.specs.Joins.{before_pause, continued, join_of}
 use Rattle.assemble8.specs.Sources.{texts_of, newest_first, counts_by, counts_of}
-use Rattle.assemble8.specs.Places.{further, place_in, bytes_of, line_behind, before_place, place_by}
+use Rattle.assemble8.specs.Places.{further, place_in, bytes_of, line_behind, before_place}
 use Rattle.assemble8.specs.Rows.{Row, ends_word, word_ends, first_end, two_ends, rows, own_ends, later_ends, all_rows}
 use Rattle.assemble8.specs.References.{byte_spots, all_spots, no_spot}
-use Rattle.assemble8.specs.Listings.{rows_of}
-use Rattle.assemble8.specs.Further.{place_at_byte}
 use Rattle.assemble8.specs.Laws.{in_front, lines, row_lines, line_spots, row_spots, word_spots, spot_by, end_spots, WordsStand}
 use Rattle.assemble8.specs.declared.spots.Spot.{Spot}
 use Rattle.assemble8.proofs.LawLemmas.{some_line, lines_by_row, own_none, later_none, front_shorter, length_ends}

@@ -13,11 +13,9 @@ use Rattle.pal_sym.specs.Values.{if_none}
 use Rattle.pal_lex.specs.Statements.{statements}
 use Rattle.pal_lex.specs.declared.phrases.Body.{Body}
 use Rattle.pal_lex.specs.declared.phrases.Body.TheVariants.{Nothing, Origin, Define, Decimal, Octal, Pause, Field, Reference, Word}
-use Rattle.pal_lex.specs.declared.phrases.Statement.{Statement}
-use Rattle.pal_asm.specs.declared.faults.AsmFault.{AsmFault}
-use Rattle.pal_asm.specs.Expressions.{Known, value_of}
+use Rattle.pal_asm.specs.Expressions.{value_of}
 use Rattle.pal_asm.specs.Places.{Source, with_tags as tag_values, place_at, values, values_at, fixed_at}
-use Rattle.pal_asm.specs.Faults.{first_of, at_line, lexical, statement_fault, first_order, words_fault, no_end, no_word, fault_of}
+use Rattle.pal_asm.specs.Faults.{first_of, at_line, lexical, statement_fault, first_order, words_fault, no_end, no_word}
 use Rattle.assemble8.specs.Sources.{newest_first}
 use Rattle.assemble8.specs.Symbols.{Entries, with_value, with_tags, with_body, symbols_of}
 use Rattle.assemble8.specs.NameSteps.{values_by}

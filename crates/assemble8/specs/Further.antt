@@ -1,5 +1,5 @@
 -- The faults of words behind the first (this project's profile of PAL III).
-use Rattle.std.specs.Prelude.{ℕ, Bool, ◌||◌, not, if◌then◌else◌, Option, Some, None, Ok, Err, take, drop, List, [], ◌∷◌, ◌++◌}
+use Rattle.std.specs.Prelude.{ℕ, ◌||◌, not, if◌then◌else◌, Option, Some, None, Ok, Err, take, drop, List, [], ◌∷◌, ◌++◌}
 use Rattle.std.specs.Borrow.{Bor}
 use Rattle.pal_lex.specs.Text.{is_over, ends_statement}
 use Rattle.pal_lex.specs.Statements.{statements}

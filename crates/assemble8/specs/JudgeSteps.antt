@@ -1,5 +1,5 @@
 -- What the small steps of judging words come to, for private clauses.
-use Rattle.std.specs.Prelude.{◌≡◌, ℕ, Option, Some, None, Result, Ok, Err, List, [], ◌∷◌}
+use Rattle.std.specs.Prelude.{◌≡◌, ℕ, Option, List, [], ◌∷◌}
 use Rattle.std.specs.BTreeMap.{BTreeMap}
 use Rattle.pal_sym.specs.Values.{if_none}
 use Rattle.pal_asm.specs.declared.faults.Code.{Code}

@@ -1,5 +1,5 @@
 -- The cross reference of sources (PAL III Symbolic Assembler manual and PAL8, and this project's profile of them).
-use Rattle.std.specs.Prelude.{◌≡◌, ℕ, ◌+◌, nat_eq, Bool, ◌&&◌, is_some, if◌then◌else◌, Option, Some, None, unwrap_or, Ok, Err, drop, length, slice_index_or, codes, decimal, List, [], ◌∷◌, ◌++◌}
+use Rattle.std.specs.Prelude.{ℕ, ◌+◌, nat_eq, Bool, ◌&&◌, is_some, if◌then◌else◌, Option, Some, None, unwrap_or, Ok, Err, drop, length, slice_index_or, codes, decimal, List, [], ◌∷◌, ◌++◌}
 use Rattle.std.specs.Borrow.{Bor}
 use Rattle.std.specs.Ordering.{nat_cmp}
 use Rattle.std.specs.List.Sorted.{IsSortedByKey, IsStableByKey}

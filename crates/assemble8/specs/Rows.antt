@@ -1,5 +1,5 @@
 -- The lines of a listing (PAL III Symbolic Assembler manual, and this project's profile of it).
-use Rattle.std.specs.Prelude.{ℕ, ◌+◌, ◌/◌, ◌%◌, nat_eq, Bool, true, false, ◌&&◌, ◌||◌, not, if◌then◌else◌, take, drop, codes, List, [], ◌∷◌, ◌++◌, Ok, Err}
+use Rattle.std.specs.Prelude.{ℕ, ◌+◌, ◌/◌, ◌%◌, nat_eq, Bool, true, false, ◌&&◌, if◌then◌else◌, take, drop, codes, List, [], ◌∷◌, ◌++◌, Ok, Err}
 use Rattle.std.specs.Borrow.{Bor}
 use Rattle.word12.specs.Octal.{octal4}
 use Rattle.pal_lex.specs.Text.{ends_statement}

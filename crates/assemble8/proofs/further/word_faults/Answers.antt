@@ -1,5 +1,5 @@
-use Rattle.std.proofs.Common.{◌+◌, take, get_or, refl, ap, sym, subst, ◌∙◌, Bool}
-use Rattle.pal_lex.specs.Text.{is_ignored, in_comment, text_of}
+use Rattle.std.proofs.Common.{take, get_or, refl, ap, sym, subst, ◌∙◌}
+use Rattle.pal_lex.specs.Text.{text_of}
 use Rattle.pal_lex.specs.Statements.{statements}
 use Rattle.pal_lex.specs.Reading.{HasRead}
 use Rattle.pal_lex.specs.Progress.{Setting}

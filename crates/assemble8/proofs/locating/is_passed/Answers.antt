@@ -1,4 +1,4 @@
-use Rattle.std.proofs.Common.{Bool, true, false, not, ◌||◌, ap, sym, subst, ◌∙◌}
+use Rattle.std.proofs.Common.{Bool, false, not, ◌||◌, ap, sym, subst, ◌∙◌}
 use Rattle.pal_lex.specs.Text.{text_of, is_over}
 use Rattle.assemble8.specs.Steps.{Passes}
 use Rattle.assemble8.proofs.LocateLemmas.{refused_whole, over_whole, fine_whole}

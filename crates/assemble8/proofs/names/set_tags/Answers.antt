@@ -1,4 +1,4 @@
-use Rattle.std.proofs.Common.{◌≡◌, ◌∷◌, get_or, ap, sym, subst, ◌∙◌}
+use Rattle.std.proofs.Common.{◌≡◌, get_or, ap, sym, subst, ◌∙◌}
 use Rattle.pal_asm.specs.Places.{with_tags as tag_values}
 use Rattle.assemble8.specs.Symbols.{with_tags}
 use Rattle.assemble8.specs.NameSteps.{known}

@@ -1,4 +1,4 @@
-use Rattle.std.proofs.Common.{[], ◌∷◌, ◌+◌, refl}
+use Rattle.std.proofs.Common.{refl}
 use Rattle.assemble8.proofs.RowLemmas.{word_put}
 use Rattle.assemble8.proofs.rows.put_word.Goals as goal
 

@@ -1,4 +1,4 @@
-use Rattle.std.proofs.Common.{take, get_or, refl, ap, sym, subst, ◌∙◌}
+use Rattle.std.proofs.Common.{take, get_or, refl, sym, subst, ◌∙◌}
 use Rattle.pal_lex.specs.Text.{text_of}
 use Rattle.pal_lex.specs.Reading.{HasRead}
 use Rattle.assemble8.proofs.PauseLemmas.{next_byte}
