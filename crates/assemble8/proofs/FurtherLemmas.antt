@@ -16,10 +16,10 @@ use Rattle.pal_asm.specs.Places.{Source, with_tags as tag_values, values, place_
 use Rattle.pal_asm.specs.Words.{word_values}
 use Rattle.pal_asm.specs.Faults.{word_fault}
 use Rattle.assemble8.specs.Sources.{texts_of, newest_first, counts_of}
-use Rattle.assemble8.specs.Places.{first_solid, start_of, is_refused, place_in, place_by}
+use Rattle.assemble8.specs.Places.{first_solid, start_of, is_refused, place_in, place_by, place_at_byte}
 use Rattle.assemble8.specs.NameSteps.{known, Follows}
 use Rattle.assemble8.specs.JudgeSteps.{known_last, placed}
-use Rattle.assemble8.specs.Further.{with_line, newest_fault, byte_fault, with_place, word_faults, place_at_byte, further_faults}
+use Rattle.assemble8.specs.Further.{with_line, newest_fault, byte_fault, with_place, word_faults, further_faults}
 use Rattle.assemble8.specs.declared.faults.Place.{Place}
 use Rattle.assemble8.specs.declared.further.Found.{Found}
 use Rattle.assemble8.proofs.PauseLemmas.{none_ends, one_ends, next_byte}

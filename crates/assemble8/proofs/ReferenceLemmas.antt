@@ -6,7 +6,8 @@ use Rattle.pal_lex.specs.Statements.{statements}
 use Rattle.pal_lex.specs.Reading.{Answers, tokens_behind, with_tokens}
 use Rattle.pal_lex.specs.Progress.{Progress}
 use Rattle.pal_lex.specs.declared.phrases.Statement.{Statement}
-use Rattle.assemble8.specs.References.{body_names, newest_names, names_ended, mentioned, mentions, no_spot}
+use Rattle.assemble8.specs.References.{body_names, newest_names, names_ended, mentioned, mentions}
+use Rattle.assemble8.specs.SpotSteps.{no_spot}
 use Rattle.assemble8.specs.declared.spots.Spot.{Spot}
 use Rattle.assemble8.specs.declared.references.Mention.{Mention}
 use Rattle.assemble8.proofs.PauseLemmas.{none_ends, one_ends, next_byte}
@@ -39,12 +40,18 @@ named_some spot text b s old new may answers =
     (ap (λ (t : Bool). if t then newest_names (statements (b ∷ text)) else []) (one_ends b text (Ok (with_tokens (tokens_behind text) s)) out.1)
     ∙ ap newest_names out.1))
 
-pub named_more : (spots : List Spot) (bytes : List ℕ) (n : ℕ) (spot : Spot) (old new : List Mention) → n < length bytes → spot ≡ get_or spots n no_spot
+pub named_more : (spots : ℕ → Spot) (bytes : List ℕ) (n : ℕ) (spot : Spot) (old new : List Mention) → n < length bytes → spot ≡ spots n
     → new ≡ old ++ mentioned spot (names_ended (text_of (take n bytes)) (get_or bytes n 0)) → old ≡ mentions spots (text_of (take n bytes))
     → new ≡ mentions spots (text_of (take (n + 1) bytes))
 named_more spots bytes n spot old new inside is puts so_far =
     let here = text_of (take n bytes) in
     let ended = names_ended here (get_or bytes n 0) in
     puts ∙ ap (λ l. l ++ mentioned spot ended) so_far
-    ∙ ap (λ s. mentions spots here ++ mentioned s ended) (is ∙ ap (λ k. get_or spots k no_spot) (sym (length_taken bytes n (omega (arith, inside)))))
+    ∙ ap (λ s. mentions spots here ++ mentioned s ended) (is ∙ ap spots (sym (length_taken bytes n (omega (arith, inside)))))
     ∙ sym (ap (mentions spots) (next_byte bytes n (get_or bytes n 0) inside refl))
+
+pub same_mentions : (f g : ℕ → Spot) (text : List ℕ) → ((n : ℕ) → n < length text → f n ≡ g n) → mentions f text ≡ mentions g text
+same_mentions f g [] same = refl
+same_mentions f g (b ∷ older) same =
+    ap (λ l. l ++ mentioned (f (length older)) (names_ended older b)) (same_mentions f g older (λ n inside. same n (omega (arith, inside))))
+    ∙ ap (λ s. mentions g older ++ mentioned s (names_ended older b)) (same (length older) (omega arith))

@@ -9,10 +9,12 @@ use Rattle.pal_lex.specs.Joins.{before_pause, continued, join_of}
 use Rattle.assemble8.specs.Sources.{texts_of, newest_first, counts_by, counts_of}
 use Rattle.assemble8.specs.Places.{further, place_in, bytes_of, line_behind, before_place}
 use Rattle.assemble8.specs.Rows.{Row, ends_word, word_ends, first_end, two_ends, rows, own_ends, later_ends, all_rows}
-use Rattle.assemble8.specs.References.{byte_spots, all_spots, no_spot}
-use Rattle.assemble8.specs.Laws.{in_front, lines, row_lines, line_spots, row_spots, word_spots, spot_by, end_spots, WordsStand}
+use Rattle.assemble8.specs.References.{spot_by, mentions}
+use Rattle.assemble8.specs.SpotSteps.{byte_spots, all_spots, no_spot}
+use Rattle.assemble8.specs.Laws.{in_front, lines, row_lines, line_spots, row_spots, word_spots, end_spots, WordsStand}
 use Rattle.assemble8.specs.declared.spots.Spot.{Spot}
 use Rattle.assemble8.proofs.LawLemmas.{some_line, lines_by_row, own_none, later_none, front_shorter, length_ends}
+use Rattle.assemble8.proofs.ReferenceLemmas.{same_mentions}
 use Rattle.assemble8.proofs.StartLemmas.{length_from}
 
 -- ## The spots of bytes that end words
@@ -384,3 +386,11 @@ words_standing sources =
     let spots = all_spots 1 sources (counts_of (texts_of sources)) in
     all_stand 1 sources (word_ends join) (length_ends join) ∙ picked_ends spots join (enough_spots 1 sources)
     ∙ same_spots (λ at. get_or spots at no_spot) (spot_by sources) join (λ n inside. all_spot 1 sources n inside)
+
+-- the names in a join, where its bytes stand as they were counted
+pub mentions_stand : (sources : List (Bor (List ℕ))) (text : List ℕ) → text ≡ newest_first sources
+    → mentions (λ at. get_or (all_spots 1 sources (counts_of (texts_of sources))) at no_spot) text ≡ mentions (spot_by sources) (newest_first sources)
+unfolding spot_of
+mentions_stand sources text is =
+    ap (mentions (λ at. get_or (all_spots 1 sources (counts_of (texts_of sources))) at no_spot)) is
+    ∙ same_mentions (λ at. get_or (all_spots 1 sources (counts_of (texts_of sources))) at no_spot) (spot_by sources) (newest_first sources) (λ n inside. all_spot 1 sources n inside)

@@ -8,8 +8,8 @@ use Rattle.pal_asm.specs.Expressions.{Known}
 use Rattle.pal_asm.specs.Places.{Source, place_at, values}
 use Rattle.pal_asm.specs.Words.{word_values}
 use Rattle.pal_asm.specs.Faults.{word_fault}
-use Rattle.assemble8.specs.Sources.{texts_of, newest_first, counts_of}
-use Rattle.assemble8.specs.Places.{is_refused, start_of, place_in, place_by}
+use Rattle.assemble8.specs.Sources.{newest_first}
+use Rattle.assemble8.specs.Places.{is_refused, start_of, place_at_byte}
 use Rattle.assemble8.specs.declared.faults.Place.{Place}
 use Rattle.assemble8.specs.declared.faults.Fault.{Fault}
 
@@ -35,10 +35,6 @@ with_place at (Some found) = record { code = found.0; line = found.1; place = at
 abbrev pub word_faults : (ℕ → Place) → Known → List ℕ → List Fault
 word_faults place last [] = []
 word_faults place last (b ∷ older) = word_faults place last older ++ with_place (place (start_of older)) (byte_fault last older b)
-
--- the place of a byte of the join of sources
-abbrev pub place_at_byte : List (Bor (List ℕ)) → ℕ → Place
-place_at_byte sources at = place_by sources (place_in (counts_of (texts_of sources)) at)
 
 -- So many faults behind the first, if this is one of a word: each word is judged by itself there, since what names stand for is
 -- known. Behind another fault there is none: what the statement would have defined isn't known.

@@ -14,7 +14,7 @@ use Rattle.assemble8.specs.Sources.{newest_first}
 use Rattle.assemble8.specs.Rows.{Row, ends_word}
 use Rattle.assemble8.specs.Symbols.{Entries, symbols_of}
 use Rattle.assemble8.specs.Listings.{rows_of}
-use Rattle.assemble8.specs.Further.{place_at_byte}
+use Rattle.assemble8.specs.References.{spot_by}
 use Rattle.assemble8.specs.declared.spots.Spot.{Spot}
 
 -- ## Words
@@ -77,10 +77,6 @@ abbrev pub word_spots : List Row → List Spot → List Spot
 word_spots [] spots = []
 word_spots (row ∷ rows) [] = []
 word_spots (row ∷ rows) (spot ∷ spots) = replicate row.words spot ++ word_spots rows spots
-
--- the spot of a byte of the join of sources, by its place there
-abbrev pub spot_by : List (Bor (List ℕ)) → ℕ → Spot
-spot_by sources at = let place = place_at_byte sources at in record { source = place.source + 1; line = place.line }
 
 -- the spots of the words of a text, each that of the byte that ends its statement
 abbrev pub end_spots : (ℕ → Spot) → List ℕ → List Spot

@@ -9,5 +9,6 @@ pub mod Listings
 pub mod Further
 pub mod NameSteps
 pub mod JudgeSteps
+pub mod SpotSteps
 pub mod Laws
 pub mod Steps

@@ -8,7 +8,7 @@ use Rattle.pal_asm.specs.Faults.{fault_of}
 use Rattle.assemble8.specs.Sources.{texts_of, newest_first, counts_of}
 use Rattle.assemble8.specs.Rows.{Row, word_ends, all_rows, rows_text}
 use Rattle.assemble8.specs.Symbols.{symbols_of, table_text}
-use Rattle.assemble8.specs.References.{all_spots, mentions, AreByName, cross_text}
+use Rattle.assemble8.specs.References.{spot_by, mentions, AreByName, cross_text}
 use Rattle.assemble8.specs.declared.references.Mention.{Mention}
 use Rattle.assemble8.specs.declared.listing.ListingForm.{ListingForm}
 use Rattle.assemble8.specs.declared.listing.ListingForm.TheVariants.{Symbols, Cross}
@@ -23,7 +23,7 @@ lines_text sources = rows_text (rows_of sources) (pairs_of (newest_first sources
 
 -- the names in the statements of sources, each with its source and line
 abbrev pub mentions_of : List (Bor (List ℕ)) → List Mention
-mentions_of sources = mentions (all_spots 1 sources (counts_of (texts_of sources))) (newest_first sources)
+mentions_of sources = mentions (spot_by sources) (newest_first sources)
 
 -- more than one
 abbrev pub are_several : List (Bor (List ℕ)) → Bool

@@ -1,5 +1,5 @@
 -- The cross reference of sources (PAL III Symbolic Assembler manual and PAL8, and this project's profile of them).
-use Rattle.std.specs.Prelude.{ℕ, ◌+◌, nat_eq, Bool, ◌&&◌, is_some, if◌then◌else◌, Option, Some, None, unwrap_or, Ok, Err, drop, length, slice_index_or, codes, decimal, List, [], ◌∷◌, ◌++◌}
+use Rattle.std.specs.Prelude.{ℕ, ◌+◌, nat_eq, Bool, ◌&&◌, is_some, if◌then◌else◌, Option, Some, None, unwrap_or, Ok, Err, length, codes, decimal, List, [], ◌∷◌, ◌++◌}
 use Rattle.std.specs.Borrow.{Bor}
 use Rattle.std.specs.Ordering.{nat_cmp}
 use Rattle.std.specs.List.Sorted.{IsSortedByKey, IsStableByKey}
@@ -13,29 +13,14 @@ use Rattle.pal_lex.specs.declared.phrases.Body.{Body}
 use Rattle.pal_lex.specs.declared.phrases.Body.TheVariants.{Nothing, Origin, Define, Decimal, Octal, Pause, Field, Reference, Word}
 use Rattle.pal_asm.specs.Expressions.{Known}
 use Rattle.pal_asm.specs.Places.{Source}
-use Rattle.assemble8.specs.Rows.{own_ends}
+use Rattle.assemble8.specs.Places.{place_at_byte}
 use Rattle.assemble8.specs.Symbols.{symbol_text}
 use Rattle.assemble8.specs.declared.spots.Spot.{Spot}
 use Rattle.assemble8.specs.declared.references.Mention.{Mention}
 
--- ## Where the bytes of a join stand
-
--- The source and the line of each byte of a source's text, where it has this number and begins at a line. LF is two bytes
--- there, CR none.
-abbrev pub byte_spots : ℕ → ℕ → List ℕ → List Spot
-byte_spots number line [] = []
-byte_spots number line (b ∷ source) =
-    if nat_eq b 0o15 then byte_spots number line source
-    else (if nat_eq b 0o12 then record { source = number; line = line } ∷ record { source = number; line = line } ∷ byte_spots number (line + 1) source
-    else record { source = number; line = line } ∷ byte_spots number line source)
-
--- the source and the line of each byte of the join of sources that have so many bytes each in it
-abbrev pub all_spots : ℕ → List (Bor (List ℕ)) → List ℕ → List Spot
-all_spots number [] counts = []
-all_spots number (source ∷ others) counts = own_ends counts (byte_spots number 1 source.now) ++ all_spots (number + 1) others (drop 1 counts)
-
-abbrev pub no_spot : Spot
-no_spot = record { source = 0; line = 0 }
+-- the source, from 1, and the line of a byte of the join of sources
+abbrev pub spot_by : List (Bor (List ℕ)) → ℕ → Spot
+spot_by sources at = let place = place_at_byte sources at in record { source = place.source + 1; line = place.line }
 
 -- ## What statements name
 
@@ -79,10 +64,10 @@ abbrev pub mentioned : Spot → List ℕ → List Mention
 mentioned spot [] = []
 mentioned spot (name ∷ names) = (if is_some (permanent name) then [] else record { name = name; spot = spot } ∷ []) ++ mentioned spot names
 
--- the names in the statements of a text, in its order, where its bytes stand there
-abbrev pub mentions : List Spot → List ℕ → List Mention
-mentions spots [] = []
-mentions spots (b ∷ older) = mentions spots older ++ mentioned (slice_index_or spots (length older) no_spot) (names_ended older b)
+-- the names in the statements of a text, in its order, each where its statement ends
+abbrev pub mentions : (ℕ → Spot) → List ℕ → List Mention
+mentions spot [] = []
+mentions spot (b ∷ older) = mentions spot older ++ mentioned (spot (length older)) (names_ended older b)
 
 -- ## Their text
 

@@ -1,9 +1,10 @@
 //! What the statements of a text name, and where.
-ghost use Rattle.std.specs.Prelude.{◌≡◌, ◌++◌, ◌∷◌, [], ℕ, List, false, None, IfOk, IfErr, OnOk};
+ghost use Rattle.std.specs.Prelude.{◌≡◌, ◌++◌, ◌∷◌, [], ℕ, List, false, None, slice_index_or, IfOk, IfErr, OnOk};
 ghost use Rattle.pal_lex.specs.Text.{text_of};
 ghost use Rattle.pal_lex.specs.Statements.{statements, first_fault};
 ghost use Rattle.pal_lex.specs.Reading.{HasRead};
 ghost use Rattle.assemble8.specs.References.{term_names, part_names, body_names, names_ended, mentioned, mentions, AreByName};
+ghost use Rattle.assemble8.specs.SpotSteps.{no_spot};
 ghost use Rattle.assemble8.specs.declared.faults.SourceFault.TheVariants.{Memory};
 
 use crate::SourceFault;
@@ -29,7 +30,7 @@ pub(crate) fn mentions(
     spots: &[Spot],
 ) -> Result<Vec<Mention>, SourceFault>
     requires { first_fault (statements (text_of text.now)) ≡ None }
-    ensures mentions { IfOk result (λ found. found.items ≡ mentions spots.now (text_of text.now)) }
+    ensures mentions { IfOk result (λ found. found.items ≡ mentions (λ at. slice_index_or spots.now at no_spot) (text_of text.now)) }
     ensures fault { IfErr result (λ fault. fault ≡ Memory) }
 {
     fault_stays();

@@ -1,7 +1,7 @@
 //! Where the bytes of a join stand.
 ghost use Rattle.std.specs.Prelude.{◌≡◌, ◌+◌, ◌∷◌, [], ◌++◌, ◌≤◌, ◌<◌, length, take, drop, slice_index_or, IfOk, OnOk};
 ghost use Rattle.assemble8.specs.Rows.{own_ends};
-ghost use Rattle.assemble8.specs.References.{byte_spots, all_spots, no_spot};
+ghost use Rattle.assemble8.specs.SpotSteps.{byte_spots, all_spots, no_spot};
 
 use crate::rows::later_counts;
 use std::alloc::{AllocError, Global};

@@ -1,5 +1,5 @@
 use Rattle.std.proofs.Common.{◌≡◌, ◌+◌, ◌≤◌, ◌++◌, length}
-use Rattle.assemble8.specs.References as spec
+use Rattle.assemble8.specs.SpotSteps as spec
 use Rattle.assemble8.proofs.spots.byte_spots.Given as goal
 
 abbrev pub invariant-loop-rest : goal.invariant-loop-rest
