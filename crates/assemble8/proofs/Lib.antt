@@ -11,3 +11,4 @@ pub mod ReferenceLemmas
 pub mod LawLemmas
 pub mod StandLemmas
 pub mod SymbolLemmas
+pub mod FirstLemmas

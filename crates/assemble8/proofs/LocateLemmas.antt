@@ -70,7 +70,7 @@ words_step last true (Ok s) older f e = ap (λ o. first_of o (at_line s.line (wo
 words_step last true (Err g) older f e = e
 words_step last false s older f e = e
 
-words_stay : (last : Known) (later text : List ℕ) (f : AsmFault) → words_fault last (statements text) ≡ Some f → words_fault last (statements (later ++ text)) ≡ Some f
+pub words_stay : (last : Known) (later text : List ℕ) (f : AsmFault) → words_fault last (statements text) ≡ Some f → words_fault last (statements (later ++ text)) ≡ Some f
 words_stay last [] text f e = e
 words_stay last (b ∷ later) text f e =
     ap (words_fault last) (one_more b (later ++ text))
@@ -110,7 +110,7 @@ by_refused text now = rw now refl
 by_open : (text : List ℕ) → is_refused text ≡ false → is_over text ≡ false → fault_place text ≡ length text
 by_open text fine going = rw (fine, going) refl
 
-by_settled : (text : List ℕ) → is_refused text ≡ false → is_over text ≡ true → fault_place text ≡ statement_place (shortest (is_settled (values (statements text))) text)
+pub by_settled : (text : List ℕ) → is_refused text ≡ false → is_over text ≡ true → fault_place text ≡ statement_place (shortest (is_settled (values (statements text))) text)
 by_settled text fine over = rw (fine, over) refl
 
 length_from : (bytes text : List ℕ) → length (text_from text bytes) ≡ length bytes + length text

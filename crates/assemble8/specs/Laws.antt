@@ -1,20 +1,25 @@
--- What holds of each listing, for the laws.
-use Rattle.std.specs.Prelude.{◌≡◌, ℕ, Option, ◌+◌, nat_eq, if◌then◌else◌, None, length, take, drop, replicate, List, [], ◌∷◌, ◌++◌}
+-- What holds of each listing and of further faults, for the laws.
+use Rattle.std.specs.Prelude.{◌≡◌, ℕ, true, false, Option, Some, ◌+◌, nat_eq, if◌then◌else◌, None, length, take, drop, replicate, List, [], ◌∷◌, ◌++◌}
 use Rattle.std.specs.Borrow.{Bor}
 use Rattle.std.specs.Ordering.{nat_cmp}
 use Rattle.std.specs.Map.{lookup}
 use Rattle.std.specs.BTreeMap.{is_at}
 use Rattle.pal_sym.specs.Permanent.{permanent}
 use Rattle.pal_sym.specs.Values.{if_none}
+use Rattle.pal_lex.specs.Text.{is_over}
 use Rattle.pal_lex.specs.Statements.{statements}
+use Rattle.pal_asm.specs.declared.faults.AsmFault.TheVariants.{At}
 use Rattle.pal_asm.specs.Places.{values}
 use Rattle.pal_asm.specs.Words.{pairs_of}
 use Rattle.pal_asm.specs.Faults.{fault_of}
 use Rattle.assemble8.specs.Sources.{newest_first}
+use Rattle.assemble8.specs.Places.{is_refused, place_at_byte, place_of}
 use Rattle.assemble8.specs.Rows.{Row, ends_word}
 use Rattle.assemble8.specs.Symbols.{Entries, symbols_of}
 use Rattle.assemble8.specs.Listings.{rows_of}
 use Rattle.assemble8.specs.References.{spot_by}
+use Rattle.assemble8.specs.Further.{word_faults}
+use Rattle.assemble8.specs.declared.faults.Fault.{Fault}
 use Rattle.assemble8.specs.declared.spots.Spot.{Spot}
 
 -- ## Words
@@ -99,3 +104,12 @@ abbrev pub SymbolsHaveLastValues : Type 0
 SymbolsHaveLastValues =
     (sources : List (Bor (List ℕ))) → fault_of (newest_first sources) ≡ None
     → (name : ℕ) → value_by (symbols_of (statements (newest_first sources))) name ≡ values (statements (newest_first sources)) name
+
+-- ## Further faults
+
+-- The first of the words with a fault, where the first pass meets none, is the fault that is told, at its place.
+abbrev pub FirstIsTold : Type 0
+FirstIsTold =
+    (sources : List (Bor (List ℕ))) (fault : Fault) (others : List Fault) → is_refused (newest_first sources) ≡ false → is_over (newest_first sources) ≡ true
+    → word_faults (place_at_byte sources) (values (statements (newest_first sources))) (newest_first sources) ≡ fault ∷ others
+    → (fault_of (newest_first sources) ≡ Some (At fault.code fault.line)) × (fault.place ≡ place_of sources)

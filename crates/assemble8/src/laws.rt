@@ -1,6 +1,6 @@
-//! Laws about listings, which hold whatever writes them. A call of one does nothing, and lets its caller use it.
+//! Laws about listings and further faults, which hold whatever tells them. A call of one does nothing, and lets its caller use it.
 
-ghost use Rattle.assemble8.specs.Laws.{WordsAreListed, LinesAreListed, WordsStand, SymbolsHaveLastValues};
+ghost use Rattle.assemble8.specs.Laws.{WordsAreListed, LinesAreListed, WordsStand, SymbolsHaveLastValues, FirstIsTold};
 
 /// The words that stand at the lines of a listing are those of the sources, in their order and no others.
 pub fn words_are_listed()
@@ -20,4 +20,9 @@ pub fn words_stand()
 /// The symbols of a listing have the values that names stand for behind all statements.
 pub fn symbols_have_last_values()
     ensures { SymbolsHaveLastValues }
+{}
+
+/// The first of the words with a fault is the fault that is told, so the further ones are those behind it.
+pub fn first_is_told()
+    ensures { FirstIsTold }
 {}
