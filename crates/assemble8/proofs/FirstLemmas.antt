@@ -1,6 +1,5 @@
 -- The first of the words with faults.
 use Rattle.std.proofs.Common.{◌≡◌, ℕ, Bool, true, false, ◌||◌, if◌then◌else◌, Option, Some, None, Result, Ok, Err, is_some, List, [], ◌∷◌, ◌++◌, refl, ap, sym, ◌∙◌}
-use Rattle.std.specs.Borrow.{Bor}
 use Rattle.pal_lex.specs.Text.{is_over, ends_statement, line_after}
 use Rattle.pal_lex.specs.Statements.{statements}
 use Rattle.pal_lex.specs.declared.faults.LexFault.{LexFault}
@@ -12,9 +11,9 @@ use Rattle.pal_asm.specs.declared.faults.AsmFault.TheVariants.{At}
 use Rattle.pal_asm.specs.Expressions.{Known}
 use Rattle.pal_asm.specs.Places.{Source, place_at, values}
 use Rattle.pal_asm.specs.Words.{word_values}
-use Rattle.pal_asm.specs.Faults.{first_of, at_line, first_order, word_fault, words_fault, no_end, no_word, fault_of}
+use Rattle.pal_asm.specs.Faults.{first_of, at_line, first_order, word_fault, words_fault, no_end, no_word}
 use Rattle.assemble8.specs.Sources.{newest_first}
-use Rattle.assemble8.specs.Places.{shortest, is_refused, is_settled, start_of, statement_place, fault_place, place_at_byte}
+use Rattle.assemble8.specs.Places.{shortest, is_settled, start_of, statement_place, place_at_byte}
 use Rattle.assemble8.specs.Further.{with_line, newest_fault, byte_fault, with_place, word_faults}
 use Rattle.assemble8.specs.Laws.{FirstIsTold}
 use Rattle.assemble8.specs.declared.faults.Place.{Place}

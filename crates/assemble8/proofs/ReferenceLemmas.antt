@@ -7,7 +7,6 @@ use Rattle.pal_lex.specs.Reading.{Answers, tokens_behind, with_tokens}
 use Rattle.pal_lex.specs.Progress.{Progress}
 use Rattle.pal_lex.specs.declared.phrases.Statement.{Statement}
 use Rattle.assemble8.specs.References.{body_names, newest_names, names_ended, mentioned, mentions}
-use Rattle.assemble8.specs.SpotSteps.{no_spot}
 use Rattle.assemble8.specs.declared.spots.Spot.{Spot}
 use Rattle.assemble8.specs.declared.references.Mention.{Mention}
 use Rattle.assemble8.proofs.PauseLemmas.{none_ends, one_ends, next_byte}
