@@ -4,3 +4,11 @@ pub mod LocateLemmas
 pub mod StartLemmas
 pub mod PlaceLemmas
 pub mod JoinLemmas
+pub mod RowLemmas
+pub mod NameLemmas
+pub mod FurtherLemmas
+pub mod ReferenceLemmas
+pub mod LawLemmas
+pub mod StandLemmas
+pub mod SymbolLemmas
+pub mod FirstLemmas

@@ -36,10 +36,10 @@ shortest_at holds stays (c ∷ later) here b now earlier = rw (stays later (b �
 
 -- ## What stays
 
-abbrev newest : List ℕ → ℕ → Result Statement LexFault
+abbrev pub newest : List ℕ → ℕ → Result Statement LexFault
 newest text b = judged (line_after text) (nat_eq b 36) (stretch text) (radix_after (statements text))
 
-one_more : (b : ℕ) (text : List ℕ) → statements (b ∷ text) ≡ (if ends_statement text b then newest text b ∷ statements text else statements text)
+pub one_more : (b : ℕ) (text : List ℕ) → statements (b ∷ text) ≡ (if ends_statement text b then newest text b ∷ statements text else statements text)
 unfolding statements
 one_more b text = refl
 
@@ -70,7 +70,7 @@ words_step last true (Ok s) older f e = ap (λ o. first_of o (at_line s.line (wo
 words_step last true (Err g) older f e = e
 words_step last false s older f e = e
 
-words_stay : (last : Known) (later text : List ℕ) (f : AsmFault) → words_fault last (statements text) ≡ Some f → words_fault last (statements (later ++ text)) ≡ Some f
+pub words_stay : (last : Known) (later text : List ℕ) (f : AsmFault) → words_fault last (statements text) ≡ Some f → words_fault last (statements (later ++ text)) ≡ Some f
 words_stay last [] text f e = e
 words_stay last (b ∷ later) text f e =
     ap (words_fault last) (one_more b (later ++ text))
@@ -92,7 +92,7 @@ settled_stays last later text now = by_fault (words_fault last (statements text)
 
 -- ## A text that goes on behind a byte
 
-goes_on : (bytes : List ℕ) (end : ℕ) → end < length bytes → text_of bytes ≡ text_of (drop (end + 1) bytes) ++ (get_or bytes end 0 ∷ text_of (take end bytes))
+pub goes_on : (bytes : List ℕ) (end : ℕ) → end < length bytes → text_of bytes ≡ text_of (drop (end + 1) bytes) ++ (get_or bytes end 0 ∷ text_of (take end bytes))
 goes_on bytes end inside = whole_text bytes (end + 1) ∙ ap (λ l. text_of (drop (end + 1) bytes) ++ l) (next_byte bytes end (get_or bytes end 0) inside refl)
 
 shortest_of : (holds : List ℕ → Bool) → ((later text : List ℕ) → holds text ≡ true → holds (later ++ text) ≡ true) → (bytes : List ℕ) (end : ℕ) → end < length bytes
@@ -110,16 +110,20 @@ by_refused text now = rw now refl
 by_open : (text : List ℕ) → is_refused text ≡ false → is_over text ≡ false → fault_place text ≡ length text
 by_open text fine going = rw (fine, going) refl
 
-by_settled : (text : List ℕ) → is_refused text ≡ false → is_over text ≡ true → fault_place text ≡ statement_place (shortest (is_settled (values (statements text))) text)
+pub by_settled : (text : List ℕ) → is_refused text ≡ false → is_over text ≡ true → fault_place text ≡ statement_place (shortest (is_settled (values (statements text))) text)
 by_settled text fine over = rw (fine, over) refl
 
 length_from : (bytes text : List ℕ) → length (text_from text bytes) ≡ length bytes + length text
 length_from [] text = omega arith
 length_from (b ∷ bytes) text = length_from bytes (b ∷ text) ∙ omega arith
 
+pub refused_whole : (bytes : List ℕ) (end : ℕ) (assembler : asm.Progress) → Passes bytes (passed.Refused end) assembler → is_refused (text_of bytes) ≡ true
+refused_whole bytes end assembler p =
+    ap is_refused (whole_text bytes (end + 1)) ∙ refused_stays (text_of (drop (end + 1) bytes)) (text_of (take (end + 1) bytes)) p.1
+
 pub refused_place : (bytes : List ℕ) (end : ℕ) (assembler : asm.Progress) → Passes bytes (passed.Refused end) assembler → fault_place (text_of bytes) ≡ start_of (text_of (take end bytes))
 refused_place bytes end assembler p =
-    by_refused (text_of bytes) (ap is_refused (whole_text bytes (end + 1)) ∙ refused_stays (text_of (drop (end + 1) bytes)) (text_of (take (end + 1) bytes)) p.1)
+    by_refused (text_of bytes) (refused_whole bytes end assembler p)
     ∙ shortest_of is_refused refused_stays bytes end p.0 p.1 p.2
 
 pub open_place : (bytes : List ℕ) (assembler : asm.Progress) → Passes bytes passed.Open assembler → fault_place (text_of bytes) ≡ length bytes
@@ -318,7 +322,7 @@ pub record FirstStands (bytes : List ℕ) (taken : ℕ) (lexer : Progress) (asse
   pub going : is_over (text_of (take taken bytes)) ≡ false
   pub may : lexer.may_pause ≡ false
 
-nothing_read : statements [] ≡ []
+pub nothing_read : statements [] ≡ []
 unfolding statements
 nothing_read = refl
 

@@ -8,7 +8,7 @@ use Rattle.assemble8.specs.Places.{first_solid, start_of}
 use Rattle.assemble8.specs.Steps.{comment_by, start_by}
 use Rattle.assemble8.proofs.PauseLemmas.{next_byte}
 
-length_from : (bytes text : List ℕ) → length (text_from text bytes) ≡ length bytes + length text
+pub length_from : (bytes text : List ℕ) → length (text_from text bytes) ≡ length bytes + length text
 length_from [] text = omega arith
 length_from (b ∷ bytes) text = length_from bytes (b ∷ text) ∙ omega arith
 

@@ -16,5 +16,5 @@ IsAssembled sources frames = (fault_of (newest_first sources) ≡ None) × (fram
 
 -- the fault of the sources, with its place; or memory ran out
 abbrev pub IsTold : List (Bor (List ℕ)) → SourceFault → Type 0
-IsTold sources (At code place) = ((line : ℕ) × (fault_of (newest_first sources) ≡ Some (asm.At code line))) × (place ≡ place_of sources)
+IsTold sources (At fault) = (fault_of (newest_first sources) ≡ Some (asm.At fault.code fault.line)) × (fault.place ≡ place_of sources)
 IsTold sources Memory = Unit {0}

@@ -1,4 +1,14 @@
 pub mod Sources
 pub mod Places
 pub mod Answers
+pub mod Telling
+pub mod Rows
+pub mod Symbols
+pub mod References
+pub mod Listings
+pub mod Further
+pub mod NameSteps
+pub mod JudgeSteps
+pub mod SpotSteps
+pub mod Laws
 pub mod Steps

@@ -85,6 +85,10 @@ abbrev pub place_by : List (Bor (List ℕ)) → ℕ × ℕ → Place
 place_by sources at =
     record { source = at.0; line = line_behind (before_place sources at); column = column_behind (before_place sources at) }
 
+-- the place of a byte of the join of sources
+abbrev pub place_at_byte : List (Bor (List ℕ)) → ℕ → Place
+place_at_byte sources at = place_by sources (place_in (counts_of (texts_of sources)) at)
+
 -- the place of the fault of sources
 abbrev pub place_of : List (Bor (List ℕ)) → Place
-place_of sources = place_by sources (place_in (counts_of (texts_of sources)) (fault_place (newest_first sources)))
+place_of sources = place_at_byte sources (fault_place (newest_first sources))

@@ -18,13 +18,22 @@ pub struct Place {
     pub column: usize,
 }
 
+/// A fault of sources.
+#[derive(Clone, Copy, PartialEq, Eq, Debug)]
+pub struct Fault {
+    pub code: Code,
+    /// The line over the sources joined, as scripts are told it: 1 and up, or 2^64 - 1 where it would be more.
+    pub line: u64,
+    pub place: Place,
+}
+
 /// Why sources are not assembled.
 #[derive(Clone, Copy, PartialEq, Eq, Debug, Error)]
 pub enum SourceFault {
     /// The first fault of the sources, with the place of the statement that has it: of the `$` where there is no word, and
     /// behind the last source where there is no `$`. The text leaves the source to who knows its name.
-    #[error("{0} in line {line}, column {column}", line = .1.line, column = .1.column)]
-    At(Code, Place),
+    #[error("{code} in line {line}, column {column}", code = .0.code, line = .0.place.line, column = .0.place.column)]
+    At(Fault),
 
     #[error("out of memory")]
     Memory,

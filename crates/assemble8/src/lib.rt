@@ -7,13 +7,29 @@
 #![tactic(auto)]
 
 mod assembling;
+mod crossing;
 mod faults;
+mod further;
 mod joins;
+mod judging;
+pub mod laws;
+mod listing;
 mod locating;
+mod names;
 mod pauses;
 mod places;
+mod references;
+mod rows;
+mod showing;
+mod spots;
 mod starts;
+mod tables;
+mod telling;
 mod texts;
+mod word_ends;
 
 pub use assembling::assemble_sources;
-pub use faults::{Place, SourceFault};
+pub use faults::{Fault, Place, SourceFault};
+pub use further::further_faults;
+pub use listing::{ListingForm, list_sources};
+pub use telling::fault_text;

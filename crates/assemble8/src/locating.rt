@@ -1,11 +1,11 @@
 //! Where a text has its fault.
-ghost use Rattle.std.specs.Prelude.{◌≡◌, ◌<◌, ℕ, true, false, List, [], ◌∷◌, ◌++◌, IfOk, IfErr};
+ghost use Rattle.std.specs.Prelude.{◌≡◌, ◌<◌, ℕ, ◌||◌, not, true, false, List, [], ◌∷◌, ◌++◌, IfOk, IfErr};
 ghost use Rattle.pal_lex.specs.Text.{text_of, is_over};
 ghost use Rattle.pal_lex.specs.Statements.{statements};
 ghost use Rattle.pal_lex.specs.Reading.{HasRead};
 ghost use Rattle.pal_asm.specs.Places.{Source};
 ghost use Rattle.pal_asm.specs.Passes.{IsFirst, IsSecond};
-ghost use Rattle.assemble8.specs.Places.{fault_place};
+ghost use Rattle.assemble8.specs.Places.{is_refused, fault_place};
 ghost use Rattle.assemble8.specs.Steps.{step_behind, Passes, PassesByte, PassesStatement, MakesByte, IsSettledAt};
 ghost use Rattle.assemble8.specs.declared.faults.SourceFault.TheVariants.{Memory};
 
@@ -56,6 +56,21 @@ pub(crate) fn fault_place(alloc: Global, text: &[u8]) -> Result<usize, SourceFau
             },
             Err(_) => Ok(statement_place(text, end)),
         },
+        Err(fault) => Err(fault),
+    }
+}
+
+/// Whether a text has its `$`, and no fault that the first pass meets. The only fault of the call is `Memory`.
+pub(crate) fn is_passed(alloc: Global, text: &[u8]) -> Result<bool, SourceFault>
+    ensures passed { IfOk result (λ passed. passed ≡ not (is_refused (text_of text.now) || not (is_over (text_of text.now)))) }
+    ensures fault { IfErr result (λ fault. fault ≡ Memory) }
+{
+    dollar_ends_source();
+    let mut assembler = Assembler::new(alloc);
+    match first_pass(alloc, text, &mut assembler) {
+        Ok(Passed::Over(_)) => Ok(true),
+        Ok(Passed::Refused(_)) => Ok(false),
+        Ok(Passed::Open) => Ok(false),
         Err(fault) => Err(fault),
     }
 }

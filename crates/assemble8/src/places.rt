@@ -44,7 +44,7 @@ fn place_in(counts: &[usize], place: usize) -> (usize, usize)
 }
 
 /// The bytes of a source, of which the first is number 0; none where there is none of this number.
-fn bytes_of<'a>(sources: &[&'a [u8]], number: usize) -> &'a [u8]
+pub(crate) fn bytes_of<'a>(sources: &[&'a [u8]], number: usize) -> &'a [u8]
     ensures { result.now ≡ bytes_of sources.now number }
 {
     let mut left = number;
@@ -60,7 +60,7 @@ fn bytes_of<'a>(sources: &[&'a [u8]], number: usize) -> &'a [u8]
 }
 
 /// So many bytes from the front of a text, or all of it.
-fn first_bytes(text: &[u8], count: usize) -> &[u8]
+pub(crate) fn first_bytes(text: &[u8], count: usize) -> &[u8]
     ensures { result.now ≡ take count text.now }
 {
     if count < text.len() {

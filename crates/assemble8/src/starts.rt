@@ -26,7 +26,7 @@ pub(crate) fn statement_place(text: &[u8], end: usize) -> usize
 }
 
 /// Whether a comment goes on behind a byte.
-fn comment_behind(comment: bool, byte: u8) -> bool
+pub(crate) fn comment_behind(comment: bool, byte: u8) -> bool
     ensures { result ≡ comment_by byte comment }
 {
     match byte {
@@ -38,7 +38,12 @@ fn comment_behind(comment: bool, byte: u8) -> bool
 
 /// The place of the first byte of a statement so far that is no blank, with one byte more, behind which a comment goes on
 /// or not.
-fn start_behind(start: Option<usize>, comment: bool, byte: u8, place: usize) -> Option<usize>
+pub(crate) fn start_behind(
+    start: Option<usize>,
+    comment: bool,
+    byte: u8,
+    place: usize,
+) -> Option<usize>
     ensures { result ≡ start_by start (spec.is_ignored byte || comment) byte place }
 {
     if is_ignored(byte) || comment {

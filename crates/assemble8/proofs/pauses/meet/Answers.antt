@@ -1,4 +1,4 @@
-use Rattle.std.proofs.Common.{Ok, Err, sym, subst}
+use Rattle.std.proofs.Common.{Ok, sym, subst}
 use Rattle.pal_lex.specs.Reading.{Answers}
 use Rattle.assemble8.specs.Steps.{Meets}
 use Rattle.assemble8.proofs.PauseLemmas.{met_nothing, met_statement, met_fault}

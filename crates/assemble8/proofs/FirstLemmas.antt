@@ -1,0 +1,135 @@
+-- The first of the words with faults.
+use Rattle.std.proofs.Common.{◌≡◌, ℕ, Bool, true, false, ◌||◌, if◌then◌else◌, Option, Some, None, Result, Ok, Err, is_some, List, [], ◌∷◌, ◌++◌, refl, ap, sym, ◌∙◌}
+use Rattle.pal_lex.specs.Text.{is_over, ends_statement, line_after}
+use Rattle.pal_lex.specs.Statements.{statements}
+use Rattle.pal_lex.specs.declared.faults.LexFault.{LexFault}
+use Rattle.pal_lex.specs.declared.phrases.Statement.{Statement}
+use Rattle.pal_asm.specs.declared.faults.Code.{Code}
+use Rattle.pal_asm.specs.declared.faults.Code.TheVariants.{NE}
+use Rattle.pal_asm.specs.declared.faults.AsmFault.{AsmFault}
+use Rattle.pal_asm.specs.declared.faults.AsmFault.TheVariants.{At}
+use Rattle.pal_asm.specs.Expressions.{Known}
+use Rattle.pal_asm.specs.Places.{Source, place_at, values}
+use Rattle.pal_asm.specs.Words.{word_values}
+use Rattle.pal_asm.specs.Faults.{first_of, at_line, first_order, word_fault, words_fault, no_end, no_word}
+use Rattle.assemble8.specs.Sources.{newest_first}
+use Rattle.assemble8.specs.Places.{shortest, is_settled, start_of, statement_place, place_at_byte}
+use Rattle.assemble8.specs.Further.{with_line, newest_fault, byte_fault, with_place, word_faults}
+use Rattle.assemble8.specs.Laws.{FirstIsTold}
+use Rattle.assemble8.specs.declared.faults.Place.{Place}
+use Rattle.assemble8.specs.declared.faults.Fault.{Fault}
+use Rattle.assemble8.proofs.PauseLemmas.{ends_parts}
+use Rattle.assemble8.proofs.LocateLemmas.{newest, one_more, nothing_read, words_stay, by_settled}
+
+-- ## One word
+
+first_or : List Fault → Fault → Fault
+first_or [] f = f
+first_or (g ∷ others) f = g
+
+same_first : (g f : Fault) (more others : List Fault) → g ∷ more ≡ f ∷ others → g ≡ f
+unfolding first_or
+same_first g f more others e = ap (λ l. first_or l g) e
+
+told_by : (code : Option Code) (line : ℕ) (at : Place) (f : Fault) (others : List Fault) → with_place at (with_line line code) ≡ f ∷ others
+    → (at_line line code ≡ Some (At f.code f.line)) × (f.place ≡ at)
+told_by None line at f others e = absurd cc
+told_by (Some code) line at f others e =
+    let told : Fault = record { code = code; line = line; place = at } in
+    let same = same_first told f [] others e in
+    (ap (λ (g : Fault). Some (At g.code g.line)) same, sym (ap (λ (g : Fault). g.place) same))
+
+told_none : (code : Option Code) (line : ℕ) (at : Place) → with_place at (with_line line code) ≡ [] → at_line line code ≡ None
+told_none None line at e = refl
+told_none (Some code) line at e = absurd cc
+
+newest_told : (at : Place) (last : Known) (ends : Bool) (s : Result Statement LexFault) (older : Source) (f : Fault) (others : List Fault) → words_fault last older ≡ None
+    → with_place at (if ends then newest_fault last (if ends then s ∷ older else older) else None) ≡ f ∷ others
+    → (ends ≡ true) × (words_fault last (if ends then s ∷ older else older) ≡ Some (At f.code f.line)) × (f.place ≡ at)
+newest_told at last true (Ok s) older f others none e =
+    let code = word_fault (word_values last s.tags older) (place_at older) s.body in
+    let told = told_by code s.line at f others e in
+    (refl, ap (λ o. first_of o (at_line s.line code)) none ∙ told.0, told.1)
+newest_told at last true (Err g) older f others none e = absurd cc
+newest_told at last false s older f others none e = absurd cc
+
+newest_none : (at : Place) (last : Known) (ends : Bool) (s : Result Statement LexFault) (older : Source) → words_fault last older ≡ None
+    → with_place at (if ends then newest_fault last (if ends then s ∷ older else older) else None) ≡ []
+    → words_fault last (if ends then s ∷ older else older) ≡ None
+newest_none at last true (Ok s) older none e =
+    let code = word_fault (word_values last s.tags older) (place_at older) s.body in
+    ap (λ o. first_of o (at_line s.line code)) none ∙ told_none code s.line at e
+newest_none at last true (Err g) older none e = none
+newest_none at last false s older none e = none
+
+-- the fault of a byte by the statement that it ends, if it ends one
+by_newest : (at : Place) (last : Known) (b : ℕ) (older : List ℕ)
+    → with_place at (byte_fault last older b)
+    ≡ with_place at (if ends_statement older b then newest_fault last (if ends_statement older b then newest older b ∷ statements older else statements older) else None)
+by_newest at last b older = ap (λ l. with_place at (if ends_statement older b then newest_fault last l else None)) (one_more b older)
+
+-- ## All of them
+
+no_more : (a b : List Fault) → a ++ b ≡ [] → (a ≡ []) × (b ≡ [])
+no_more [] b e = (refl, e)
+no_more (f ∷ a) b e = absurd cc
+
+none_before : (place : ℕ → Place) (last : Known) (text : List ℕ) → word_faults place last text ≡ [] → words_fault last (statements text) ≡ None
+none_before place last [] e = ap (words_fault last) nothing_read
+none_before place last (b ∷ older) e =
+    let parts = no_more (word_faults place last older) (with_place (place (start_of older)) (byte_fault last older b)) e in
+    ap (words_fault last) (one_more b older)
+    ∙ newest_none (place (start_of older)) last (ends_statement older b) (newest older b) (statements older) (none_before place last older parts.0)
+    (sym (by_newest (place (start_of older)) last b older) ∙ parts.1)
+
+settled_first : (test : Bool) (earlier now : List ℕ) → test ≡ true → statement_place (if test then earlier else now) ≡ statement_place earlier
+settled_first true earlier now e = refl
+settled_first false earlier now e = cc
+
+settled_now : (test : Bool) (earlier now : List ℕ) → test ≡ false → statement_place (if test then earlier else now) ≡ statement_place now
+settled_now true earlier now e = cc
+settled_now false earlier now e = refl
+
+first_told : (place : ℕ → Place) (last : Known) (text : List ℕ) (f : Fault) (others : List Fault) → word_faults place last text ≡ f ∷ others
+    → (words_fault last (statements text) ≡ Some (At f.code f.line)) × (f.place ≡ place (statement_place (shortest (is_settled last) text)))
+first_told place last [] f others e = absurd cc
+first_told place last (b ∷ older) f others e = by_earlier (word_faults place last older) refl (first_told place last older) e
+  where
+    by_earlier : (earlier : List Fault) → word_faults place last older ≡ earlier
+        → ((g : Fault) (more : List Fault) → word_faults place last older ≡ g ∷ more
+        → (words_fault last (statements older) ≡ Some (At g.code g.line)) × (g.place ≡ place (statement_place (shortest (is_settled last) older))))
+        → earlier ++ with_place (place (start_of older)) (byte_fault last older b) ≡ f ∷ others
+        → (words_fault last (statements (b ∷ older)) ≡ Some (At f.code f.line)) × (f.place ≡ place (statement_place (shortest (is_settled last) (b ∷ older))))
+    by_earlier (g ∷ more) is before e =
+        let same = same_first g f (more ++ with_place (place (start_of older)) (byte_fault last older b)) others e in
+        let told = before g more is in
+        let settled : is_settled last older ≡ true = ap (λ (o : Option AsmFault). is_some o || is_over older) told.0 in (
+          words_stay last (b ∷ []) older (At g.code g.line) told.0 ∙ ap (λ (h : Fault). Some (At h.code h.line)) same,
+          sym (ap (λ (h : Fault). h.place) same) ∙ told.1 ∙ ap place (sym (settled_first (is_settled last older) (shortest (is_settled last) older) (b ∷ older) settled)),
+        )
+    by_earlier [] is before e =
+        let none = none_before place last older is in
+        let told = newest_told (place (start_of older)) last (ends_statement older b) (newest older b) (statements older) f others none
+        (sym (by_newest (place (start_of older)) last b older) ∙ e) in
+        let going = (ends_parts older b told.0).2 in
+        let unsettled : is_settled last older ≡ false = ap (λ (o : Option AsmFault). is_some o || is_over older) none ∙ going in (
+          ap (words_fault last) (one_more b older) ∙ told.1,
+          told.2 ∙ ap place (sym (settled_now (is_settled last older) (shortest (is_settled last) older) (b ∷ older) unsettled)),
+        )
+
+no_order : (o : Option AsmFault) → is_some o ≡ false → o ≡ None
+no_order None e = refl
+no_order (Some f) e = cc
+
+pub first_is_told : FirstIsTold
+first_is_told sources f others fine over e =
+    let text = newest_first sources in
+    let last = values (statements text) in
+    let told = first_told (place_at_byte sources) last text f others e in
+    let words = words_fault last (statements text) in
+    let rest = first_of words (no_word (statements text)) in
+    let ended : no_end text ≡ None = ap (λ (o : Bool). if o then None else Some (At NE (line_after text))) over in (
+      ap (λ o. first_of o (first_of (no_end text) rest)) (no_order (first_order (statements text)) fine) ∙ ap (λ o. first_of o rest) ended
+          ∙ ap (λ o. first_of o (no_word (statements text))) told.0,
+      told.1 ∙ ap (place_at_byte sources) (sym (by_settled text fine over)),
+    )

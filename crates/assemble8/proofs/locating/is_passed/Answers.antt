@@ -1,0 +1,21 @@
+use Rattle.std.proofs.Common.{Bool, false, not, ◌||◌, ap, sym, subst, ◌∙◌}
+use Rattle.pal_lex.specs.Text.{text_of, is_over}
+use Rattle.assemble8.specs.Steps.{Passes}
+use Rattle.assemble8.proofs.LocateLemmas.{refused_whole, over_whole, fine_whole}
+use Rattle.assemble8.proofs.locating.is_passed.Goals as goal
+
+pub returns-in-Ok-Over-clause-passed : goal.returns-in-Ok-Over-clause-passed
+returns-in-Ok-Over-clause-passed c =
+    let text = c.args.text.now in
+    let assembler = c.first_pass.new.assembler in
+    let passes = subst (λ p. Passes text p assembler) c.in-Ok-Over.field-0-is c.in-Ok-Over.ensures.passes in
+    sym
+    (ap (λ (r : Bool). not (r || not (is_over (text_of text)))) (fine_whole text c.in-Ok-Over.field-0-0 assembler c.dollar_ends_source.ensures passes)
+    ∙ ap (λ (o : Bool). not (false || not o)) (over_whole text c.in-Ok-Over.field-0-0 assembler passes))
+
+pub returns-in-Ok-Refused-clause-passed : goal.returns-in-Ok-Refused-clause-passed
+returns-in-Ok-Refused-clause-passed c =
+    let text = c.args.text.now in
+    let assembler = c.first_pass.new.assembler in
+    let passes = subst (λ p. Passes text p assembler) c.in-Ok-Refused.field-0-is c.in-Ok-Refused.ensures.passes in
+    sym (ap (λ (r : Bool). not (r || not (is_over (text_of text)))) (refused_whole text c.in-Ok-Refused.field-0-0 assembler passes))

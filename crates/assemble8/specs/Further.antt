@@ -1,0 +1,44 @@
+-- The faults of words behind the first (this project's profile of PAL III).
+use Rattle.std.specs.Prelude.{ℕ, ◌||◌, not, if◌then◌else◌, Option, Some, None, Ok, Err, take, drop, List, [], ◌∷◌, ◌++◌}
+use Rattle.std.specs.Borrow.{Bor}
+use Rattle.pal_lex.specs.Text.{is_over, ends_statement}
+use Rattle.pal_lex.specs.Statements.{statements}
+use Rattle.pal_asm.specs.declared.faults.Code.{Code}
+use Rattle.pal_asm.specs.Expressions.{Known}
+use Rattle.pal_asm.specs.Places.{Source, place_at, values}
+use Rattle.pal_asm.specs.Words.{word_values}
+use Rattle.pal_asm.specs.Faults.{word_fault}
+use Rattle.assemble8.specs.Sources.{newest_first}
+use Rattle.assemble8.specs.Places.{is_refused, start_of, place_at_byte}
+use Rattle.assemble8.specs.declared.faults.Place.{Place}
+use Rattle.assemble8.specs.declared.faults.Fault.{Fault}
+
+abbrev pub with_line : ℕ → Option Code → Option (Code × ℕ)
+with_line line None = None
+with_line line (Some code) = Some (code, line)
+
+-- the fault of the newest of statements, if it is a word that has one, where names stand for these values at last
+abbrev pub newest_fault : Known → Source → Option (Code × ℕ)
+newest_fault last [] = None
+newest_fault last (Err fault ∷ older) = None
+newest_fault last (Ok s ∷ older) = with_line s.line (word_fault (word_values last s.tags older) (place_at older) s.body)
+
+-- the fault of the word that a byte behind a text ends
+abbrev pub byte_fault : Known → List ℕ → ℕ → Option (Code × ℕ)
+byte_fault last older b = if ends_statement older b then newest_fault last (statements (b ∷ older)) else None
+
+abbrev pub with_place : Place → Option (Code × ℕ) → List Fault
+with_place at None = []
+with_place at (Some found) = record { code = found.0; line = found.1; place = at } ∷ []
+
+-- the faults of the words of a text, in its order, where these are the places of its bytes
+abbrev pub word_faults : (ℕ → Place) → Known → List ℕ → List Fault
+word_faults place last [] = []
+word_faults place last (b ∷ older) = word_faults place last older ++ with_place (place (start_of older)) (byte_fault last older b)
+
+-- So many faults behind the first, if this is one of a word: each word is judged by itself there, since what names stand for is
+-- known. Behind another fault there is none: what the statement would have defined isn't known.
+abbrev pub further_faults : List (Bor (List ℕ)) → ℕ → List Fault
+further_faults sources most =
+    if is_refused (newest_first sources) || not (is_over (newest_first sources)) then []
+    else take most (drop 1 (word_faults (place_at_byte sources) (values (statements (newest_first sources))) (newest_first sources)))

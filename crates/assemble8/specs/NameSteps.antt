@@ -1,0 +1,45 @@
+-- What the small steps of names come to, for private clauses.
+use Rattle.std.specs.Prelude.{◌≡◌, ℕ, ◌+◌, min, nat_eq, if◌then◌else◌, unwrap_or}
+use Rattle.std.specs.Ordering.{nat_cmp}
+use Rattle.std.specs.BTreeMap.{BTreeMap, get}
+use Rattle.pal_sym.specs.Permanent.{permanent}
+use Rattle.pal_sym.specs.Values.{if_none}
+use Rattle.pal_lex.specs.declared.phrases.Body.{Body}
+use Rattle.pal_lex.specs.declared.phrases.Body.TheVariants.{Nothing, Origin, Define, Decimal, Octal, Pause, Field, Reference, Word}
+use Rattle.pal_asm.specs.Expressions.{Known, value_of}
+use Rattle.pal_asm.specs.Places.{Source, place_at, values}
+use Rattle.assemble8.specs.Symbols.{symbols_of}
+
+-- what a name stands for, where these are defined
+abbrev pub known : BTreeMap ℕ ℕ → Known
+known symbols name = if_none (get nat_cmp symbols name) (permanent name)
+
+-- `=` gives a name the value of an expression, if it has one
+abbrev pub values_by : Known → ℕ → Body → Known
+values_by before place Nothing name = before name
+values_by before place (Origin e) name = before name
+values_by before place (Define defined e) name = if nat_eq defined name then if_none (value_of before place e) (before name) else before name
+values_by before place Decimal name = before name
+values_by before place Octal name = before name
+values_by before place Pause name = before name
+values_by before place (Field e) name = before name
+values_by before place (Reference operation indirect address) name = before name
+values_by before place (Word e) name = before name
+
+-- the place behind a body, as far as a number of 16 bits goes
+abbrev pub place_by : Known → ℕ → Body → ℕ
+place_by before place Nothing = place
+place_by before place (Origin e) = unwrap_or (value_of before place e) 0
+place_by before place (Define name e) = place
+place_by before place Decimal = place
+place_by before place Octal = place
+place_by before place Pause = place
+place_by before place (Field e) = 0o200
+place_by before place (Reference operation indirect address) = min (place + 1) 65535
+place_by before place (Word e) = min (place + 1) 65535
+
+-- These symbols and this place are those behind some statements.
+pub record Follows (symbols : BTreeMap ℕ ℕ) (place : ℕ) (source : Source) : Type 0 where
+  pub values : (n : ℕ) → known symbols n ≡ values source n
+  pub entries : symbols.entries ≡ symbols_of source
+  pub at : place ≡ place_at source

@@ -1,0 +1,132 @@
+//! Whether a word has a fault.
+ghost use Rattle.std.specs.Prelude.{◌≡◌, ◌≤◌, ℕ, Some, None, Ok, ◌∷◌, List, IfOk};
+ghost use Rattle.pal_lex.specs.Reading.{with_tokens};
+ghost use Rattle.pal_lex.specs.declared.pieces.Token.{Token};
+ghost use Rattle.pal_asm.specs.Expressions.{term_value, value_of};
+ghost use Rattle.pal_asm.specs.Expressions as spec;
+ghost use Rattle.pal_asm.specs.PassSteps.{Gives};
+ghost use Rattle.pal_asm.specs.Places.{Source, place_at};
+ghost use Rattle.pal_asm.specs.Words.{word_values};
+ghost use Rattle.pal_asm.specs.Faults.{term_fault, terms_fault, word_fault, out_of_reach, first_order};
+ghost use Rattle.assemble8.specs.NameSteps.{known, Follows};
+ghost use Rattle.assemble8.specs.JudgeSteps.{known_last};
+
+use crate::names::{Names, joined, name_value, set_tags, take_body};
+use pal_asm::Code;
+use pal_lex::{Body, Name, Part, Statement, Term};
+use std::alloc::AllocError;
+use std::collections::BTreeMap;
+
+/// The addresses of a page.
+const PAGE: u16 = 0o200;
+
+/// Takes the next statement, which has no fault that the first pass meets, and answers its fault, if it is a word that has
+/// one, where names stand for these values at last.
+pub(crate) fn judge(
+    names: &mut Names,
+    last: &BTreeMap<u64, u16>,
+    statement: &Statement,
+) -> Result<Option<Code>, AllocError>
+    ensures follows { (older : Source) (tokens : List Token) → Follows names.old.symbols names.old.place older
+        → first_order (Ok (with_tokens tokens statement.now) ∷ older) ≡ None
+        → IfOk result (λ code. Follows names.new.symbols names.new.place (Ok (with_tokens tokens statement.now) ∷ older)) }
+    ensures code { (older : Source) → Follows names.old.symbols names.old.place older
+        → IfOk result (λ code. code ≡ word_fault (word_values (known last.now) statement.now.tags older) (place_at older) statement.now.body) }
+{
+    set_tags(&mut names.symbols, statement.tags.names(), names.place)?;
+    let code = word_fault(&names.symbols, last, names.place, &statement.body);
+    let place = take_body(&mut names.symbols, names.place, &statement.body)?;
+    names.place = place;
+    Ok(code)
+}
+
+/// The fault of a body at a place, if it is a word that has one.
+fn word_fault(
+    now: &BTreeMap<u64, u16>,
+    last: &BTreeMap<u64, u16>,
+    place: u16,
+    body: &Body,
+) -> Option<Code>
+    ensures { result ≡ word_fault (known_last now.now last.now) place body.now }
+{
+    match body {
+        Body::Reference { address, .. } => match address {
+            Some(address) => match value_of(now, last, place, address.parts()) {
+                Ok(address) => out_of_reach(place, address),
+                Err(code) => Some(code),
+            },
+            None => out_of_reach(place, 0),
+        },
+        Body::Word(value) => match value_of(now, last, place, value.parts()) {
+            Ok(_) => None,
+            Err(code) => Some(code),
+        },
+        Body::Nothing | Body::Decimal | Body::Octal | Body::Pause => None,
+        Body::Origin(_) | Body::Define(..) | Body::Field(_) => None,
+    }
+}
+
+/// The fault of a memory reference at a place, if it can't reach an address.
+fn out_of_reach(place: u16, address: u16) -> Option<Code>
+    ensures { result ≡ out_of_reach place (Some address) }
+{
+    if address < PAGE || address / PAGE == place / PAGE {
+        return None;
+    }
+    Some(Code::IR)
+}
+
+/// The value of an expression in a word at a place, or the fault of the first of its terms that has one.
+fn value_of(
+    now: &BTreeMap<u64, u16>,
+    last: &BTreeMap<u64, u16>,
+    place: u16,
+    parts: &[Part],
+) -> Result<u16, Code>
+    ensures { Gives (value_of (known_last now.now last.now) place parts.now) (terms_fault (known_last now.now last.now) place parts.now) result }
+{
+    let mut value = 0;
+    let mut rest = parts;
+    while let [part, others @ ..] = rest {
+        match term_value(now, last, place, part.term) {
+            Ok(term) => value = joined(part.joint, value, term),
+            Err(code) => return Err(code),
+        }
+        rest = others;
+    }
+    Ok(value)
+}
+
+/// The value of a term in a word at a place, or its fault.
+fn term_value(
+    now: &BTreeMap<u64, u16>,
+    last: &BTreeMap<u64, u16>,
+    place: u16,
+    term: Term,
+) -> Result<u16, Code>
+    ensures { Gives (term_value (known_last now.now last.now) place term) (term_fault (known_last now.now last.now) place term) result }
+{
+    match term {
+        Term::Name(name) => match word_value(now, last, name) {
+            Some(value) => Ok(value),
+            None => Err(Code::UA),
+        },
+        Term::Number(word) => Ok(word.get()),
+        Term::Here => {
+            if place > 0o7777 {
+                return Err(Code::PF);
+            }
+            Ok(place)
+        }
+    }
+}
+
+/// What a name stands for in a word.
+fn word_value(now: &BTreeMap<u64, u16>, last: &BTreeMap<u64, u16>, name: Name) -> Option<u16>
+    ensures { result ≡ known_last now.now last.now name }
+{
+    match name_value(now, name) {
+        Some(value) => Some(value),
+        None => name_value(last, name),
+    }
+}

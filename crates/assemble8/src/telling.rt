@@ -1,0 +1,135 @@
+//! Faults, as a compiler tells them.
+ghost use Rattle.std.specs.Prelude.{◌≡◌, ◌++◌, decimal, IfOk, OnOk};
+ghost use Rattle.assemble8.specs.Places.{bytes_of};
+ghost use Rattle.assemble8.specs.Telling.{letters_of, words_of, headline, with_caret, numbered, fault_text};
+
+use crate::Fault;
+use crate::places::{bytes_of, first_bytes};
+use crate::showing::{put_below, shown_line};
+use pal_asm::Code;
+use std::alloc::{AllocError, Global};
+
+/// The text of a fault of sources with these names, four lines that LF ends: the fault behind the name of its source and its
+/// place there; the line of the source; a caret below the column; and the fault as scripts are told it.
+///
+/// In the line of the source a byte that is neither printable ASCII nor a tab is shown as `?`, and no CR stands in it (this
+/// project's profile).
+pub fn fault_text(
+    alloc: Global,
+    sources: &[&[u8]],
+    names: &[&str],
+    fault: Fault,
+) -> Result<Vec<u8>, AllocError>
+    ensures { IfOk result (λ text. text.items ≡ fault_text sources.now names.now fault) }
+{
+    let place = fault.place;
+    let line = shown_line(alloc, bytes_of(sources, place.source), place.line)?;
+    let mut text = Vec::new(alloc);
+    put_headline(&mut text, name_of(names, place.source), fault)?;
+    put_caret(&mut text, &line, place.column)?;
+    put_numbered(&mut text, fault)?;
+    Ok(text)
+}
+
+/// The name of a source; an empty one where there is none of this number.
+fn name_of<'a>(names: &[&'a str], number: usize) -> &'a str
+    ensures { result.now ≡ bytes_of names.now number }
+{
+    let mut left = number;
+    let mut rest = names;
+    while let [name, others @ ..] = rest {
+        if left == 0 {
+            return name;
+        }
+        left -= 1;
+        rest = others;
+    }
+    ""
+}
+
+/// Puts a fault behind the name of its source and its place there.
+fn put_headline(text: &mut Vec<u8>, name: &str, fault: Fault) -> Result<(), AllocError>
+    ensures { OnOk result (text.new.items ≡ text.old.items ++ headline name.now fault) }
+{
+    text.extend_from_slice(name.as_bytes())?;
+    text.extend_from_slice(b":")?;
+    put_number(text, fault.place.line as u64)?;
+    text.extend_from_slice(b":")?;
+    put_number(text, fault.place.column as u64)?;
+    text.extend_from_slice(b": ")?;
+    text.extend_from_slice(letters_of(fault.code))?;
+    text.extend_from_slice(b": ")?;
+    text.extend_from_slice(words_of(fault.code))?;
+    text.extend_from_slice(b"\n")?;
+    Ok(())
+}
+
+/// Puts a line with a caret below a column of it, from 1.
+fn put_caret(text: &mut Vec<u8>, line: &[u8], column: usize) -> Result<(), AllocError>
+    ensures { OnOk result (text.new.items ≡ text.old.items ++ with_caret line.now column) }
+{
+    text.extend_from_slice(line)?;
+    text.extend_from_slice(b"\n")?;
+    put_below(text, first_bytes(line, column.saturating_sub(1)))?;
+    text.extend_from_slice(b"^\n")?;
+    Ok(())
+}
+
+/// Puts a fault as scripts are told it.
+pub(crate) fn put_numbered(text: &mut Vec<u8>, fault: Fault) -> Result<(), AllocError>
+    ensures { OnOk result (text.new.items ≡ text.old.items ++ numbered fault) }
+{
+    text.extend_from_slice(b"? 5 ")?;
+    text.extend_from_slice(letters_of(fault.code))?;
+    text.extend_from_slice(b" ")?;
+    put_number(text, fault.line)?;
+    text.extend_from_slice(b"\n")?;
+    Ok(())
+}
+
+/// Puts a number in decimal, without leading zeros.
+pub(crate) fn put_number(text: &mut Vec<u8>, number: u64) -> Result<(), AllocError>
+    ensures { OnOk result (text.new.items ≡ text.old.items ++ decimal number) }
+{
+    let mut digits = itoa::Buffer::new();
+    text.extend_from_slice(digits.format(number).as_bytes())?;
+    Ok(())
+}
+
+/// The two letters of a fault.
+fn letters_of(code: Code) -> &'static [u8]
+    ensures { result.now ≡ letters_of code }
+{
+    match code {
+        Code::IC => b"IC",
+        Code::SY => b"SY",
+        Code::NU => b"NU",
+        Code::UA => b"UA",
+        Code::DT => b"DT",
+        Code::RD => b"RD",
+        Code::IR => b"IR",
+        Code::FD => b"FD",
+        Code::PF => b"PF",
+        Code::NE => b"NE",
+        Code::NW => b"NW",
+    }
+}
+
+/// The words of a fault.
+fn words_of(code: Code) -> &'static [u8]
+    ensures { result.now ≡ words_of code }
+{
+    match code {
+        Code::IC => b"illegal character",
+        Code::SY => b"bad statement",
+        Code::NU => b"bad number",
+        Code::UA => b"undefined name",
+        Code::DT => b"duplicate tag",
+        Code::RD => b"redefinition",
+        Code::IR => b"illegal reference",
+        Code::FD => b"bad field",
+        Code::PF => b"past 7777",
+        Code::NE => b"no $",
+        Code::NW => b"no word",
+    }
+}
