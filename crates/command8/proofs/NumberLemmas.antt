@@ -4,7 +4,7 @@ use Rattle.std.specs.Prelude.{nat_le}
 use Rattle.std.proofs.lemmas.Bool.Decides.{nat_tests}
 use Rattle.std.specs.Str.Parse.{ParsesUnsigned}
 use Rattle.clap.specs.Words.{IsUnsignedIn, ReadsOne, Text}
-use Rattle.command8.specs.Octal.{octal_limit}
+use Rattle.command8.specs.OctalSteps.{octal_limit}
 use Rattle.command8.specs.Tasks.{is_limit, most_steps, number_of}
 
 pub unsigned_reads : (E : Type 0) (G : List ℕ → Result ℕ E → Type 0) (low high : ℕ) (t : List ℕ) (r : Option ℕ) → ReadsOne G t r

@@ -1,5 +1,6 @@
 pub mod CommandSteps
 pub mod Octal
+pub mod OctalSteps
 pub mod Tasks
 pub mod TaskSteps
 pub mod Usage

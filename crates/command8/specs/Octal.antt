@@ -1,5 +1,5 @@
 -- Octal numbers of just so many digits, as the handbook writes words and cells.
-use Rattle.std.specs.Prelude.{ℕ, ◌+◌, ◌-◌, ◌*◌, ◌&&◌, if◌then◌else◌, nat_eq, nat_le, nat_lt, zero, suc, length, List, [], ◌∷◌, Option, None, Some}
+use Rattle.std.specs.Prelude.{ℕ, ◌+◌, ◌-◌, ◌*◌, ◌&&◌, if◌then◌else◌, nat_eq, nat_le, nat_lt, length, List, [], ◌∷◌, Option, None, Some}
 
 -- the number that octal digits go on to
 abbrev pub octal_from : ℕ → List ℕ → Option ℕ
@@ -10,8 +10,3 @@ octal_from n (digit ∷ digits) =
 -- an octal number of just so many digits
 abbrev pub octal_of : ℕ → List ℕ → Option ℕ
 octal_of count digits = if nat_eq (length digits) count then octal_from 0 digits else None
-
--- the octal numbers of so many digits are below
-abbrev pub octal_limit : ℕ → ℕ
-octal_limit zero = 1
-octal_limit (suc count) = 8 * octal_limit count

@@ -1,6 +1,7 @@
 //! Octal numbers of just so many digits.
 ghost use Rattle.std.specs.Prelude.{◌≡◌, ◌≤◌, ◌<◌, IfSome, length};
-ghost use Rattle.command8.specs.Octal.{octal_from, octal_limit, octal_of};
+ghost use Rattle.command8.specs.Octal.{octal_from, octal_of};
+ghost use Rattle.command8.specs.OctalSteps.{octal_limit};
 
 use word12::{Cell, Word};
 

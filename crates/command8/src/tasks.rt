@@ -25,8 +25,8 @@ use std::alloc::Global;
 /// which goes before it, `put IMAGE NAME` with `--text`, or `check IMAGE` (this project's profile). A request for help or the version
 /// comes back as an error of `clap`, as it gives it.
 pub fn task(alloc: Global, words: &[&str]) -> Result<Task, TaskFault>
-    ensures answer { Answers (map (λ word. word.now) words.now) result }
-    ensures taken { takes pdp8 (map (λ word. word.now) words.now) ≡ true
+    ensures answer { Answers (map (λ given. given.now) words.now) result }
+    ensures taken { takes pdp8 (map (λ given. given.now) words.now) ≡ true
         → IfErr result IsPastClap }
 {
     let command = command_line(alloc)?;

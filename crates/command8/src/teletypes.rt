@@ -37,7 +37,8 @@ fn with_cells<'a>(alloc: Global, command: Draft<'a>) -> Draft<'a>
         → IsDraft result (with_rule (with_rule app (option_rule (codes "start")))
         (option_rule (codes "switches"))) }
 {
-    let start = "The cell to start at, field and address in octal; else 00200";
+    let start =
+        "The cell to start at, field and address in octal; else that of the tape's first word";
     let command = with_argument(command, option(alloc, "start", "FAAAA", start));
     let switches = "The word that the switches are set to, in octal; else 0000";
     with_argument(command, option(alloc, "switches", "WWWW", switches))
@@ -50,7 +51,7 @@ fn with_modes<'a>(alloc: Global, command: Draft<'a>) -> Draft<'a>
         (flag_rule (codes "live"))) }
 {
     let command = with_argument(command, steps(alloc));
-    let raw = "Give each key and each character as it is, with no change of line ends";
+    let raw = "Strike each byte as it is, with no change of line ends and no top bit set";
     let command = with_argument(command, flag(alloc, "raw", raw));
     let live = "Take the keys as they are struck";
     with_argument(command, hidden(flag(alloc, "live", live)))

@@ -1,5 +1,7 @@
 pub mod Listing
 pub mod Lists
 pub mod Program
+pub mod Starts
+pub mod LineEnds
 pub mod Written
 pub mod ListSteps

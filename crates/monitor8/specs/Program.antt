@@ -1,5 +1,6 @@
 -- The lines that the program prints beside those of a session (this project's profile).
-use Rattle.std.specs.Prelude.{ℕ, codes, decimal, List, [], ◌∷◌, ◌++◌}
+use Rattle.std.specs.Prelude.{ℕ, ◌/◌, ◌%◌, codes, decimal, List, [], ◌∷◌, ◌++◌}
+use Rattle.word12.specs.Octal.{octal_digit, octal4}
 use Rattle.volume_image.specs.declared.faults.ImageFault.{ImageFault}
 use Rattle.volume_image.specs.declared.faults.ImageFault.TheVariants as image
 use Rattle.os8_dir.specs.declared.faults.DirFault.{DirFault}
@@ -25,12 +26,25 @@ directory_text directory.MixedInfo = codes "? DIRECTORY 7 MIXED INFO"
 directory_text directory.Device = codes "? DIRECTORY 8 DEVICE"
 directory_text directory.Memory = codes "? 10 MEMORY"
 
+-- the field and the address of a cell
+abbrev pub cell_text : ℕ → List ℕ
+cell_text cell = octal_digit (cell / 0o10000) ∷ octal4 (cell % 0o10000)
+
+-- where a machine halted: the cell before which it stands, AC and L
+abbrev pub halted_text : ℕ → ℕ → ℕ → List ℕ
+halted_text cell ac l = codes "HALT " ++ cell_text cell ++ codes " AC " ++ octal4 ac ++ codes " L " ++ octal_digit l ∷ []
+
 abbrev pub program_text : ProgramLine → List ℕ
 program_text (line.Created blocks) = codes "CREATED " ++ decimal blocks
 program_text line.HostRead = codes "? HOST READ"
 program_text line.HostWrite = codes "? HOST WRITE"
 program_text line.HostBusy = codes "? HOST BUSY"
 program_text line.NoWord = codes "? SOURCE 1 NO WORD"
+program_text line.NothingToRun = codes "? TELETYPE 1 NO WORD"
+program_text (line.Halted cell ac l) = halted_text cell ac l
+program_text (line.Unassigned cell word) = codes "UNASSIGNED " ++ cell_text cell ++ codes " " ++ octal4 word
+program_text (line.KeysEnd cell) = codes "KEYS END " ++ cell_text cell
+program_text (line.Limit cell) = codes "LIMIT " ++ cell_text cell
 program_text (line.Image fault) = image_text fault
 program_text (line.Directory fault) = directory_text fault
 

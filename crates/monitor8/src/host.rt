@@ -13,14 +13,23 @@ use std::process::ExitCode;
 use volume_image::{ImageFault, MemoryVolume};
 
 mod archives;
+mod assembling;
 mod hints;
 mod images;
 mod runs;
+mod streams;
+mod teletypes;
 
 use archives::{check_volume, get_file, list_files, put_file};
+use assembling::assemble_files;
 use hints::is_rim;
-use images::make_image;
+use images::{Content, make_file};
 use runs::run_image;
+use streams::Output;
+use teletypes::run_teletype;
+
+/// The status that a shell tells of a program that SIGPIPE has ended.
+const ABANDONED: u8 = 141;
 
 /// Why the program ends before its work is done.
 #[derive(Drop)]
@@ -29,10 +38,25 @@ enum Ended {
     Fault(SessionFault),
     Words(clap::Error),
     NoText,
-    LookAndKeep,
+
+    /// Words that `clap` takes and the program refuses.
+    Refused(TaskFault),
     Told,
-    Busy,
-    Unwritten(Unwritten),
+
+    /// Another program works on a file for this.
+    Busy(Content),
+
+    /// What a file for this holds that could not be written.
+    Unwritten(Content, Unwritten),
+
+    /// Standard output takes no more of what is data.
+    Unprinted,
+
+    /// Standard output is a pipe that nobody reads any more.
+    Abandoned,
+
+    /// The words can't all be followed, as was told.
+    Misused,
 }
 
 impl From<AllocError> for Ended {
@@ -47,10 +71,10 @@ impl From<AllocError> for Ended {
     }
 }
 
-/// Does what the words of the command line ask for: `pdp8 tape`, `pdp8 source`, `pdp8 run IMAGE`, `pdp8 create IMAGE BLOCKS`,
-/// `pdp8 list IMAGE`, `pdp8 get IMAGE NAME`, `pdp8 put IMAGE NAME` or `pdp8 check IMAGE`. The exit status is 0, 1 after a fault, and 2
-/// for words that are refused. The line of a fault is on standard output, and for `source` and `get`, whose standard output is data, on
-/// standard error (this project's profile).
+/// Does what the words of the command line ask for: `pdp8 tape`, `pdp8 source`, `pdp8 assemble FILE..`, `pdp8 teletype TAPE`,
+/// `pdp8 run IMAGE`, `pdp8 create IMAGE BLOCKS`, `pdp8 list IMAGE`, `pdp8 get IMAGE NAME`, `pdp8 put IMAGE NAME` or `pdp8 check IMAGE`.
+/// The exit status is 0, 1 after a fault, and 2 for words that are refused. The line of a fault is on standard output, and for
+/// commands whose standard output is data on standard error (this project's profile).
 pub fn program<R: Env + Files<File = File> + Input + Print + Eprint + AllocGlobal>(
     rt: &R,
 ) -> ExitCode
@@ -71,7 +95,7 @@ where
 /// Whether what a task puts on standard output is data, so that no fault is told there.
 fn gives_data(task: &Task) -> bool {
     match task {
-        Task::Source | Task::Get(..) => true,
+        Task::Source | Task::Assemble(_) | Task::Teletype(_) | Task::Get(..) => true,
         Task::Tape
         | Task::Run(..)
         | Task::Create(..)
@@ -91,6 +115,8 @@ where
     match task {
         Task::Tape => list_tape(rt),
         Task::Source => write_source(rt),
+        Task::Assemble(form) => assemble_files(rt, &form),
+        Task::Teletype(form) => run_teletype(rt, &form),
         Task::Run(image, form) => run_image(rt, &image, form),
         Task::Create(image, blocks) => create_image(rt, &image, blocks),
         Task::List(image) => list_files(rt, &image),
@@ -115,18 +141,21 @@ fn told<R: Print + Eprint + AllocGlobal>(rt: &R, ended: Ended, is_data: bool) ->
             let _ = rt.eprint("error: a word of the command line is not UTF-8 text\n");
             return ExitCode::from(2);
         }
-        Ended::LookAndKeep => {
-            let _ = rt.eprint(LOOK_AND_KEEP);
+        Ended::Refused(fault) => {
+            tell_refusal(rt, &fault);
             return ExitCode::from(2);
         }
-        Ended::Busy => {
-            let _ = rt.eprint("error: another program works on the image\n");
+        Ended::Busy(content) => {
+            let _ = eprintln!(rt; "error: another program works on the {}", content.name());
             put_program(&ProgramLine::HostBusy, &mut line)
         }
-        Ended::Unwritten(held) => {
-            let _ = rt.eprint(words_on(held));
+        Ended::Unwritten(content, held) => {
+            let _ = eprintln!(rt; "error: the {} {}", content.name(), words_on(held));
             put_program(&ProgramLine::HostWrite, &mut line)
         }
+        Ended::Unprinted => put_reply(None, &Err(SessionFault::Writer), &mut line),
+        Ended::Abandoned => return ExitCode::from(ABANDONED),
+        Ended::Misused => return ExitCode::from(2),
     };
     let text = match put {
         Ok(()) => line.as_slice(),
@@ -139,9 +168,7 @@ fn told<R: Print + Eprint + AllocGlobal>(rt: &R, ended: Ended, is_data: bool) ->
 /// Writes a line of characters to standard output, or to standard error.
 fn write_line<R: Print + Eprint>(rt: &R, line: &[u8], is_error: bool) {
     if is_error {
-        if let Ok(text) = str::from_utf8(line) {
-            let _ = rt.eprint(text);
-        }
+        tell_text(rt, line);
         return;
     }
     let mut writer = io::writer(rt);
@@ -149,21 +176,19 @@ fn write_line<R: Print + Eprint>(rt: &R, line: &[u8], is_error: bool) {
     let _ = writer.flush();
 }
 
-/// What is said of a run that is both to look and to keep, as `clap` says it of its conflicts.
-const LOOK_AND_KEEP: &str = "\
-error: the argument '--look' cannot be used with '--keep'
-
-Usage: pdp8 run [OPTIONS] <IMAGE>
-
-For more information, try '--help'.
-";
+/// Says why words are refused, as `clap` says it of those that it refuses itself.
+fn tell_refusal<R: Eprint>(rt: &R, fault: &TaskFault) {
+    let _ = eprintln!(rt;
+        "error: {fault}\n\n{}\n\nFor more information, try '--help'.",
+        fault.usage().unwrap_or("Usage: pdp8 <COMMAND>")
+    );
+}
 
 /// What is said on standard error of a file that could not be written.
 fn words_on(held: Unwritten) -> &'static str {
     match held {
-        Unwritten::AsItWas => "error: the image is not written: the file is as it was\n",
-        Unwritten::InPart =>
-            "error: the image is not written whole: the file may hold a part of it\n",
+        Unwritten::AsItWas => "is not written: the file is as it was",
+        Unwritten::InPart => "is not written whole: the file may hold a part of it",
     }
 }
 
@@ -178,7 +203,7 @@ fn read_words<R: Env + AllocGlobal>(rt: &R) -> Result<Task, Ended> {
         Ok(task) => Ok(task),
         Err(TaskFault::Words(error)) => Err(Ended::Words(error)),
         Err(TaskFault::Memory) => Err(Ended::Fault(SessionFault::Memory)),
-        Err(TaskFault::LookAndKeep) => Err(Ended::LookAndKeep),
+        Err(fault) => Err(Ended::Refused(fault)),
     }
 }
 
@@ -247,7 +272,7 @@ fn create_image<R: Files<File = File> + Print + Eprint + AllocGlobal>(
         Ok(bytes) => bytes,
         Err(fault) => return Err(Ended::Line(ProgramLine::Image(fault))),
     };
-    make_image(rt, image, &bytes)?;
+    make_file(rt, image, &bytes, Content::Image)?;
     let mut line = Vec::new(rt.alloc());
     match put_program(&ProgramLine::Created(blocks), &mut line) {
         Ok(()) => print_line(rt, &line),
@@ -266,4 +291,39 @@ fn print_line<R: Print>(rt: &R, line: &[u8]) -> Result<(), Ended> {
         return Err(Ended::Fault(SessionFault::Writer));
     }
     Ok(())
+}
+
+/// Writes data to standard output, and says why where that takes no more.
+fn print_data<R: Print>(rt: &R, data: &[u8]) -> Result<(), Ended> {
+    let mut output = Output::new(rt);
+    match output.write_all(data) {
+        Ok(()) => Ok(()),
+        Err(_) => Err(unprinted(&output)),
+    }
+}
+
+/// How a command ends that could not write its data.
+fn unprinted<R>(output: &Output<'_, R>) -> Ended {
+    if output.is_abandoned {
+        return Ended::Abandoned;
+    }
+    Ended::Unprinted
+}
+
+/// Tells a line on standard error that is no fault.
+fn tell_line<R: Eprint + AllocGlobal>(rt: &R, line: &ProgramLine) -> Result<(), Ended> {
+    let mut text = Vec::new(rt.alloc());
+    match put_program(line, &mut text) {
+        Ok(()) => {}
+        Err(fault) => return Err(Ended::Fault(fault)),
+    }
+    tell_text(rt, &text);
+    Ok(())
+}
+
+/// Writes a text to standard error.
+fn tell_text<R: Eprint>(rt: &R, text: &[u8]) {
+    if let Ok(text) = str::from_utf8(text) {
+        let _ = rt.eprint(text);
+    }
 }

@@ -3,14 +3,18 @@
 #![tactic(auto)]
 
 mod host;
+mod line_ends;
 mod listings;
 mod programs;
 mod sources;
+mod starts;
 
 pub use command8::{Task, TaskFault, plain_words, task};
 pub use host::program;
+pub use line_ends::with_line_feeds;
 pub use listings::tape_text;
 pub use programs::{ProgramLine, put_program};
 pub use script8::SessionFault;
 pub use session8::{Ran, Session, laws};
 pub use sources::{SourceFault, source_text};
+pub use starts::first_cell;

@@ -1,12 +1,13 @@
 ghost use Rattle.std.specs.Prelude.{◌≡◌, ◌+◌, ◌≤◌, ◌++◌, OnOk, OnErr, IsOk, IsOkUnless, vec_len, vec_capacity};
 ghost use Rattle.arrayvec.specs.ArrayVec.{array_vec_len};
-ghost use Rattle.monitor8.specs.Program.{program_line, program_text, image_text, directory_text};
+ghost use Rattle.monitor8.specs.Program.{program_line, program_text, image_text, directory_text, halted_text, cell_text};
 ghost use Rattle.script8.specs.declared.faults.SessionFault.TheVariants.{Memory};
 
 use os8_dir::DirFault;
 use script8::SessionFault;
 use script8::text_lines::{TextLine, put, put_number};
 use volume_image::ImageFault;
+use word12::{Cell, Word};
 
 /// What the program prints beside the lines of a session.
 #[derive(Clone, Copy, PartialEq, Eq, Debug)]
@@ -25,6 +26,21 @@ pub enum ProgramLine {
 
     /// The tape gives no cell a word, so it has no source.
     NoWord,
+
+    /// The tape gives no cell a word, so there is nothing to run.
+    NothingToRun,
+
+    /// A machine at a terminal halted before this cell, with this AC and L.
+    Halted(Cell, Word, u8),
+
+    /// A machine at a terminal met a word in a cell that is unassigned.
+    Unassigned(Cell, Word),
+
+    /// No key is left for a machine at a terminal that waits for one at this cell.
+    KeysEnd(Cell),
+
+    /// A machine at a terminal made as many steps as it was to make, up to this cell.
+    Limit(Cell),
 
     /// The bytes of the image file are no image of a volume.
     Image(ImageFault),
@@ -62,9 +78,49 @@ fn put_line(text: &mut TextLine, line: ProgramLine)
         ProgramLine::HostWrite => put(text, b"? HOST WRITE"),
         ProgramLine::HostBusy => put(text, b"? HOST BUSY"),
         ProgramLine::NoWord => put(text, b"? SOURCE 1 NO WORD"),
+        ProgramLine::NothingToRun => put(text, b"? TELETYPE 1 NO WORD"),
+        ProgramLine::Halted(cell, ac, l) => put_halted(text, cell, ac, l),
+        ProgramLine::Unassigned(cell, word) => {
+            put(text, b"UNASSIGNED ");
+            put_cell(text, cell);
+            put(text, b" ");
+            put(text, &word.octal4());
+        }
+        ProgramLine::KeysEnd(cell) => {
+            put(text, b"KEYS END ");
+            put_cell(text, cell);
+        }
+        ProgramLine::Limit(cell) => {
+            put(text, b"LIMIT ");
+            put_cell(text, cell);
+        }
         ProgramLine::Image(fault) => put_image(text, fault),
         ProgramLine::Directory(fault) => put_directory(text, fault),
     }
+}
+
+/// Puts where a machine halted, with its AC and L, into an empty line.
+fn put_halted(text: &mut TextLine, cell: Cell, ac: Word, l: u8)
+    requires { array_vec_len text.old ≡ 0 }
+    ensures text { text.new.items ≡ text.old.items ++ halted_text cell ac l }
+    ensures short { array_vec_len text.new ≤ 60 }
+{
+    put(text, b"HALT ");
+    put_cell(text, cell);
+    put(text, b" AC ");
+    put(text, &ac.octal4());
+    put(text, b" L ");
+    put(text, &[b'0' + l % 8]);
+}
+
+/// Puts a cell as its field and address in octal.
+fn put_cell(text: &mut TextLine, cell: Cell)
+    requires { array_vec_len text.old ≤ 40 }
+    ensures text { text.new.items ≡ text.old.items ++ cell_text cell }
+    ensures short { array_vec_len text.new ≡ array_vec_len text.old + 5 }
+{
+    put(text, &[b'0' + cell.field()]);
+    put(text, &cell.address().octal4());
 }
 
 /// Puts the text of a fault of an image into an empty line.

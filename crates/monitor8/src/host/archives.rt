@@ -36,6 +36,19 @@ pub fn get_file<R: Files + Print + Eprint + AllocGlobal>(
     }
 }
 
+/// The frames of the BIN tape that a file begins with, on the volume in an image file.
+pub fn tape_of_file<R: Files + Eprint + AllocGlobal>(
+    rt: &R,
+    image: &str,
+    name: &str,
+) -> Result<Vec<u8>, Ended> {
+    let bytes = seen(rt, image)?;
+    match get(rt.alloc(), &bytes, name.as_bytes(), GetForm::Tape) {
+        Ok(frames) => Ok(frames),
+        Err(fault) => Err(ended(rt, bytes.len(), fault)),
+    }
+}
+
 /// Makes the bytes on standard input a file on the volume in an image file, and writes the image back.
 pub fn put_file<R: Files<File = File> + Input + Print + Eprint + AllocGlobal>(
     rt: &R,

@@ -21,10 +21,11 @@ const COMMANDS: &str =
 
 /// How a command ends whose image, of so many bytes, is refused with this line. What may help is said.
 pub fn refused_image<R: Eprint>(rt: &R, size: usize, line: ProgramLine) -> Ended {
+    let told = line;
     if let Some(hint) = image_hint(size, line) {
         let _ = rt.eprint(hint);
     }
-    Ended::Line(line)
+    Ended::Line(told)
 }
 
 /// What may help where an image of so many bytes is refused.

@@ -9,6 +9,25 @@ use std::alloc::{AllocError, Global};
 use std::fs::{File, Files};
 use std::mem;
 
+/// What a file of the host is to hold.
+#[derive(Clone, Copy)]
+pub enum Content {
+    Image,
+    Tape,
+    Listing,
+}
+
+impl Content {
+    /// The word for it in what is said of the file.
+    pub fn name(self) -> &'static str {
+        match self {
+            Content::Image => "image",
+            Content::Tape => "tape",
+            Content::Listing => "listing",
+        }
+    }
+}
+
 /// The image in a file, which is held unless it may not be written, or is only looked at.
 #[derive(Drop)]
 pub struct Image {
@@ -27,7 +46,7 @@ impl Image {
     ) -> Result<Image, Ended> {
         match hold(rt, name) {
             Ok(held) => {
-                tell_of_lock(rt, &held);
+                tell_of_lock(rt, &held, Content::Image);
                 let bytes = taken(held.read(rt, MOST))?;
                 Ok(Image {
                     held: Some(held),
@@ -72,12 +91,12 @@ impl Image {
             return Ok(());
         }
         match &mut self.held {
-            None => return Err(Ended::Unwritten(Unwritten::AsItWas)),
+            None => return Err(Ended::Unwritten(Content::Image, Unwritten::AsItWas)),
             Some(held) => {
                 if !self.is_told {
-                    tell_of_place(rt, held);
+                    tell_of_place(rt, held, Content::Image);
                 }
-                write(rt, held, bytes)?;
+                write(rt, held, bytes, Content::Image)?;
             }
         }
         self.is_told = true;
@@ -86,24 +105,25 @@ impl Image {
     }
 }
 
-/// Makes a file that holds this image, in place of any of its name.
-pub fn make_image<R: Files<File = File> + Eprint + AllocGlobal>(
+/// Makes a file that holds these bytes, in place of any of its name.
+pub fn make_file<R: Files<File = File> + Eprint + AllocGlobal>(
     rt: &R,
     name: &str,
     bytes: &[u8],
+    content: Content,
 ) -> Result<(), Ended> {
     match hold(rt, name) {
         Ok(held) => {
-            tell_of_lock(rt, &held);
+            tell_of_lock(rt, &held, content);
             let mut own = held;
-            tell_of_place(rt, &own);
-            write(rt, &mut own, bytes)
+            tell_of_place(rt, &own, content);
+            write(rt, &mut own, bytes, content)
         }
         Err(HoldFault::Absent) => match make(rt, name, bytes) {
             Ok(()) => Ok(()),
-            Err(fault) => Err(unmade(fault)),
+            Err(fault) => Err(unmade(fault, content)),
         },
-        Err(fault) => Err(unmade(fault)),
+        Err(fault) => Err(unmade(fault, content)),
     }
 }
 
@@ -123,39 +143,46 @@ fn taken(found: Result<Vec<u8>, HoldFault>) -> Result<Vec<u8>, Ended> {
 
 fn unread(fault: HoldFault) -> Ended {
     match fault {
-        HoldFault::Busy => Ended::Busy,
+        HoldFault::Busy => Ended::Busy(Content::Image),
         HoldFault::Memory => Ended::Fault(SessionFault::Memory),
         _ => Ended::Line(ProgramLine::HostRead),
     }
 }
 
-fn unmade(fault: HoldFault) -> Ended {
+fn unmade(fault: HoldFault, content: Content) -> Ended {
     match fault {
-        HoldFault::Busy => Ended::Busy,
+        HoldFault::Busy => Ended::Busy(content),
         HoldFault::Memory => Ended::Fault(SessionFault::Memory),
-        _ => Ended::Unwritten(Unwritten::AsItWas),
+        _ => Ended::Unwritten(content, Unwritten::AsItWas),
     }
 }
 
-fn tell_of_place<R: Eprint>(rt: &R, held: &HeldFile) {
+fn tell_of_place<R: Eprint>(rt: &R, held: &HeldFile, content: Content) {
     if !held.is_alone() {
-        let _ = rt.eprint(
-            "note: the image is written in its place, and is not whole if that breaks off\n",
+        let _ = eprintln!(rt;
+            "note: the {} is written in its place, and is not whole if that breaks off",
+            content.name()
         );
     }
 }
 
-fn write<R: Files<File = File>>(rt: &R, held: &mut HeldFile, bytes: &[u8]) -> Result<(), Ended> {
+fn write<R: Files<File = File>>(
+    rt: &R,
+    held: &mut HeldFile,
+    bytes: &[u8],
+    content: Content,
+) -> Result<(), Ended> {
     match held.write(rt, bytes) {
         Ok(()) => Ok(()),
-        Err(left) => Err(Ended::Unwritten(left)),
+        Err(left) => Err(Ended::Unwritten(content, left)),
     }
 }
 
-fn tell_of_lock<R: Eprint>(rt: &R, held: &HeldFile) {
+fn tell_of_lock<R: Eprint>(rt: &R, held: &HeldFile, content: Content) {
     if !held.has_lock() {
-        let _ = rt.eprint(
-            "note: the file system has no locks, so let no other program work on the image\n",
+        let _ = eprintln!(rt;
+            "note: the file system has no locks, so let no other program work on the {}",
+            content.name()
         );
     }
 }

@@ -1,0 +1,44 @@
+//! Standard output as a writer that knows whether it is a pipe that nobody reads any more.
+
+use std::io::{self, ErrorKind, Write};
+
+/// Standard output.
+#[derive(Drop)]
+pub struct Output<'a, R> {
+    to: &'a R,
+
+    /// Whether it is a pipe that nobody reads any more, as behind `| head`.
+    pub is_abandoned: bool,
+}
+
+impl<'a, R: Print> Output<'a, R> {
+    pub fn new(to: &'a R) -> Output<'a, R> {
+        Output {
+            to,
+            is_abandoned: false,
+        }
+    }
+}
+
+impl<'a, R: Print> Write for Output<'a, R> {
+    fn write(&mut self, buf: &[u8]) -> io::Result<usize> {
+        match io::writer(self.to).write(buf) {
+            Ok(count) => Ok(count),
+            Err(error) => {
+                self.is_abandoned = is_broken_pipe(&error);
+                Err(error)
+            }
+        }
+    }
+
+    fn flush(&mut self) -> io::Result<()> {
+        Ok(())
+    }
+}
+
+fn is_broken_pipe(error: &io::Error) -> bool {
+    match error.kind() {
+        ErrorKind::BrokenPipe => true,
+        _ => false,
+    }
+}

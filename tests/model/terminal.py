@@ -1,0 +1,92 @@
+"""A machine at a terminal, by the definitions: keys are struck where the program asks for one, and what is printed is shown."""
+from dataclasses import dataclass
+from machine import HALT, LIMIT, UNASSIGNED, Machine
+from tape import TapeFault, meaning_of
+from words import octal
+
+KEYS = "KEYS END"
+TENTH_OF_A_SECOND = 30000
+
+
+@dataclass
+class Sitting:
+    """How a program is run."""
+
+    frames: list[int]
+    keys: bytes
+    is_raw: bool
+    start: int
+    switches: int
+    steps: int
+
+
+def keys_of(text: bytes, is_raw: bool) -> list[int]:
+    """LF is struck as CR, and CR LF as one CR; other bytes below 0200 have the top bit set, and those above are none."""
+    if is_raw:
+        return list(text)
+    text = text.replace(b"\r\n", b"\r").replace(b"\n", b"\r")
+    return [it + 0o200 for it in text if it < 0o200]
+
+
+def first_cell(frames: list[int], meaning: dict[int, int]) -> int:
+    """The cell of the tape's first word; a mapping is in the order in which cells were first named."""
+    return next(iter(meaning))
+
+
+def asks(machine: Machine, since: int) -> bool:
+    """Whether the program asks for a key: the next step is pulse 1 of a keyboard instruction, or a tenth of a second is over."""
+    if machine.has_key:
+        return False
+    grants = machine.is_on and not machine.is_waiting and not machine.is_held and (machine.has_printed or machine.is_busy)
+    word = machine.core[machine.here]
+    return (word >> 3 == 0o603 and word & 1 == 1 and not grants) or (machine.is_on and since >= TENTH_OF_A_SECOND)
+
+
+def waits(machine: Machine) -> bool:
+    """Whether the machine does nothing but wait for a key, for ever."""
+    place = (machine.pc + 1) % 4096
+    jump = machine.core[4096 * machine.instruction_field + place]
+    target = jump % 128 + (place // 128 * 128 if jump & 0o200 else 0)
+    rests = not (machine.is_busy or machine.is_waiting or machine.is_held or machine.is_on and machine.has_printed)
+    rests = rests and machine.buffer_field == machine.instruction_field
+    return not machine.has_key and machine.core[machine.here] == 0o6031 and jump >> 8 == 0o12 and target == machine.pc and rests
+
+
+def sat(sitting: Sitting) -> tuple[bytes, bytes, int]:
+    """What goes to standard output and to standard error, and the status."""
+    meaning = meaning_of(sitting.frames)
+    if isinstance(meaning, TapeFault):
+        return b"", meaning.line.encode() + b"\n", 1
+    if not meaning:
+        return b"", b"? TELETYPE 1 NO WORD\n", 1
+    machine, keys = Machine(), keys_of(sitting.keys, sitting.is_raw)
+    for cell, word in meaning.items():
+        machine.core[cell] = word
+    machine.switches = sitting.switches
+    machine.start(sitting.start if sitting.start >= 0 else first_cell(sitting.frames, meaning))
+    why = went(machine, keys, sitting.steps)
+    shown = bytes(it % 128 for it in machine.printed if it % 128)
+    here = octal(machine.here, 5)
+    if why == HALT:
+        return shown, f"HALT {here} AC {octal(machine.ac, 4)} L {machine.link}\n".encode(), 0
+    if why == UNASSIGNED:
+        return shown, f"UNASSIGNED {here} {octal(machine.core[machine.here], 4)}\n".encode(), 1
+    return shown, f"{why} {here}\n".encode(), 0 if why == KEYS else 1
+
+
+def went(machine: Machine, keys: list[int], steps: int) -> str:
+    """Makes so many steps, or as many as come before an end, and tells that."""
+    since = 0
+    for _ in range(steps):
+        if asks(machine, since):
+            since = 0
+            if keys:
+                machine.key(keys.pop(0))
+        if not keys and waits(machine):
+            return KEYS
+        machine.done()
+        why = machine.step()
+        since += 1
+        if why:
+            return why
+    return LIMIT
