@@ -33,18 +33,18 @@ abbrev pub NoFault : Type 0
 NoFault = (frames : List ℕ) (items : List Item) (fault : TapeFault) → IsTape frames items → IsFault frames fault → ⊥
 
 -- a list begins with another
-record Begins (front whole : List ℕ) : Type 0 where
+record Begins (prefix whole : List ℕ) : Type 0 where
   rest : List ℕ
-  whole_is : whole ≡ front ++ rest
+  whole_is : whole ≡ prefix ++ rest
 
 -- two parts of a list, each with a frame behind it, are one, or the one goes past the other's frame
 record AreOne (p q : List ℕ) (x y : ℕ) (r s : List ℕ) : Type 0 where
-  fronts : p ≡ q
+  prefixes : p ≡ q
   frames_are : x ≡ y
   behind : r ≡ s
 
 compared : (p q : List ℕ) (x y : ℕ) (r s : List ℕ) → p ++ x ∷ r ≡ q ++ y ∷ s → Begins (p ++ x ∷ []) q ⊎ Begins (q ++ y ∷ []) p ⊎ AreOne p q x y r s
-compared [] [] x y r s same = inr (inr (record { fronts = refl; frames_are = cc; behind = cc }))
+compared [] [] x y r s same = inr (inr (record { prefixes = refl; frames_are = cc; behind = cc }))
 compared [] (b ∷ q) x y r s same = inl (record { rest = q; whole_is = cc })
 compared (a ∷ p) [] x y r s same = inr (inl (record { rest = p; whole_is = cc }))
 compared (a ∷ p) (b ∷ q) x y r s same = go (heads same) (compared p q x y r s (tails same))
@@ -59,10 +59,10 @@ compared (a ∷ p) (b ∷ q) x y r s same = go (heads same) (compared p q x y r 
         → Begins (a ∷ (p ++ x ∷ [])) (b ∷ q) ⊎ Begins (b ∷ (q ++ y ∷ [])) (a ∷ p) ⊎ AreOne (a ∷ p) (b ∷ q) x y r s
     go is (inl begins) = inl (record { rest = begins.rest; whole_is = rw (is, begins.whole_is) refl })
     go is (inr (inl begins)) = inr (inl (record { rest = begins.rest; whole_is = rw (is, begins.whole_is) refl }))
-    go is (inr (inr one)) = inr (inr (record { fronts = rw (is, one.fronts) refl; frames_are = one.frames_are; behind = one.behind }))
+    go is (inr (inr one)) = inr (inr (record { prefixes = rw (is, one.prefixes) refl; frames_are = one.frames_are; behind = one.behind }))
 
-past : LongerTape → (front whole : List ℕ) (items : List Item) → IsTape front items → Begins front whole → ((others : List Item) → IsTape whole others → ⊥) → ⊥
-past longer front whole items is begins none = none items (rw begins.whole_is (longer front begins.rest items is))
+past : LongerTape → (prefix whole : List ℕ) (items : List Item) → IsTape prefix items → Begins prefix whole → ((others : List Item) → IsTape whole others → ⊥) → ⊥
+past longer prefix whole items is begins none = none items (rw begins.whole_is (longer prefix begins.rest items is))
 
 -- frames begin with one tape
 one_tape : LongerTape → (file one two : List ℕ) → IsTapeOf file one → IsTapeOf file two → two ≡ one
@@ -72,7 +72,7 @@ one_tape longer file one two a b =
     go : Begins (a.before ++ a.first ∷ []) b.before ⊎ Begins (b.before ++ b.first ∷ []) a.before ⊎ AreOne a.before b.before a.first b.first a.behind b.behind → two ≡ one
     go (inl begins) = absurd (past longer (a.before ++ a.first ∷ []) b.before a.items a.is_tape begins b.none_before)
     go (inr (inl begins)) = absurd (past longer (b.before ++ b.first ∷ []) a.before b.items b.is_tape begins a.none_before)
-    go (inr (inr same)) = b.tape_is ∙ rw (← same.fronts, ← same.frames_are, ← same.behind) (sym a.tape_is)
+    go (inr (inr same)) = b.tape_is ∙ rw (← same.prefixes, ← same.frames_are, ← same.behind) (sym a.tape_is)
 
 -- frames that begin with a tape have no fault
 tape_is_sound : LongerTape → NoFault → (file tape : List ℕ) (fault : TapeFault) → IsTapeOf file tape → IsFault file fault → ⊥

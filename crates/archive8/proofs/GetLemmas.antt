@@ -12,7 +12,7 @@ use Rattle.char_pack.specs.declared.forms.GetForm.{GetForm}
 use Rattle.os8_files.specs.Mounted.{Mounted}
 use Rattle.archive8.specs.Putting.{IsMounted}
 use Rattle.archive8.specs.Getting.{GetRefused, IsFile}
-use Rattle.archive8.specs.Steps.{Gives}
+use Rattle.archive8.specs.Steps.{GivesFile}
 
 -- the words of one block more
 pub block_more : (k : ℕ) (xs block : List ℕ) → block ≡ take 256 (drop (256 * k) xs) → take (256 * k) xs ++ block ≡ take (256 * (k + 1)) xs
@@ -48,7 +48,7 @@ file_is image name m number words file mounted named there is = record {
 }
 
 -- what is not given of a file that is there
-pub given_refused : (image name words : List ℕ) (form : GetForm) (fault : SessionFault) → IsImage image → IsFile image name words → Gives form words (Err fault)
+pub given_refused : (image name words : List ℕ) (form : GetForm) (fault : SessionFault) → IsImage image → IsFile image name words → GivesFile form words (Err fault)
     → GetRefused image name form fault
 given_refused image name words form (Tape fault) opened file is = (words, file, is.0, is.1)
 given_refused image name words form (File fault) opened file is = absurd (cc)

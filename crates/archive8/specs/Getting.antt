@@ -32,9 +32,9 @@ pub record IsListing (image text : List ℕ) : Type 0 where
   pub free_are : free + used_of (files_of blocks) ≡ capacity_of blocks
   pub lines : text ≡ report_lines (Direct (lengths_of (files_of blocks)) free)
 
-abbrev pub Lists : List ℕ → Result (Vec ℕ) ArchiveFault → Type 0
-Lists image (Ok text) = IsListing image text.items
-Lists image (Err fault) = IsUnopened image fault
+abbrev pub ListsFiles : List ℕ → Result (Vec ℕ) ArchiveFault → Type 0
+ListsFiles image (Ok text) = IsListing image text.items
+ListsFiles image (Err fault) = IsUnopened image fault
 
 -- ## Files
 

@@ -75,8 +75,8 @@ PutRefused image name form bytes (File (NoRoom largest)) = IsFullFor image name 
 PutRefused image name form bytes (File DirectoryFull) = IsFullFor image name (put_words form bytes) (File DirectoryFull)
 PutRefused image name form bytes fault = IsUnopened image (Refused fault)
 
-abbrev pub Puts : List ℕ → List ℕ → PutForm → List ℕ → Result NewImage ArchiveFault → Type 0
-Puts image name form bytes (Ok new) = IsFit form bytes × HasPutInto image name (put_words form bytes) new
-Puts image name form bytes (Err (Image fault)) = IsUnopened image (Image fault)
-Puts image name form bytes (Err (Directory fault)) = IsUnopened image (Directory fault)
-Puts image name form bytes (Err (Refused fault)) = PutRefused image name form bytes fault
+abbrev pub PutsFile : List ℕ → List ℕ → PutForm → List ℕ → Result NewImage ArchiveFault → Type 0
+PutsFile image name form bytes (Ok new) = IsFit form bytes × HasPutInto image name (put_words form bytes) new
+PutsFile image name form bytes (Err (Image fault)) = IsUnopened image (Image fault)
+PutsFile image name form bytes (Err (Directory fault)) = IsUnopened image (Directory fault)
+PutsFile image name form bytes (Err (Refused fault)) = PutRefused image name form bytes fault

@@ -51,10 +51,10 @@ FindsWords m name (Err (File file.NotFound)) = get (files_of m.blocks) name ≡ 
 FindsWords m name (Err fault) = fault ≡ Memory
 
 -- what is given of a file of these words, or refused
-abbrev pub Gives : GetForm → List ℕ → Result (Vec ℕ) SessionFault → Type 0
-Gives form words (Ok bytes) = IsGiven form words bytes.items
-Gives form words (Err (session.Tape fault)) = (form ≡ Tape) × IsFault (frames words) fault
-Gives form words (Err fault) = fault ≡ Memory
+abbrev pub GivesFile : GetForm → List ℕ → Result (Vec ℕ) SessionFault → Type 0
+GivesFile form words (Ok bytes) = IsGiven form words bytes.items
+GivesFile form words (Err (session.Tape fault)) = (form ≡ Tape) × IsFault (frames words) fault
+GivesFile form words (Err fault) = fault ≡ Memory
 
 -- a reader was given frames that may go on as a tape, and are none yet
 pub record IsReading (reader : Progress) (file : List ℕ) : Type 0 where
@@ -63,10 +63,10 @@ pub record IsReading (reader : Progress) (file : List ℕ) : Type 0 where
   pub going : IsGoing file out
 
 -- behind one more frame: the frames are a tape for the first time, or may still go on as one, or have a fault whatever follows
-abbrev pub Takes : List ℕ → ℕ → Result Bool TapeFault → Progress → Type 0
-Takes file frame (Ok true) reader = ((items : List Item) × IsTape (file ++ frame ∷ []) items) × ((others : List Item) → IsTape file others → ⊥)
-Takes file frame (Ok false) reader = IsReading reader (file ++ frame ∷ [])
-Takes file frame (Err fault) reader = (rest : List ℕ) → IsFault (file ++ frame ∷ rest) fault
+abbrev pub TakesFrame : List ℕ → ℕ → Result Bool TapeFault → Progress → Type 0
+TakesFrame file frame (Ok true) reader = ((items : List Item) × IsTape (file ++ frame ∷ []) items) × ((others : List Item) → IsTape file others → ⊥)
+TakesFrame file frame (Ok false) reader = IsReading reader (file ++ frame ∷ [])
+TakesFrame file frame (Err fault) reader = (rest : List ℕ) → IsFault (file ++ frame ∷ rest) fault
 
 -- so many frames are a tape for the first time
 pub record IsFirstTape (file : List ℕ) (count : ℕ) : Type 0 where

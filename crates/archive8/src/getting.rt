@@ -1,7 +1,7 @@
 ghost use Rattle.std.specs.Prelude.{◌≡◌, false};
 ghost use Rattle.volume_image.specs.Volume.{IsVolume};
 ghost use Rattle.archive8.specs.Getting.{Gets};
-ghost use Rattle.archive8.specs.Steps.{FindsWords, Gives, IsWhole, ReadsWords};
+ghost use Rattle.archive8.specs.Steps.{FindsWords, GivesFile, IsWhole, ReadsWords};
 
 use crate::frames::frames_of;
 use crate::opening::mounted;
@@ -34,7 +34,7 @@ pub fn get(alloc: Global, image: &[u8], name: &[u8], form: GetForm) -> Result<Ve
 
 /// What is given of a file of these words.
 fn given(alloc: Global, words: &[Word], form: GetForm) -> Result<Vec<u8>, SessionFault>
-    ensures { Gives form words.now result }
+    ensures { GivesFile form words.now result }
 {
     match form {
         GetForm::Frames => {

@@ -1,4 +1,4 @@
-ghost use Rattle.archive8.specs.Getting.{Lists};
+ghost use Rattle.archive8.specs.Getting.{ListsFiles};
 
 use crate::ArchiveFault;
 use crate::opening::mounted;
@@ -9,7 +9,7 @@ use std::alloc::Global;
 /// The lines of `DIRECT` for the volume of an image: the files in name order with their lengths in blocks, and the free blocks
 /// (this project's profile).
 pub fn list(alloc: Global, image: &[u8]) -> Result<Vec<u8>, ArchiveFault>
-    ensures { Lists image.now result }
+    ensures { ListsFiles image.now result }
 {
     let files = mounted(alloc, image)?;
     match files.listing(alloc) {

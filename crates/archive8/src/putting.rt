@@ -1,7 +1,7 @@
 ghost use Rattle.std.specs.Prelude.{◌≡◌, []};
 ghost use Rattle.os8_dir.specs.Entries.{IsNamed};
 ghost use Rattle.os8_files.specs.Calls.{IsReady};
-ghost use Rattle.archive8.specs.Putting.{Puts};
+ghost use Rattle.archive8.specs.Putting.{PutsFile};
 ghost use Rattle.archive8.specs.Steps.{AreBlocks, MakesWords, PutsWords};
 ghost use Rattle.char_pack.specs.declared.forms.PutForm.TheVariants as form;
 
@@ -34,7 +34,7 @@ pub fn put(
     bytes: &[u8],
     form: PutForm,
 ) -> Result<NewImage, ArchiveFault>
-    ensures { Puts image.now name.now form bytes.now result }
+    ensures { PutsFile image.now name.now form bytes.now result }
 {
     let files = mounted(alloc, image)?;
     match Name::parse(name) {

@@ -1,6 +1,6 @@
 ghost use Rattle.std.specs.Prelude.{◌≡◌, ◌≤◌, ℕ, List, length};
 ghost use Rattle.archive8.specs.Getting.{trailer};
-ghost use Rattle.archive8.specs.Steps.{FindsTape, Gives, IsReading, Takes};
+ghost use Rattle.archive8.specs.Steps.{FindsTape, GivesFile, IsReading, TakesFrame};
 ghost use Rattle.char_pack.specs.declared.forms.GetForm.TheVariants as form;
 
 use crate::frames::frames_of;
@@ -15,7 +15,7 @@ const TRAILER: u8 = 0o200;
 
 /// The tape that the frames of words begin with.
 pub fn tape_of(alloc: Global, words: &[Word]) -> Result<Vec<u8>, SessionFault>
-    ensures { Gives form.Tape words.now result }
+    ensures { GivesFile form.Tape words.now result }
 {
     let mut frames = frames_of(alloc, words)?;
     let count = first_tape(&frames)?;
@@ -40,7 +40,7 @@ fn first_tape(frames: &[u8]) -> Result<usize, TapeFault>
 
 /// Takes one more frame, and answers whether the frames are a tape now.
 fn is_end(reader: &mut TapeReader, frame: u8) -> Result<bool, TapeFault>
-    ensures { (frames : List ℕ) → IsReading reader.old frames → Takes frames frame result reader.new }
+    ensures { (frames : List ℕ) → IsReading reader.old frames → TakesFrame frames frame result reader.new }
 {
     no_fault();
     match reader.push(frame) {

@@ -23,17 +23,17 @@ true_false e = absurd cc
 some_more : (next : Bor (List ℕ)) (later : List (Bor (List ℕ))) → nat_eq (length (next ∷ later)) 0 ≡ false
 some_more next later = grind (arith, nat_tests)
 
-pub put_front : (source : Bor (List ℕ)) (others : List (Bor (List ℕ))) (last : Bool) (bytes old new counts counts_then : List ℕ) → bytes ≡ host_text source.now → last ≡ nat_eq (length others) 0
+pub put_prefix : (source : Bor (List ℕ)) (others : List (Bor (List ℕ))) (last : Bool) (bytes old new counts counts_then : List ℕ) → bytes ≡ host_text source.now → last ≡ nat_eq (length others) 0
     → Puts last bytes true old new counts counts_then → HasPut source others old new counts counts_then
-put_front source [] last bytes old new counts counts_then is none puts = true_false (sym none ∙ puts.0)
-put_front source (next ∷ later) last bytes old new counts counts_then is none puts =
+put_prefix source [] last bytes old new counts counts_then is none puts = true_false (sym none ∙ puts.0)
+put_prefix source (next ∷ later) last bytes old new counts counts_then is none puts =
     let count = puts.1.0 in
-    let front = text_of (take count bytes) in
+    let prefix = text_of (take count bytes) in
     let others = texts_of (next ∷ later) in
-    let paused : before_pause (text_of (host_text source.now)) ≡ Some front = ap (λ b. before_pause (text_of b)) (sym is) ∙ puts.1.1 in
+    let paused : before_pause (text_of (host_text source.now)) ≡ Some prefix = ap (λ b. before_pause (text_of b)) (sym is) ∙ puts.1.1 in
     record {
       text = ap (λ f. continued (text_of (host_text source.now)) f (join_of others) ++ text_of old) paused
-          ∙ append_assoc (join_of others) front (text_of old)
+          ∙ append_assoc (join_of others) prefix (text_of old)
           ∙ ap (λ l. join_of others ++ l) (sym (text_joined old (take count bytes)) ∙ ap text_of (sym puts.1.3));
       counts_are = ap (λ f. counts ++ counts_by f (counts_of others)) paused
           ∙ ap (λ n. counts ++ n ∷ counts_of others) (length_taken bytes count puts.1.2)
@@ -81,7 +81,7 @@ pub puts_on : (sources rest : List (Bor (List ℕ))) (none : Bor (List ℕ)) (la
     → (newest_first sources ≡ join_of (texts_of (behind_one rest)) ++ text_of new) × (counts_of (texts_of sources) ≡ counts_then ++ counts_of (texts_of (behind_one rest)))
 puts_on sources rest none last goes bytes old new counts counts_then long joins counted is ends goes_on puts =
     let first = first_one rest none long in
-    let put = put_front (get_or rest 0 none) (behind_one rest) last bytes old new counts counts_then is ends (subst (λ g. Puts last bytes g old new counts counts_then) goes_on puts) in
+    let put = put_prefix (get_or rest 0 none) (behind_one rest) last bytes old new counts counts_then is ends (subst (λ g. Puts last bytes g old new counts counts_then) goes_on puts) in
     (joins ∙ ap (λ l. join_of (texts_of l) ++ text_of old) first ∙ put.text, counted ∙ ap (λ l. counts ++ counts_of (texts_of l)) first ∙ put.counts_are)
 
 -- the same when the last that counts was put

@@ -198,17 +198,17 @@ cut_shorter (b ∷ older) = by_tests (is_dead older b) (is_end b) (cut_shorter o
     by_tests false true e = omega arith
     by_tests false false e = omega (arith, e)
 
-pub front_shorter : (text front : List ℕ) → before_pause text ≡ Some front → length front ≤ length text
-front_shorter [] front e = absurd cc
-front_shorter (b ∷ older) front e = by_front (before_pause older) (pauses older b) refl (front_shorter older front) e
+pub prefix_shorter : (text prefix : List ℕ) → before_pause text ≡ Some prefix → length prefix ≤ length text
+prefix_shorter [] prefix e = absurd cc
+prefix_shorter (b ∷ older) prefix e = by_prefix (before_pause older) (pauses older b) refl (prefix_shorter older prefix) e
   where
-    by_front : (earlier : Option (List ℕ)) (test : Bool) → before_pause older ≡ earlier → (before_pause older ≡ Some front → length front ≤ length older) → first_text earlier (if test then Some (up_to_end older) else None) ≡ Some front → length front ≤ suc (length older)
-    by_front (Some f) test is before e = let bound = before (is ∙ e) in omega (arith, bound)
-    by_front None true is before e = let bound = cut_shorter older in let same : length (up_to_end older) ≡ length front = some_same e in omega (arith, bound, same)
+    by_prefix : (earlier : Option (List ℕ)) (test : Bool) → before_pause older ≡ earlier → (before_pause older ≡ Some prefix → length prefix ≤ length older) → first_text earlier (if test then Some (up_to_end older) else None) ≡ Some prefix → length prefix ≤ suc (length older)
+    by_prefix (Some f) test is before e = let bound = before (is ∙ e) in omega (arith, bound)
+    by_prefix None true is before e = let bound = cut_shorter older in let same : length (up_to_end older) ≡ length prefix = some_same e in omega (arith, bound, same)
       where
-        some_same : Some (up_to_end older) ≡ Some front → length (up_to_end older) ≡ length front
+        some_same : Some (up_to_end older) ≡ Some prefix → length (up_to_end older) ≡ length prefix
         some_same e = ap (λ (o : Option (List ℕ)). length (unwrap_or o [])) e
-    by_front None false is before e = absurd cc
+    by_prefix None false is before e = absurd cc
 
 -- as many bytes as the first of some sources has in their join
 whole_count : (source : Bor (List ℕ)) (ends : List Bool) → length ends ≡ length (text_of (host_text source.now)) → word_count (rows [] 0 source.now ends) ≡ ones ends
@@ -224,26 +224,26 @@ all_counted (source ∷ []) ends size =
     word_count-append (rows [] 0 source.now ends) [] ∙ ap (λ n. n + 0) (whole_count source ends size) ∙ omega arith
 all_counted (source ∷ next ∷ others) ends size = by_pause (before_pause (text_of (host_text source.now))) refl (all_counted (next ∷ others)) size
   where
-    by_pause : (front : Option (List ℕ)) → before_pause (text_of (host_text source.now)) ≡ front
+    by_pause : (prefix : Option (List ℕ)) → before_pause (text_of (host_text source.now)) ≡ prefix
         → ((l : List Bool) → length l ≡ length (join_of (texts_of (next ∷ others))) → word_count (all_rows (next ∷ others) (counts_of (texts_of (next ∷ others))) l) ≡ ones l)
-        → length ends ≡ length (continued (text_of (host_text source.now)) front (join_of (texts_of (next ∷ others))))
-        → word_count (all_rows (source ∷ next ∷ others) (counts_by front (counts_of (texts_of (next ∷ others)))) ends) ≡ ones ends
+        → length ends ≡ length (continued (text_of (host_text source.now)) prefix (join_of (texts_of (next ∷ others))))
+        → word_count (all_rows (source ∷ next ∷ others) (counts_by prefix (counts_of (texts_of (next ∷ others)))) ends) ≡ ones ends
     by_pause None is later size =
         word_count-append (rows [] 0 source.now ends) (all_rows (next ∷ others) [] [])
         ∙ ap (λ n. n + word_count (all_rows (next ∷ others) [] [])) (whole_count source ends size) ∙ ap (λ n. ones ends + n) (none_counted (next ∷ others) []) ∙ omega arith
-    by_pause (Some front) is later size =
-        let joined = length-append (join_of (texts_of (next ∷ others))) front in
-        let shorter = front_shorter (text_of (host_text source.now)) front is in
+    by_pause (Some prefix) is later size =
+        let joined = length-append (join_of (texts_of (next ∷ others))) prefix in
+        let shorter = prefix_shorter (text_of (host_text source.now)) prefix is in
         let text = length_from (host_text source.now) [] in
-        let mine : take (length (host_text source.now)) (take (length front) ends) ≡ take (length front) ends =
-        take_all (length (host_text source.now)) (take (length front) ends) (let taken = length-take (length front) ends in omega (arith, taken, shorter, text)) in
-        let rest : length (drop (length front) ends) ≡ length (join_of (texts_of (next ∷ others))) =
-        (let dropped = length-drop (length front) ends in omega (arith, dropped, size, joined)) in
-        word_count-append (rows [] 0 source.now (take (length front) ends)) (all_rows (next ∷ others) (counts_of (texts_of (next ∷ others))) (drop (length front) ends))
-        ∙ ap (λ n. n + word_count (all_rows (next ∷ others) (counts_of (texts_of (next ∷ others))) (drop (length front) ends)))
-        (counted [] 0 source.now (take (length front) ends) ∙ ap (λ l. 0 + ones l) mine)
-        ∙ ap (λ n. 0 + ones (take (length front) ends) + n) (later (drop (length front) ends) rest)
-        ∙ (let split = ones_split (length front) ends in omega (arith, split))
+        let mine : take (length (host_text source.now)) (take (length prefix) ends) ≡ take (length prefix) ends =
+        take_all (length (host_text source.now)) (take (length prefix) ends) (let taken = length-take (length prefix) ends in omega (arith, taken, shorter, text)) in
+        let rest : length (drop (length prefix) ends) ≡ length (join_of (texts_of (next ∷ others))) =
+        (let dropped = length-drop (length prefix) ends in omega (arith, dropped, size, joined)) in
+        word_count-append (rows [] 0 source.now (take (length prefix) ends)) (all_rows (next ∷ others) (counts_of (texts_of (next ∷ others))) (drop (length prefix) ends))
+        ∙ ap (λ n. n + word_count (all_rows (next ∷ others) (counts_of (texts_of (next ∷ others))) (drop (length prefix) ends)))
+        (counted [] 0 source.now (take (length prefix) ends) ∙ ap (λ l. 0 + ones l) mine)
+        ∙ ap (λ n. 0 + ones (take (length prefix) ends) + n) (later (drop (length prefix) ends) rest)
+        ∙ (let split = ones_split (length prefix) ends in omega (arith, split))
 
 -- ## As many words as end
 

@@ -4,7 +4,7 @@ use Rattle.std.proofs.lemmas.List.{take_all}
 use Rattle.pal_lex.specs.Text.{is_over, ends_statement, stretch, text_from, text_of, line_after}
 use Rattle.pal_lex.specs.Statements.{statements, first_fault, judged, radix_after}
 use Rattle.pal_lex.specs.Laws.{EndsSource}
-use Rattle.pal_lex.specs.Reading.{HasRead, Answers, Tells, HandsOut, is_pause_body, tokens_behind, with_tokens}
+use Rattle.pal_lex.specs.Reading.{HasRead, Answers, TellsFault, HandsOut, is_pause_body, tokens_behind, with_tokens}
 use Rattle.pal_lex.specs.Progress.{Progress}
 use Rattle.pal_lex.specs.declared.faults.LexFault.{LexFault}
 use Rattle.pal_lex.specs.declared.faults.LexFault.TheVariants as lex
@@ -245,7 +245,7 @@ pass_refused text b s old new assembler may answers passes =
     let out = handed text b s old new may answers in
     ap (λ l. is_some (first_order l)) out.1 ∙ passes (tokens_behind text) out.0
 
-told : (text : List ℕ) (b : ℕ) (fault : LexFault) (old new : Progress) → LexicalFaultIsTold → first_order (statements text) ≡ None → Tells 0 text b fault old new → is_refused (b ∷ text) ≡ true
+told : (text : List ℕ) (b : ℕ) (fault : LexFault) (old new : Progress) → LexicalFaultIsTold → first_order (statements text) ≡ None → TellsFault 0 text b fault old new → is_refused (b ∷ text) ≡ true
 told text b fault old new law none tells = ap is_some (law text b fault none tells.0)
 
 pub pass_told : (text : List ℕ) (b : ℕ) (fault : LexFault) (old new : Progress) → LexicalFaultIsTold → first_order (statements text) ≡ None → is_memory fault ≡ false

@@ -7,12 +7,12 @@ use Rattle.pal_lex.specs.Text.{is_ignored, in_comment, is_dead, is_end, is_over,
 use Rattle.pal_lex.specs.Statements.{statements, first_fault, judged, radix_after}
 use Rattle.pal_lex.specs.Joins.{is_pause, pauses, IsClear, first_text, before_pause}
 use Rattle.pal_lex.specs.Laws.{PauseIsBad}
-use Rattle.pal_lex.specs.Reading.{HasRead, Answers, Tells, HandsOut, is_pause_body, tokens_behind, with_tokens}
+use Rattle.pal_lex.specs.Reading.{HasRead, Answers, TellsFault, HandsOut, is_pause_body, tokens_behind, with_tokens}
 use Rattle.pal_lex.specs.Progress.{Progress}
 use Rattle.pal_lex.specs.declared.faults.LexFault.{LexFault}
 use Rattle.pal_lex.specs.declared.faults.LexFault.TheVariants as lex
 use Rattle.pal_lex.specs.declared.phrases.Statement.{Statement}
-use Rattle.assemble8.specs.Steps.{is_memory, met_by, Meets, is_pause_met, ends_text, Renews, IsFront}
+use Rattle.assemble8.specs.Steps.{is_memory, met_by, Meets, is_pause_met, ends_text, Renews, IsPrefix}
 use Rattle.assemble8.specs.declared.pauses.Met.{Met}
 use Rattle.assemble8.specs.declared.pauses.Met.TheVariants.{Nothing, End, Pause}
 use Rattle.assemble8.proofs.ShapeLemmas.{bare_bytes, same_pause}
@@ -153,7 +153,7 @@ met_statement text b s old new bad none answers = by_body (is_pause_body s.body)
     by_body true out = out.pauses
     by_body false out = (one_ends b text (Ok (with_tokens (tokens_behind text) s)) out.newest, fine_byte b text bad none out.no_fault)
 
-told : (text : List ℕ) (b : ℕ) (fault : LexFault) (old new : Progress) → first_fault (statements text) ≡ None → old.may_pause ≡ true → Tells 0 text b fault old new → Meets text b End new
+told : (text : List ℕ) (b : ℕ) (fault : LexFault) (old new : Progress) → first_fault (statements text) ≡ None → old.may_pause ≡ true → TellsFault 0 text b fault old new → Meets text b End new
 told text b fault old new none may tells = (fault_ends b text fault none tells.0, tells.1 none may)
 
 pub met_fault : (text : List ℕ) (b : ℕ) (fault : LexFault) (old new : Progress) → first_fault (statements text) ≡ None → old.may_pause ≡ true
@@ -178,8 +178,8 @@ next_byte bytes n b inside is =
     ∙ ap (λ c. c ∷ text_of (take n bytes)) (sym is)
 
 -- bytes behind others
-from_front : (bytes text : List ℕ) → text_from text bytes ≡ text_of bytes ++ text
-from_front bytes text = behind bytes [] text
+from_prefix : (bytes text : List ℕ) → text_from text bytes ≡ text_of bytes ++ text
+from_prefix bytes text = behind bytes [] text
   where
     behind : (bytes here before : List ℕ) → text_from (here ++ before) bytes ≡ text_from here bytes ++ before
     behind [] here before = refl
@@ -190,7 +190,7 @@ joined [] b text = refl
 joined (x ∷ a) b text = joined a b (x ∷ text)
 
 pub text_joined : (a b : List ℕ) → text_of (a ++ b) ≡ text_of b ++ text_of a
-text_joined a b = joined a b [] ∙ from_front b (text_of a)
+text_joined a b = joined a b [] ∙ from_prefix b (text_of a)
 
 -- a text goes on behind its first bytes
 pub whole_text : (bytes : List ℕ) (n : ℕ) → text_of bytes ≡ text_of (drop n bytes) ++ text_of (take n bytes)
@@ -223,9 +223,9 @@ over_quiet (b ∷ later) text over none =
     let quiet : pauses (later ++ text) b ≡ false = ap (λ (t : Bool). t && is_pause (stretch (later ++ text))) ends in
     rw (over_quiet later text over none, quiet) refl
 
-first_stays : (later text front : List ℕ) → before_pause text ≡ Some front → before_pause (later ++ text) ≡ Some front
-first_stays [] text front e = e
-first_stays (b ∷ later) text front e = ap (λ f. first_text f (if pauses (later ++ text) b then Some (up_to_end (later ++ text)) else None)) (first_stays later text front e)
+first_stays : (later text prefix : List ℕ) → before_pause text ≡ Some prefix → before_pause (later ++ text) ≡ Some prefix
+first_stays [] text prefix e = e
+first_stays (b ∷ later) text prefix e = ap (λ f. first_text f (if pauses (later ++ text) b then Some (up_to_end (later ++ text)) else None)) (first_stays later text prefix e)
 
 no_end_no_dollar : (b : ℕ) → is_end b ≡ false → nat_eq b 36 ≡ false
 no_end_no_dollar b e = grind (arith, nat_tests)
@@ -250,16 +250,16 @@ calm_byte here b going none = by_parts (is_dead here b) (is_end b) refl refl
 -- So many bytes of a text were taken, of which so many stand before the end of the last statement; none of them pauses.
 pub record Stands (bytes : List ℕ) (taken end : ℕ) (lexer : Progress) : Type 0 where
   pub here : List ℕ
-  pub front : List ℕ
-  pub split : text_of (take taken bytes) ≡ here ++ front
-  pub ended : text_of (take end bytes) ≡ front
+  pub prefix : List ℕ
+  pub split : text_of (take taken bytes) ≡ here ++ prefix
+  pub ended : text_of (take end bytes) ≡ prefix
   pub before : end ≤ taken
-  pub clear : IsClear front
+  pub clear : IsClear prefix
   pub calm : up_to_end here ≡ []
   pub going : is_over here ≡ false
   pub read : HasRead lexer 0 here
   pub fine : first_fault (statements here) ≡ None
-  pub none : before_pause (here ++ front) ≡ None
+  pub none : before_pause (here ++ prefix) ≡ None
 
 nothing_fine : first_fault (statements []) ≡ None
 unfolding statements
@@ -268,7 +268,7 @@ nothing_fine = refl
 pub begins : (bytes : List ℕ) (lexer : Progress) → HasRead lexer 0 [] → Stands bytes 0 0 lexer
 begins bytes lexer read = record {
   here = [];
-  front = [];
+  prefix = [];
   split = refl;
   ended = refl;
   before = omega arith;
@@ -280,8 +280,8 @@ begins bytes lexer read = record {
   none = refl;
 }
 
-quiet_byte : (here front : List ℕ) (b : ℕ) → IsClear front → pauses here b ≡ false → before_pause (here ++ front) ≡ None → before_pause (b ∷ here ++ front) ≡ None
-quiet_byte here front b clear quiet none = rw (none, pauses_joined here front b clear ∙ quiet) refl
+quiet_byte : (here prefix : List ℕ) (b : ℕ) → IsClear prefix → pauses here b ≡ false → before_pause (here ++ prefix) ≡ None → before_pause (b ∷ here ++ prefix) ≡ None
+quiet_byte here prefix b clear quiet none = rw (none, pauses_joined here prefix b clear ∙ quiet) refl
 
 stands_on : (bytes : List ℕ) (taken end b : ℕ) (lexer new : Progress) → taken < length bytes → b ≡ get_or bytes taken 0 → (s : Stands bytes taken end lexer)
     → Meets s.here b Nothing new → Stands bytes (taken + 1) end new
@@ -289,7 +289,7 @@ stands_on bytes taken end b lexer new inside is s meets =
     let calm = calm_byte s.here b s.going meets.0 in
     record {
       here = b ∷ s.here;
-      front = s.front;
+      prefix = s.prefix;
       split = next_byte bytes taken b inside is ∙ ap (λ l. b ∷ l) s.split;
       ended = s.ended;
       before = omega (arith, s.before);
@@ -298,20 +298,20 @@ stands_on bytes taken end b lexer new inside is s meets =
       going = calm.1;
       read = meets.2;
       fine = meets.1;
-      none = quiet_byte s.here s.front b s.clear (ap (λ (t : Bool). t && is_pause (stretch s.here)) meets.0) s.none;
+      none = quiet_byte s.here s.prefix b s.clear (ap (λ (t : Bool). t && is_pause (stretch s.here)) meets.0) s.none;
     }
 
-ends_behind : (here front : List ℕ) (b : ℕ) → IsClear front → ends_statement here b ≡ true → ends_statement (here ++ front) b ≡ true
-ends_behind here front b clear ends = ends_joined here front b (clear_comment front clear.0) clear.1 ∙ ends
+ends_behind : (here prefix : List ℕ) (b : ℕ) → IsClear prefix → ends_statement here b ≡ true → ends_statement (here ++ prefix) b ≡ true
+ends_behind here prefix b clear ends = ends_joined here prefix b (clear_comment prefix clear.0) clear.1 ∙ ends
 
 stands_anew : (bytes : List ℕ) (taken end b : ℕ) (lexer old new : Progress) → taken < length bytes → b ≡ get_or bytes taken 0 → (s : Stands bytes taken end lexer)
     → Meets s.here b End old → nat_eq b 36 ≡ false → HasRead new 0 [] → Stands bytes (taken + 1) (taken + 1) new
 stands_anew bytes taken end b lexer old new inside is s meets other read =
-    let parts = ends_parts (s.here ++ s.front) b (ends_behind s.here s.front b s.clear meets.0) in
+    let parts = ends_parts (s.here ++ s.prefix) b (ends_behind s.here s.prefix b s.clear meets.0) in
     let split = next_byte bytes taken b inside is ∙ ap (λ l. b ∷ l) s.split in
     record {
       here = [];
-      front = b ∷ s.here ++ s.front;
+      prefix = b ∷ s.here ++ s.prefix;
       split = split;
       ended = split;
       before = omega arith;
@@ -320,45 +320,45 @@ stands_anew bytes taken end b lexer old new inside is s meets other read =
       going = refl;
       read = read;
       fine = nothing_fine;
-      none = quiet_byte s.here s.front b s.clear meets.1 s.none;
+      none = quiet_byte s.here s.prefix b s.clear meets.1 s.none;
     }
 
 pauses_by : (bytes : List ℕ) (taken end b : ℕ) (lexer new : Progress) → taken < length bytes → b ≡ get_or bytes taken 0 → (s : Stands bytes taken end lexer)
-    → Meets s.here b Pause new → IsFront bytes (Some end)
+    → Meets s.here b Pause new → IsPrefix bytes (Some end)
 pauses_by bytes taken end b lexer new inside is s meets =
-    let pausing : pauses (s.here ++ s.front) b ≡ true = pauses_joined s.here s.front b s.clear ∙ meets in
-    let cut : up_to_end (s.here ++ s.front) ≡ s.front = cut_joined s.here s.front s.clear ∙ ap (λ l. l ++ s.front) s.calm in
-    let found : before_pause (b ∷ s.here ++ s.front) ≡ Some (up_to_end (s.here ++ s.front)) = rw (s.none, pausing) refl in
-    let whole : text_of bytes ≡ text_of (drop (taken + 1) bytes) ++ (b ∷ s.here ++ s.front) =
+    let pausing : pauses (s.here ++ s.prefix) b ≡ true = pauses_joined s.here s.prefix b s.clear ∙ meets in
+    let cut : up_to_end (s.here ++ s.prefix) ≡ s.prefix = cut_joined s.here s.prefix s.clear ∙ ap (λ l. l ++ s.prefix) s.calm in
+    let found : before_pause (b ∷ s.here ++ s.prefix) ≡ Some (up_to_end (s.here ++ s.prefix)) = rw (s.none, pausing) refl in
+    let whole : text_of bytes ≡ text_of (drop (taken + 1) bytes) ++ (b ∷ s.here ++ s.prefix) =
     whole_text bytes (taken + 1) ∙ ap (λ l. text_of (drop (taken + 1) bytes) ++ l) (next_byte bytes taken b inside is ∙ ap (λ l. b ∷ l) s.split) in (
       omega (arith, s.before, inside),
-      ap before_pause whole ∙ first_stays (text_of (drop (taken + 1) bytes)) (b ∷ s.here ++ s.front) (up_to_end (s.here ++ s.front)) found
+      ap before_pause whole ∙ first_stays (text_of (drop (taken + 1) bytes)) (b ∷ s.here ++ s.prefix) (up_to_end (s.here ++ s.prefix)) found
           ∙ ap (λ l. Some l) (cut ∙ sym s.ended),
     )
 
 over_by : (bytes : List ℕ) (taken end b : ℕ) (lexer new : Progress) → taken < length bytes → b ≡ get_or bytes taken 0 → (s : Stands bytes taken end lexer)
-    → Meets s.here b End new → nat_eq b 36 ≡ true → IsFront bytes None
+    → Meets s.here b End new → nat_eq b 36 ≡ true → IsPrefix bytes None
 over_by bytes taken end b lexer new inside is s meets dollar =
-    let parts = ends_parts (s.here ++ s.front) b (ends_behind s.here s.front b s.clear meets.0) in
-    let over : is_over (b ∷ s.here ++ s.front) ≡ true = rw (parts.2, dollar, parts.1) refl in
-    let whole : text_of bytes ≡ text_of (drop (taken + 1) bytes) ++ (b ∷ s.here ++ s.front) =
+    let parts = ends_parts (s.here ++ s.prefix) b (ends_behind s.here s.prefix b s.clear meets.0) in
+    let over : is_over (b ∷ s.here ++ s.prefix) ≡ true = rw (parts.2, dollar, parts.1) refl in
+    let whole : text_of bytes ≡ text_of (drop (taken + 1) bytes) ++ (b ∷ s.here ++ s.prefix) =
     whole_text bytes (taken + 1) ∙ ap (λ l. text_of (drop (taken + 1) bytes) ++ l) (next_byte bytes taken b inside is ∙ ap (λ l. b ∷ l) s.split) in
     ap before_pause whole
-    ∙ over_quiet (text_of (drop (taken + 1) bytes)) (b ∷ s.here ++ s.front) over (quiet_byte s.here s.front b s.clear meets.1 s.none)
+    ∙ over_quiet (text_of (drop (taken + 1) bytes)) (b ∷ s.here ++ s.prefix) over (quiet_byte s.here s.prefix b s.clear meets.1 s.none)
 
-pub whole_at : (bytes : List ℕ) (taken end : ℕ) (lexer : Progress) → length bytes ≤ taken → Stands bytes taken end lexer → IsFront bytes None
+pub whole_at : (bytes : List ℕ) (taken end : ℕ) (lexer : Progress) → length bytes ≤ taken → Stands bytes taken end lexer → IsPrefix bytes None
 whole_at bytes taken end lexer all s = ap before_pause (ap text_of (sym (take_all taken bytes all)) ∙ s.split) ∙ s.none
 
 -- a byte that ends PAUSE
 pub pauses_at : (bytes : List ℕ) (taken end b : ℕ) (met : Met) (lexer new : Progress) → taken < length bytes → b ≡ get_or bytes taken 0 → (s : Stands bytes taken end lexer)
-    → Meets s.here b met new → is_pause_met met ≡ true → IsFront bytes (Some end)
+    → Meets s.here b met new → is_pause_met met ≡ true → IsPrefix bytes (Some end)
 pauses_at bytes taken end b Nothing lexer new inside is s meets pausing = absurd cc
 pauses_at bytes taken end b End lexer new inside is s meets pausing = absurd cc
 pauses_at bytes taken end b Pause lexer new inside is s meets pausing = pauses_by bytes taken end b lexer new inside is s meets
 
 -- a byte that ends the text
 pub over_at : (bytes : List ℕ) (taken end b : ℕ) (met : Met) (lexer new : Progress) → taken < length bytes → b ≡ get_or bytes taken 0 → (s : Stands bytes taken end lexer)
-    → Meets s.here b met new → ends_text met b ≡ true → IsFront bytes None
+    → Meets s.here b met new → ends_text met b ≡ true → IsPrefix bytes None
 over_at bytes taken end b Nothing lexer new inside is s meets over = absurd cc
 over_at bytes taken end b End lexer new inside is s meets over = over_by bytes taken end b lexer new inside is s meets over
 over_at bytes taken end b Pause lexer new inside is s meets over = absurd cc

@@ -26,9 +26,9 @@ ends_some text b s old new may answers =
     ∙ ap is_newest_word out.1)
 
 -- a text without a fault has none up to one of its bytes
-pub fine_front : (bytes : List ℕ) (n : ℕ) → FaultStays → n < length bytes → first_fault (statements (text_of bytes)) ≡ None
+pub fine_prefix : (bytes : List ℕ) (n : ℕ) → FaultStays → n < length bytes → first_fault (statements (text_of bytes)) ≡ None
     → first_fault (statements (get_or bytes n 0 ∷ text_of (take n bytes))) ≡ None
-fine_front bytes n stays inside none = by_fault (first_fault (statements (get_or bytes n 0 ∷ text_of (take n bytes)))) refl
+fine_prefix bytes n stays inside none = by_fault (first_fault (statements (get_or bytes n 0 ∷ text_of (take n bytes)))) refl
   where
     by_fault : (f : Option LexFault) → first_fault (statements (get_or bytes n 0 ∷ text_of (take n bytes))) ≡ f → first_fault (statements (get_or bytes n 0 ∷ text_of (take n bytes))) ≡ None
     by_fault None e = e

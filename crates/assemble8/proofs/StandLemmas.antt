@@ -13,7 +13,7 @@ use Rattle.assemble8.specs.References.{spot_by, mentions}
 use Rattle.assemble8.specs.SpotSteps.{byte_spots, all_spots, no_spot}
 use Rattle.assemble8.specs.Laws.{in_front, lines, row_lines, line_spots, row_spots, word_spots, end_spots, WordsStand}
 use Rattle.assemble8.specs.declared.spots.Spot.{Spot}
-use Rattle.assemble8.proofs.LawLemmas.{some_line, lines_by_row, own_none, later_none, front_shorter, length_ends}
+use Rattle.assemble8.proofs.LawLemmas.{some_line, lines_by_row, own_none, later_none, prefix_shorter, length_ends}
 use Rattle.assemble8.proofs.ReferenceLemmas.{same_mentions}
 use Rattle.assemble8.proofs.StartLemmas.{length_from}
 
@@ -181,13 +181,13 @@ all_stand number (source ∷ []) ends size =
     ∙ sym (picked_short ends (byte_spots number 1 source.now) [] (omega (arith, size, text, all)))
 all_stand number (source ∷ next ∷ others) ends size = by_pause (before_pause (text_of (host_text source.now))) refl (all_stand (number + 1) (next ∷ others)) size
   where
-    by_pause : (front : Option (List ℕ)) → before_pause (text_of (host_text source.now)) ≡ front
+    by_pause : (prefix : Option (List ℕ)) → before_pause (text_of (host_text source.now)) ≡ prefix
         → ((l : List Bool) → length l ≡ length (join_of (texts_of (next ∷ others)))
         → word_spots (all_rows (next ∷ others) (counts_of (texts_of (next ∷ others))) l) (row_spots (number + 1) (next ∷ others))
         ≡ picked l (all_spots (number + 1) (next ∷ others) (counts_of (texts_of (next ∷ others)))))
-        → length ends ≡ length (continued (text_of (host_text source.now)) front (join_of (texts_of (next ∷ others))))
-        → word_spots (all_rows (source ∷ next ∷ others) (counts_by front (counts_of (texts_of (next ∷ others)))) ends) (row_spots number (source ∷ next ∷ others))
-        ≡ picked ends (all_spots number (source ∷ next ∷ others) (counts_by front (counts_of (texts_of (next ∷ others)))))
+        → length ends ≡ length (continued (text_of (host_text source.now)) prefix (join_of (texts_of (next ∷ others))))
+        → word_spots (all_rows (source ∷ next ∷ others) (counts_by prefix (counts_of (texts_of (next ∷ others)))) ends) (row_spots number (source ∷ next ∷ others))
+        ≡ picked ends (all_spots number (source ∷ next ∷ others) (counts_by prefix (counts_of (texts_of (next ∷ others)))))
     by_pause None is later size =
         let text = length_from (host_text source.now) [] in
         let all = length-byte_spots number 1 source.now in
@@ -196,11 +196,11 @@ all_stand number (source ∷ next ∷ others) ends size = by_pause (before_pause
         ∙ ap (λ l. word_spots (rows [] 0 source.now ends) (line_spots number 1 (lines source.now)) ++ l) (none_stand (number + 1) (next ∷ others) [])
         ∙ append-nil (word_spots (rows [] 0 source.now ends) (line_spots number 1 (lines source.now))) ∙ one_stands number source.now ends
         ∙ sym (picked_short ends (byte_spots number 1 source.now) (all_spots (number + 1) (next ∷ others) []) (omega (arith, size, text, all)))
-    by_pause (Some front) is later size =
-        let n = length front in
+    by_pause (Some prefix) is later size =
+        let n = length prefix in
         let counts = counts_of (texts_of (next ∷ others)) in
-        let joined = length-append (join_of (texts_of (next ∷ others))) front in
-        let shorter = front_shorter (text_of (host_text source.now)) front is in
+        let joined = length-append (join_of (texts_of (next ∷ others))) prefix in
+        let shorter = prefix_shorter (text_of (host_text source.now)) prefix is in
         let text = length_from (host_text source.now) [] in
         let dropped = length-drop n ends in
         let rest : length (drop n ends) ≡ length (join_of (texts_of (next ∷ others))) = omega (arith, dropped, size, joined) in
@@ -318,39 +318,39 @@ all_spot number [] at inside = absurd (omega (arith, inside))
 all_spot number (source ∷ []) at inside = let text = length_from (host_text source.now) [] in first_spot number source [] [] at (omega (arith, inside, text))
 all_spot number (source ∷ next ∷ others) at inside = by_pause (before_pause (text_of (host_text source.now))) refl (all_spot (number + 1) (next ∷ others)) inside
   where
-    by_pause : (front : Option (List ℕ)) → before_pause (text_of (host_text source.now)) ≡ front
+    by_pause : (prefix : Option (List ℕ)) → before_pause (text_of (host_text source.now)) ≡ prefix
         → ((n : ℕ) → n < length (join_of (texts_of (next ∷ others)))
         → get_or (all_spots (number + 1) (next ∷ others) (counts_of (texts_of (next ∷ others)))) n no_spot ≡ spot_of (number + 1) (next ∷ others) (place_in (counts_of (texts_of (next ∷ others))) n))
-        → at < length (continued (text_of (host_text source.now)) front (join_of (texts_of (next ∷ others))))
-        → get_or (all_spots number (source ∷ next ∷ others) (counts_by front (counts_of (texts_of (next ∷ others))))) at no_spot
-        ≡ spot_of number (source ∷ next ∷ others) (place_in (counts_by front (counts_of (texts_of (next ∷ others)))) at)
+        → at < length (continued (text_of (host_text source.now)) prefix (join_of (texts_of (next ∷ others))))
+        → get_or (all_spots number (source ∷ next ∷ others) (counts_by prefix (counts_of (texts_of (next ∷ others))))) at no_spot
+        ≡ spot_of number (source ∷ next ∷ others) (place_in (counts_by prefix (counts_of (texts_of (next ∷ others)))) at)
     by_pause None is later inside =
         let text = length_from (host_text source.now) [] in first_spot number source (next ∷ others) (all_spots (number + 1) (next ∷ others) []) at (omega (arith, inside, text))
-    by_pause (Some front) is later inside = by_lt (nat_lt at (length front)) refl
+    by_pause (Some prefix) is later inside = by_lt (nat_lt at (length prefix)) refl
       where
-        by_lt : (test : Bool) → nat_lt at (length front) ≡ test
-            → get_or (take (length front) (byte_spots number 1 source.now) ++ all_spots (number + 1) (next ∷ others) (counts_of (texts_of (next ∷ others)))) at no_spot
-            ≡ spot_of number (source ∷ next ∷ others) (if nat_lt at (length front) then (0, at) else further (place_in (counts_of (texts_of (next ∷ others))) (at - length front)))
+        by_lt : (test : Bool) → nat_lt at (length prefix) ≡ test
+            → get_or (take (length prefix) (byte_spots number 1 source.now) ++ all_spots (number + 1) (next ∷ others) (counts_of (texts_of (next ∷ others)))) at no_spot
+            ≡ spot_of number (source ∷ next ∷ others) (if nat_lt at (length prefix) then (0, at) else further (place_in (counts_of (texts_of (next ∷ others))) (at - length prefix)))
         by_lt true test =
-            let shorter = front_shorter (text_of (host_text source.now)) front is in
+            let shorter = prefix_shorter (text_of (host_text source.now)) prefix is in
             let text = length_from (host_text source.now) [] in
-            cut_spot number (length front) source (next ∷ others) (all_spots (number + 1) (next ∷ others) (counts_of (texts_of (next ∷ others)))) at (omega (arith, shorter, text))
-            (lt_true at (length front) test)
+            cut_spot number (length prefix) source (next ∷ others) (all_spots (number + 1) (next ∷ others) (counts_of (texts_of (next ∷ others)))) at (omega (arith, shorter, text))
+            (lt_true at (length prefix) test)
             ∙ sym
-            (ap (λ (t : Bool). spot_of number (source ∷ next ∷ others) (if t then (0, at) else further (place_in (counts_of (texts_of (next ∷ others))) (at - length front)))) test)
+            (ap (λ (t : Bool). spot_of number (source ∷ next ∷ others) (if t then (0, at) else further (place_in (counts_of (texts_of (next ∷ others))) (at - length prefix)))) test)
         by_lt false test =
-            let shorter = front_shorter (text_of (host_text source.now)) front is in
+            let shorter = prefix_shorter (text_of (host_text source.now)) prefix is in
             let text = length_from (host_text source.now) [] in
             let all = length-byte_spots number 1 source.now in
-            let joined = length-append (join_of (texts_of (next ∷ others))) front in
-            let past = lt_false at (length front) test in
+            let joined = length-append (join_of (texts_of (next ∷ others))) prefix in
+            let past = lt_false at (length prefix) test in
             let spots = all_spots (number + 1) (next ∷ others) (counts_of (texts_of (next ∷ others))) in
-            let mine = length-take-le (length front) (byte_spots number 1 source.now) (omega (arith, shorter, text, all)) in
-            get_or-append_right (take (length front) (byte_spots number 1 source.now)) spots (length front) at no_spot mine past
-            ∙ later (at - length front) (omega (arith, past, inside, joined))
-            ∙ further_spot number source (next ∷ others) (place_in (counts_of (texts_of (next ∷ others))) (at - length front))
+            let mine = length-take-le (length prefix) (byte_spots number 1 source.now) (omega (arith, shorter, text, all)) in
+            get_or-append_right (take (length prefix) (byte_spots number 1 source.now)) spots (length prefix) at no_spot mine past
+            ∙ later (at - length prefix) (omega (arith, past, inside, joined))
+            ∙ further_spot number source (next ∷ others) (place_in (counts_of (texts_of (next ∷ others))) (at - length prefix))
             ∙ sym
-            (ap (λ (t : Bool). spot_of number (source ∷ next ∷ others) (if t then (0, at) else further (place_in (counts_of (texts_of (next ∷ others))) (at - length front)))) test)
+            (ap (λ (t : Bool). spot_of number (source ∷ next ∷ others) (if t then (0, at) else further (place_in (counts_of (texts_of (next ∷ others))) (at - length prefix)))) test)
 
 enough_spots : (number : ℕ) (sources : List (Bor (List ℕ))) → length (join_of (texts_of sources)) ≤ length (all_spots number sources (counts_of (texts_of sources)))
 enough_spots number [] = omega arith
@@ -361,22 +361,22 @@ enough_spots number (source ∷ []) =
     omega (arith, text, all, both)
 enough_spots number (source ∷ next ∷ others) = by_pause (before_pause (text_of (host_text source.now))) refl (enough_spots (number + 1) (next ∷ others))
   where
-    by_pause : (front : Option (List ℕ)) → before_pause (text_of (host_text source.now)) ≡ front
+    by_pause : (prefix : Option (List ℕ)) → before_pause (text_of (host_text source.now)) ≡ prefix
         → length (join_of (texts_of (next ∷ others))) ≤ length (all_spots (number + 1) (next ∷ others) (counts_of (texts_of (next ∷ others))))
-        → length (continued (text_of (host_text source.now)) front (join_of (texts_of (next ∷ others)))) ≤ length (all_spots number (source ∷ next ∷ others) (counts_by front (counts_of (texts_of (next ∷ others)))))
+        → length (continued (text_of (host_text source.now)) prefix (join_of (texts_of (next ∷ others)))) ≤ length (all_spots number (source ∷ next ∷ others) (counts_by prefix (counts_of (texts_of (next ∷ others)))))
     by_pause None is later =
         let text = length_from (host_text source.now) [] in
         let all = length-byte_spots number 1 source.now in
         let both = length-append (byte_spots number 1 source.now) (all_spots (number + 1) (next ∷ others) []) in
         omega (arith, text, all, both)
-    by_pause (Some front) is later =
-        let shorter = front_shorter (text_of (host_text source.now)) front is in
+    by_pause (Some prefix) is later =
+        let shorter = prefix_shorter (text_of (host_text source.now)) prefix is in
         let text = length_from (host_text source.now) [] in
         let all = length-byte_spots number 1 source.now in
-        let joined = length-append (join_of (texts_of (next ∷ others))) front in
+        let joined = length-append (join_of (texts_of (next ∷ others))) prefix in
         let spots = all_spots (number + 1) (next ∷ others) (counts_of (texts_of (next ∷ others))) in
-        let mine = length-take-le (length front) (byte_spots number 1 source.now) (omega (arith, shorter, text, all)) in
-        let both = length-append (take (length front) (byte_spots number 1 source.now)) spots in
+        let mine = length-take-le (length prefix) (byte_spots number 1 source.now) (omega (arith, shorter, text, all)) in
+        let both = length-append (take (length prefix) (byte_spots number 1 source.now)) spots in
         omega (arith, joined, mine, both, later)
 
 pub words_standing : WordsStand

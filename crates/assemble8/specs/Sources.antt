@@ -19,7 +19,7 @@ newest_first sources = join_of (texts_of sources)
 -- a source that pauses has as many bytes in the join as stand before its PAUSE, and others follow it
 abbrev pub counts_by : Option (List ℕ) → List ℕ → List ℕ
 counts_by None later = []
-counts_by (Some front) later = length front ∷ later
+counts_by (Some prefix) later = length prefix ∷ later
 
 -- how many bytes each of these texts that another follows has in their join
 abbrev pub counts_of : List (List ℕ) → List ℕ

@@ -61,9 +61,9 @@ Renews End end behind result old new = (result ≡ behind) × HasRead new 0 []
 Renews Pause end behind result old new = (result ≡ end) × (new ≡ old)
 
 -- how many bytes of a text stand before its PAUSE, if it has one
-abbrev pub IsFront : List ℕ → Option ℕ → Type 0
-IsFront bytes None = before_pause (text_of bytes) ≡ None
-IsFront bytes (Some count) = (count ≤ length bytes) × (before_pause (text_of bytes) ≡ Some (text_of (take count bytes)))
+abbrev pub IsPrefix : List ℕ → Option ℕ → Type 0
+IsPrefix bytes None = before_pause (text_of bytes) ≡ None
+IsPrefix bytes (Some count) = (count ≤ length bytes) × (before_pause (text_of bytes) ≡ Some (text_of (take count bytes)))
 
 -- ## Joins
 

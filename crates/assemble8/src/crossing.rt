@@ -18,7 +18,8 @@ pub(crate) fn put_cross(
     symbols: &BTreeMap<u64, u16>,
     mentions: &[Mention],
 ) -> Result<(), AllocError>
-    ensures { OnOk result (text.new.items ≡ text.old.items ++ cross_text several (known symbols.now) None mentions.now) }
+    ensures { OnOk result (text.new.items ≡ text.old.items ++ cross_text several (known symbols.now) None
+        mentions.now) }
 {
     let mut before = None;
     let mut rest = mentions;
@@ -52,7 +53,8 @@ fn put_mention(
     before: Option<Mention>,
     mention: Mention,
 ) -> Result<(), AllocError>
-    ensures { OnOk result (text.new.items ≡ text.old.items ++ mention_text several (known symbols.now) before mention) }
+    ensures { OnOk result (text.new.items ≡ text.old.items ++ mention_text several (known symbols.now)
+        before mention) }
 {
     match before {
         None => put_opening(text, several, symbols, mention),
@@ -84,7 +86,8 @@ fn put_opening(
     symbols: &BTreeMap<u64, u16>,
     mention: Mention,
 ) -> Result<(), AllocError>
-    ensures { OnOk result (text.new.items ≡ text.old.items ++ opening_text several (known symbols.now) mention) }
+    ensures { OnOk result (text.new.items ≡ text.old.items ++ opening_text several (known symbols.now)
+        mention) }
 {
     let value = value_by_number(symbols, mention.name).unwrap_or(0);
     put_symbol(text, mention.name, value)?;

@@ -82,7 +82,8 @@ fn placed(
     counts: &[usize],
     found: &[Found],
 ) -> Result<Vec<Fault>, AllocError>
-    ensures { IfOk result (λ faults. faults.items ≡ placed (λ at. place_by sources.now (place_in counts.now at)) found.now) }
+    ensures { IfOk result (λ faults. faults.items ≡ placed
+        (λ at. place_by sources.now (place_in counts.now at)) found.now) }
 {
     let mut faults = Vec::new(alloc);
     let mut rest = found;
@@ -165,7 +166,8 @@ fn judge_byte(
     ensures judges { (text : List ℕ) → HasRead lexer.old 0 text → lexer.old.may_pause ≡ false
         → first_order (statements (byte ∷ text)) ≡ None → first_fault (statements (byte ∷ text)) ≡ None
         → Follows names.old.symbols names.old.place (statements text)
-        → IfOk result (λ fault. IsJudged text byte (known last.now) fault lexer.new names.new.symbols names.new.place) }
+        → IfOk result (λ fault. IsJudged text byte (known last.now) fault lexer.new names.new.symbols
+        names.new.place) }
     ensures setting { lexer.new.may_pause ≡ lexer.old.may_pause }
     ensures fault { IfErr result (λ fault. fault ≡ Memory) }
 {

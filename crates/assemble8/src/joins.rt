@@ -6,7 +6,7 @@ ghost use Rattle.assemble8.specs.Steps.{Puts};
 ghost use Rattle.assemble8.specs.declared.faults.SourceFault.TheVariants.{Memory};
 
 use crate::SourceFault;
-use crate::pauses::front_of;
+use crate::pauses::prefix_of;
 use crate::texts::host_text;
 use std::alloc::{AllocError, Global};
 
@@ -43,21 +43,23 @@ pub(crate) fn join_all(alloc: Global, sources: &[&[u8]]) -> Result<Join, SourceF
 
 /// Puts a text behind others, and answers whether the next one goes on behind it.
 fn put(alloc: Global, join: &mut Join, text: &[u8], last: bool) -> Result<bool, SourceFault>
-    ensures puts { IfOk result (λ goes_on. Puts last text.now goes_on join.old.text.items join.new.text.items join.old.counts.items join.new.counts.items) }
+    ensures puts { IfOk result
+        (λ goes_on. Puts last text.now goes_on join.old.text.items join.new.text.items
+        join.old.counts.items join.new.counts.items) }
     ensures fault { IfErr result (λ fault. fault ≡ Memory) }
 {
     if last {
         join.text.extend_from_slice(text)?;
         return Ok(false);
     }
-    match front_of(alloc, text) {
+    match prefix_of(alloc, text) {
         Ok(None) => {
             join.text.extend_from_slice(text)?;
             Ok(false)
         }
         Ok(Some(count)) => {
-            let (front, _) = text.split_at(count);
-            join.text.extend_from_slice(front)?;
+            let (prefix, _) = text.split_at(count);
+            join.text.extend_from_slice(prefix)?;
             put_count(&mut join.counts, count)?;
             Ok(true)
         }

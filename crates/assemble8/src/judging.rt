@@ -4,7 +4,7 @@ ghost use Rattle.pal_lex.specs.Reading.{with_tokens};
 ghost use Rattle.pal_lex.specs.declared.pieces.Token.{Token};
 ghost use Rattle.pal_asm.specs.Expressions.{term_value, value_of};
 ghost use Rattle.pal_asm.specs.Expressions as spec;
-ghost use Rattle.pal_asm.specs.PassSteps.{Gives};
+ghost use Rattle.pal_asm.specs.PassSteps.{GivesValue};
 ghost use Rattle.pal_asm.specs.Places.{Source, place_at};
 ghost use Rattle.pal_asm.specs.Words.{word_values};
 ghost use Rattle.pal_asm.specs.Faults.{term_fault, terms_fault, word_fault, out_of_reach, first_order};
@@ -29,9 +29,11 @@ pub(crate) fn judge(
 ) -> Result<Option<Code>, AllocError>
     ensures follows { (older : Source) (tokens : List Token) → Follows names.old.symbols names.old.place older
         → first_order (Ok (with_tokens tokens statement.now) ∷ older) ≡ None
-        → IfOk result (λ code. Follows names.new.symbols names.new.place (Ok (with_tokens tokens statement.now) ∷ older)) }
+        → IfOk result (λ code. Follows names.new.symbols names.new.place
+        (Ok (with_tokens tokens statement.now) ∷ older)) }
     ensures code { (older : Source) → Follows names.old.symbols names.old.place older
-        → IfOk result (λ code. code ≡ word_fault (word_values (known last.now) statement.now.tags older) (place_at older) statement.now.body) }
+        → IfOk result (λ code. code ≡ word_fault (word_values (known last.now) statement.now.tags older)
+        (place_at older) statement.now.body) }
 {
     set_tags(&mut names.symbols, statement.tags.names(), names.place)?;
     let code = word_fault(&names.symbols, last, names.place, &statement.body);
@@ -83,7 +85,8 @@ fn value_of(
     place: u16,
     parts: &[Part],
 ) -> Result<u16, Code>
-    ensures { Gives (value_of (known_last now.now last.now) place parts.now) (terms_fault (known_last now.now last.now) place parts.now) result }
+    ensures { GivesValue (value_of (known_last now.now last.now) place parts.now)
+        (terms_fault (known_last now.now last.now) place parts.now) result }
 {
     let mut value = 0;
     let mut rest = parts;
@@ -104,7 +107,8 @@ fn term_value(
     place: u16,
     term: Term,
 ) -> Result<u16, Code>
-    ensures { Gives (term_value (known_last now.now last.now) place term) (term_fault (known_last now.now last.now) place term) result }
+    ensures { GivesValue (term_value (known_last now.now last.now) place term)
+        (term_fault (known_last now.now last.now) place term) result }
 {
     match term {
         Term::Name(name) => match word_value(now, last, name) {

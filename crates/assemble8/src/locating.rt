@@ -62,7 +62,8 @@ pub(crate) fn fault_place(alloc: Global, text: &[u8]) -> Result<usize, SourceFau
 
 /// Whether a text has its `$`, and no fault that the first pass meets. The only fault of the call is `Memory`.
 pub(crate) fn is_passed(alloc: Global, text: &[u8]) -> Result<bool, SourceFault>
-    ensures passed { IfOk result (λ passed. passed ≡ not (is_refused (text_of text.now) || not (is_over (text_of text.now)))) }
+    ensures passed { IfOk result
+        (λ passed. passed ≡ not (is_refused (text_of text.now) || not (is_over (text_of text.now)))) }
     ensures fault { IfErr result (λ fault. fault ≡ Memory) }
 {
     dollar_ends_source();

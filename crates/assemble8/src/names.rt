@@ -66,7 +66,8 @@ fn take_byte(lexer: &mut Lexer, names: &mut Names, byte: u8) -> Result<(), Sourc
     ensures takes { (text : List ℕ) → HasRead lexer.old 0 text → lexer.old.may_pause ≡ false
         → first_order (statements (byte ∷ text)) ≡ None → first_fault (statements (byte ∷ text)) ≡ None
         → Follows names.old.symbols names.old.place (statements text)
-        → OnOk result (Follows names.new.symbols names.new.place (statements (byte ∷ text)) × HasRead lexer.new 0 (byte ∷ text)) }
+        → OnOk result (Follows names.new.symbols names.new.place (statements (byte ∷ text))
+        × HasRead lexer.new 0 (byte ∷ text)) }
     ensures setting { lexer.new.may_pause ≡ lexer.old.may_pause }
     ensures fault { IfErr result (λ fault. fault ≡ Memory) }
 {
@@ -87,7 +88,8 @@ fn take_byte(lexer: &mut Lexer, names: &mut Names, byte: u8) -> Result<(), Sourc
 fn take(names: &mut Names, statement: &Statement) -> Result<(), AllocError>
     ensures { (older : Source) (tokens : List Token) → Follows names.old.symbols names.old.place older
         → first_order (Ok (with_tokens tokens statement.now) ∷ older) ≡ None
-        → OnOk result (Follows names.new.symbols names.new.place (Ok (with_tokens tokens statement.now) ∷ older)) }
+        → OnOk result (Follows names.new.symbols names.new.place
+        (Ok (with_tokens tokens statement.now) ∷ older)) }
 {
     set_tags(&mut names.symbols, statement.tags.names(), names.place)?;
     let place = take_body(&mut names.symbols, names.place, &statement.body)?;
@@ -101,7 +103,8 @@ pub(crate) fn set_tags(
     tags: &[Name],
     place: u16,
 ) -> Result<(), AllocError>
-    ensures values { OnOk result ((n : ℕ) → known symbols.new n ≡ tag_values tags.now place (known symbols.old) n) }
+    ensures values { OnOk result
+        ((n : ℕ) → known symbols.new n ≡ tag_values tags.now place (known symbols.old) n) }
     ensures entries { OnOk result (symbols.new.entries ≡ with_tags symbols.old.entries tags.now place) }
 {
     let mut rest = tags;
@@ -118,8 +121,10 @@ pub(crate) fn take_body(
     place: u16,
     body: &Body,
 ) -> Result<u16, AllocError>
-    ensures values { OnOk result ((n : ℕ) → known symbols.new n ≡ values_by (known symbols.old) place body.now n) }
-    ensures entries { OnOk result (symbols.new.entries ≡ with_body symbols.old.entries (known symbols.old) place body.now) }
+    ensures values { OnOk result
+        ((n : ℕ) → known symbols.new n ≡ values_by (known symbols.old) place body.now n) }
+    ensures entries { OnOk result
+        (symbols.new.entries ≡ with_body symbols.old.entries (known symbols.old) place body.now) }
     ensures place { IfOk result (λ next. next ≡ place_by (known symbols.old) place body.now) }
 {
     match body {

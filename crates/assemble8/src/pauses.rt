@@ -2,7 +2,7 @@
 ghost use Rattle.std.specs.Prelude.{◌≡◌, ℕ, true, IfOk, IfErr, None, List};
 ghost use Rattle.pal_lex.specs.Statements.{statements, first_fault};
 ghost use Rattle.pal_lex.specs.Reading.{HasRead, is_pause_body};
-ghost use Rattle.assemble8.specs.Steps.{met_by, is_pause_met, ends_text, Meets, Renews, IsFront};
+ghost use Rattle.assemble8.specs.Steps.{met_by, is_pause_met, ends_text, Meets, Renews, IsPrefix};
 ghost use Rattle.assemble8.specs.declared.faults.SourceFault.TheVariants.{Memory};
 
 use crate::SourceFault;
@@ -22,8 +22,8 @@ enum Met {
 
 /// How many bytes of a text stand before its first PAUSE that stands alone: up to the end of a statement before it. None
 /// where it has no PAUSE. The only fault is `Memory`.
-pub(crate) fn front_of(alloc: Global, text: &[u8]) -> Result<Option<usize>, SourceFault>
-    ensures front { IfOk result (λ front. IsFront text.now front) }
+pub(crate) fn prefix_of(alloc: Global, text: &[u8]) -> Result<Option<usize>, SourceFault>
+    ensures prefix { IfOk result (λ prefix. IsPrefix text.now prefix) }
     ensures fault { IfErr result (λ fault. fault ≡ Memory) }
 {
     let mut lexer = Lexer::several_without_tokens(alloc);

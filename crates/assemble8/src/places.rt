@@ -59,7 +59,7 @@ pub(crate) fn bytes_of<'a>(sources: &[&'a [u8]], number: usize) -> &'a [u8]
     &[]
 }
 
-/// So many bytes from the front of a text, or all of it.
+/// So many bytes from the beginning of a text, or all of it.
 pub(crate) fn first_bytes(text: &[u8], count: usize) -> &[u8]
     ensures { result.now ≡ take count text.now }
 {

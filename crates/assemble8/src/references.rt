@@ -30,7 +30,8 @@ pub(crate) fn mentions(
     spots: &[Spot],
 ) -> Result<Vec<Mention>, SourceFault>
     requires { first_fault (statements (text_of text.now)) ≡ None }
-    ensures mentions { IfOk result (λ found. found.items ≡ mentions (λ at. slice_index_or spots.now at no_spot) (text_of text.now)) }
+    ensures mentions { IfOk result
+        (λ found. found.items ≡ mentions (λ at. slice_index_or spots.now at no_spot) (text_of text.now)) }
     ensures fault { IfErr result (λ fault. fault ≡ Memory) }
 {
     fault_stays();
@@ -79,7 +80,8 @@ fn put_statement(
     statement: &Statement,
     spot: Spot,
 ) -> Result<(), AllocError>
-    ensures { OnOk result (found.new.items ≡ found.old.items ++ mentioned spot (statement.now.tags ++ body_names statement.now.body)) }
+    ensures { OnOk result (found.new.items ≡ found.old.items ++ mentioned spot
+        (statement.now.tags ++ body_names statement.now.body)) }
 {
     put_names(found, statement.tags.names(), spot)?;
     put_body(found, &statement.body, spot)?;

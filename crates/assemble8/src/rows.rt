@@ -122,7 +122,7 @@ fn first_end(ends: &[bool]) -> usize
     }
 }
 
-/// So many from the front, or all.
+/// So many from the beginning, or all.
 fn before(ends: &[bool], count: usize) -> &[bool]
     ensures { result.now ≡ take count ends.now }
 {

@@ -1,10 +1,10 @@
 -- What one more item does to what is kept of the items.
 use Rattle.std.proofs.Common.{◌≡◌, ℕ, ◌+◌, ◌*◌, ◌/◌, ◌%◌, ◌<◌, refl, arith, Some, None, List, [], ◌∷◌, ◌++◌}
-use Rattle.bin_tape.specs.Items.{Item, Leader, Field, Origin, Word, IsFront, address_after, words_of, words_but_last}
-use Rattle.bin_tape.specs.Front.{IsLast}
-use Rattle.bin_tape.specs.declared.fronts.LastWord.{LastWord}
+use Rattle.bin_tape.specs.Items.{Item, Leader, Field, Origin, Word, IsPrefix, address_after, words_of, words_but_last}
+use Rattle.bin_tape.specs.Prefix.{IsLast}
+use Rattle.bin_tape.specs.declared.prefixes.LastWord.{LastWord}
 
-pub address_low : (items : List Item) → IsFront items → address_after items < 4096
+pub address_low : (items : List Item) → IsPrefix items → address_after items < 4096
 address_low [] h = omega arith
 address_low (Leader f ∷ older) h = address_low older h.2
 address_low (Field n ∷ older) h = address_low older h.1

@@ -1,6 +1,6 @@
 pub mod FrameLemmas
 pub mod ItemLemmas
-pub mod FrontLemmas
+pub mod PrefixLemmas
 pub mod ReaderLemmas
 pub mod Scan
 pub mod WritingLemmas

@@ -8,29 +8,29 @@ use Rattle.bin_tape.specs.Frames.{kept, ignore_count}
 use Rattle.bin_tape.specs.Items.{Item, Origin, Word, spelled, has_origin, words_of, words_but_last}
 use Rattle.bin_tape.specs.Tape.{IsTape}
 use Rattle.bin_tape.specs.Fault.{place_after, Refuses, IsFault}
-use Rattle.bin_tape.specs.Front.{Reads, Keeps, IsLast}
+use Rattle.bin_tape.specs.Prefix.{ReadsItems, KeepsFrames, IsLast}
 use Rattle.bin_tape.specs.Pairs.{last_word}
 use Rattle.bin_tape.specs.Progress.{Progress}
 use Rattle.bin_tape.specs.Reading.{StateIs, HasRead, IsWhole, Answers, words_in}
-use Rattle.bin_tape.specs.MapSteps.{Holds, HasReadTo, ReadsTo}
+use Rattle.bin_tape.specs.MapSteps.{HoldsWords, HasReadTo, ReadsTo}
 use Rattle.bin_tape.specs.Map.{IsMapOf, IsMapFault}
 use Rattle.bin_tape.specs.declared.faults.TapeFault.{TapeFault}
 use Rattle.bin_tape.specs.declared.readers.State.{State}
 use Rattle.bin_tape.specs.declared.readers.State.TheVariants.{Reading}
-use Rattle.bin_tape.specs.declared.fronts.Front.{Front}
-use Rattle.bin_tape.specs.declared.fronts.LastWord.{LastWord}
+use Rattle.bin_tape.specs.declared.prefixes.Prefix.{Prefix}
+use Rattle.bin_tape.specs.declared.prefixes.LastWord.{LastWord}
 use Rattle.bin_tape.specs.declared.readers.Tape.{Tape}
 use Rattle.bin_tape.specs.declared.readers.Tape.TheVariants.{End}
 use Rattle.bin_tape.specs.declared.readers.Tape.TheVariants as tape
 use Rattle.bin_tape.proofs.FrameLemmas.{ignore_none, kept_more}
 use Rattle.bin_tape.proofs.ItemLemmas.{words_none, words_some}
-use Rattle.bin_tape.proofs.FrontLemmas.{reads_whole, part_none}
+use Rattle.bin_tape.proofs.PrefixLemmas.{reads_whole, part_none}
 use Rattle.bin_tape.proofs.ReaderLemmas.{longer, fault_of}
 use Rattle.bin_tape.proofs.WritingLemmas.{last_one, map_of_words}
 
 -- one cell more has a word
 pub hold_one : (words : List (Option ℕ)) (pairs : List (ℕ × ℕ)) (index at word : ℕ) → length words ≡ 32768 → index ≡ at → index < 32768
-    → Holds words pairs → Holds (slice_set words index (Some word)) (pairs ++ (at, word) ∷ [])
+    → HoldsWords words pairs → HoldsWords (slice_set words index (Some word)) (pairs ++ (at, word) ∷ [])
 hold_one words pairs index at word size is inside held cell within =
     elim (eqb_tells at cell) [
       | inl same ↦
@@ -43,18 +43,18 @@ hold_one words pairs index at word size is inside held cell within =
     ]
 
 -- no cell has a word at first
-pub hold_none : (count : ℕ) → 32768 ≤ count → Holds (replicate {A = Option ℕ} count None) []
+pub hold_none : (count : ℕ) → 32768 ≤ count → HoldsWords (replicate {A = Option ℕ} count None) []
 hold_none count enough cell within = get_or-replicate {A = Option ℕ} count cell None None (omega (arith, enough, within))
 
 -- the last word put into its cell
 pub hold_last : (words : List (Option ℕ)) (items : List Item) (last : LastWord) (index : ℕ) → length words ≡ 32768 → index ≡ last.cell → index < 32768
-    → IsLast (Some last) items → Holds words (words_but_last items) → Holds (slice_set words index (Some last.word)) (words_of items)
+    → IsLast (Some last) items → HoldsWords words (words_but_last items) → HoldsWords (slice_set words index (Some last.word)) (words_of items)
 hold_last words items last index size is inside newest held =
-    subst (λ (pairs : List (ℕ × ℕ)). Holds (slice_set words index (Some last.word)) pairs) (sym (words_some items last newest))
+    subst (λ (pairs : List (ℕ × ℕ)). HoldsWords (slice_set words index (Some last.word)) pairs) (sym (words_some items last newest))
     (hold_one words (words_but_last items) index last.cell last.word size is inside held)
 
-pub hold_no_last : (words : List (Option ℕ)) (items : List Item) → IsLast None items → Holds words (words_but_last items) → Holds words (words_of items)
-hold_no_last words items newest held = subst (λ (pairs : List (ℕ × ℕ)). Holds words pairs) (sym (words_none items newest)) held
+pub hold_no_last : (words : List (Option ℕ)) (items : List Item) → IsLast None items → HoldsWords words (words_but_last items) → HoldsWords words (words_of items)
+hold_no_last words items newest held = subst (λ (pairs : List (ℕ × ℕ)). HoldsWords words pairs) (sym (words_none items newest)) held
 
 -- ## Two frames more
 
@@ -75,11 +75,11 @@ kept_two before a b first second even =
     ∙ ap (λ l. l ++ b ∷ []) (kept_more before a first false (not_odd (ignore_count before) even))
     ∙ two_frames (kept before) a b
 
-pub word_more : (whole later : List ℕ) (high low : ℕ) (front next : Front) (words put : List (Option ℕ)) → high < 64 → low < 64
-    → ((items : List Item) (part : List ℕ) → Reads front items part → has_origin items ≡ true → Reads next (Word high low ∷ items) [])
-    → ((items : List Item) → IsLast front.last items → Holds words (words_but_last items) → Holds put (words_of items))
-    → ReadsTo whole (high ∷ low ∷ later) front words → ReadsTo whole later next put
-word_more whole later high low front next words put first second step puts r = record {
+pub word_more : (whole later : List ℕ) (high low : ℕ) (prefix next : Prefix) (words put : List (Option ℕ)) → high < 64 → low < 64
+    → ((items : List Item) (part : List ℕ) → ReadsItems prefix items part → has_origin items ≡ true → ReadsItems next (Word high low ∷ items) [])
+    → ((items : List Item) → IsLast prefix.last items → HoldsWords words (words_but_last items) → HoldsWords put (words_of items))
+    → ReadsTo whole (high ∷ low ∷ later) prefix words → ReadsTo whole later next put
+word_more whole later high low prefix next words put first second step puts r = record {
   before = r.before ++ high ∷ low ∷ [];
   split = r.split ∙ simp append_assoc;
   even = ap (λ n. n % 2) (even_two r.before high low (omega (arith, first)) (omega (arith, second))) ∙ r.even;
@@ -92,10 +92,10 @@ word_more whole later high low front next words put first second step puts r = r
   holds = puts r.items r.reads.last r.holds;
 }
 
-pub origin_more : (whole later : List ℕ) (first low high : ℕ) (front next : Front) (words : List (Option ℕ)) → first ≡ 64 + high → high < 64 → low < 64
-    → ((items : List Item) (part : List ℕ) → Reads front items part → Reads next (Origin high low ∷ items) [])
-    → ReadsTo whole (first ∷ low ∷ later) front words → ReadsTo whole later next words
-origin_more whole later first low high front next words is small second step r = record {
+pub origin_more : (whole later : List ℕ) (first low high : ℕ) (prefix next : Prefix) (words : List (Option ℕ)) → first ≡ 64 + high → high < 64 → low < 64
+    → ((items : List Item) (part : List ℕ) → ReadsItems prefix items part → ReadsItems next (Origin high low ∷ items) [])
+    → ReadsTo whole (first ∷ low ∷ later) prefix words → ReadsTo whole later next words
+origin_more whole later first low high prefix next words is small second step r = record {
   before = r.before ++ first ∷ low ∷ [];
   split = r.split ∙ simp append_assoc;
   even = ap (λ n. n % 2) (even_two r.before first low (omega (arith, is, small)) (omega (arith, second))) ∙ r.even;
@@ -111,21 +111,21 @@ origin_more whole later first low high front next words is small second step r =
 
 -- ## A reader that takes a run of pairs
 
--- a reader between two pairs, as its front
-pub begins_run : (whole frames : List ℕ) (reader : Progress) (words : List (Option ℕ)) (front : Front)
-    → reader.state ≡ Reading front → reader.ignoring ≡ false → front.first ≡ None → front.has_origin ≡ true
-    → HasReadTo whole frames reader words → ReadsTo whole frames front words
-begins_run whole frames reader words front reading ignoring first origin r =
-    let keeps : Keeps front (kept r.before) r.out = subst (λ (s : State). StateIs s r.before r.out) reading r.read.state in
+-- a reader between two pairs, as its prefix
+pub begins_run : (whole frames : List ℕ) (reader : Progress) (words : List (Option ℕ)) (prefix : Prefix)
+    → reader.state ≡ Reading prefix → reader.ignoring ≡ false → prefix.first ≡ None → prefix.has_origin ≡ true
+    → HasReadTo whole frames reader words → ReadsTo whole frames prefix words
+begins_run whole frames reader words prefix reading ignoring first origin r =
+    let keeps : KeepsFrames prefix (kept r.before) r.out = subst (λ (s : State). StateIs s r.before r.out) reading r.read.state in
     record {
       before = r.before;
       split = r.split;
       even = even_again (ignore_count r.before) (sym ignoring ∙ r.read.counts.ignoring_is);
       items = keeps.items;
-      reads = reads_whole front keeps.items keeps.part keeps.reads first;
+      reads = reads_whole prefix keeps.items keeps.part keeps.reads first;
       origin = sym keeps.reads.origin ∙ origin;
-      kept_is = keeps.frames ∙ ap (λ l. spelled keeps.items ++ l) (part_none front keeps.items keeps.part keeps.reads first) ∙ append-nil (spelled keeps.items);
-      holds = subst (λ (pairs : List (ℕ × ℕ)). Holds words pairs) keeps.words r.holds;
+      kept_is = keeps.frames ∙ ap (λ l. spelled keeps.items ++ l) (part_none prefix keeps.items keeps.part keeps.reads first) ∙ append-nil (spelled keeps.items);
+      holds = subst (λ (pairs : List (ℕ × ℕ)). HoldsWords words pairs) keeps.words r.holds;
     }
   where
     even_again : (n : ℕ) → false ≡ nat_eq (n % 2) 1 → n % 2 ≡ 0
@@ -139,11 +139,11 @@ place_run frames before after rest place later here left same more =
     sym (length-append before frames) ∙ ap length same ∙ length-append after rest
     in omega arith
 
-pub ends_run : (whole frames rest : List ℕ) (old new : Progress) (words put : List (Option ℕ)) (front : Front)
-    → new.state ≡ Reading front → new.ignoring ≡ false → length rest ≤ length frames
+pub ends_run : (whole frames rest : List ℕ) (old new : Progress) (words put : List (Option ℕ)) (prefix : Prefix)
+    → new.state ≡ Reading prefix → new.ignoring ≡ false → length rest ≤ length frames
     → new.place ≡ min (old.place + (length frames - length rest)) 18446744073709551615
-    → HasReadTo whole frames old words → ReadsTo whole rest front put → HasReadTo whole rest new put
-ends_run whole frames rest old new words put front reading ignoring left place o r = record {
+    → HasReadTo whole frames old words → ReadsTo whole rest prefix put → HasReadTo whole rest new put
+ends_run whole frames rest old new words put prefix reading ignoring left place o r = record {
   before = r.before;
   split = r.split;
   out = words_but_last r.items;
@@ -164,11 +164,11 @@ ends_run whole frames rest old new words put front reading ignoring left place o
 pub frame_more : (whole before later : List ℕ) (frame : ℕ) → whole ≡ before ++ frame ∷ later → whole ≡ (before ++ frame ∷ []) ++ later
 frame_more whole before later frame split = split ∙ simp append_assoc
 
-pub map_of : (whole front later : List ℕ) (words : List (Option ℕ)) (out : List (ℕ × ℕ)) → whole ≡ front ++ later → Holds words out
-    → IsWhole front out → IsMapOf whole words
-map_of whole front later words out split held w = record {
+pub map_of : (whole prefix later : List ℕ) (words : List (Option ℕ)) (out : List (ℕ × ℕ)) → whole ≡ prefix ++ later → HoldsWords words out
+    → IsWhole prefix out → IsMapOf whole words
+map_of whole prefix later words out split held w = record {
   items = w.items;
-  is_tape = subst (λ (l : List ℕ). IsTape l w.items) (sym split) (longer front later w.items w.is_tape);
+  is_tape = subst (λ (l : List ℕ). IsTape l w.items) (sym split) (longer prefix later w.items w.is_tape);
   cells = λ cell within. held cell within ∙ ap (λ pairs. last_word pairs cell) w.words ∙ sym (map_of_words w.items cell);
 }
 

@@ -2,7 +2,7 @@
 use Rattle.std.proofs.Common.{◌≡◌, ℕ, ◌+◌, ◌-◌, ◌*◌, ◌/◌, ◌%◌, ◌<◌, ◌≤◌, ◌⊎◌, inl, inr, Bool, true, false, nat_eq, nat_lt, zero-add, append_assoc, append-nil, refl, ap, sym, ◌∙◌, arith, List, [], ◌∷◌, ◌++◌}
 use Rattle.std.proofs.lemmas.Bool.Decides.{nat_tests}
 use Rattle.bin_tape.specs.Frames.{kept, kept_after, ignore_count}
-use Rattle.bin_tape.specs.Items.{Item, Origin, Word, spelled, has_origin, IsFront, check_sum}
+use Rattle.bin_tape.specs.Items.{Item, Origin, Word, spelled, has_origin, IsPrefix, check_sum}
 use Rattle.bin_tape.specs.Tape.{IsPart, IsOpen, IsTape}
 use Rattle.bin_tape.specs.Laws.{GoesOn}
 use Rattle.bin_tape.proofs.FrameLemmas.{kept_after-append}
@@ -49,24 +49,24 @@ record Whole (items : List Item) (part : List ℕ) : Type 0 where
   later : List Item
   end : List ℕ
   frames : spelled (later ++ items) ≡ (spelled items ++ part) ++ end
-  is_front : IsFront (later ++ items)
+  is_prefix : IsPrefix (later ++ items)
   others : AreOthers end
 
-whole_word : (items : List Item) (p : ℕ) → IsFront items → p < 64 → has_origin items ≡ true → Whole items (p ∷ [])
-whole_word items p front small origin = record {
+whole_word : (items : List Item) (p : ℕ) → IsPrefix items → p < 64 → has_origin items ≡ true → Whole items (p ∷ [])
+whole_word items p prefix small origin = record {
   later = Word p 0 ∷ [];
   end = 0 ∷ [];
   frames = sym (append_assoc (spelled items) (p ∷ []) (0 ∷ []));
-  is_front = (small, omega arith, origin, front);
+  is_prefix = (small, omega arith, origin, prefix);
   others = (omega arith, tt);
 }
 
-whole_origin : (items : List Item) (p : ℕ) → IsFront items → 64 ≤ p → p < 128 → Whole items (p ∷ [])
-whole_origin items p front large small = record {
+whole_origin : (items : List Item) (p : ℕ) → IsPrefix items → 64 ≤ p → p < 128 → Whole items (p ∷ [])
+whole_origin items p prefix large small = record {
   later = Origin (p - 64) 0 ∷ [];
   end = 0 ∷ [];
   frames = ap (λ f. spelled items ++ f ∷ 0 ∷ []) (same p large) ∙ sym (append_assoc (spelled items) (p ∷ []) (0 ∷ []));
-  is_front = (omega (arith, large, small), omega arith, front);
+  is_prefix = (omega (arith, large, small), omega arith, prefix);
   others = (omega arith, tt);
 }
   where
@@ -80,23 +80,23 @@ below_or_not p = by (nat_lt p 64) refl
     by true e = inl (grind (arith, nat_tests))
     by false e = inr (grind (arith, nat_tests))
 
-whole : (items : List Item) (part : List ℕ) → IsFront items → IsPart items part → Whole items part
-whole items [] front begun = record {
+whole : (items : List Item) (part : List ℕ) → IsPrefix items → IsPart items part → Whole items part
+whole items [] prefix begun = record {
   later = [];
   end = [];
   frames = simp append-nil;
-  is_front = front;
+  is_prefix = prefix;
   others = tt;
 }
-whole items (p ∷ []) front begun = elim (below_or_not p) [
-  | inl small ↦ whole_word items p front small (origin begun.1 small)
-  | inr large ↦ whole_origin items p front large begun.0
+whole items (p ∷ []) prefix begun = elim (below_or_not p) [
+  | inl small ↦ whole_word items p prefix small (origin begun.1 small)
+  | inr large ↦ whole_origin items p prefix large begun.0
 ]
   where
     origin : (64 ≤ p) ⊎ (has_origin items ≡ true) → p < 64 → has_origin items ≡ true
     origin (inl large) small = absurd (omega (arith, large, small))
     origin (inr there) small = there
-whole items (p ∷ q ∷ rest) front begun = absurd begun
+whole items (p ∷ q ∷ rest) prefix begun = absurd begun
 
 -- ## The tape
 
@@ -143,13 +143,13 @@ tape_of frames items part is w =
           ∙ sym (append_assoc (spelled items ++ part) w.end (ending all))
           ∙ ap (λ l. l ++ ending all) (sym w.frames)
           ∙ sym (spelled_ending all (sum / 64) (sum % 64));
-      is_front = (parts.0, parts.1, refl, (omega arith, omega arith, w.is_front));
+      is_prefix = (parts.0, parts.1, refl, (omega arith, omega arith, w.is_prefix));
       sum = joined sum;
     }
 
 pub goes_on : (frames : List ℕ) (items : List Item) (part : List ℕ) → IsOpen (kept frames) items part → GoesOn frames items
 goes_on frames items part opened =
-    let w = whole items part opened.is_front opened.begun in
+    let w = whole items part opened.is_prefix opened.begun in
     record {
       more = woken (nat_eq (ignore_count frames % 2) 0) (w.end ++ ending (w.later ++ items));
       later = Origin 0 0 ∷ w.later;

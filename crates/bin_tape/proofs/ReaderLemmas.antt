@@ -5,14 +5,14 @@ use Rattle.bin_tape.specs.Items.{Item, Leader, Field, Origin, spelled, words_but
 use Rattle.bin_tape.specs.Items as item
 use Rattle.bin_tape.specs.Tape.{IsTape}
 use Rattle.bin_tape.specs.Fault.{Refuses, IsRefused, IsFault, place_after}
-use Rattle.bin_tape.specs.Front.{Reads, Keeps}
-use Rattle.bin_tape.specs.FrontSteps.{EndsTape}
+use Rattle.bin_tape.specs.Prefix.{ReadsItems, KeepsFrames}
+use Rattle.bin_tape.specs.PrefixSteps.{EndsTape}
 use Rattle.bin_tape.specs.Progress.{Progress}
 use Rattle.bin_tape.specs.Reading.{StateIs, IsGoing, IsWhole, Counts, HasRead, Answers, words_in}
-use Rattle.bin_tape.specs.ReadSteps.{Comes}
+use Rattle.bin_tape.specs.ReadSteps.{AnswersFrame}
 use Rattle.bin_tape.specs.declared.faults.TapeFault.{TapeFault}
 use Rattle.bin_tape.specs.declared.faults.TapeFault.TheVariants.{BadFrame, NoOrigin, CheckSum, NoTrailer, Memory}
-use Rattle.bin_tape.specs.declared.fronts.Front.{Front}
+use Rattle.bin_tape.specs.declared.prefixes.Prefix.{Prefix}
 use Rattle.bin_tape.specs.declared.readers.State.{State}
 use Rattle.bin_tape.specs.declared.readers.State.TheVariants.{Reading, Ended, Failed}
 use Rattle.bin_tape.specs.declared.readers.Tape.{Tape}
@@ -53,45 +53,45 @@ longer frames more items t = record {
       ∙ ap (λ n. kept frames ++ kept_after n more) (zero-add (ignore_count frames))
       ∙ ap (λ l. l ++ kept_after (ignore_count frames) more) t.kept_frames
       ∙ simp append_assoc;
-  is_front = t.is_front;
+  is_prefix = t.is_prefix;
   sum = t.sum;
 }
 
--- what a front keeps may go on as a tape
-pub going : (front : Front) (frames : List ℕ) (out : List (ℕ × ℕ)) → Keeps front (kept frames) out → IsGoing frames out
-going front frames out k = record {
+-- what a prefix keeps may go on as a tape
+pub going : (prefix : Prefix) (frames : List ℕ) (out : List (ℕ × ℕ)) → KeepsFrames prefix (kept frames) out → IsGoing frames out
+going prefix frames out k = record {
   items = k.items;
   part = k.part;
-  is_open = record { frames = k.frames; is_front = k.reads.is_front; begun = k.reads.begun };
+  is_open = record { frames = k.frames; is_prefix = k.reads.is_prefix; begun = k.reads.begun };
   words = k.words;
 }
 
 -- the trailer behind the check sum makes the frames a tape
-pub whole : (frames : List ℕ) (out : List (ℕ × ℕ)) (frame : ℕ) (items : List Item) (part : List ℕ) (front : Front)
+pub whole : (frames : List ℕ) (out : List (ℕ × ℕ)) (frame : ℕ) (items : List Item) (part : List ℕ) (prefix : Prefix)
     → kept frames ≡ spelled items ++ part → kept (frames ++ frame ∷ []) ≡ kept frames ++ frame ∷ []
-    → out ≡ words_but_last items → Reads front items part → EndsTape items part frame → IsWhole (frames ++ frame ∷ []) out
-whole frames out frame [] part front here more words r ends = absurd ends
-whole frames out frame (Leader f ∷ older) part front here more words r ends = absurd ends
-whole frames out frame (Field n ∷ older) part front here more words r ends = absurd ends
-whole frames out frame (Origin high low ∷ older) part front here more words r ends = absurd ends
-whole frames out frame (item.Word high low ∷ older) part front here more words r ends = record {
+    → out ≡ words_but_last items → ReadsItems prefix items part → EndsTape items part frame → IsWhole (frames ++ frame ∷ []) out
+whole frames out frame [] part prefix here more words r ends = absurd ends
+whole frames out frame (Leader f ∷ older) part prefix here more words r ends = absurd ends
+whole frames out frame (Field n ∷ older) part prefix here more words r ends = absurd ends
+whole frames out frame (Origin high low ∷ older) part prefix here more words r ends = absurd ends
+whole frames out frame (item.Word high low ∷ older) part prefix here more words r ends = record {
   items = older;
   is_tape = record {
     high = high;
     low = low;
     rest = [];
     kept_frames = more ∙ ap (λ l. l ++ frame ∷ []) here ∙ rw (ends.0, ends.1) (simp (append_assoc, append-nil));
-    is_front = r.is_front;
+    is_prefix = r.is_prefix;
     sum = ends.2;
   };
   words = words;
 }
 
 -- a refused frame, at its place
-pub refused_here : (frames rest : List ℕ) (frame : ℕ) (items : List Item) (part : List ℕ) (front : Front) (fault : TapeFault)
-    → kept frames ≡ spelled items ++ part → Reads front items part → frame ≢ 255 → ignore_count frames % 2 ≡ 0
+pub refused_here : (frames rest : List ℕ) (frame : ℕ) (items : List Item) (part : List ℕ) (prefix : Prefix) (fault : TapeFault)
+    → kept frames ≡ spelled items ++ part → ReadsItems prefix items part → frame ≢ 255 → ignore_count frames % 2 ≡ 0
     → IsRefused items part frame (place_after frames) fault → Refuses (frames ++ frame ∷ rest) fault
-refused_here frames rest frame items part front fault here r other even refused = record {
+refused_here frames rest frame items part prefix fault here r other even refused = record {
   before = frames;
   frame = frame;
   after = rest;
@@ -100,61 +100,61 @@ refused_here frames rest frame items part front fault here r other even refused 
   split = refl;
   not_ignore = other;
   not_ignored = even;
-  is_open = record { frames = here; is_front = r.is_front; begun = r.begun };
+  is_open = record { frames = here; is_prefix = r.is_prefix; begun = r.begun };
   refused = refused;
 }
 
--- the front behind one more kept frame
-pub front_more : (frames : List ℕ) (out : List (ℕ × ℕ)) (frame : ℕ) (items : List Item) (part : List ℕ) (handed : List (ℕ × ℕ)) (front : Front)
+-- the prefix behind one more kept frame
+pub prefix_more : (frames : List ℕ) (out : List (ℕ × ℕ)) (frame : ℕ) (items : List Item) (part : List ℕ) (handed : List (ℕ × ℕ)) (prefix : Prefix)
     → kept frames ≡ spelled items ++ part → kept (frames ++ frame ∷ []) ≡ kept frames ++ frame ∷ [] → out ≡ words_but_last items
-    → Keeps front (spelled items ++ part ++ frame ∷ []) (words_but_last items ++ handed)
-    → Keeps front (kept (frames ++ frame ∷ [])) (out ++ handed)
-front_more frames out frame items part handed front here more words k =
+    → KeepsFrames prefix (spelled items ++ part ++ frame ∷ []) (words_but_last items ++ handed)
+    → KeepsFrames prefix (kept (frames ++ frame ∷ [])) (out ++ handed)
+prefix_more frames out frame items part handed prefix here more words k =
     rw (more, here, words) k
 
-pub state_more : (frames : List ℕ) (out : List (ℕ × ℕ)) (frame : ℕ) (items : List Item) (part : List ℕ) (front : Front)
+pub state_more : (frames : List ℕ) (out : List (ℕ × ℕ)) (frame : ℕ) (items : List Item) (part : List ℕ) (prefix : Prefix)
     (result : Result Tape TapeFault) (state : State)
     → kept frames ≡ spelled items ++ part → kept (frames ++ frame ∷ []) ≡ kept frames ++ frame ∷ [] → out ≡ words_but_last items
-    → Reads front items part → frame ≢ 255 → ignore_count frames % 2 ≡ 0
-    → Comes items part frame (place_after frames) result state
+    → ReadsItems prefix items part → frame ≢ 255 → ignore_count frames % 2 ≡ 0
+    → AnswersFrame items part frame (place_after frames) result state
     → StateIs state (frames ++ frame ∷ []) (out ++ words_in result) × Answers frames out frame result
-state_more frames out frame items part front (Ok Nothing) (Reading later) here more words r other even k =
-    let keeps : Keeps later (kept (frames ++ frame ∷ [])) (out ++ []) =
-    front_more frames out frame items part [] later here more words (rw append-nil k)
+state_more frames out frame items part prefix (Ok Nothing) (Reading later) here more words r other even k =
+    let keeps : KeepsFrames later (kept (frames ++ frame ∷ [])) (out ++ []) =
+    prefix_more frames out frame items part [] later here more words (rw append-nil k)
     in (keeps, inr (going later (frames ++ frame ∷ []) out (rw append-nil at keeps)))
-state_more frames out frame items part front (Ok Nothing) Ended here more words r other even k = absurd k
-state_more frames out frame items part front (Ok Nothing) (Failed fault) here more words r other even k = absurd k
-state_more frames out frame items part front (Ok (Word cell word)) (Reading later) here more words r other even k =
-    let keeps : Keeps later (kept (frames ++ frame ∷ [])) (out ++ (cell, word) ∷ []) =
-    front_more frames out frame items part ((cell, word) ∷ []) later here more words k
+state_more frames out frame items part prefix (Ok Nothing) Ended here more words r other even k = absurd k
+state_more frames out frame items part prefix (Ok Nothing) (Failed fault) here more words r other even k = absurd k
+state_more frames out frame items part prefix (Ok (Word cell word)) (Reading later) here more words r other even k =
+    let keeps : KeepsFrames later (kept (frames ++ frame ∷ [])) (out ++ (cell, word) ∷ []) =
+    prefix_more frames out frame items part ((cell, word) ∷ []) later here more words k
     in (keeps, going later (frames ++ frame ∷ []) (out ++ (cell, word) ∷ []) keeps)
-state_more frames out frame items part front (Ok (Word cell word)) Ended here more words r other even k = absurd k
-state_more frames out frame items part front (Ok (Word cell word)) (Failed fault) here more words r other even k = absurd k
-state_more frames out frame items part front (Ok End) state here more words r other even k =
-    let is_whole : IsWhole (frames ++ frame ∷ []) out = whole frames out frame items part front here more words r k.1
+state_more frames out frame items part prefix (Ok (Word cell word)) Ended here more words r other even k = absurd k
+state_more frames out frame items part prefix (Ok (Word cell word)) (Failed fault) here more words r other even k = absurd k
+state_more frames out frame items part prefix (Ok End) state here more words r other even k =
+    let is_whole : IsWhole (frames ++ frame ∷ []) out = whole frames out frame items part prefix here more words r k.1
     in (
       subst (λ (s : State). StateIs s (frames ++ frame ∷ []) (out ++ [])) (sym k.0) (rw append-nil is_whole),
-      (record { items = items; part = part; is_open = record { frames = here; is_front = r.is_front; begun = r.begun }; words = words }, is_whole),
+      (record { items = items; part = part; is_open = record { frames = here; is_prefix = r.is_prefix; begun = r.begun }; words = words }, is_whole),
     )
-state_more frames out frame items part front (Err fault) state here more words r other even k = (
-  subst (λ (s : State). StateIs s (frames ++ frame ∷ []) (out ++ [])) (sym k.0) (refused_here frames [] frame items part front fault here r other even k.1),
-  (λ rest. refused_here frames rest frame items part front fault here r other even k.1),
+state_more frames out frame items part prefix (Err fault) state here more words r other even k = (
+  subst (λ (s : State). StateIs s (frames ++ frame ∷ []) (out ++ [])) (sym k.0) (refused_here frames [] frame items part prefix fault here r other even k.1),
+  (λ rest. refused_here frames rest frame items part prefix fault here r other even k.1),
 )
 
 -- a reader that was reading, behind one more kept frame
-pub read_on : (old counted new : Progress) (front : Front) (frame place : ℕ) (result : Result Tape TapeFault) (frames : List ℕ) (out : List (ℕ × ℕ))
-    → old.state ≡ Reading front → place ≡ old.place → new ≡ record counted { state = new.state }
+pub read_on : (old counted new : Progress) (prefix : Prefix) (frame place : ℕ) (result : Result Tape TapeFault) (frames : List ℕ) (out : List (ℕ × ℕ))
+    → old.state ≡ Reading prefix → place ≡ old.place → new ≡ record counted { state = new.state }
     → frame ≢ 255 → ignore_count frames % 2 ≡ 0 → kept (frames ++ frame ∷ []) ≡ kept frames ++ frame ∷ []
     → Counts counted.place counted.ignoring (frames ++ frame ∷ [])
-    → ((items : List Item) (part : List ℕ) → Reads front items part → Comes items part frame place result new.state)
+    → ((items : List Item) (part : List ℕ) → ReadsItems prefix items part → AnswersFrame items part frame place result new.state)
     → HasRead old frames out
     → HasRead new (frames ++ frame ∷ []) (out ++ words_in result) × Answers frames out frame result
-read_on old counted new front frame place result frames out reading here same other even more counts comes read =
-    let keeps : Keeps front (kept frames) out = subst (λ (s : State). StateIs s frames out) reading read.state in
-    let came : Comes keeps.items keeps.part frame (place_after frames) result new.state =
-    subst (λ (p : ℕ). Comes keeps.items keeps.part frame p result new.state) (here ∙ read.counts.place_is) (comes keeps.items keeps.part keeps.reads) in
+read_on old counted new prefix frame place result frames out reading here same other even more counts comes read =
+    let keeps : KeepsFrames prefix (kept frames) out = subst (λ (s : State). StateIs s frames out) reading read.state in
+    let came : AnswersFrame keeps.items keeps.part frame (place_after frames) result new.state =
+    subst (λ (p : ℕ). AnswersFrame keeps.items keeps.part frame p result new.state) (here ∙ read.counts.place_is) (comes keeps.items keeps.part keeps.reads) in
     let both : StateIs new.state (frames ++ frame ∷ []) (out ++ words_in result) × Answers frames out frame result =
-    state_more frames out frame keeps.items keeps.part front result new.state keeps.frames more keeps.words keeps.reads other even came
+    state_more frames out frame keeps.items keeps.part prefix result new.state keeps.frames more keeps.words keeps.reads other even came
     in (
       record {
         counts = subst (λ (p : Progress). Counts p.place p.ignoring (frames ++ frame ∷ [])) (sym same) counts;

@@ -2,7 +2,7 @@
 use Rattle.std.proofs.Common.{◌≡◌, ◌≢◌, ℕ, suc, ◌+◌, ◌-◌, ◌*◌, ◌/◌, ◌%◌, ◌<◌, ◌≤◌, ◌⊎◌, inl, inr, Bool, true, false, nat_eq, nat_lt, if◌then◌else◌, min, ◌∙◌, ap, refl, sym, subst, arith, length, eq-eqb, List, [], ◌∷◌, ◌++◌}
 use Rattle.std.proofs.lemmas.Bool.Decides.{nat_tests}
 use Rattle.bin_tape.specs.Frames.{kept, kept_after, ignore_count}
-use Rattle.bin_tape.specs.Items.{Item, Leader, Field, Origin, Word, spelled, frames_of, has_origin, ends_in_word, IsFront, check_sum, words_of, words_but_last}
+use Rattle.bin_tape.specs.Items.{Item, Leader, Field, Origin, Word, spelled, frames_of, has_origin, ends_in_word, IsPrefix, check_sum, words_of, words_but_last}
 use Rattle.bin_tape.specs.Tape.{IsOpen, IsTape}
 use Rattle.bin_tape.specs.Fault.{IsRefused, IsOutOfPlace, IsWrongSum, Refuses, IsFault}
 use Rattle.bin_tape.specs.Laws.{IsClosed}
@@ -197,7 +197,7 @@ trailer_ends : (items : List Item) (high low : ℕ) → has_origin items ≡ tru
 trailer_ends items high low begun sum = rw (begun, eq-eqb (64 * high + low) (check_sum items) sum) refl
 
 -- an item behind whole items
-one_goes : (older : List Item) (item : Item) → IsFront (item ∷ older) → run (Open older []) (frames_of item) ≡ Open (item ∷ older) []
+one_goes : (older : List Item) (item : Item) → IsPrefix (item ∷ older) → run (Open older []) (frames_of item) ≡ Open (item ∷ older) []
 unfolding run
 one_goes older (Leader f) h = ap (outcome 0) (leader_goes older f h.0 h.1)
 one_goes older (Field n) h = ap (outcome 0) (field_goes older n h.0)
@@ -208,27 +208,27 @@ one_goes older (Word high low) h =
     ap (λ v. step 0 (outcome 0 v) low) (first_goes older high (omega (arith, h.0)) (inr h.2))
     ∙ ap (outcome 0) (word_goes older high low h.0 h.1)
 
-older_front : (item : Item) (older : List Item) → IsFront (item ∷ older) → IsFront older
-older_front (Leader f) older h = h.2
-older_front (Field n) older h = h.1
-older_front (Origin high low) older h = h.2
-older_front (Word high low) older h = h.3
+older_prefix : (item : Item) (older : List Item) → IsPrefix (item ∷ older) → IsPrefix older
+older_prefix (Leader f) older h = h.2
+older_prefix (Field n) older h = h.1
+older_prefix (Origin high low) older h = h.2
+older_prefix (Word high low) older h = h.3
 
-front_goes : (items : List Item) → IsFront items → run start (spelled items) ≡ Open items []
+prefix_goes : (items : List Item) → IsPrefix items → run start (spelled items) ≡ Open items []
 unfolding run
-front_goes [] h = refl
-front_goes (item ∷ older) h =
+prefix_goes [] h = refl
+prefix_goes (item ∷ older) h =
     run-append start (spelled older) (frames_of item)
-    ∙ ap (λ o. run o (frames_of item)) (front_goes older (older_front item older h))
+    ∙ ap (λ o. run o (frames_of item)) (prefix_goes older (older_prefix item older h))
     ∙ one_goes older item h
 
 open_goes : (kept_frames : List ℕ) (items : List Item) (part : List ℕ) → IsOpen kept_frames items part → run start kept_frames ≡ Open items part
 unfolding run
-open_goes kept_frames items [] o = ap (run start) o.frames ∙ run-append start (spelled items) [] ∙ front_goes items o.is_front
+open_goes kept_frames items [] o = ap (run start) o.frames ∙ run-append start (spelled items) [] ∙ prefix_goes items o.is_prefix
 open_goes kept_frames items (p ∷ []) o =
     ap (run start) o.frames
     ∙ run-append start (spelled items) (p ∷ [])
-    ∙ ap (λ s. run s (p ∷ [])) (front_goes items o.is_front)
+    ∙ ap (λ s. run s (p ∷ [])) (prefix_goes items o.is_prefix)
     ∙ ap (outcome 0) (first_goes items p o.begun.0 o.begun.1)
 open_goes kept_frames items (p ∷ q ∷ rest) o = absurd o.begun
 
@@ -237,8 +237,8 @@ unfolding run
 tape_goes frames items t =
     ap (run start) t.kept_frames
     ∙ run-append start (spelled (Word t.high t.low ∷ items)) (128 ∷ t.rest)
-    ∙ ap (λ o. run o (128 ∷ t.rest)) (front_goes (Word t.high t.low ∷ items) t.is_front)
-    ∙ ap (λ v. run (outcome 0 v) t.rest) (trailer_ends items t.high t.low t.is_front.2 t.sum)
+    ∙ ap (λ o. run o (128 ∷ t.rest)) (prefix_goes (Word t.high t.low ∷ items) t.is_prefix)
+    ∙ ap (λ v. run (outcome 0 v) t.rest) (trailer_ends items t.high t.low t.is_prefix.2 t.sum)
     ∙ run-tape items t.rest
 
 -- ## What a refused frame comes to
@@ -250,15 +250,15 @@ no_trailer (Leader f ∷ older) h = refl
 no_trailer (Field n ∷ older) h = refl
 no_trailer (Origin high low ∷ older) h = refl
 
-wrong_trailer : (items : List Item) (found computed : ℕ) → IsFront items → IsWrongSum items found computed
+wrong_trailer : (items : List Item) (found computed : ℕ) → IsPrefix items → IsWrongSum items found computed
     → verdict items [] 128 ≡ WrongSum found computed
-wrong_trailer [] found computed front h = absurd h
-wrong_trailer (Word high low ∷ older) found computed front h =
+wrong_trailer [] found computed prefix h = absurd h
+wrong_trailer (Word high low ∷ older) found computed prefix h =
     let differ : 64 * high + low ≢ check_sum older = λ e. h.2 (h.0 ∙ e ∙ sym h.1)
-    in rw (front.2, other_false (64 * high + low) (check_sum older) differ, h.0, h.1) refl
-wrong_trailer (Leader f ∷ older) found computed front h = absurd h
-wrong_trailer (Field n ∷ older) found computed front h = absurd h
-wrong_trailer (Origin high low ∷ older) found computed front h = absurd h
+    in rw (prefix.2, other_false (64 * high + low) (check_sum older) differ, h.0, h.1) refl
+wrong_trailer (Leader f ∷ older) found computed prefix h = absurd h
+wrong_trailer (Field n ∷ older) found computed prefix h = absurd h
+wrong_trailer (Origin high low ∷ older) found computed prefix h = absurd h
 
 form_refused : (items : List Item) (f : ℕ) → 128 < f → (f < 192) ⊎ (0 < f % 8) → verdict items [] f ≡ OutOfPlace
 form_refused items f large why = grind (arith, nat_tests)
@@ -276,14 +276,14 @@ place_refused : (items : List Item) (part : List ℕ) (f : ℕ) → IsOutOfPlace
 place_refused items [] f h = elim h [ inl form ↦ form_refused items f form.0 form.1 | inr e ↦ trailer_refused items f e.0 e.1 e.2 ]
 place_refused items (p ∷ rest) f h = second_refused items p f rest h
 
-refused_goes : (items : List Item) (part : List ℕ) (f place : ℕ) (fault : TapeFault) → IsFront items
+refused_goes : (items : List Item) (part : List ℕ) (f place : ℕ) (fault : TapeFault) → IsPrefix items
     → IsRefused items part f (min place 18446744073709551615) fault → step place (Open items part) f ≡ Fault fault
-refused_goes items part f place (BadFrame at) front h =
+refused_goes items part f place (BadFrame at) prefix h =
     ap (outcome place) (place_refused items part f h.1) ∙ ap (λ n. Fault (BadFrame n)) (sym h.0)
-refused_goes items part f place NoOrigin front h = rw h.0 (ap (outcome place) (early_refused items f h.1 h.2 h.3))
-refused_goes items part f place (CheckSum found computed) front h = rw (h.0, h.1) (ap (outcome place) (wrong_trailer items found computed front h.2))
-refused_goes items part f place NoTrailer front h = absurd h
-refused_goes items part f place Memory front h = absurd h
+refused_goes items part f place NoOrigin prefix h = rw h.0 (ap (outcome place) (early_refused items f h.1 h.2 h.3))
+refused_goes items part f place (CheckSum found computed) prefix h = rw (h.0, h.1) (ap (outcome place) (wrong_trailer items found computed prefix h.2))
+refused_goes items part f place NoTrailer prefix h = absurd h
+refused_goes items part f place Memory prefix h = absurd h
 
 -- ## Frames come to one thing only
 
@@ -309,7 +309,7 @@ scan_closed frames rest fault r =
     ∙ ap (λ o. scan (length r.before) (ignore_count r.before) o (r.frame ∷ rest)) (scan_open r.before r.items r.part r.is_open)
     ∙ scan_kept (length r.before) (ignore_count r.before) (Open r.items r.part) r.frame rest r.not_ignore r.not_ignored
     ∙ ap (λ o. scan (suc (length r.before)) (ignore_count r.before) o rest)
-    (refused_goes r.items r.part r.frame (length r.before) fault r.is_open.is_front r.refused)
+    (refused_goes r.items r.part r.frame (length r.before) fault r.is_open.is_prefix r.refused)
     ∙ scan-fault (suc (length r.before)) (ignore_count r.before) fault rest
 
 scan_refused : (frames : List ℕ) (fault : TapeFault) → Refuses frames fault → scan 0 0 start frames ≡ Fault fault
@@ -347,8 +347,8 @@ words_told : (state : State) (frames : List ℕ) (out : List (ℕ × ℕ)) → S
     → ((items : List Item) × (scan 0 0 start frames ≡ Tape items) × (out ≡ words_of items))
     ⊎ ((items : List Item) × (part : List ℕ) × (scan 0 0 start frames ≡ Open items part) × (out ≡ words_but_last items))
     ⊎ ((fault : TapeFault) × (scan 0 0 start frames ≡ Fault fault))
-words_told (Reading front) frames out k =
-    inr (inl (k.items, k.part, scan_open frames k.items k.part (record { frames = k.frames; is_front = k.reads.is_front; begun = k.reads.begun }), k.words))
+words_told (Reading prefix) frames out k =
+    inr (inl (k.items, k.part, scan_open frames k.items k.part (record { frames = k.frames; is_prefix = k.reads.is_prefix; begun = k.reads.begun }), k.words))
 words_told Ended frames out w = inl (w.items, scan_tape frames w.items w.is_tape, w.words)
 words_told (Failed fault) frames out r = inr (inr (fault, scan_refused frames fault r))
 

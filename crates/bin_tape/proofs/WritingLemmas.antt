@@ -4,7 +4,7 @@ use Rattle.std.proofs.lemmas.List.{take_more, reverse-append, reverse-reverse, l
 use Rattle.std.proofs.lemmas.Bool.Decides.{nat_tests, eqb_tells}
 use Rattle.std.specs.Option.{option_or}
 use Rattle.bin_tape.specs.Frames.{kept}
-use Rattle.bin_tape.specs.Items.{Item, Leader, Field, Origin, Word, spelled, frames_of, has_origin, IsFront, field_after, address_after, cell_after, check_sum, words_of, tape_map}
+use Rattle.bin_tape.specs.Items.{Item, Leader, Field, Origin, Word, spelled, frames_of, has_origin, IsPrefix, field_after, address_after, cell_after, check_sum, words_of, tape_map}
 use Rattle.bin_tape.specs.Tape.{IsTape}
 use Rattle.bin_tape.specs.Pairs.{ArePairs, last_word, IsTapeOf}
 use Rattle.bin_tape.specs.Writing.{word_item, origin_item, field_behind, is_next, with_field, with_origin, newest_cell, items_of, tape_with, tape_of}
@@ -111,7 +111,7 @@ words_items (pair ∷ older) =
     ∙ ap (λ w. reverse older ++ (pair.0, w) ∷ []) (two_parts pair.1)
     ∙ sym (newest_last pair older)
 
--- ## A front
+-- ## A prefix
 
 origin_with : (same next : Bool) (field high low : ℕ) (items : List Item) → has_origin items ≡ true
     → has_origin (if next then (if same then items else Field field ∷ items) else Origin high low ∷ (if same then items else Field field ∷ items)) ≡ true
@@ -128,21 +128,21 @@ origin_items (pair ∷ older) cell =
     origin_with (nat_eq (cell / 4096) (pair.0 / 4096)) (is_next (Some pair.0) cell) (cell / 4096) (cell % 4096 / 64) (cell % 4096 % 64)
     (items_of (pair ∷ older)) (origin_items older pair.0)
 
-front_with : (same next : Bool) (field high low : ℕ) (items : List Item) → field < 8 → high < 64 → low < 64 → IsFront items
-    → IsFront (if next then (if same then items else Field field ∷ items) else Origin high low ∷ (if same then items else Field field ∷ items))
-front_with true true field high low items f h l front = front
-front_with true false field high low items f h l front = (h, l, front)
-front_with false true field high low items f h l front = (f, front)
-front_with false false field high low items f h l front = (h, l, (f, front))
+prefix_with : (same next : Bool) (field high low : ℕ) (items : List Item) → field < 8 → high < 64 → low < 64 → IsPrefix items
+    → IsPrefix (if next then (if same then items else Field field ∷ items) else Origin high low ∷ (if same then items else Field field ∷ items))
+prefix_with true true field high low items f h l prefix = prefix
+prefix_with true false field high low items f h l prefix = (h, l, prefix)
+prefix_with false true field high low items f h l prefix = (f, prefix)
+prefix_with false false field high low items f h l prefix = (h, l, (f, prefix))
 
-front_items : (newest : List (ℕ × ℕ)) → ArePairs newest → IsFront (items_of newest)
-front_items [] all = search rules
-front_items (pair ∷ older) all = (
+prefix_items : (newest : List (ℕ × ℕ)) → ArePairs newest → IsPrefix (items_of newest)
+prefix_items [] all = search rules
+prefix_items (pair ∷ older) all = (
   omega (arith, all.1),
   omega arith,
   origin_items older pair.0,
-  front_with (nat_eq (pair.0 / 4096) (field_behind (newest_cell older))) (is_next (newest_cell older) pair.0) (pair.0 / 4096)
-      (pair.0 % 4096 / 64) (pair.0 % 4096 % 64) (items_of older) (omega (arith, all.0)) (omega arith) (omega arith) (front_items older all.2),
+  prefix_with (nat_eq (pair.0 / 4096) (field_behind (newest_cell older))) (is_next (newest_cell older) pair.0) (pair.0 / 4096)
+      (pair.0 % 4096 / 64) (pair.0 % 4096 % 64) (items_of older) (omega (arith, all.0)) (omega arith) (omega arith) (prefix_items older all.2),
 )
 
 -- ## Frames that are kept
@@ -150,7 +150,7 @@ front_items (pair ∷ older) all = (
 kept_here : (frame : ℕ) (frames : List ℕ) → frame ≢ 255 → kept (frame ∷ frames) ≡ frame ∷ kept frames
 kept_here frame frames other = rw (other_false frame 255 other) refl
 
-kept_item : (item : Item) (older : List Item) (frames : List ℕ) → IsFront (item ∷ older) → kept (frames_of item ++ frames) ≡ frames_of item ++ kept frames
+kept_item : (item : Item) (older : List Item) (frames : List ℕ) → IsPrefix (item ∷ older) → kept (frames_of item ++ frames) ≡ frames_of item ++ kept frames
 kept_item (Leader f) older frames h =
     kept_here f frames (λ is. elim h.0 [ inl e ↦ omega (arith, e, is) | inr e ↦ omega (arith, e, is) ])
 kept_item (Field n) older frames h = kept_here (192 + 8 * n) frames (λ is. omega (arith, h.0, is))
@@ -159,38 +159,38 @@ kept_item (Origin high low) older frames h =
 kept_item (Word high low) older frames h =
     kept_here high (low ∷ frames) (λ is. omega (arith, h.0, is)) ∙ ap (λ l. high ∷ l) (kept_here low frames (λ is. omega (arith, h.1, is)))
 
-older_front : (item : Item) (older : List Item) → IsFront (item ∷ older) → IsFront older
-older_front (Leader f) older h = h.2
-older_front (Field n) older h = h.1
-older_front (Origin high low) older h = h.2
-older_front (Word high low) older h = h.3
+older_prefix : (item : Item) (older : List Item) → IsPrefix (item ∷ older) → IsPrefix older
+older_prefix (Leader f) older h = h.2
+older_prefix (Field n) older h = h.1
+older_prefix (Origin high low) older h = h.2
+older_prefix (Word high low) older h = h.3
 
--- no frame of a front is ignored
-kept_front : (items : List Item) (frames : List ℕ) → IsFront items → kept (spelled items ++ frames) ≡ spelled items ++ kept frames
-kept_front [] frames h = refl
-kept_front (item ∷ older) frames h =
+-- no frame of a prefix is ignored
+kept_prefix : (items : List Item) (frames : List ℕ) → IsPrefix items → kept (spelled items ++ frames) ≡ spelled items ++ kept frames
+kept_prefix [] frames h = refl
+kept_prefix (item ∷ older) frames h =
     ap kept (append_assoc (spelled older) (frames_of item) frames)
-    ∙ kept_front older (frames_of item ++ frames) (older_front item older h)
+    ∙ kept_prefix older (frames_of item ++ frames) (older_prefix item older h)
     ∙ ap (λ l. spelled older ++ l) (kept_item item older frames h)
     ∙ simp append_assoc
 
 -- ## The tape
 
--- the check sum and a trailer make a tape of a front that has an origin
-tape_is : (items : List Item) (rest : List ℕ) → IsFront items → has_origin items ≡ true → IsTape (tape_with items ++ rest) items
-tape_is items rest front begun = record {
+-- the check sum and a trailer make a tape of a prefix that has an origin
+tape_is : (items : List Item) (rest : List ℕ) → IsPrefix items → has_origin items ≡ true → IsTape (tape_with items ++ rest) items
+tape_is items rest prefix begun = record {
   high = check_sum items / 64;
   low = check_sum items % 64;
   rest = kept (replicate 15 128 ++ rest);
   kept_frames =
       ap kept (append_assoc (spelled (word_item (check_sum items) ∷ items)) (replicate 16 128) rest)
-      ∙ kept_front (word_item (check_sum items) ∷ items) (replicate 16 128 ++ rest) whole;
-  is_front = whole;
+      ∙ kept_prefix (word_item (check_sum items) ∷ items) (replicate 16 128 ++ rest) whole;
+  is_prefix = whole;
   sum = two_parts (check_sum items);
 }
   where
-    whole : IsFront (word_item (check_sum items) ∷ items)
-    whole = (omega arith, omega arith, begun, front)
+    whole : IsPrefix (word_item (check_sum items) ∷ items)
+    whole = (omega arith, omega arith, begun, prefix)
 
 pub last_one : (pairs : List (ℕ × ℕ)) (pair : ℕ × ℕ) (cell : ℕ)
     → last_word (pairs ++ pair ∷ []) cell ≡ (if nat_eq pair.0 cell then Some pair.1 else last_word pairs cell)
@@ -222,7 +222,7 @@ unfolding tape_of
 written pairs rest all some = record {
   items = items_of (reverse pairs);
   is_tape =
-      tape_is (items_of (reverse pairs)) rest (front_items (reverse pairs) (are_pairs_reverse pairs all))
+      tape_is (items_of (reverse pairs)) rest (prefix_items (reverse pairs) (are_pairs_reverse pairs all))
       (begun_items (reverse pairs) (omega (arith, length-reverse pairs)));
   words = words_are;
   map = λ cell. map_of_words (items_of (reverse pairs)) cell ∙ ap (λ ws. last_word ws cell) words_are;

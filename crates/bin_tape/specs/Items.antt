@@ -36,12 +36,12 @@ ends_in_word (Field n ∷ older) = false
 ends_in_word (Origin high low ∷ older) = false
 
 -- Leader frames stand before the first origin, words after it, field settings anywhere.
-abbrev pub IsFront : List Item → Type 0
-IsFront [] = Unit {0}
-IsFront (Leader f ∷ older) = ((f ≡ 0) ⊎ (f ≡ 0o200)) × (has_origin older ≡ false) × IsFront older
-IsFront (Field n ∷ older) = (n < 8) × IsFront older
-IsFront (Origin high low ∷ older) = (high < 0o100) × (low < 0o100) × IsFront older
-IsFront (Word high low ∷ older) = (high < 0o100) × (low < 0o100) × (has_origin older ≡ true) × IsFront older
+abbrev pub IsPrefix : List Item → Type 0
+IsPrefix [] = Unit {0}
+IsPrefix (Leader f ∷ older) = ((f ≡ 0) ⊎ (f ≡ 0o200)) × (has_origin older ≡ false) × IsPrefix older
+IsPrefix (Field n ∷ older) = (n < 8) × IsPrefix older
+IsPrefix (Origin high low ∷ older) = (high < 0o100) × (low < 0o100) × IsPrefix older
+IsPrefix (Word high low ∷ older) = (high < 0o100) × (low < 0o100) × (has_origin older ≡ true) × IsPrefix older
 
 -- ## What the items mean
 

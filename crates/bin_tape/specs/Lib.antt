@@ -2,7 +2,7 @@ pub mod Frames
 pub mod Items
 pub mod Tape
 pub mod Fault
-pub mod Front
+pub mod Prefix
 pub mod Progress
 pub mod Handed
 pub mod Reading
@@ -10,7 +10,7 @@ pub mod Laws
 pub mod Pairs
 pub mod Writing
 pub mod Map
-pub mod FrontSteps
+pub mod PrefixSteps
 pub mod MapSteps
 pub mod ReadSteps
 pub mod WriteSteps

@@ -2,17 +2,17 @@
 use Rattle.std.specs.Prelude.{◌≡◌, ℕ, ◌<◌, ◌%◌, slice_index_or, true, Option, None, List, [], ◌++◌}
 use Rattle.bin_tape.specs.Frames.{kept, ignore_count}
 use Rattle.bin_tape.specs.Items.{Item, spelled, has_origin, words_but_last}
-use Rattle.bin_tape.specs.Front.{Reads}
+use Rattle.bin_tape.specs.Prefix.{ReadsItems}
 use Rattle.bin_tape.specs.Pairs.{last_word}
 use Rattle.bin_tape.specs.Progress.{Progress}
 use Rattle.bin_tape.specs.Reading.{HasRead}
-use Rattle.bin_tape.specs.declared.fronts.Front.{Front}
+use Rattle.bin_tape.specs.declared.prefixes.Prefix.{Prefix}
 
 -- ## Up to a frame
 
 -- each cell of core has the word of the last pair there
-abbrev pub Holds : List (Option ℕ) → List (ℕ × ℕ) → Type 0
-Holds words pairs = (cell : ℕ) → cell < 0o100000 → slice_index_or words cell None ≡ last_word pairs cell
+abbrev pub HoldsWords : List (Option ℕ) → List (ℕ × ℕ) → Type 0
+HoldsWords words pairs = (cell : ℕ) → cell < 0o100000 → slice_index_or words cell None ≡ last_word pairs cell
 
 -- Of these frames a reader was given all but the rest, and each cell has the last word that it handed out.
 pub record HasReadTo (frames rest : List ℕ) (reader : Progress) (words : List (Option ℕ)) : Type 0 where
@@ -20,16 +20,16 @@ pub record HasReadTo (frames rest : List ℕ) (reader : Progress) (words : List 
   pub split : frames ≡ before ++ rest
   pub out : List (ℕ × ℕ)
   pub read : HasRead reader before out
-  pub holds : Holds words out
+  pub holds : HoldsWords words out
 
--- Of these frames all but the rest are whole items, an origin among them, in no stretch that is ignored; the front keeps
+-- Of these frames all but the rest are whole items, an origin among them, in no stretch that is ignored; the prefix keeps
 -- what they come to, and each cell has its last word but for the newest of all.
-pub record ReadsTo (frames rest : List ℕ) (front : Front) (words : List (Option ℕ)) : Type 0 where
+pub record ReadsTo (frames rest : List ℕ) (prefix : Prefix) (words : List (Option ℕ)) : Type 0 where
   pub before : List ℕ
   pub split : frames ≡ before ++ rest
   pub even : ignore_count before % 2 ≡ 0
   pub items : List Item
-  pub reads : Reads front items []
+  pub reads : ReadsItems prefix items []
   pub origin : has_origin items ≡ true
   pub kept_is : kept before ≡ spelled items
-  pub holds : Holds words (words_but_last items)
+  pub holds : HoldsWords words (words_but_last items)

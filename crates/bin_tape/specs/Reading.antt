@@ -4,7 +4,7 @@ use Rattle.bin_tape.specs.Frames.{kept, ignore_count}
 use Rattle.bin_tape.specs.Items.{Item, words_of, words_but_last}
 use Rattle.bin_tape.specs.Tape.{IsOpen, IsTape}
 use Rattle.bin_tape.specs.Fault.{Refuses, place_after}
-use Rattle.bin_tape.specs.Front.{Keeps}
+use Rattle.bin_tape.specs.Prefix.{KeepsFrames}
 use Rattle.bin_tape.specs.Progress.{Progress}
 use Rattle.bin_tape.specs.Handed.{word_in}
 use Rattle.bin_tape.specs.declared.faults.TapeFault.{TapeFault}
@@ -32,7 +32,7 @@ pub record Counts (place : ℕ) (ignoring : Bool) (frames : List ℕ) : Type 0 w
   pub ignoring_is : ignoring ≡ nat_eq (ignore_count frames % 2) 1
 
 abbrev pub StateIs : State → List ℕ → List (ℕ × ℕ) → Type 0
-StateIs (Reading front) frames out = Keeps front (kept frames) out
+StateIs (Reading prefix) frames out = KeepsFrames prefix (kept frames) out
 StateIs Ended frames out = IsWhole frames out
 StateIs (Failed fault) frames out = Refuses frames fault
 

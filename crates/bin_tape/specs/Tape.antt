@@ -1,7 +1,7 @@
 -- When frames are a BIN tape.
 use Rattle.std.specs.Prelude.{◌≡◌, ℕ, ◌+◌, ◌*◌, ◌<◌, ◌≤◌, ◌⊎◌, true, List, [], ◌∷◌, ◌++◌}
 use Rattle.bin_tape.specs.Frames.{kept}
-use Rattle.bin_tape.specs.Items.{Item, Word, spelled, has_origin, IsFront, check_sum}
+use Rattle.bin_tape.specs.Items.{Item, Word, spelled, has_origin, IsPrefix, check_sum}
 
 -- nothing, or the first frame of an origin or, behind an origin, of a word
 abbrev pub IsPart : List Item → List ℕ → Type 0
@@ -12,7 +12,7 @@ IsPart items (p ∷ q ∷ rest) = ⊥
 -- The kept frames may go on as a tape: they are these items, and perhaps the first frame of one more.
 pub record IsOpen (kept_frames : List ℕ) (items : List Item) (part : List ℕ) : Type 0 where
   pub frames : kept_frames ≡ spelled items ++ part
-  pub is_front : IsFront items
+  pub is_prefix : IsPrefix items
   pub begun : IsPart items part
 
 -- The frames are a tape of these items: behind them come the check sum, a trailer frame, and anything.
@@ -21,5 +21,5 @@ pub record IsTape (frames : List ℕ) (items : List Item) : Type 0 where
   pub low : ℕ
   pub rest : List ℕ
   pub kept_frames : kept frames ≡ spelled (Word high low ∷ items) ++ 0o200 ∷ rest
-  pub is_front : IsFront (Word high low ∷ items)
+  pub is_prefix : IsPrefix (Word high low ∷ items)
   pub sum : 0o100 * high + low ≡ check_sum items

@@ -3,6 +3,6 @@ use Rattle.std.specs.Prelude.{◌≡◌, ℕ, List}
 use Rattle.bin_tape.specs.Items.{Item, spelled, check_sum}
 
 -- the frames so far are those of the items, and the sum is what their check sum would be
-pub record Holds (frames : List ℕ) (sum : ℕ) (items : List Item) : Type 0 where
+pub record HoldsFrames (frames : List ℕ) (sum : ℕ) (items : List Item) : Type 0 where
   pub frames_are : frames ≡ spelled items
   pub sum_is : sum ≡ check_sum items

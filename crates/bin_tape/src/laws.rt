@@ -52,7 +52,8 @@ pub fn open_goes_on()
 pub fn handed_words()
     ensures of_tape { (reader : Progress) (frames : List ℕ) (out : List (ℕ × ℕ)) (items : List Item)
         → HasRead reader frames out → IsTape frames items → out ≡ words_of items }
-    ensures of_front { (reader : Progress) (frames : List ℕ) (out : List (ℕ × ℕ)) (items : List Item) (part : List ℕ)
+    ensures of_prefix { (reader : Progress) (frames : List ℕ) (out : List (ℕ × ℕ)) (items : List Item)
+        (part : List ℕ)
         → HasRead reader frames out → IsOpen (kept frames) items part → out ≡ words_but_last items }
 {}
 

@@ -5,9 +5,9 @@
 #![tactic(auto)]
 
 mod faults;
-mod fronts;
 pub mod laws;
 mod maps;
+mod prefixes;
 mod readers;
 mod writing;
 

@@ -1,7 +1,7 @@
 ghost use Rattle.std.specs.Prelude.{◌≡◌, ℕ, List, [], ◌∷◌, Option, None, replicate, slice_index_or, vec_len, IfOk, MatchResult};
 ghost use Rattle.std.specs.Bool.{MatchBool};
 ghost use Rattle.bin_tape.specs.Map.{IsTable, IsMapOf, IsMapFault};
-ghost use Rattle.bin_tape.specs.MapSteps.{HasReadTo, Holds};
+ghost use Rattle.bin_tape.specs.MapSteps.{HasReadTo, HoldsWords};
 
 use crate::{Tape, TapeFault, TapeReader};
 use std::alloc::{AllocError, Global};
@@ -59,7 +59,7 @@ fn no_words(alloc: Global, count: usize) -> Result<Vec<Option<Word>>, AllocError
 /// Reads a tape, and puts the last word of each cell into its place.
 fn read_words(frames: &[u8], words: &mut [Option<Word>]) -> Result<(), TapeFault>
     requires size { IsTable words.old }
-    requires none { Holds words.old [] }
+    requires none { HoldsWords words.old [] }
     ensures { MatchResult result (λ _. IsMapOf frames.now words.new) (λ fault. IsMapFault frames.now fault) }
 {
     let mut reader = TapeReader::new();
@@ -81,7 +81,8 @@ fn take_frame(
 ) -> Result<bool, TapeFault>
     requires { IsTable words.old }
     ensures { (whole later : List ℕ) → HasReadTo whole (frame ∷ later) reader.old words.old
-        → MatchResult result (λ ended. MatchBool ended (IsMapOf whole words.new) (HasReadTo whole later reader.new words.new)) (λ fault. IsMapFault whole fault) }
+        → MatchResult result (λ ended. MatchBool ended (IsMapOf whole words.new)
+        (HasReadTo whole later reader.new words.new)) (λ fault. IsMapFault whole fault) }
 {
     match reader.push(frame) {
         Ok(tape) => match tape {

@@ -3,10 +3,10 @@ ghost use Rattle.std.specs.Bool.{OnTrue};
 ghost use Rattle.bin_tape.specs.Frames.{kept, ignore_count};
 ghost use Rattle.bin_tape.specs.Items.{Item};
 ghost use Rattle.bin_tape.specs.Fault.{IsFault};
-ghost use Rattle.bin_tape.specs.Front.{Reads};
+ghost use Rattle.bin_tape.specs.Prefix.{ReadsItems};
 
 use crate::TapeFault;
-use crate::fronts::{Front, Taken};
+use crate::prefixes::{Prefix, Taken};
 use std::marker::Model;
 use word12::{Cell, Word};
 
@@ -38,7 +38,7 @@ impl Tape {
 
 #[derive(Clone, Copy)]
 enum State {
-    Reading(Front),
+    Reading(Prefix),
     Ended,
     Failed(TapeFault),
 }
@@ -74,7 +74,7 @@ impl Model for TapeReader {
 
 impl TapeReader {
     ghost use Rattle.bin_tape.specs.Reading.{HasRead, Counts, Answers, IsWhole, words_in};
-    ghost use Rattle.bin_tape.specs.ReadSteps.{Comes};
+    ghost use Rattle.bin_tape.specs.ReadSteps.{AnswersFrame};
     ghost use Rattle.bin_tape.specs.Map.{IsTable};
     ghost use Rattle.bin_tape.specs.MapSteps.{HasReadTo};
 
@@ -85,7 +85,7 @@ impl TapeReader {
         TapeReader {
             place: 0,
             ignoring: false,
-            state: State::Reading(Front::new()),
+            state: State::Reading(Prefix::new()),
         }
     }
 
@@ -104,9 +104,9 @@ impl TapeReader {
         match self.state {
             State::Failed(fault) => Err(fault),
             State::Ended => Ok(Tape::Nothing),
-            State::Reading(front) => {
+            State::Reading(prefix) => {
                 if kept {
-                    self.take(front, frame, place)
+                    self.take(prefix, frame, place)
                 } else {
                     Ok(Tape::Nothing)
                 }
@@ -126,7 +126,7 @@ impl TapeReader {
         }
     }
 
-    /// Takes words and origins from the front of these frames, and answers the frames that are left. Each word is put into
+    /// Takes words and origins from the beginning of these frames, and answers the frames that are left. Each word is put into
     /// its cell once a later one shows that it is no check sum.
     pub(crate) fn take_pairs<'a>(
         &mut self,
@@ -143,15 +143,15 @@ impl TapeReader {
         }
         match self.state {
             State::Failed(_) | State::Ended => frames,
-            State::Reading(mut front) => {
-                if !front.is_between_pairs() {
+            State::Reading(mut prefix) => {
+                if !prefix.is_between_pairs() {
                     return frames;
                 }
-                let rest = front.take_pairs(frames, words);
+                let rest = prefix.take_pairs(frames, words);
                 self.place = self
                     .place
                     .saturating_add((frames.len() - rest.len()) as u64);
-                self.state = State::Reading(front);
+                self.state = State::Reading(prefix);
                 rest
             }
         }
@@ -175,14 +175,14 @@ impl TapeReader {
         !self.ignoring
     }
 
-    /// Takes a kept frame behind a front.
-    fn take(&mut self, front: Front, frame: u8, place: u64) -> Result<Tape, TapeFault>
+    /// Takes a kept frame behind a prefix.
+    fn take(&mut self, prefix: Prefix, frame: u8, place: u64) -> Result<Tape, TapeFault>
         requires { frame ≢ 0o377 }
-        ensures comes { (items : List Item) (part : List ℕ) → Reads front items part
-            → Comes items part frame place result self.new.state }
+        ensures comes { (items : List Item) (part : List ℕ) → ReadsItems prefix items part
+            → AnswersFrame items part frame place result self.new.state }
         ensures same { self.new ≡ record self.old { state = self.new.state } }
     {
-        match front.take(frame, place) {
+        match prefix.take(frame, place) {
             Ok(Taken::More(later)) => {
                 self.state = State::Reading(later);
                 Ok(Tape::Nothing)

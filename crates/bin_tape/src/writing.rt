@@ -2,7 +2,7 @@ ghost use Rattle.std.specs.Prelude.{◌≡◌, ℕ, ◌+◌, ◌/◌, ◌%◌, �
 ghost use Rattle.bin_tape.specs.Items.{Item};
 ghost use Rattle.bin_tape.specs.Pairs.{ArePairs};
 ghost use Rattle.bin_tape.specs.Writing.{tape_of, tape_with, leader, with_field, with_origin, with_pair, word_item, field_behind, is_next};
-ghost use Rattle.bin_tape.specs.WriteSteps.{Holds};
+ghost use Rattle.bin_tape.specs.WriteSteps.{HoldsFrames};
 
 use crate::TapeFault;
 use std::alloc::{AllocError, Global};
@@ -43,7 +43,7 @@ struct Writer {
 impl Writer {
     /// The leader, with room for so many pairs.
     fn new(alloc: Global, pairs: usize) -> Result<Writer, AllocError>
-        ensures { IfOk result (λ tape. Holds tape.frames.items tape.sum leader) }
+        ensures { IfOk result (λ tape. HoldsFrames tape.frames.items tape.sum leader) }
     {
         let room = pairs.saturating_mul(5).saturating_add(34);
         let mut frames = Vec::with_capacity(alloc, room)?;
@@ -56,8 +56,9 @@ impl Writer {
 
     /// Puts a cell's word behind a word for the cell before.
     fn put_pair(&mut self, before: Option<Cell>, cell: Cell, word: Word) -> Result<(), AllocError>
-        ensures put { (items : List Item) → Holds self.old.frames.items self.old.sum items
-            → OnOk result (Holds self.new.frames.items self.new.sum (with_pair before cell word items)) }
+        ensures put { (items : List Item) → HoldsFrames self.old.frames.items self.old.sum items
+            → OnOk result (HoldsFrames self.new.frames.items self.new.sum
+            (with_pair before cell word items)) }
         ensures pair { (cell < 0o100000) × (word < 0o10000) }
     {
         let again = before;
@@ -68,8 +69,8 @@ impl Writer {
 
     /// Puts a field setting where the field changes.
     fn put_field(&mut self, before: Option<Cell>, cell: Cell) -> Result<(), AllocError>
-        ensures { (items : List Item) → Holds self.old.frames.items self.old.sum items
-            → OnOk result (Holds self.new.frames.items self.new.sum (with_field before cell items)) }
+        ensures { (items : List Item) → HoldsFrames self.old.frames.items self.old.sum items
+            → OnOk result (HoldsFrames self.new.frames.items self.new.sum (with_field before cell items)) }
     {
         let field = cell.field();
         if field == field_behind(before) {
@@ -81,8 +82,8 @@ impl Writer {
 
     /// Puts an origin where the cell isn't the next.
     fn put_origin(&mut self, before: Option<Cell>, cell: Cell) -> Result<(), AllocError>
-        ensures { (items : List Item) → Holds self.old.frames.items self.old.sum items
-            → OnOk result (Holds self.new.frames.items self.new.sum (with_origin before cell items)) }
+        ensures { (items : List Item) → HoldsFrames self.old.frames.items self.old.sum items
+            → OnOk result (HoldsFrames self.new.frames.items self.new.sum (with_origin before cell items)) }
     {
         if is_next(before, cell) {
             return Ok(());
@@ -93,8 +94,8 @@ impl Writer {
 
     /// Puts a word.
     fn put_word(&mut self, word: Word) -> Result<(), AllocError>
-        ensures { (items : List Item) → Holds self.old.frames.items self.old.sum items
-            → OnOk result (Holds self.new.frames.items self.new.sum (word_item word ∷ items)) }
+        ensures { (items : List Item) → HoldsFrames self.old.frames.items self.old.sum items
+            → OnOk result (HoldsFrames self.new.frames.items self.new.sum (word_item word ∷ items)) }
     {
         self.put_frames(high(word), low(word))
     }
@@ -114,7 +115,7 @@ impl Writer {
 
     /// The whole tape: the check sum and the trailer behind what there is.
     fn finish(mut self) -> Result<Vec<u8>, AllocError>
-        ensures { (items : List Item) → Holds self.frames.items self.sum items
+        ensures { (items : List Item) → HoldsFrames self.frames.items self.sum items
             → IfOk result (λ frames. frames.items ≡ tape_with items) }
     {
         let sum = self.sum;

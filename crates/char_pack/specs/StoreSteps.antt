@@ -1,4 +1,4 @@
--- A host text as it is packed, its front already in words, for private clauses.
+-- A host text as it is packed, its prefix already in words, for private clauses.
 use Rattle.std.specs.Prelude.{ℕ, Bool, ◌&&◌, not, nat_eq, List, [], ◌∷◌, ◌++◌}
 use Rattle.char_pack.specs.Packing.{packed}
 use Rattle.char_pack.specs.Texts.{host_text, text_frames}

@@ -26,7 +26,8 @@ pub fn joined_frames()
 /// A text goes on in the frames behind it exactly where no control Z has come.
 pub fn joined_text()
     ensures characters { (frames others : List ℕ)
-        → characters (frames ++ others) ≡ characters frames ++ (if is_ended frames then [] else characters others) }
+        → characters (frames ++ others) ≡ characters frames ++
+        (if is_ended frames then [] else characters others) }
     ensures ended { (frames others : List ℕ)
         → is_ended (frames ++ others) ≡ (if is_ended frames then true else is_ended others) }
 {}

@@ -107,7 +107,7 @@ fn push_text(words: &mut Vec<Word>, host: &[u8]) -> Result<(), AllocError>
     push_end(words, held)
 }
 
-/// Appends the words of groups of plain characters from the front of a host text where no frame is held, and answers what
+/// Appends the words of groups of plain characters from the beginning of a host text where no frame is held, and answers what
 /// is left of it.
 fn push_run<'a>(words: &mut Vec<Word>, held: Held, host: &'a [u8]) -> Result<&'a [u8], AllocError>
     requires { spec.is_storable host.now ≡ true }
@@ -122,7 +122,7 @@ fn push_run<'a>(words: &mut Vec<Word>, held: Held, host: &'a [u8]) -> Result<&'a
     }
 }
 
-/// Appends the words of groups of plain characters from the front of a host text, and answers what is left of it.
+/// Appends the words of groups of plain characters from the beginning of a host text, and answers what is left of it.
 fn push_groups<'a>(words: &mut Vec<Word>, host: &'a [u8]) -> Result<&'a [u8], AllocError>
     requires { spec.is_storable host.now ≡ true }
     ensures words { IfOk result (λ left. words.new.items ++ packed_text Nothing left.now ≡ words.old.items

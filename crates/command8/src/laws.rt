@@ -23,20 +23,24 @@ pub fn plain_words()
         → IsTakenAs (name ∷ codes "run" ∷ image ∷ codes "--strict" ∷ []) (IsRunOf image AtEnd true) }
     ensures run_both { (name image : List ℕ) → IsPlain image
         → IsTakenAs (name ∷ codes "run" ∷ image ∷ codes "--look" ∷ codes "--keep" ∷ []) (λ task. ⊥) }
-    ensures create { (name image blocks : List ℕ) → IsPlain image → IsPlain blocks → IsUnsignedIn 8 4095 blocks
+    ensures create { (name image blocks : List ℕ) → IsPlain image → IsPlain blocks
+        → IsUnsignedIn 8 4095 blocks
         → IsTakenAs (name ∷ codes "create" ∷ image ∷ blocks ∷ []) (IsCreateOf image (number_of blocks)) }
     ensures list { (name image : List ℕ) → IsPlain image
         → IsTakenAs (name ∷ codes "list" ∷ image ∷ []) (IsListOf image) }
     ensures get { (name image file : List ℕ) → IsPlain image → IsPlain file
         → IsTakenAs (name ∷ codes "get" ∷ image ∷ file ∷ []) (IsGetOf image file get_as.Frames) }
     ensures get_text { (name image file : List ℕ) → IsPlain image → IsPlain file
-        → IsTakenAs (name ∷ codes "get" ∷ image ∷ file ∷ codes "--text" ∷ []) (IsGetOf image file get_as.Text) }
+        → IsTakenAs (name ∷ codes "get" ∷ image ∷ file ∷ codes "--text" ∷ [])
+        (IsGetOf image file get_as.Text) }
     ensures get_tape { (name image file : List ℕ) → IsPlain image → IsPlain file
-        → IsTakenAs (name ∷ codes "get" ∷ image ∷ file ∷ codes "--tape" ∷ []) (IsGetOf image file get_as.Tape) }
+        → IsTakenAs (name ∷ codes "get" ∷ image ∷ file ∷ codes "--tape" ∷ [])
+        (IsGetOf image file get_as.Tape) }
     ensures put { (name image file : List ℕ) → IsPlain image → IsPlain file
         → IsTakenAs (name ∷ codes "put" ∷ image ∷ file ∷ []) (IsPutOf image file put_as.Frames) }
     ensures put_text { (name image file : List ℕ) → IsPlain image → IsPlain file
-        → IsTakenAs (name ∷ codes "put" ∷ image ∷ file ∷ codes "--text" ∷ []) (IsPutOf image file put_as.Text) }
+        → IsTakenAs (name ∷ codes "put" ∷ image ∷ file ∷ codes "--text" ∷ [])
+        (IsPutOf image file put_as.Text) }
     ensures assemble { (name file : List ℕ) → IsPlain file
         → IsTakenAs (name ∷ codes "assemble" ∷ file ∷ []) (IsAssembleOf (file ∷ []) None) }
     ensures assemble_input { (name : List ℕ)
@@ -50,7 +54,8 @@ pub fn plain_words()
         → IsTakenAs (name ∷ codes "teletype" ∷ tape ∷ []) (IsTeletypeOf tape None None) }
     ensures teletype_file { (name image file : List ℕ) → IsPlain image → IsPlain file
         → IsTakenAs (name ∷ codes "teletype" ∷ image ∷ file ∷ []) (IsTeletypeOf image (Some file) None) }
-    ensures teletype_start { (name tape start : List ℕ) (cell : ℕ) → IsPlain tape → octal_of 5 start ≡ Some cell
+    ensures teletype_start { (name tape start : List ℕ) (cell : ℕ) → IsPlain tape
+        → octal_of 5 start ≡ Some cell
         → IsTakenAs (name ∷ codes "teletype" ∷ tape ∷ codes "--start" ∷ start ∷ [])
         (IsTeletypeOf tape None (Some cell)) }
     ensures check { (name image : List ℕ) → IsPlain image

@@ -24,7 +24,7 @@ pub record IsLoaded (frames old new : List ℕ) : Type 0 where
 abbrev pub HandsOut : List ℕ → List (ℕ × ℕ) → Type 0
 HandsOut frames words = (word : ℕ × ℕ) × IsGoing frames (words ++ word ∷ [])
 
--- a front of the frames may go on as a tape, and shows a word to be no check sum
+-- a prefix of the frames may go on as a tape, and shows a word to be no check sum
 abbrev pub WantsRoom : List ℕ → Type 0
 WantsRoom frames = (before : List ℕ) × (after : List ℕ) × (words : List (ℕ × ℕ)) × (frames ≡ before ++ after) × HandsOut before words
 

@@ -22,6 +22,6 @@ number_of bs = number_after 0 bs
 abbrev pub rotated_left : List ℕ → List ℕ
 rotated_left bs = drop 1 bs ++ take 1 bs
 
--- each of thirteen bits goes one place to the right, the last to the front
+-- each of thirteen bits goes one place to the right, the last to the left end
 abbrev pub rotated_right : List ℕ → List ℕ
 rotated_right bs = drop 12 bs ++ take 12 bs

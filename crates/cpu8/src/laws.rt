@@ -97,16 +97,19 @@ pub fn auto_index()
 
 /// A go without breaks is one with breaks of which no cell has one.
 pub fn unset_breaks()
-    ensures { (quick : Bool) (breaks : List Bool) (s : State) (n steps : ℕ) (why : Why) → ((cell : ℕ) → is_break breaks cell ≡ false)
+    ensures { (quick : Bool) (breaks : List Bool) (s : State) (n steps : ℕ) (why : Why)
+        → ((cell : ℕ) → is_break breaks cell ≡ false)
         → IsGo quick [] s n steps why → IsGo quick breaks s n steps why }
 {}
 
 /// ISZ skips exactly where the word that it leaves is 0.
 pub fn increment_and_skip()
     ensures zero { (s : State) → IsNext Isz s → operand_place s (fetched s) < length s.core
-        → slice_index (step s).0.core (operand_place s (fetched s)) ≡ 0 → (step s).0.pc ≡ (s.pc + 2) % 0o10000 }
+        → slice_index (step s).0.core (operand_place s (fetched s)) ≡ 0
+        → (step s).0.pc ≡ (s.pc + 2) % 0o10000 }
     ensures other { (s : State) → IsNext Isz s → operand_place s (fetched s) < length s.core
-        → slice_index (step s).0.core (operand_place s (fetched s)) ≢ 0 → (step s).0.pc ≡ (s.pc + 1) % 0o10000 }
+        → slice_index (step s).0.core (operand_place s (fetched s)) ≢ 0
+        → (step s).0.pc ≡ (s.pc + 1) % 0o10000 }
 {}
 
 /// A machine runs on after a step exactly where an instruction was done that does not halt, or an interrupt came.

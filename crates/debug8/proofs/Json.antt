@@ -116,8 +116,8 @@ snapshot-text s = object-text (members s) (plain-members s)
 -- ## Members put one behind the other
 
 -- the first members
-abbrev pub front : ℕ → State → Members
-front k s = members_of (take k (members s))
+abbrev pub prefix : ℕ → State → Members
+prefix k s = members_of (take k (members s))
 
 pub put-digits : (key new_digits ds : List ℕ) (new old before : Members) → new ≡ put key (string new_digits) old
     → new_digits ≡ ds → old ≡ before → new ≡ put key (string ds) before

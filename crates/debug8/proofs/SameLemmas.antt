@@ -17,16 +17,16 @@ tail [] = []
 tail (x ∷ l) = l
 
 record SameParts (a b x y : List ℕ) : Type 0 where
-  front : a ≡ b
+  prefix : a ≡ b
   rest : x ≡ y
 
 append_same : (a b x y : List ℕ) → length a ≡ length b → a ++ x ≡ b ++ y → SameParts a b x y
-append_same [] [] x y n e = record { front = refl; rest = e }
+append_same [] [] x y n e = record { prefix = refl; rest = e }
 append_same [] (q ∷ b) x y n e = absurd (omega (arith, n))
 append_same (p ∷ a) [] x y n e = absurd (omega (arith, n))
 append_same (p ∷ a) (q ∷ b) x y n e =
     let same = append_same a b x y (omega (arith, n)) (ap tail e) in
-    record { front = ap (λ h. h ∷ a) (ap head e) ∙ ap (λ l. q ∷ l) same.front; rest = same.rest }
+    record { prefix = ap (λ h. h ∷ a) (ap head e) ∙ ap (λ l. q ∷ l) same.prefix; rest = same.rest }
 
 -- ## Members
 
@@ -47,7 +47,7 @@ apart e = omega (arith, e)
 shown_same : (v w : Shown) (x y : List ℕ) → IsLike v w → shown_text v ++ x ≡ shown_text w ++ y → SameShown v w x y
 shown_same (digits a) (digits b) x y n e =
     let same = append_same a b (34 ∷ x) (34 ∷ y) n (sym (append_assoc a (34 ∷ []) x) ∙ ap tail e ∙ append_assoc b (34 ∷ []) y) in
-    record { shown = ap digits same.front; rest = ap tail same.rest }
+    record { shown = ap digits same.prefix; rest = ap tail same.rest }
 shown_same (digits a) (truth b) x y n e = absurd n
 shown_same (truth a) (digits b) x y n e = absurd n
 shown_same (truth true) (truth true) x y n e = record { shown = refl; rest = ap (λ l. tail (tail (tail (tail l)))) e }

@@ -13,7 +13,7 @@ use Rattle.jobs8.specs.Steps.{HasBegunLoading}
 none_taken : (loader : load.Loading) → IsFed loader [] → HasTaken loader []
 none_taken loader fed = record {
   fed = fed;
-  fine = inr ([], [], record { frames = refl; is_front = tt; begun = tt });
+  fine = inr ([], [], record { frames = refl; is_prefix = tt; begun = tt });
 }
 
 pub begun_loading : (old new : Mounted) (name hold blocks : ℕ) (loader : load.Loading) (found : Option ℕ) → call.HasTaken old name hold new → (new.stopped ≡ false → found ≡ blocks_of (get (files_of new.blocks) name)) → blocks ≡ unwrap_or found 0 → IsFed loader []

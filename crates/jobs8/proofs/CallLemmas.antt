@@ -6,7 +6,7 @@ use Rattle.os8_files.specs.Calls.{Squeezes}
 use Rattle.os8_files.specs.Failed.{extent_or}
 use Rattle.os8_files.specs.Laws.{KeepsPlaces, KeepsOtherPlaces, MovesOne, ReadsLowest}
 use Rattle.os8_files.specs.Mounted.{Mounted}
-use Rattle.os8_files.specs.Puts.{Puts}
+use Rattle.os8_files.specs.Puts.{PutsFile}
 use Rattle.os8_files.specs.declared.faults.FileFault.{FileFault}
 use Rattle.os8_files.specs.declared.tokens.Squeezed.{Squeezed}
 use Rattle.os8_files.specs.declared.tokens.Squeezed.TheVariants.{Moved, Nothing}
@@ -16,13 +16,13 @@ use Rattle.jobs8.specs.declared.kinds.Work.{Work}
 use Rattle.jobs8.specs.declared.kinds.Work.TheVariants as work
 
 abbrev pub PutReads : Type 0
-PutReads = (old new : Mounted) (name : ℕ) (words : List ℕ) (result : Result (Unit {0}) FileFault) → Puts old name words result new → new.reads ≡ old.reads
+PutReads = (old new : Mounted) (name : ℕ) (words : List ℕ) (result : Result (Unit {0}) FileFault) → PutsFile old name words result new → new.reads ≡ old.reads
 
 abbrev pub SqueezeReads : Type 0
 SqueezeReads = (old new : Mounted) (result : Result Squeezed FileFault) → Squeezes old result new → (new.reads ≡ old.reads) ⊎ ReadsLowest old new
 
 abbrev pub PutPlaces : Type 0
-PutPlaces = (old new : Mounted) (name : ℕ) (words : List ℕ) (result : Result (Unit {0}) FileFault) → Puts old name words result new → KeepsOtherPlaces name old new
+PutPlaces = (old new : Mounted) (name : ℕ) (words : List ℕ) (result : Result (Unit {0}) FileFault) → PutsFile old name words result new → KeepsOtherPlaces name old new
 
 abbrev pub SqueezePlaces : Type 0
 SqueezePlaces = (old new : Mounted) (result : Result Squeezed FileFault) → Squeezes old result new → MovesOne old result new

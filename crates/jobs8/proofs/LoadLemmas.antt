@@ -63,7 +63,7 @@ longer fs more Memory early is = absurd early
 pub fine_none : NoFault → OneFault → (fs : List ℕ) (fault : TapeFault) → IsEarly fault → IsFine fs → IsFault fs fault → ⊥
 fine_none none one fs fault early fine is = elim fine [
   | inl tape ↦ none fs tape.0 fault tape.1 is
-  | inr front ↦ subst IsEarly (one fs fault NoTrailer is (front.0, front.1, front.2)) early
+  | inr prefix ↦ subst IsEarly (one fs fault NoTrailer is (prefix.0, prefix.1, prefix.2)) early
 ]
 
 met_is : (words : List ℕ) (turn : ℕ) (fault : TapeFault) → IsEarly fault → IsMet words turn fault → IsFault (frames (first_blocks turn words)) fault

@@ -2,7 +2,7 @@
 use Rattle.std.proofs.Common.{◌≡◌, ◌∙◌, ℕ, zero, suc, ◌*◌, ◌<◌, false, true≢false, Some, None, List, [], ◌∷◌, length, take, drop, get_or, Err, refl, ap, sym, arith}
 use Rattle.std.specs.FinMap.{get}
 use Rattle.os8_dir.specs.Files.{Files, Held, files_of}
-use Rattle.os8_files.specs.Calls.{Reads, HasRead}
+use Rattle.os8_files.specs.Calls.{ReadsBlock, HasRead}
 use Rattle.os8_files.specs.Mounted.{Mounted}
 use Rattle.os8_files.specs.Service as service
 use Rattle.os8_files.specs.declared.faults.FileFault.{FileFault}
@@ -62,7 +62,7 @@ not_taken sources old new left asm.Memory it one takes = (one, takes)
 
 -- a block was not read
 pub not_read : (old new : Mounted) (names : List ℕ) (k number name left : ℕ) (before after : List ℕ) (why : FileFault) (it : Assembly) → old.stopped ≡ false → name ≡ get_or names k 0 → AreIn (files_of old.blocks) names → k < length (words_in (files_of old.blocks) names)
-    → Reads old name number before (Err why) new after → ReadsSource (words_in (files_of old.blocks) names) old left (Err (fault_of_file why)) new it
+    → ReadsBlock old name number before (Err why) new after → ReadsSource (words_in (files_of old.blocks) names) old left (Err (fault_of_file why)) new it
 not_read old new names k number name left before after file.NotFound it running named there inside read = absurd (never (sym at.1 ∙ ap (get (files_of old.blocks)) (sym named) ∙ read.1))
   where
     at : (held : Held) × (get (files_of old.blocks) (get_or names k 0) ≡ Some held) × (get_or (words_in (files_of old.blocks) names) k [] ≡ held.1)

@@ -8,7 +8,7 @@ use Rattle.os8_files.specs.Failed.{Survives}
 use Rattle.os8_files.specs.Laws.{KeepsHolds}
 use Rattle.os8_files.specs.Mounted.{Mounted}
 use Rattle.os8_files.specs.Puts as puts
-use Rattle.os8_files.specs.Puts.{Puts, HasKept, HasNoEntry, PutFailed, blocks_filled}
+use Rattle.os8_files.specs.Puts.{PutsFile, HasKept, HasNoEntry, PutFailed, blocks_filled}
 use Rattle.os8_files.specs.declared.faults.FileFault.{FileFault}
 use Rattle.os8_files.specs.declared.faults.FileFault.TheVariants as file
 use Rattle.pal_asm.specs.Faults.{fault_of}
@@ -100,7 +100,7 @@ memory_of_file file.Stopped is = absurd (true≢false (sym is))
 memory_of_file file.NothingWritten is = absurd (true≢false (sym is))
 
 -- there was no memory to put it
-pub put_memory : (old new : Mounted) (core : List ℕ) (a : Assembly) (left : ℕ) (words : List ℕ) → left ≡ 1 → AssemblyFits a left → AssemblyStands old.blocks a left → KeepsHolds old new → new.tentative ≡ None → Puts old a.to words (Err file.Memory) new → TurnsJob old core (the_assembly a left) (Err fault.Memory) (Some (the_assembly a left)) new core
+pub put_memory : (old new : Mounted) (core : List ℕ) (a : Assembly) (left : ℕ) (words : List ℕ) → left ≡ 1 → AssemblyFits a left → AssemblyStands old.blocks a left → KeepsHolds old new → new.tentative ≡ None → PutsFile old a.to words (Err file.Memory) new → TurnsJob old core (the_assembly a left) (Err fault.Memory) (Some (the_assembly a left)) new core
 put_memory old new core a left words one fits is keeps none put =
     on_by old new core a a left left (Err fault.Memory) refl keeps none refl refl fits fits.more
     (moved_over old new (Err fault.Memory) (λ quiet. quiet) put.0.running (ap (λ (m : Mounted). m.failed_reads) put.2.others) (ap (λ (m : Mounted). m.failed_writes) put.2.others) (ap (λ (m : Mounted). m.stopped) put.2.others ∙ put.0.running))
@@ -116,7 +116,7 @@ put_memory old new core a left words one fits is keeps none put =
 -- the target was put
 pub put_done : ReleasedLaw → (old mid new : Mounted) (core : List ℕ) (a : Assembly) (left name blocks : ℕ) (words : List ℕ) → left ≡ 1 → IsEnough old a → KeepsHolds old mid → mid.tentative ≡ None → name ≡ a.to → blocks ≡ blocks_in words
     → words ≡ assembled_words (sources_of old a) → fault_of (newest_first (sources_of old a)) ≡ None → IsTapeOfSources (sources_of old a) words
-    → Puts old a.to words (Ok tt) mid → new ≡ record mid { holds = without_holds a.holds mid.holds } → TurnsJob old core (the_assembly a left) (Ok (Assembled name blocks)) None new core
+    → PutsFile old a.to words (Ok tt) mid → new ≡ record mid { holds = without_holds a.holds mid.holds } → TurnsJob old core (the_assembly a left) (Ok (Assembled name blocks)) None new core
 put_done law old mid new core a left name blocks words one enough keeps none named count is no_fault means put gone =
     ended_by law old mid new core a left (Ok (Assembled name blocks)) keeps none gone enough (omega (arith, one))
     (moved_over old new (Ok (Assembled name blocks)) (λ quiet. quiet) put.ready.running
@@ -147,7 +147,7 @@ put_done law old mid new core a left name blocks words one enough keeps none nam
 -- the target was refused
 pub put_refused : ReleasedLaw → (old mid new : Mounted) (core : List ℕ) (a : Assembly) (left : ℕ) (words : List ℕ) (why : FileFault) → is_memory (fault_of_file why) ≡ false → left ≡ 1 → IsEnough old a → KeepsHolds old mid → mid.tentative ≡ None
     → old.stopped ≡ false → words ≡ assembled_words (sources_of old a) → fault_of (newest_first (sources_of old a)) ≡ None → (old.failed_writes < mid.failed_writes → Survives old.blocks mid.blocks)
-    → Puts old a.to words (Err why) mid → new ≡ record mid { holds = without_holds a.holds mid.holds } → TurnsJob old core (the_assembly a left) (Err (fault_of_file why)) None new core
+    → PutsFile old a.to words (Err why) mid → new ≡ record mid { holds = without_holds a.holds mid.holds } → TurnsJob old core (the_assembly a left) (Err (fault_of_file why)) None new core
 put_refused law old mid new core a left words (file.Busy other) memory one enough keeps none running is no_fault survives put gone =
     ended_by law old mid new core a left (Err (fault.File (file.Busy other))) keeps none gone enough (omega (arith, one))
     (quiet_over old new _ old.reads _ (λ quiet. quiet) running all)

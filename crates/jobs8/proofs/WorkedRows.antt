@@ -56,7 +56,7 @@ empty_met = record {
   split = refl;
   not_ignore = λ e. absurd (omega (arith, e));
   not_ignored = refl;
-  is_open = record { frames = refl; is_front = tt; begun = tt };
+  is_open = record { frames = refl; is_prefix = tt; begun = tt };
   refused = (refl, inl (omega arith, inl (omega arith)));
 }
 

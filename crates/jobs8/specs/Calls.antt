@@ -5,7 +5,7 @@ use Rattle.os8_files.specs.Calls.{Squeezes}
 use Rattle.os8_files.specs.Failed.{Survives}
 use Rattle.os8_files.specs.Laws.{KeepsPlaces, KeepsOtherPlaces, ReadsOne, ReadsLowest}
 use Rattle.os8_files.specs.Mounted.{Mounted}
-use Rattle.os8_files.specs.Puts.{Puts, TellsRoom}
+use Rattle.os8_files.specs.Puts.{PutsFile, TellsRoom}
 use Rattle.pal_blocks.specs.Sources.{assembled_words}
 use Rattle.os8_files.specs.declared.faults.FileFault.{FileFault}
 use Rattle.os8_files.specs.declared.faults.FileFault.TheVariants as file
@@ -57,14 +57,14 @@ pub record StoodStopped (old new : Mounted) : Type 0 where
 
 -- What an answer tells of the block calls. `Device` comes just where one failed, and `Stopped` just where a write had failed before;
 -- behind any other answer none failed.
-abbrev pub Tells : Mounted → Answer → Mounted → Type 0
-Tells old (Err (fault.File file.Device)) new = ReadFailed old new ⊎ WriteFailed old new
-Tells old (Err (fault.File file.Stopped)) new = StoodStopped old new
-Tells old answer new = IsQuiet old new
+abbrev pub TellsFailures : Mounted → Answer → Mounted → Type 0
+TellsFailures old (Err (fault.File file.Device)) new = ReadFailed old new ⊎ WriteFailed old new
+TellsFailures old (Err (fault.File file.Stopped)) new = StoodStopped old new
+TellsFailures old answer new = IsQuiet old new
 
 -- What a turn leaves of a volume. No failure is forgotten.
 pub record TurnsOver (old : Mounted) (answer : Answer) (new : Mounted) : Type 0 where
-  pub tells : Tells old answer new
+  pub tells : TellsFailures old answer new
   pub reads : old.failed_reads ≤ new.failed_reads
   pub writes : old.failed_writes ≤ new.failed_writes
   pub running : IsQuiet old new → new.stopped ≡ false
@@ -87,7 +87,7 @@ ReadsAtMost old new = (new.blocks ≡ old.blocks) × ReadsOne old new
 
 -- words were put under a name, or refused there, by one call, and perhaps holds were released
 abbrev pub PutsThere : ℕ → Mounted → Mounted → Type 0
-PutsThere name old new = (words : List ℕ) × (call : Result (Unit {0}) FileFault) × (mid : Mounted) × Puts old name words call mid × (new ≡ record mid { holds = new.holds })
+PutsThere name old new = (words : List ℕ) × (call : Result (Unit {0}) FileFault) × (mid : Mounted) × PutsFile old name words call mid × (new ≡ record mid { holds = new.holds })
 
 -- The calls that a turn of a job makes. One that loads reads one block at most and writes none; so does one that assembles, but
 -- for its last, which reads none and puts its target; one that squeezes makes one call.

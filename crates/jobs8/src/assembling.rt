@@ -24,7 +24,9 @@ pub(crate) fn assembling_turn<S: BlockStore>(
     requires fits { AssemblyFits job left }
     requires stands { files.old.stopped ≡ false → AssemblyStands files.old.blocks job left }
     requires held { (name : ℕ) → times name (names_of job.holds) ≤ times name files.old.holds }
-    ensures { (core : List ℕ) → TurnsJob files.old core (record { work = work.Assembling job; left = left }) result.0 result.1 files.new core }
+    ensures { (core : List ℕ)
+        → TurnsJob files.old core (record { work = work.Assembling job; left = left }) result.0 result.1
+        files.new core }
 {
     counted_holds();
     if files.stopped() {
@@ -61,7 +63,9 @@ fn target_turn<S: BlockStore>(
     requires fits { AssemblyFits job left }
     requires stands { AssemblyStands files.old.blocks job left }
     requires held { (name : ℕ) → times name (names_of job.holds) ≤ times name files.old.holds }
-    ensures { (core : List ℕ) → TurnsJob files.old core (record { work = work.Assembling job; left = left }) result.0 result.1 files.new core }
+    ensures { (core : List ℕ)
+        → TurnsJob files.old core (record { work = work.Assembling job; left = left }) result.0 result.1
+        files.new core }
 {
     counted_holds();
     kept_holds();

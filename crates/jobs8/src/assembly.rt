@@ -78,7 +78,8 @@ impl Assembly {
         requires more { 2 ≤ left }
         requires fits { AssemblyFits self.old left }
         requires stands { AssemblyStands files.old.blocks self.old left }
-        ensures turn { ReadsSource (words_in (files_of files.old.blocks) (names_of self.old.holds)) files.old left result files.new self.new }
+        ensures turn { ReadsSource (words_in (files_of files.old.blocks) (names_of self.old.holds))
+            files.old left result files.new self.new }
         ensures same { (self.new.to ≡ self.old.to) × (self.new.holds ≡ self.old.holds) }
     {
         let Due {

@@ -56,7 +56,8 @@ fn hold_next<S: BlockStore>(
     requires running { files.old.stopped ≡ false }
     requires inside { place < length places.old }
     requires free { get_or places.old place None ≡ None }
-    ensures next { TakesNext (files_of files.old.blocks) name places.old place blocks.old.items result places.new blocks.new.items }
+    ensures next { TakesNext (files_of files.old.blocks) name places.old place blocks.old.items result
+        places.new blocks.new.items }
     ensures held { (first : Mounted) → HasHeld first places.old files.old
         → HasHeld first places.new files.new }
     ensures size { length places.new ≡ length places.old }
@@ -137,7 +138,8 @@ fn release_each<S: BlockStore>(files: &mut FileService<S>, places: &mut [Option<
 /// Lets the file at a place go, if there is one.
 fn release_at<S: BlockStore>(files: &mut FileService<S>, places: &mut [Option<Hold>], place: usize)
     requires { place < length places.old }
-    ensures files { files.new ≡ record files.old { holds = without_holds (get_or places.old place None ∷ []) files.old.holds } }
+    ensures files { files.new ≡ record
+        files.old { holds = without_holds (get_or places.old place None ∷ []) files.old.holds } }
     ensures rest { places.new ≡ slice_set places.old place None }
 {
     match places[place].take() {

@@ -23,8 +23,10 @@ pub fn tape_text<R: Read, W: Write>(
     reader: &mut R,
     writer: &mut W,
 ) -> Result<(), SessionFault>
-    ensures lists { ListsTape (R.remaining reader.old) (R.remaining reader.new) (W.contents writer.old) (W.contents writer.new) result }
-    ensures taken { (count : ℕ) × TakesBytes (R.remaining reader.old) (R.remaining reader.new) count × (count ≤ 16777217)
+    ensures lists { ListsTape (R.remaining reader.old) (R.remaining reader.new) (W.contents writer.old)
+        (W.contents writer.new) result }
+    ensures taken { (count : ℕ) × TakesBytes (R.remaining reader.old) (R.remaining reader.new) count
+        × (count ≤ 16777217)
         × (count ≡ 16777217 → result ≡ Err fault.Reader) }
 {
     let frames = read_all(alloc, reader)?;
@@ -34,7 +36,8 @@ pub fn tape_text<R: Read, W: Write>(
 
 /// The lines of the cells that a tape gives a word.
 fn text_of(alloc: Global, frames: &[u8]) -> Result<Vec<u8>, SessionFault>
-    ensures { MatchResult result (λ text. IsListed frames.now text.items) (λ fault. IsListingFault frames.now fault) }
+    ensures { MatchResult result (λ text. IsListed frames.now text.items)
+        (λ fault. IsListingFault frames.now fault) }
 {
     let map = TapeMap::read(alloc, frames)?;
     let text = listing(alloc, &map)?;

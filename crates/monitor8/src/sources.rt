@@ -29,8 +29,10 @@ pub fn source_text<R: Read, W: Write>(
     reader: &mut R,
     writer: &mut W,
 ) -> Result<(), SourceFault>
-    ensures source { WritesSource (R.remaining reader.old) (R.remaining reader.new) (W.contents writer.old) (W.contents writer.new) result }
-    ensures taken { (count : ℕ) × TakesBytes (R.remaining reader.old) (R.remaining reader.new) count × (count ≤ 16777217)
+    ensures source { WritesSource (R.remaining reader.old) (R.remaining reader.new)
+        (W.contents writer.old) (W.contents writer.new) result }
+    ensures taken { (count : ℕ) × TakesBytes (R.remaining reader.old) (R.remaining reader.new) count
+        × (count ≤ 16777217)
         × (count ≡ 16777217 → result ≡ Err (Session fault.Reader)) }
 {
     let frames = match read_all(alloc, reader) {

@@ -34,9 +34,9 @@ before-append (Empty size) (Empty more ∷ es) ys = sym (before-two size more (t
 before-append (Empty zero) (File name info more ∷ es) ys = sym (before-none (tidy (File name info more ∷ es ++ ys)))
 before-append (Empty (suc size)) (File name info more ∷ es) ys = refl
 
-pub tidy-front : (xs ys : List DirEntry) → tidy (tidy xs ++ ys) ≡ tidy (xs ++ ys)
-tidy-front [] ys = refl
-tidy-front (x ∷ xs) ys = before-append x (tidy xs) ys ∙ ap (before x) (tidy-front xs ys)
+pub tidy-prefix : (xs ys : List DirEntry) → tidy (tidy xs ++ ys) ≡ tidy (xs ++ ys)
+tidy-prefix [] ys = refl
+tidy-prefix (x ∷ xs) ys = before-append x (tidy xs) ys ∙ ap (before x) (tidy-prefix xs ys)
 
 -- One more entry.
 pub take-item : (k : ℕ) (xs : List DirEntry) (x : DirEntry) → k < length xs → x ≡ get_or xs k x → take (k + 1) xs ≡ take k xs ++ x ∷ []
@@ -65,7 +65,7 @@ tidied-total kept xs is = rw is (total-tidy xs)
 
 -- more behind what was tidied
 pub tidy-more : (kept xs ys zs : List DirEntry) → kept ≡ tidy xs → xs ++ ys ≡ zs → tidy (kept ++ ys) ≡ tidy zs
-tidy-more kept xs ys zs is same = rw (is, tidy-front xs ys, same) refl
+tidy-more kept xs ys zs is same = rw (is, tidy-prefix xs ys, same) refl
 
 -- The file of a name is an empty.
 pub emptied-append : (name : ℕ) (xs ys : List DirEntry) → emptied name (xs ++ ys) ≡ emptied name xs ++ emptied name ys
@@ -144,13 +144,13 @@ total-swapped name (Empty gap ∷ Empty size ∷ es) = omega (arith, total-swapp
 total-swapped name (Empty gap ∷ File other info size ∷ es) = total-pair (eqb other name) other gap size info es (swapped name es) (total-swapped name es)
 
 -- the four parts of a list in which two entries change places
-pub parts-sum : (k : ℕ) (es front behind gap more file rest : List DirEntry) → front ≡ take k es → behind ≡ drop k es → gap ≡ take 1 behind → more ≡ drop 1 behind → file ≡ take 1 more → rest ≡ drop 1 more → total front + total file + total gap + total rest ≡ total es
-parts-sum k es front behind gap more file rest is_front is_behind is_gap is_more is_file is_rest =
-    omega (arith, ap total is_front, ap total is_behind, ap total is_gap, ap total is_more, ap total is_file, ap total is_rest, total-split k es, total-split 1 behind, total-split 1 more)
+pub parts-sum : (k : ℕ) (es prefix behind gap more file rest : List DirEntry) → prefix ≡ take k es → behind ≡ drop k es → gap ≡ take 1 behind → more ≡ drop 1 behind → file ≡ take 1 more → rest ≡ drop 1 more → total prefix + total file + total gap + total rest ≡ total es
+parts-sum k es prefix behind gap more file rest is_prefix is_behind is_gap is_more is_file is_rest =
+    omega (arith, ap total is_prefix, ap total is_behind, ap total is_gap, ap total is_more, ap total is_file, ap total is_rest, total-split k es, total-split 1 behind, total-split 1 more)
 
-pub parts-tidy : (none one two three four front file gap rest : List DirEntry) → none ≡ [] → one ≡ tidy (none ++ front) → two ≡ tidy (one ++ file) → three ≡ tidy (two ++ gap) → four ≡ tidy (three ++ rest) → four ≡ tidy (front ++ (file ++ (gap ++ rest)))
-parts-tidy none one two three four front file gap rest is_none is_one is_two is_three is_four =
-    let first : one ≡ tidy front = is_one ∙ rw is_none refl in
-    let second : two ≡ tidy (front ++ file) = is_two ∙ tidy-more one front file (front ++ file) first refl in
-    let third : three ≡ tidy ((front ++ file) ++ gap) = is_three ∙ tidy-more two (front ++ file) gap ((front ++ file) ++ gap) second refl in
-    is_four ∙ tidy-more three ((front ++ file) ++ gap) rest (front ++ (file ++ (gap ++ rest))) third (rw (append_assoc, append_assoc) refl)
+pub parts-tidy : (none one two three four prefix file gap rest : List DirEntry) → none ≡ [] → one ≡ tidy (none ++ prefix) → two ≡ tidy (one ++ file) → three ≡ tidy (two ++ gap) → four ≡ tidy (three ++ rest) → four ≡ tidy (prefix ++ (file ++ (gap ++ rest)))
+parts-tidy none one two three four prefix file gap rest is_none is_one is_two is_three is_four =
+    let first : one ≡ tidy prefix = is_one ∙ rw is_none refl in
+    let second : two ≡ tidy (prefix ++ file) = is_two ∙ tidy-more one prefix file (prefix ++ file) first refl in
+    let third : three ≡ tidy ((prefix ++ file) ++ gap) = is_three ∙ tidy-more two (prefix ++ file) gap ((prefix ++ file) ++ gap) second refl in
+    is_four ∙ tidy-more three ((prefix ++ file) ++ gap) rest (prefix ++ (file ++ (gap ++ rest))) third (rw (append_assoc, append_assoc) refl)

@@ -9,7 +9,7 @@ use Rattle.os8_dir.specs.Entries.{Listed, minus, is_zero, contains, AreDistinct,
 use Rattle.os8_dir.specs.Reading.{word, block, empty_at, file_at, entry_at, is_new, with_entry, with_entries, with_segment, is_unread, with_links, head_of, directory_of}
 use Rattle.os8_dir.specs.Found.{per_segment, limit, IsDirectory}
 use Rattle.os8_dir.specs.Segments.{words_of_entry, words_of_entries, words_of_segment, segment_count, before_segment, entries_of, link_of, segment_of, HoldsSegments}
-use Rattle.os8_dir.proofs.TidyLemmas.{total-append, append-nil, tidy-same, IsTidy-front}
+use Rattle.os8_dir.proofs.TidyLemmas.{total-append, append-nil, tidy-same, IsTidy-prefix}
 use Rattle.os8_dir.proofs.LawLemmas.{names_of-append}
 use Rattle.os8_dir.proofs.ReadingLemmas.{with_entry-more, with_entries-none, with_entries-more, with_segment-entries, head_of-ok, with_links-end, with_links-next, directory_of-links}
 use Rattle.os8_dir.proofs.LinkLemmas.{unread-new}
@@ -70,9 +70,9 @@ or-none : (a b : Bool) → (a || b) ≡ false → (a ≡ false) × (b ≡ false)
 or-none true b none = absurd (true≢false none)
 or-none false b none = (refl, none)
 
-distinct-front : (xs ys : List ℕ) → AreDistinct (xs ++ ys) → AreDistinct xs
-distinct-front [] ys apart = tt
-distinct-front (x ∷ xs) ys apart = ((or-none (contains xs x) (contains ys x) (sym (contains-append xs ys x) ∙ apart.0)).0, distinct-front xs ys apart.1)
+distinct-prefix : (xs ys : List ℕ) → AreDistinct (xs ++ ys) → AreDistinct xs
+distinct-prefix [] ys apart = tt
+distinct-prefix (x ∷ xs) ys apart = ((or-none (contains xs x) (contains ys x) (sym (contains-append xs ys x) ∙ apart.0)).0, distinct-prefix xs ys apart.1)
 
 head-other : (x y : ℕ) (ys : List ℕ) → contains (y ∷ ys) x ≡ false → y ≢ x
 head-other x y ys none same = true≢false (sym (rw (eq-eqb y x same) refl) ∙ none)
@@ -101,8 +101,8 @@ with_entries-back (e ∷ es) volume first info xs rest few neat single inside mo
     let d = listed first info xs in
     let behind = words_of_entries info es ++ rest in
     let said : entry_at info (words_of_entry info e ++ behind) ≡ Ok (e, behind) = entry-back info e behind few writable.0 (omega arith) in
-    let front : IsTidy (xs ++ e ∷ []) = IsTidy-front (xs ++ e ∷ []) es (rw regroup neat) in
-    let more : with_entry volume d e ≡ Ok (listed first info (xs ++ e ∷ [])) = with_entry-more volume d e size (is_new-distinct xs es e single) ∙ rw (tidy-same (xs ++ e ∷ []) front) refl in
+    let prefix : IsTidy (xs ++ e ∷ []) = IsTidy-prefix (xs ++ e ∷ []) es (rw regroup neat) in
+    let more : with_entry volume d e ≡ Ok (listed first info (xs ++ e ∷ [])) = with_entry-more volume d e size (is_new-distinct xs es e single) ∙ rw (tidy-same (xs ++ e ∷ []) prefix) refl in
     let less : suc (length es) - 1 ≡ length es = omega arith in
     let step : with_entries (suc (length es)) volume d (words_of_entry info e ++ behind) ≡ with_entries (length es) volume (listed first info (xs ++ e ∷ [])) behind = rw less at (with_entries-more (suc (length es)) volume d (listed first info (xs ++ e ∷ [])) (words_of_entry info e ++ behind) (e, behind) (omega arith) said more) in
     rw words (step ∙ with_entries-back es volume first info (xs ++ e ∷ []) rest few (rw regroup neat) (rw regroup single) (rw regroup inside) most writable.1 ∙ rw regroup refl)
@@ -162,18 +162,18 @@ before-more d k =
     let e : (k + 1) * per_segment d.info ≡ k * per_segment d.info + per_segment d.info = omega arith in
     rw e (sym (take-add (k * per_segment d.info) (per_segment d.info) d.entries))
 
--- what a directory keeps of a front of its list
-record IsFront (volume : ℕ) (d : Listed) (es : List DirEntry) : Type 0 where
+-- what a directory keeps of a prefix of its list
+record IsPrefix (volume : ℕ) (d : Listed) (es : List DirEntry) : Type 0 where
   pub neat : IsTidy es
   pub single : AreDistinct (names_of es)
   pub inside : d.first + total es ≤ volume
 
-front-of : (volume : ℕ) (d : Listed) (m : ℕ) → IsDirectory volume d → IsFront volume d (take m d.entries)
-front-of volume d m is =
+prefix-of : (volume : ℕ) (d : Listed) (m : ℕ) → IsDirectory volume d → IsPrefix volume d (take m d.entries)
+prefix-of volume d m is =
     let split = split-at m d.entries in
     record {
-      neat = IsTidy-front (take m d.entries) (drop m d.entries) (rw split is.neat);
-      single = distinct-front (names_of (take m d.entries)) (names_of (drop m d.entries)) (rw (← names_of-append (take m d.entries) (drop m d.entries), split) is.single);
+      neat = IsTidy-prefix (take m d.entries) (drop m d.entries) (rw split is.neat);
+      single = distinct-prefix (names_of (take m d.entries)) (names_of (drop m d.entries)) (rw (← names_of-append (take m d.entries) (drop m d.entries), split) is.single);
       inside = omega (arith, ap total split, total-append (take m d.entries) (drop m d.entries), is.inside);
     }
 
@@ -181,10 +181,10 @@ front-of volume d m is =
 segment-back : (volume : ℕ) (d : Listed) (k number : ℕ) → IsDirectory volume d → volume ≤ 4095 → with_segment volume (listed d.first d.info (before_segment d k)) number (segment_of d k) ≡ Ok (listed d.first d.info (before_segment d (k + 1)))
 segment-back volume d k number is most =
     let E = per_segment d.info in
-    let front : IsFront volume d (before_segment d k ++ entries_of d k) = rw (before-more d k) (front-of volume d ((k + 1) * E) is) in
+    let prefix : IsPrefix volume d (before_segment d k ++ entries_of d k) = rw (before-more d k) (prefix-of volume d ((k + 1) * E) is) in
     let few : length (entries_of d k) ≤ E = length-take-entries E (drop (k * E) d.entries) in
     let least : E ≤ 251 = div-le_self 251 (5 + d.info) in
-    rw (← before-more d k) (with_segment-back volume d.first d.info (link_of (segment_count d) k) number (d.first + total (before_segment d k)) (before_segment d k) (entries_of d k) few (omega arith) refl is.few front.neat front.single front.inside most (writable-take d.info E (drop (k * E) d.entries) (writable-drop d.info (k * E) d.entries is.writable)))
+    rw (← before-more d k) (with_segment-back volume d.first d.info (link_of (segment_count d) k) number (d.first + total (before_segment d k)) (before_segment d k) (entries_of d k) few (omega arith) refl is.few prefix.neat prefix.single prefix.inside most (writable-take d.info E (drop (k * E) d.entries) (writable-drop d.info (k * E) d.entries is.writable)))
 
 -- The chain of segments.
 size-some : (info : ℕ) → info ≤ 10 → 1 ≤ per_segment info

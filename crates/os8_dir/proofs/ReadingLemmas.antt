@@ -6,7 +6,7 @@ use Rattle.os8_dir.specs.declared.faults.DirFault.{DirFault}
 use Rattle.os8_dir.specs.declared.faults.DirFault.TheVariants.{BadLink, BadCount, EntryPastSegment, PastVolume, SameName, WrongFirstBlock, MixedInfo, Device, Memory}
 use Rattle.os8_dir.specs.Names.{padded}
 use Rattle.os8_dir.specs.Entries.{Listed, minus, size_of, end_of, names_of, tidy}
-use Rattle.os8_dir.specs.Reading.{word, entry_at, is_new, with_entry, with_entries, with_segment, head_of, Meets, is_device, with_links, block, is_unread, directory_of}
+use Rattle.os8_dir.specs.Reading.{word, entry_at, is_new, with_entry, with_entries, with_segment, head_of, MeetsFault, is_device, with_links, block, is_unread, directory_of}
 use Rattle.os8_dir.specs.Steps.{Finds}
 
 -- one more word
@@ -28,7 +28,7 @@ finds-whole MixedInfo read whole found up = up found
 finds-whole Device read whole found up = absurd found
 finds-whole Memory read whole found up = tt
 
-pub meets-found : {Y Y' : Type 0} (fault : DirFault) (read : Result Y DirFault) (whole : Result Y' DirFault) → Finds fault read → (read ≡ Err fault → whole ≡ Err fault) → Meets fault whole
+pub meets-found : {Y Y' : Type 0} (fault : DirFault) (read : Result Y DirFault) (whole : Result Y' DirFault) → Finds fault read → (read ≡ Err fault → whole ≡ Err fault) → MeetsFault fault whole
 meets-found (BadLink number) read whole found up = up found
 meets-found (BadCount number) read whole found up = up found
 meets-found EntryPastSegment read whole found up = up found
@@ -39,7 +39,7 @@ meets-found MixedInfo read whole found up = up found
 meets-found Device read whole found up = tt
 meets-found Memory read whole found up = tt
 
-pub meets-whole : {Y Y' : Type 0} (fault : DirFault) (read : Result Y DirFault) (whole : Result Y' DirFault) → Meets fault read → (read ≡ Err fault → whole ≡ Err fault) → Meets fault whole
+pub meets-whole : {Y Y' : Type 0} (fault : DirFault) (read : Result Y DirFault) (whole : Result Y' DirFault) → MeetsFault fault read → (read ≡ Err fault → whole ≡ Err fault) → MeetsFault fault whole
 meets-whole (BadLink number) read whole met up = up met
 meets-whole (BadCount number) read whole met up = up met
 meets-whole EntryPastSegment read whole met up = up met

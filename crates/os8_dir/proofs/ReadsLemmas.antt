@@ -4,12 +4,12 @@ use Rattle.volume_image.specs.Volume.{counted}
 use Rattle.os8_dir.specs.declared.faults.DirFault.{DirFault}
 use Rattle.os8_dir.specs.declared.faults.DirFault.TheVariants.{BadLink, BadCount, EntryPastSegment, PastVolume, SameName, WrongFirstBlock, MixedInfo, Device, Memory}
 use Rattle.os8_dir.specs.Entries.{Listed}
-use Rattle.os8_dir.specs.Reading.{word, block, is_unread, with_segment, head_of, IsOfWords, Meets}
+use Rattle.os8_dir.specs.Reading.{word, block, is_unread, with_segment, head_of, IsOfWords, MeetsFault}
 use Rattle.os8_dir.specs.Reads.{counted_by, judged_from, segments_judged, IsJudged, ReadsSegments}
 use Rattle.os8_dir.specs.Steps.{Finds}
 
 -- a fault of a volume's words is that of the reading
-pub of_words : {Y : Type 0} (fault : DirFault) (read : Result Y DirFault) → IsOfWords fault → Meets fault read → read ≡ Err fault
+pub of_words : {Y : Type 0} (fault : DirFault) (read : Result Y DirFault) → IsOfWords fault → MeetsFault fault read → read ≡ Err fault
 of_words (BadLink number) read words met = met
 of_words (BadCount number) read words met = met
 of_words EntryPastSegment read words met = met

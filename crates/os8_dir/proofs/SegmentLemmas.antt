@@ -91,8 +91,8 @@ drop-item k xs x inside is = rw add-one (drop-cons xs k x inside ∙ ap (λ y. y
 -- a file: its name, its information words and its length
 pub written-file : (segment named told words first kept : List ℕ) (at info name size word : ℕ) → words ≡ words_of_name name → named ≡ written segment at words → first ≡ take info kept → length first ≡ info → told ≡ written named (at + 4) first → word ≡ minus size
     → set told (at + 4 + info) word ≡ written segment at (words_of_entry info (File name kept size))
-written-file segment named told words first kept at info name size word spelled names front all tells is =
-    rw (tells, names, spelled, is, ← front) (sym (written-append segment at (words_of_name name) (first ++ minus size ∷ []) ∙ written-append (written segment at (words_of_name name)) (at + 4) first (minus size ∷ []) ∙ rw all refl))
+written-file segment named told words first kept at info name size word spelled names prefix all tells is =
+    rw (tells, names, spelled, is, ← prefix) (sym (written-append segment at (words_of_name name) (first ++ minus size ∷ []) ∙ written-append (written segment at (words_of_name name)) (at + 4) first (minus size ∷ []) ∙ rw all refl))
 
 -- one more entry
 pub written-entry : (segment : List ℕ) (at info : ℕ) (es rest : List DirEntry) (e : DirEntry) → es ≡ e ∷ rest → written segment at (words_of_entries info es) ≡ written (written segment at (words_of_entry info e)) (at + length (words_of_entry info e)) (words_of_entries info rest)
@@ -131,9 +131,9 @@ take-min (suc m) [] = let e : min (suc m) 0 ≡ 0 = omega arith in rw e refl
 take-min (suc m) (e ∷ es) = let e' : min (suc m) (length (e ∷ es)) ≡ suc (min m (length es)) = omega arith in rw e' (ap (λ xs. e ∷ xs) (take-min m es))
 
 -- the two parts of a list that a segment needs
-pub segment-pieces : (d : Listed) (k size : ℕ) (front rest piece : List DirEntry) → size ≡ per_segment d.info → front ≡ take (k * size) d.entries → rest ≡ drop (k * size) d.entries → piece ≡ take (min size (length rest)) rest → (front ≡ before_segment d k) × (piece ≡ entries_of d k) × (total front + total piece ≤ total d.entries)
-segment-pieces d k size front rest piece same is_front is_rest is_piece =
-    let before : front ≡ before_segment d k = is_front ∙ rw same refl in
+pub segment-pieces : (d : Listed) (k size : ℕ) (prefix rest piece : List DirEntry) → size ≡ per_segment d.info → prefix ≡ take (k * size) d.entries → rest ≡ drop (k * size) d.entries → piece ≡ take (min size (length rest)) rest → (prefix ≡ before_segment d k) × (piece ≡ entries_of d k) × (total prefix + total piece ≤ total d.entries)
+segment-pieces d k size prefix rest piece same is_prefix is_rest is_piece =
+    let before : prefix ≡ before_segment d k = is_prefix ∙ rw same refl in
     let own : piece ≡ entries_of d k = is_piece ∙ take-min size rest ∙ rw (is_rest, same) refl in
     (before, own, rw (before, own) (total-take-drop (k * per_segment d.info) (per_segment d.info) d.entries))
 

@@ -62,15 +62,15 @@ apart-head (File name info size) (Empty more) ys zs apart = tt
 apart-head (Empty size) (File other words more) ys zs apart = tt
 apart-head (Empty size) (Empty more) ys zs apart = apart
 
-apart-append : (x : DirEntry) (front ys ws : List DirEntry) → ((x : DirEntry) → Apart x ys → Apart x ws) → Apart x (front ++ ys) → Apart x (front ++ ws)
+apart-append : (x : DirEntry) (prefix ys ws : List DirEntry) → ((x : DirEntry) → Apart x ys → Apart x ws) → Apart x (prefix ++ ys) → Apart x (prefix ++ ws)
 apart-append x [] ys ws same apart = same x apart
-apart-append x (y ∷ front) ys ws same apart = apart-head x y (front ++ ys) (front ++ ws) apart
+apart-append x (y ∷ prefix) ys ws same apart = apart-head x y (prefix ++ ys) (prefix ++ ws) apart
 
--- what stands behind the front of a tidy list is made tidy alone, where the front may stand before that too
-tidy-behind : (front ys zs ws : List DirEntry) → IsTidy (front ++ ys) → tidy zs ≡ ws → ((x : DirEntry) → Apart x ys → Apart x ws) → tidy (front ++ zs) ≡ front ++ ws
+-- what stands behind the prefix of a tidy list is made tidy alone, where the prefix may stand before that too
+tidy-behind : (prefix ys zs ws : List DirEntry) → IsTidy (prefix ++ ys) → tidy zs ≡ ws → ((x : DirEntry) → Apart x ys → Apart x ws) → tidy (prefix ++ zs) ≡ prefix ++ ws
 tidy-behind [] ys zs ws neat done same = done
-tidy-behind (x ∷ front) ys zs ws neat done same =
-    ap (before x) (tidy-behind front ys zs ws neat.2 done same) ∙ before-apart x (front ++ ws) neat.0 (apart-append x front ys ws same neat.1)
+tidy-behind (x ∷ prefix) ys zs ws neat done same =
+    ap (before x) (tidy-behind prefix ys zs ws neat.2 done same) ∙ before-apart x (prefix ++ ws) neat.0 (apart-append x prefix ys ws same neat.1)
 
 pub append-nil : (es : List DirEntry) → es ++ [] ≡ es
 append-nil [] = refl
@@ -112,21 +112,21 @@ tidy-two : (size more : ℕ) → 0 < more → tidy (Empty size ∷ Empty more �
 tidy-two size zero some = absurd (omega arith)
 tidy-two size (suc more) some = refl
 
-pub tidy-empty_empty : (front : List DirEntry) (size more : ℕ) → 0 < more → IsTidy (front ++ Empty size ∷ []) → tidy ((front ++ Empty size ∷ []) ++ Empty more ∷ []) ≡ front ++ Empty (size + more) ∷ []
-tidy-empty_empty front size more some neat = rw append_assoc (tidy-behind front (Empty size ∷ []) (Empty size ∷ Empty more ∷ []) (Empty (size + more) ∷ []) neat (tidy-two size more some) (empties-behind size (size + more)))
+pub tidy-empty_empty : (prefix : List DirEntry) (size more : ℕ) → 0 < more → IsTidy (prefix ++ Empty size ∷ []) → tidy ((prefix ++ Empty size ∷ []) ++ Empty more ∷ []) ≡ prefix ++ Empty (size + more) ∷ []
+tidy-empty_empty prefix size more some neat = rw append_assoc (tidy-behind prefix (Empty size ∷ []) (Empty size ∷ Empty more ∷ []) (Empty (size + more) ∷ []) neat (tidy-two size more some) (empties-behind size (size + more)))
 
-last-some : (front : List DirEntry) (e : DirEntry) → IsTidy (front ++ e ∷ []) → 0 < size_of e
+last-some : (prefix : List DirEntry) (e : DirEntry) → IsTidy (prefix ++ e ∷ []) → 0 < size_of e
 last-some [] e neat = neat.0
-last-some (x ∷ front) e neat = last-some front e neat.2
+last-some (x ∷ prefix) e neat = last-some prefix e neat.2
 
 tidy-file_two : (name : ℕ) (info : List ℕ) (size more : ℕ) → 0 < size → 0 < more → tidy (File name info size ∷ Empty more ∷ []) ≡ File name info size ∷ Empty more ∷ []
 tidy-file_two name info zero more some_size some = absurd (omega arith)
 tidy-file_two name info (suc size) zero some_size some = absurd (omega arith)
 tidy-file_two name info (suc size) (suc more) some_size some = refl
 
-pub tidy-file_empty : (front : List DirEntry) (name : ℕ) (info : List ℕ) (size more : ℕ) → 0 < more → IsTidy (front ++ File name info size ∷ []) → tidy ((front ++ File name info size ∷ []) ++ Empty more ∷ []) ≡ (front ++ File name info size ∷ []) ++ Empty more ∷ []
-tidy-file_empty front name info size more some neat =
-    rw append_assoc (tidy-behind front (File name info size ∷ []) (File name info size ∷ Empty more ∷ []) (File name info size ∷ Empty more ∷ []) neat (tidy-file_two name info size more (last-some front (File name info size) neat) some) (file-empty-behind name info size more))
+pub tidy-file_empty : (prefix : List DirEntry) (name : ℕ) (info : List ℕ) (size more : ℕ) → 0 < more → IsTidy (prefix ++ File name info size ∷ []) → tidy ((prefix ++ File name info size ∷ []) ++ Empty more ∷ []) ≡ (prefix ++ File name info size ∷ []) ++ Empty more ∷ []
+tidy-file_empty prefix name info size more some neat =
+    rw append_assoc (tidy-behind prefix (File name info size ∷ []) (File name info size ∷ Empty more ∷ []) (File name info size ∷ Empty more ∷ []) neat (tidy-file_two name info size more (last-some prefix (File name info size) neat) some) (file-empty-behind name info size more))
 
 pub room-le-size : (e : DirEntry) → room_of e ≤ size_of e
 room-le-size (File name info size) = omega arith
@@ -140,18 +140,18 @@ last-split (e ∷ f ∷ es) some =
     let more : length (e ∷ f ∷ es) - 1 ≡ suc (length (f ∷ es) - 1) = omega arith in
     (behind.0, rw more (ap (λ xs. e ∷ xs) behind.1))
 
-last_room-append : (front : List DirEntry) (last : DirEntry) → last_room (front ++ last ∷ []) ≡ room_of last
+last_room-append : (prefix : List DirEntry) (last : DirEntry) → last_room (prefix ++ last ∷ []) ≡ room_of last
 last_room-append [] last = refl
 last_room-append (e ∷ []) last = refl
-last_room-append (e ∷ f ∷ front) last = last_room-append (f ∷ front) last
+last_room-append (e ∷ f ∷ prefix) last = last_room-append (f ∷ prefix) last
 
-tidy-room_behind : (front : List DirEntry) (last : DirEntry) (more : ℕ) → 0 < more → IsTidy (front ++ last ∷ []) → 0 < room_of last → tidy ((front ++ last ∷ []) ++ Empty more ∷ []) ≡ front ++ Empty (room_of last + more) ∷ []
-tidy-room_behind front (File name info size) more some neat room = absurd (omega arith)
-tidy-room_behind front (Empty size) more some neat room = tidy-empty_empty front size more some neat
+tidy-room_behind : (prefix : List DirEntry) (last : DirEntry) (more : ℕ) → 0 < more → IsTidy (prefix ++ last ∷ []) → 0 < room_of last → tidy ((prefix ++ last ∷ []) ++ Empty more ∷ []) ≡ prefix ++ Empty (room_of last + more) ∷ []
+tidy-room_behind prefix (File name info size) more some neat room = absurd (omega arith)
+tidy-room_behind prefix (Empty size) more some neat room = tidy-empty_empty prefix size more some neat
 
-tidy-file_behind : (front : List DirEntry) (last : DirEntry) (more : ℕ) → 0 < more → IsTidy (front ++ last ∷ []) → room_of last ≡ 0 → tidy ((front ++ last ∷ []) ++ Empty more ∷ []) ≡ (front ++ last ∷ []) ++ Empty more ∷ []
-tidy-file_behind front (File name info size) more some neat none = tidy-file_empty front name info size more some neat
-tidy-file_behind front (Empty size) more some neat none = absurd (omega (arith, last-some front (Empty size) neat))
+tidy-file_behind : (prefix : List DirEntry) (last : DirEntry) (more : ℕ) → 0 < more → IsTidy (prefix ++ last ∷ []) → room_of last ≡ 0 → tidy ((prefix ++ last ∷ []) ++ Empty more ∷ []) ≡ (prefix ++ last ∷ []) ++ Empty more ∷ []
+tidy-file_behind prefix (File name info size) more some neat none = tidy-file_empty prefix name info size more some neat
+tidy-file_behind prefix (Empty size) more some neat none = absurd (omega (arith, last-some prefix (Empty size) neat))
 
 last_room-some : (es : List DirEntry) → 0 < last_room es → 0 < length es
 last_room-some [] room = absurd (omega arith)
@@ -161,21 +161,21 @@ last_room-some (e ∷ es) room = omega arith
 pub tidy-append-room : (es : List DirEntry) (more : ℕ) → 0 < more → IsTidy es → 0 < last_room es → tidy (es ++ Empty more ∷ []) ≡ take (length es - 1) es ++ Empty (last_room es + more) ∷ []
 tidy-append-room es more some neat room =
     let split = last-split es (last_room-some es room) in
-    let front = take (length es - 1) es in
-    let same : last_room es ≡ room_of split.0 = ap last_room split.1 ∙ last_room-append front split.0 in
-    let neat' : IsTidy (front ++ split.0 ∷ []) = subst IsTidy split.1 neat in
-    let joined = tidy-room_behind front split.0 more some neat' (omega arith) in
-    ap (λ xs. tidy (xs ++ Empty more ∷ [])) split.1 ∙ joined ∙ ap (λ n. front ++ Empty (n + more) ∷ []) (sym same)
+    let prefix = take (length es - 1) es in
+    let same : last_room es ≡ room_of split.0 = ap last_room split.1 ∙ last_room-append prefix split.0 in
+    let neat' : IsTidy (prefix ++ split.0 ∷ []) = subst IsTidy split.1 neat in
+    let joined = tidy-room_behind prefix split.0 more some neat' (omega arith) in
+    ap (λ xs. tidy (xs ++ Empty more ∷ [])) split.1 ∙ joined ∙ ap (λ n. prefix ++ Empty (n + more) ∷ []) (sym same)
 
 -- an empty behind a tidy list that ends with a file, or has no entry
 pub tidy-append-file : (es : List DirEntry) (more : ℕ) → 0 < more → IsTidy es → last_room es ≡ 0 → tidy (es ++ Empty more ∷ []) ≡ es ++ Empty more ∷ []
 tidy-append-file [] more some neat none = tidy-empty_first more some
 tidy-append-file (e ∷ es) more some neat none =
     let split = last-split (e ∷ es) (omega arith) in
-    let front = take (length (e ∷ es) - 1) (e ∷ es) in
-    let same : last_room (e ∷ es) ≡ room_of split.0 = ap last_room split.1 ∙ last_room-append front split.0 in
-    let neat' : IsTidy (front ++ split.0 ∷ []) = subst IsTidy split.1 neat in
-    let behind = tidy-file_behind front split.0 more some neat' (omega arith) in
+    let prefix = take (length (e ∷ es) - 1) (e ∷ es) in
+    let same : last_room (e ∷ es) ≡ room_of split.0 = ap last_room split.1 ∙ last_room-append prefix split.0 in
+    let neat' : IsTidy (prefix ++ split.0 ∷ []) = subst IsTidy split.1 neat in
+    let behind = tidy-file_behind prefix split.0 more some neat' (omega arith) in
     ap (λ xs. tidy (xs ++ Empty more ∷ [])) split.1 ∙ behind ∙ ap (λ xs. xs ++ Empty more ∷ []) (sym split.1)
 
 -- the size of the last empty is counted
@@ -200,16 +200,16 @@ pub on_true-same : (b : Bool) (new wanted : List DirEntry) → new ≡ wanted �
 on_true-same true new wanted same = same
 on_true-same false new wanted same = tt
 
--- Tidy lists as they stand, and their fronts.
+-- Tidy lists as they stand, and their prefixes.
 pub tidy-same : (es : List DirEntry) → IsTidy es → tidy es ≡ es
 tidy-same [] neat = refl
 tidy-same (e ∷ es) neat = rw (tidy-same es neat.2) (before-apart e es neat.0 neat.1)
 
-apart-front : (e : DirEntry) (xs ys : List DirEntry) → Apart e (xs ++ ys) → Apart e xs
-apart-front (File name info size) [] ys apart = tt
-apart-front (Empty size) [] ys apart = tt
-apart-front e (x ∷ xs) ys apart = apart-head e x (xs ++ ys) xs apart
+apart-prefix : (e : DirEntry) (xs ys : List DirEntry) → Apart e (xs ++ ys) → Apart e xs
+apart-prefix (File name info size) [] ys apart = tt
+apart-prefix (Empty size) [] ys apart = tt
+apart-prefix e (x ∷ xs) ys apart = apart-head e x (xs ++ ys) xs apart
 
-pub IsTidy-front : (xs ys : List DirEntry) → IsTidy (xs ++ ys) → IsTidy xs
-IsTidy-front [] ys neat = tt
-IsTidy-front (x ∷ xs) ys neat = (neat.0, apart-front x xs ys neat.1, IsTidy-front xs ys neat.2)
+pub IsTidy-prefix : (xs ys : List DirEntry) → IsTidy (xs ++ ys) → IsTidy xs
+IsTidy-prefix [] ys neat = tt
+IsTidy-prefix (x ∷ xs) ys neat = (neat.0, apart-prefix x xs ys neat.1, IsTidy-prefix xs ys neat.2)

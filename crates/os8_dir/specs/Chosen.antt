@@ -11,20 +11,20 @@ EachRoom So (room ∷ rooms) = So room.1 × EachRoom So rooms
 
 -- the largest of these rooms, the first of equals: those before it have fewer blocks, and those behind it no more
 pub record IsFirstLargest (rooms : List (ℕ × ℕ)) (room : ℕ × ℕ) : Type 0 where
-  pub front : List (ℕ × ℕ)
+  pub prefix : List (ℕ × ℕ)
   pub behind : List (ℕ × ℕ)
-  pub list : rooms ≡ front ++ room ∷ behind
-  pub before : EachRoom (λ size. size < room.1) front
+  pub list : rooms ≡ prefix ++ room ∷ behind
+  pub before : EachRoom (λ size. size < room.1) prefix
   pub after : EachRoom (λ size. size ≤ room.1) behind
 
 -- The smallest of these rooms that has so many blocks, the first of equals: those before it that have so many have more
 -- than it, and those behind it no fewer.
 pub record IsFirstSmallest (wish : ℕ) (rooms : List (ℕ × ℕ)) (room : ℕ × ℕ) : Type 0 where
-  pub front : List (ℕ × ℕ)
+  pub prefix : List (ℕ × ℕ)
   pub behind : List (ℕ × ℕ)
-  pub list : rooms ≡ front ++ room ∷ behind
+  pub list : rooms ≡ prefix ++ room ∷ behind
   pub long : wish ≤ room.1
-  pub before : EachRoom (λ size. (size < wish) ⊎ (room.1 < size)) front
+  pub before : EachRoom (λ size. (size < wish) ⊎ (room.1 < size)) prefix
   pub after : EachRoom (λ size. (size < wish) ⊎ (room.1 ≤ size)) behind
 
 -- a list of files alone
@@ -35,12 +35,12 @@ AreFiles (Empty size ∷ es) = ⊥
 
 -- the lowest file with an empty directly below it, and that empty's blocks: below the empty stand only files
 pub record IsLowestAbove (es : List DirEntry) (name gap : ℕ) : Type 0 where
-  pub front : List DirEntry
+  pub prefix : List DirEntry
   pub info : List ℕ
   pub size : ℕ
   pub behind : List DirEntry
-  pub list : es ≡ front ++ Empty gap ∷ File name info size ∷ behind
-  pub files : AreFiles front
+  pub list : es ≡ prefix ++ Empty gap ∷ File name info size ∷ behind
+  pub files : AreFiles prefix
 
 -- a block lies in none of these files
 abbrev pub IsFreeBlock : ℕ → List Placed → Type 0

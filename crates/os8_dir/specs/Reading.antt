@@ -126,21 +126,21 @@ IsOfWords Device = ⊥
 IsOfWords Memory = ⊥
 
 -- the fault that a function returned is that of the reading, but a block or memory may be refused at any time
-abbrev pub Meets : {Y : Type 0} → DirFault → Result Y DirFault → Type 0
-Meets (BadLink number) read = read ≡ Err (BadLink number)
-Meets (BadCount number) read = read ≡ Err (BadCount number)
-Meets EntryPastSegment read = read ≡ Err EntryPastSegment
-Meets PastVolume read = read ≡ Err PastVolume
-Meets SameName read = read ≡ Err SameName
-Meets WrongFirstBlock read = read ≡ Err WrongFirstBlock
-Meets MixedInfo read = read ≡ Err MixedInfo
-Meets Device read = Unit {0}
-Meets Memory read = Unit {0}
+abbrev pub MeetsFault : {Y : Type 0} → DirFault → Result Y DirFault → Type 0
+MeetsFault (BadLink number) read = read ≡ Err (BadLink number)
+MeetsFault (BadCount number) read = read ≡ Err (BadCount number)
+MeetsFault EntryPastSegment read = read ≡ Err EntryPastSegment
+MeetsFault PastVolume read = read ≡ Err PastVolume
+MeetsFault SameName read = read ≡ Err SameName
+MeetsFault WrongFirstBlock read = read ≡ Err WrongFirstBlock
+MeetsFault MixedInfo read = read ≡ Err MixedInfo
+MeetsFault Device read = Unit {0}
+MeetsFault Memory read = Unit {0}
 
 -- what a function returned is what reading gives
-abbrev pub Gives : {X Y : Type 0} → (X → Y) → Result X DirFault → Result Y DirFault → Type 0
-Gives view (Ok x) read = read ≡ Ok (view x)
-Gives view (Err fault) read = Meets fault read
+abbrev pub GivesReading : {X Y : Type 0} → (X → Y) → Result X DirFault → Result Y DirFault → Type 0
+GivesReading view (Ok x) read = read ≡ Ok (view x)
+GivesReading view (Err fault) read = MeetsFault fault read
 
 -- the fault is that the device failed
 abbrev pub is_device : {X : Type 0} → Result X DirFault → Bool

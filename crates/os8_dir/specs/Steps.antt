@@ -9,7 +9,7 @@ use Rattle.os8_dir.specs.Entries.{is_zero, names_of, contains as listed}
 use Rattle.os8_dir.specs.Found.{room_of}
 use Rattle.os8_dir.specs.declared.faults.DirFault.{DirFault}
 use Rattle.os8_dir.specs.declared.faults.DirFault.TheVariants.{BadLink, BadCount, EntryPastSegment, PastVolume, SameName, WrongFirstBlock, MixedInfo, Device, Memory}
-use Rattle.os8_dir.specs.Reading.{Meets}
+use Rattle.os8_dir.specs.Reading.{MeetsFault}
 use Rattle.os8_dir.specs.Kept.{IsKept}
 use Rattle.std.specs.BTreeSet as set
 
@@ -62,7 +62,7 @@ Leaves (Err fault) new read = Finds fault read
 -- the same of a step that reads blocks
 abbrev pub LeavesRead : {X Y : Type 0} → Result X DirFault → Y → Result Y DirFault → Type 0
 LeavesRead (Ok x) new read = read ≡ Ok new
-LeavesRead (Err fault) new read = Meets fault read
+LeavesRead (Err fault) new read = MeetsFault fault read
 
 -- words are written over others from a place on
 abbrev pub written : List ℕ → ℕ → List ℕ → List ℕ

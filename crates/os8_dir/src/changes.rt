@@ -115,11 +115,11 @@ fn lowered(alloc: Global, entries: &[DirEntry], name: Name) -> Result<Vec<DirEnt
     ensures list { IfOk result (λ kept. kept.items ≡ moved_down_of name entries.now) }
     ensures err { IfErr result (λ fault. fault ≡ Memory) }
 {
-    let (front, rest) = entries.split_at(gap_place(entries, name));
+    let (prefix, rest) = entries.split_at(gap_place(entries, name));
     let (gap, rest) = rest.split_at(1);
     let (file, rest) = rest.split_at(1);
     let mut kept = Vec::new(alloc);
-    if append_all(&mut kept, front)
+    if append_all(&mut kept, prefix)
         && append_all(&mut kept, file)
         && append_all(&mut kept, gap)
         && append_all(&mut kept, rest)

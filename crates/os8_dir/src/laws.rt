@@ -121,7 +121,8 @@ pub fn file_removed()
 /// empty below it, then none has.
 pub fn file_placed()
     ensures directory { (volume name place size : ℕ) (words : List ℕ) (d : Listed) → IsDirectory volume d
-        → IsNamed name → 0 < size → IsDirectory volume (relisted d (placed d.first (new_file d name words place size) d.entries)) }
+        → IsNamed name → 0 < size
+        → IsDirectory volume (relisted d (placed d.first (new_file d name words place size) d.entries)) }
     ensures there { (first : ℕ) (f : Placed) (es : List DirEntry) → 0 < f.size
         → LieIn f.place f.size (rooms_at first es) → find f.name (files_at first (placed first f es))
         ≡ Some f }
@@ -145,7 +146,8 @@ pub fn file_moved_down()
     ensures found { (volume name : ℕ) (d : Listed) → IsDirectory volume d → 0 < gap_below name d.entries
         → (f : Placed) × ((find name (files_at d.first d.entries) ≡ Some f)
         × (gap_below name d.entries ≤ f.place)
-        × IsRoom (f.place - gap_below name d.entries) (gap_below name d.entries) (rooms_at d.first d.entries)) }
+        × IsRoom (f.place - gap_below name d.entries) (gap_below name d.entries)
+        (rooms_at d.first d.entries)) }
     ensures there { (volume name : ℕ) (d : Listed) → IsDirectory volume d → 0 < gap_below name d.entries
         → find name (files_at d.first (moved_down name d.entries))
         ≡ lowered (gap_below name d.entries) (find name (files_at d.first d.entries)) }

@@ -91,10 +91,10 @@ impl Name {
         ensures named { IfSome result IsNamed }
     {
         let (stem, rest) = text.split_at(dot_in(text));
-        let front = packed_within(stem, 6)?;
+        let prefix = packed_within(stem, 6)?;
         let behind = packed_extension(rest)?;
         Some(Name {
-            number: front * 0o10000 + behind,
+            number: prefix * 0o10000 + behind,
         })
     }
 
@@ -104,8 +104,8 @@ impl Name {
         ensures words { words_of_name result ≡ words }
     {
         let [a, b, c, d] = words;
-        let front = u64::from(a.get()) * 0o10000 + u64::from(b.get());
-        let number = (front * 0o10000 + u64::from(c.get())) * 0o10000 + u64::from(d.get());
+        let prefix = u64::from(a.get()) * 0o10000 + u64::from(b.get());
+        let number = (prefix * 0o10000 + u64::from(c.get())) * 0o10000 + u64::from(d.get());
         Name { number }
     }
 

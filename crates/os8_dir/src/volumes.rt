@@ -1,6 +1,6 @@
 ghost use Rattle.std.specs.Prelude.{◌≡◌, ℕ, ◌+◌, ◌<◌, ◌≤◌, [], ◌∷◌, length, is_ok, if◌then◌else◌, OnOk, IfOk, IfErr};
 ghost use Rattle.volume_image.specs.Volume.{counted};
-ghost use Rattle.os8_dir.specs.Reading.{Gives, word, block, directory_of, with_links, with_segment, is_device};
+ghost use Rattle.os8_dir.specs.Reading.{GivesReading, word, block, directory_of, with_links, with_segment, is_device};
 ghost use Rattle.os8_dir.specs.Reads.{judged_from, segments_judged, ReadsSegments};
 ghost use Rattle.os8_dir.specs.Found.{IsDirectory};
 ghost use Rattle.os8_dir.specs.Steps.{LeavesRead};
@@ -40,11 +40,12 @@ impl Directory {
     /// the first that has a fault (OS/8 Software Support Manual; the faults and their order are this project's profile). No block is
     /// written.
     pub fn read<S: BlockStore>(alloc: Global, store: &mut S) -> Result<Directory, DirFault>
-        ensures reading { Gives (λ d. d) result (directory_of (S.contents store.old)) }
+        ensures reading { GivesReading (λ d. d) result (directory_of (S.contents store.old)) }
         ensures directory { IfOk result (IsDirectory (length (S.contents store.old))) }
         ensures same { S.contents store.new ≡ S.contents store.old }
         ensures reads { S.reads store.new ≤ S.reads store.old + 6 }
-        ensures segments { ReadsSegments (segments_judged (S.contents store.old)) result (S.reads store.old) (S.reads store.new) }
+        ensures segments { ReadsSegments (segments_judged (S.contents store.old)) result
+            (S.reads store.old) (S.reads store.new) }
         ensures failed_reads { S.failed_reads store.new
             ≡ (if is_device result then S.failed_reads store.old + 1 else S.failed_reads store.old) }
         ensures failed_writes { S.failed_writes store.new ≡ S.failed_writes store.old }
@@ -72,7 +73,8 @@ impl Draft {
         requires volume { volume ≡ length (S.contents store.old) }
         requires most { volume ≤ 4095 }
         requires inside { number < volume }
-        ensures reading { LeavesRead result self.new (with_segment volume self.old number (block (S.contents store.old) number)) }
+        ensures reading { LeavesRead result self.new
+            (with_segment volume self.old number (block (S.contents store.old) number)) }
         ensures link { IfOk result (λ link. link ≡ word (block (S.contents store.old) number) 2) }
         ensures same { S.contents store.new ≡ S.contents store.old }
         ensures reads { S.reads store.new ≤ S.reads store.old + 1 }
@@ -99,10 +101,13 @@ impl Draft {
         requires volume { volume ≡ length (S.contents store.old) }
         requires least { 8 ≤ volume }
         requires most { volume ≤ 4095 }
-        ensures reading { LeavesRead result self.new (with_links 5 self.old (S.contents store.old) (1 ∷ []) 1 first_link) }
+        ensures reading { LeavesRead result self.new
+            (with_links 5 self.old (S.contents store.old) (1 ∷ []) 1 first_link) }
         ensures same { S.contents store.new ≡ S.contents store.old }
         ensures reads { S.reads store.new ≤ S.reads store.old + 5 }
-        ensures segments { ReadsSegments (judged_from 5 self.old (S.contents store.old) (1 ∷ []) first_link) result (S.reads store.old) (S.reads store.new) }
+        ensures segments { ReadsSegments
+            (judged_from 5 self.old (S.contents store.old) (1 ∷ []) first_link) result (S.reads store.old)
+            (S.reads store.new) }
         ensures failed_reads { S.failed_reads store.new
             ≡ (if is_device result then S.failed_reads store.old + 1 else S.failed_reads store.old) }
         ensures failed_writes { S.failed_writes store.new ≡ S.failed_writes store.old }

@@ -5,7 +5,7 @@ use Rattle.std.proofs.lemmas.Bool.Decides.{nat_tests, eqb_tells}
 use Rattle.os8_dir.specs.Entries.{contains}
 use Rattle.os8_dir.specs.Files.{Files, Held, files_of}
 use Rattle.os8_files.specs.Mounted.{Mounted}
-use Rattle.os8_files.specs.Calls.{Reads, Holds, Deletes, Enters, Writes, Closes, Squeezes}
+use Rattle.os8_files.specs.Calls.{ReadsBlock, HoldsFile, Deletes, Enters, Writes, Closes, Squeezes}
 use Rattle.os8_files.specs.Holds.{with_hold, without_hold}
 use Rattle.os8_files.specs.Laws.{KeepsHeld}
 use Rattle.os8_files.specs.declared.faults.FileFault.{FileFault}
@@ -37,7 +37,7 @@ held-other holds name q free held = elim (eqb_tells name q) [
 pub kept-with : (m : Files) (name : ℕ) (h : Held) (q : ℕ) → eqb name q ≡ false → get (insert m name h) q ≡ get m q
 kept-with m name h q other = get-with m name h q ∙ ap (λ b. cond b (Some h) (get m q)) other
 
-pub reads-keep : (old new : Mounted) (name k : ℕ) (before after : List ℕ) (result : Result (Unit {0}) FileFault) → Reads old name k before result new after → KeepsHeld old new
+pub reads-keep : (old new : Mounted) (name k : ℕ) (before after : List ℕ) (result : Result (Unit {0}) FileFault) → ReadsBlock old name k before result new after → KeepsHeld old new
 reads-keep old new name k before after (Ok done) read = same-blocks old new (ap (λ (m : Mounted). m.blocks) read.others)
 reads-keep old new name k before after (Err NotFound) read = blocks-same old new read.2
 reads-keep old new name k before after (Err Device) read = same-blocks old new (ap (λ (m : Mounted). m.blocks) read.1)
@@ -51,7 +51,7 @@ reads-keep old new name k before after (Err TentativeOpen) read = absurd read
 reads-keep old new name k before after (Err Memory) read = absurd read
 reads-keep old new name k before after (Err NothingWritten) read = absurd read
 
-pub holds-keep : (old new : Mounted) (name : ℕ) (result : Result ℕ FileFault) → Holds old name result new → KeepsHeld old new
+pub holds-keep : (old new : Mounted) (name : ℕ) (result : Result ℕ FileFault) → HoldsFile old name result new → KeepsHeld old new
 holds-keep old new name (Ok hold) held = same-blocks old new (ap (λ (m : Mounted). m.blocks) held.others)
 holds-keep old new name (Err NotFound) held = blocks-same old new held.2
 holds-keep old new name (Err Stopped) held = blocks-same old new held.1

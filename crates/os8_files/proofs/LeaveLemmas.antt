@@ -4,7 +4,7 @@ use Rattle.std.specs.Prelude.{◌⊎◌}
 use Rattle.os8_dir.specs.Reading.{directory_of}
 use Rattle.os8_files.specs.Mounted.{Mounted}
 use Rattle.os8_files.specs.Failed.{extent_or}
-use Rattle.os8_files.specs.Calls.{Reads, Holds, Enters, Writes, Closes, Deletes, Squeezes, Spent}
+use Rattle.os8_files.specs.Calls.{ReadsBlock, HoldsFile, Enters, Writes, Closes, Deletes, Squeezes, Spent}
 use Rattle.os8_files.specs.Laws.{KeepsHeld, KeepsHolds, KeepsPlaces, MovesOne, ReadsOne, ReadsLowest, extent_on}
 use Rattle.os8_files.specs.declared.faults.FileFault.{FileFault}
 use Rattle.os8_files.specs.declared.faults.FileFault.TheVariants.{NotFound, NoRoom, DirectoryFull, Busy, BadName, TooLong, TentativeOpen, Device, Stopped, Memory, NothingWritten}
@@ -58,7 +58,7 @@ All q = Unit {0}
 no-read : (old new : Mounted) → new ≡ old → Leaves old new All (ReadsOne old new)
 no-read old new is = only-reads old new All (ReadsOne old new) (ap (λ (m : Mounted). m.holds) is) (ap (λ (m : Mounted). m.stopped) is) (ap (λ (m : Mounted). m.blocks) is) (inl (ap (λ (m : Mounted). m.reads) is))
 
-pub reads-leave : (old new : Mounted) (name k : ℕ) (before after : List ℕ) (result : Result (Unit {0}) FileFault) → Reads old name k before result new after → Leaves old new All (ReadsOne old new)
+pub reads-leave : (old new : Mounted) (name k : ℕ) (before after : List ℕ) (result : Result (Unit {0}) FileFault) → ReadsBlock old name k before result new after → Leaves old new All (ReadsOne old new)
 reads-leave old new name k before after (Ok done) is = only-reads old new All (ReadsOne old new) (ap (λ (m : Mounted). m.holds) is.others) (ap (λ (m : Mounted). m.stopped) is.others) (ap (λ (m : Mounted). m.blocks) is.others) (inr (ap (λ (m : Mounted). m.reads) is.others))
 reads-leave old new name k before after (Err NotFound) is = no-read old new is.2
 reads-leave old new name k before after (Err (NoRoom n)) is = absurd is
@@ -191,7 +191,7 @@ moves-one old new (Ok Nothing) is = λ q runs. (squeezes-leave old new (Ok Nothi
 moves-one old new (Err fault) is = λ q runs. (squeezes-leave old new (Err fault) is).places q tt runs
 
 -- A hold that is taken changes no place, reads nothing and stops nothing.
-pub holds-leave : (old new : Mounted) (name : ℕ) (result : Result ℕ FileFault) → Holds old name result new → KeepsPlaces old new × (new.reads ≡ old.reads) × (new.stopped ≡ old.stopped)
+pub holds-leave : (old new : Mounted) (name : ℕ) (result : Result ℕ FileFault) → HoldsFile old name result new → KeepsPlaces old new × (new.reads ≡ old.reads) × (new.stopped ≡ old.stopped)
 holds-leave old new name (Ok hold) is = ((λ q runs. ap (λ (m : Mounted). extent_on m q) is.others), ap (λ (m : Mounted). m.reads) is.others, ap (λ (m : Mounted). m.stopped) is.others)
 holds-leave old new name (Err NotFound) is = ((λ q runs. ap (λ (m : Mounted). extent_on m q) is.2), ap (λ (m : Mounted). m.reads) is.2, ap (λ (m : Mounted). m.stopped) is.2)
 holds-leave old new name (Err (NoRoom n)) is = absurd is

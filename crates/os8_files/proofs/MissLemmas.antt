@@ -1,7 +1,7 @@
 -- What a read that fails leaves, whatever the call.
 use Rattle.std.proofs.Common.{◌≡◌, ℕ, ◌+◌, ◌<◌, List, Result, Ok, Err, ap, sym, ◌∙◌, arith, inl, inr}
 use Rattle.os8_files.specs.Mounted.{Mounted}
-use Rattle.os8_files.specs.Calls.{Reads, Squeezes, HasMissed}
+use Rattle.os8_files.specs.Calls.{ReadsBlock, Squeezes, HasMissed}
 use Rattle.os8_files.specs.declared.faults.FileFault.{FileFault}
 use Rattle.os8_files.specs.declared.faults.FileFault.TheVariants.{NotFound, NoRoom, DirectoryFull, Busy, BadName, TooLong, TentativeOpen, Device, Stopped, Memory, NothingWritten}
 use Rattle.os8_files.specs.declared.tokens.Squeezed.{Squeezed}
@@ -10,7 +10,7 @@ use Rattle.os8_files.specs.declared.tokens.Squeezed.TheVariants.{Moved, Nothing}
 none-missed : {A : Type 0} (old new : Mounted) → new.failed_reads ≡ old.failed_reads → old.failed_reads < new.failed_reads → A
 none-missed old new same more = absurd (omega (arith, same, more))
 
-pub reads-missed : (old new : Mounted) (name k : ℕ) (before after : List ℕ) (result : Result (Unit {0}) FileFault) → Reads old name k before result new after → old.failed_reads < new.failed_reads → HasMissed old new × (after ≡ before)
+pub reads-missed : (old new : Mounted) (name k : ℕ) (before after : List ℕ) (result : Result (Unit {0}) FileFault) → ReadsBlock old name k before result new after → old.failed_reads < new.failed_reads → HasMissed old new × (after ≡ before)
 reads-missed old new name k before after (Ok done) is more = none-missed old new (ap (λ (m : Mounted). m.failed_reads) is.others) more
 reads-missed old new name k before after (Err NotFound) is more = none-missed old new (ap (λ (m : Mounted). m.failed_reads) is.2) more
 reads-missed old new name k before after (Err (NoRoom n)) is more = absurd is

@@ -5,7 +5,7 @@ use Rattle.os8_dir.specs.Files.{files_of}
 use Rattle.os8_files.specs.Mounted.{Mounted}
 use Rattle.os8_files.specs.Failed.{Survives}
 use Rattle.os8_files.specs.Laws.{KeepsHeld, IsStopped}
-use Rattle.os8_files.specs.Puts.{Puts}
+use Rattle.os8_files.specs.Puts.{PutsFile}
 use Rattle.os8_files.specs.declared.faults.FileFault.{FileFault}
 use Rattle.os8_files.specs.declared.faults.FileFault.TheVariants.{NotFound, NoRoom, DirectoryFull, Busy, BadName, TooLong, TentativeOpen, Device, Stopped, Memory, NothingWritten}
 use Rattle.os8_files.proofs.LeaveLemmas.{Leaves, steady, same, broken}
@@ -13,7 +13,7 @@ use Rattle.os8_files.proofs.KeptLemmas.{same-files, has-failed, blocks-same, hel
 use Rattle.os8_files.proofs.StoppedLemmas.{running, stopped}
 use Rattle.os8_files.proofs.SurviveLemmas.{none-failed, same-failed}
 
-pub puts-leave : (old new : Mounted) (name : ℕ) (words : List ℕ) (result : Result (Unit {0}) FileFault) → Puts old name words result new → Leaves old new (λ q. name ≢ q) (new.reads ≡ old.reads)
+pub puts-leave : (old new : Mounted) (name : ℕ) (words : List ℕ) (result : Result (Unit {0}) FileFault) → PutsFile old name words result new → Leaves old new (λ q. name ≢ q) (new.reads ≡ old.reads)
 puts-leave old new name words (Ok done) is = record { holds = ap (λ (m : Mounted). m.holds) is.others; running = λ runs. is.ready.running; places = is.places; counts = ap (λ (m : Mounted). m.reads) is.others }
 puts-leave old new name words (Err NotFound) is = absurd is
 puts-leave old new name words (Err (NoRoom n)) is = same old new (λ q. name ≢ q) is.4
@@ -27,7 +27,7 @@ puts-leave old new name words (Err Stopped) is = same old new (λ q. name ≢ q)
 puts-leave old new name words (Err Memory) is = steady old new (λ q. name ≢ q) (new.reads ≡ old.reads) (ap (λ (m : Mounted). m.holds) is.2.others) (ap (λ (m : Mounted). m.stopped) is.2.others) is.2.kept.directory (ap (λ (m : Mounted). m.reads) is.2.others)
 puts-leave old new name words (Err NothingWritten) is = absurd is
 
-pub puts-keep : (old new : Mounted) (name : ℕ) (words : List ℕ) (result : Result (Unit {0}) FileFault) → Puts old name words result new → KeepsHeld old new
+pub puts-keep : (old new : Mounted) (name : ℕ) (words : List ℕ) (result : Result (Unit {0}) FileFault) → PutsFile old name words result new → KeepsHeld old new
 puts-keep old new name words (Ok done) is = λ q held runs. ap (λ m. get m q) is.files ∙ kept-with (files_of old.blocks) name _ q (held-other old.holds name q is.free held)
 puts-keep old new name words (Err NotFound) is = absurd is
 puts-keep old new name words (Err (NoRoom n)) is = blocks-same old new is.4
@@ -41,7 +41,7 @@ puts-keep old new name words (Err Stopped) is = blocks-same old new is.1
 puts-keep old new name words (Err Memory) is = same-files old new is.2.files
 puts-keep old new name words (Err NothingWritten) is = absurd is
 
-pub puts-survive : (old new : Mounted) (name : ℕ) (words : List ℕ) (result : Result (Unit {0}) FileFault) → Puts old name words result new → old.failed_writes < new.failed_writes → Survives old.blocks new.blocks
+pub puts-survive : (old new : Mounted) (name : ℕ) (words : List ℕ) (result : Result (Unit {0}) FileFault) → PutsFile old name words result new → old.failed_writes < new.failed_writes → Survives old.blocks new.blocks
 puts-survive old new name words (Ok done) is more = none-failed old new (ap (λ (m : Mounted). m.failed_writes) is.others) more
 puts-survive old new name words (Err NotFound) is more = absurd is
 puts-survive old new name words (Err (NoRoom n)) is more = same-failed old new is.4 more
@@ -58,7 +58,7 @@ puts-survive old new name words (Err Stopped) is more = same-failed old new is.1
 puts-survive old new name words (Err Memory) is more = none-failed old new (ap (λ (m : Mounted). m.failed_writes) is.2.others) more
 puts-survive old new name words (Err NothingWritten) is more = absurd is
 
-pub puts-stopped : (old new : Mounted) (name : ℕ) (words : List ℕ) (result : Result (Unit {0}) FileFault) → Puts old name words result new → IsStopped old result
+pub puts-stopped : (old new : Mounted) (name : ℕ) (words : List ℕ) (result : Result (Unit {0}) FileFault) → PutsFile old name words result new → IsStopped old result
 puts-stopped old new name words (Ok done) is = running old _ (λ e. cc) is.ready.running
 puts-stopped old new name words (Err NotFound) is = absurd is
 puts-stopped old new name words (Err (NoRoom n)) is = running old _ (λ e. cc) is.0.running

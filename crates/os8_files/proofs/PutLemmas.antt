@@ -12,7 +12,7 @@ use Rattle.os8_files.specs.Mounted.{Mounted, Begun}
 use Rattle.os8_files.specs.Failed.{KeepsDirectory, FoundAgain, StandInFull, IsWrittenInPart, extent_or, listed_or, with_list}
 use Rattle.os8_files.specs.Service.{count_of}
 use Rattle.os8_files.specs.Calls.{IsOf, IsOver, KeepsBlocks, HasWritten, HasEntered, HasFailed, Writes, Enters, Closes, HasClosed, PlaceFailed, RisesBy, info_of, new_held, entries_with, list_with, files_with, rooms_of, Spent, counted_more, differing}
-use Rattle.os8_files.specs.Puts.{HasPut, HasKept, PutFailed, Puts, plain_file, blocks_filled, all_written, entries_put, list_put}
+use Rattle.os8_files.specs.Puts.{HasPut, HasKept, PutFailed, PutsFile, plain_file, blocks_filled, all_written, entries_put, list_put}
 use Rattle.os8_files.specs.Steps.{IsBeginning, HasFilled, Fills}
 use Rattle.os8_files.specs.declared.faults.FileFault.{FileFault}
 use Rattle.os8_files.specs.declared.faults.FileFault.TheVariants.{NotFound, NoRoom, DirectoryFull, Busy, BadName, TooLong, TentativeOpen, Device, Stopped, Memory, NothingWritten}
@@ -56,10 +56,10 @@ differ-same (suc m) old mid new same =
 
 -- one block more behind some
 kept-more : (old mid new : List (List ℕ)) (place written next : ℕ) → KeepsBlocks old mid place written → KeepsBlocks mid new next 1 → next ≡ place + written → KeepsBlocks old new place (written + 1)
-kept-more old mid new place written next front more is = record {
-  count = more.count ∙ front.count;
-  first = more.first ∙ front.first;
-  behind = λ k high apart. more.behind k high (one k apart) ∙ front.behind k high (some k apart);
+kept-more old mid new place written next prefix more is = record {
+  count = more.count ∙ prefix.count;
+  first = more.first ∙ prefix.first;
+  behind = λ k high apart. more.behind k high (one k apart) ∙ prefix.behind k high (some k apart);
 }
   where
     one : (k : ℕ) → (k < place) ⊎ (place + (written + 1) ≤ k) → (k < next) ⊎ (next + 1 ≤ k)
@@ -72,10 +72,10 @@ kept-more old mid new place written next front more is = record {
 
 -- blocks that stay where none behind the directory's changes
 kept-none : (old mid new : List (List ℕ)) (place size : ℕ) → KeepsBlocks old mid place size → KeepsBlocks mid new 0 0 → KeepsBlocks old new place size
-kept-none old mid new place size front none = record {
-  count = none.count ∙ front.count;
-  first = none.first ∙ front.first;
-  behind = λ k high apart. none.behind k high (inr (omega arith)) ∙ front.behind k high apart;
+kept-none old mid new place size prefix none = record {
+  count = none.count ∙ prefix.count;
+  first = none.first ∙ prefix.first;
+  behind = λ k high apart. none.behind k high (inr (omega arith)) ∙ prefix.behind k high apart;
 }
 
 -- more blocks may differ
@@ -105,12 +105,12 @@ filled_none m token blocks b = record {
 }
 
 -- the file that is being written, after some blocks
-pub begun_now : (old : Mounted) (begun : Begun) (front : List ℕ) (written : ℕ) (mid : Mounted) → HasFilled old begun front written mid → mid.tentative ≡ Some (record { name = begun.name; place = begun.place; room = begun.room; written = written })
-begun_now old begun front written mid done = ap (λ (m : Mounted). m.tentative) done.others
+pub begun_now : (old : Mounted) (begun : Begun) (prefix : List ℕ) (written : ℕ) (mid : Mounted) → HasFilled old begun prefix written mid → mid.tentative ≡ Some (record { name = begun.name; place = begun.place; room = begun.room; written = written })
+begun_now old begun prefix written mid done = ap (λ (m : Mounted). m.tentative) done.others
 
 -- one more block
-pub filled_more : (old : Mounted) (begun : Begun) (front words : List ℕ) (written : ℕ) (mid new : Mounted) → HasFilled old begun front written mid → HasWritten mid words new → HasFilled old begun (front ++ words) (written + 1) new
-filled_more old begun front words written mid new done more = record {
+pub filled_more : (old : Mounted) (begun : Begun) (prefix words : List ℕ) (written : ℕ) (mid new : Mounted) → HasFilled old begun prefix written mid → HasWritten mid words new → HasFilled old begun (prefix ++ words) (written + 1) new
+filled_more old begun prefix words written mid new done more = record {
   was = done.was;
   text = ap (λ (b : Begun). run new.blocks b.place (b.written + 1)) (sym same) ∙ more.text ∙ ap (λ (b : Begun). run mid.blocks b.place b.written ++ words) same ∙ ap (λ l. l ++ words) done.text;
   kept = keeps-trans old.blocks mid.blocks new.blocks done.kept more.kept;
@@ -126,7 +126,7 @@ filled_more old begun front words written mid new done more = record {
 }
   where
     same : more.begun ≡ record { name = begun.name; place = begun.place; room = begun.room; written = written }
-    same = some-same _ _ (sym more.was ∙ begun_now old begun front written mid done)
+    same = some-same _ _ (sym more.was ∙ begun_now old begun prefix written mid done)
 
 -- a write failed over blocks that have the directory of the first ones
 failed-from : (old mid new : Mounted) → KeepsDirectory old.blocks mid.blocks → mid ≡ record old { blocks = mid.blocks; writes = mid.writes } → HasFailed mid new → HasFailed old new
@@ -136,15 +136,15 @@ failed-from old mid new kept is failed =
     ∙ ap (λ r. record old { blocks = new.blocks; writes = new.writes; failed_writes = old.failed_writes + 1; stopped = true; last = listed_or r }) kept.directory
 
 -- a block that was not written
-pub filled_not : (old : Mounted) (begun : Begun) (front words all : List ℕ) (written blocks : ℕ) (mid new : Mounted) (why : FileFault) → old.stopped ≡ false → HasFilled old begun front written mid → blocks ≤ begun.room → written < blocks → Writes mid words (Err why) new → Fills old all blocks (Err why) new
-filled_not old begun front words all written blocks mid new TooLong running done fits short failed = absurd (past (ap (λ (b : Begun). b.room) same) (ap (λ (b : Begun). b.written) same) failed.3)
+pub filled_not : (old : Mounted) (begun : Begun) (prefix words all : List ℕ) (written blocks : ℕ) (mid new : Mounted) (why : FileFault) → old.stopped ≡ false → HasFilled old begun prefix written mid → blocks ≤ begun.room → written < blocks → Writes mid words (Err why) new → Fills old all blocks (Err why) new
+filled_not old begun prefix words all written blocks mid new TooLong running done fits short failed = absurd (past (ap (λ (b : Begun). b.room) same) (ap (λ (b : Begun). b.written) same) failed.3)
   where
     same : failed.1 ≡ record { name = begun.name; place = begun.place; room = begun.room; written = written }
-    same = some-same _ _ (sym failed.2 ∙ begun_now old begun front written mid done)
+    same = some-same _ _ (sym failed.2 ∙ begun_now old begun prefix written mid done)
 
     past : {r w : ℕ} → r ≡ begun.room → w ≡ written → r ≤ w → ⊥
     past one two full = omega (arith, one, two, full, fits, short)
-filled_not old begun front words all written blocks mid new Device running done fits short failed = record {
+filled_not old begun prefix words all written blocks mid new Device running done fits short failed = record {
   begun = begun;
   was = done.was;
   files = record { kept = keeps-trans old.blocks mid.blocks new.blocks done.kept failed.files.kept; files = failed.files.files ∙ done.files };
@@ -155,21 +155,21 @@ filled_not old begun front words all written blocks mid new Device running done 
 }
   where
     same : failed.begun ≡ record { name = begun.name; place = begun.place; room = begun.room; written = written }
-    same = some-same _ _ (sym failed.was ∙ begun_now old begun front written mid done)
-filled_not old begun front words all written blocks mid new Stopped running done fits short failed = absurd (true≢false (sym failed.0 ∙ ap (λ (m : Mounted). m.stopped) done.others ∙ running))
-filled_not old begun front words all written blocks mid new NotFound running done fits short failed = absurd failed
-filled_not old begun front words all written blocks mid new (NoRoom n) running done fits short failed = absurd failed
-filled_not old begun front words all written blocks mid new DirectoryFull running done fits short failed = absurd failed
-filled_not old begun front words all written blocks mid new (Busy n) running done fits short failed = absurd failed
-filled_not old begun front words all written blocks mid new BadName running done fits short failed = absurd failed
-filled_not old begun front words all written blocks mid new TentativeOpen running done fits short failed = absurd failed
-filled_not old begun front words all written blocks mid new Memory running done fits short failed = absurd failed
-filled_not old begun front words all written blocks mid new NothingWritten running done fits short failed = absurd failed
+    same = some-same _ _ (sym failed.was ∙ begun_now old begun prefix written mid done)
+filled_not old begun prefix words all written blocks mid new Stopped running done fits short failed = absurd (true≢false (sym failed.0 ∙ ap (λ (m : Mounted). m.stopped) done.others ∙ running))
+filled_not old begun prefix words all written blocks mid new NotFound running done fits short failed = absurd failed
+filled_not old begun prefix words all written blocks mid new (NoRoom n) running done fits short failed = absurd failed
+filled_not old begun prefix words all written blocks mid new DirectoryFull running done fits short failed = absurd failed
+filled_not old begun prefix words all written blocks mid new (Busy n) running done fits short failed = absurd failed
+filled_not old begun prefix words all written blocks mid new BadName running done fits short failed = absurd failed
+filled_not old begun prefix words all written blocks mid new TentativeOpen running done fits short failed = absurd failed
+filled_not old begun prefix words all written blocks mid new Memory running done fits short failed = absurd failed
+filled_not old begun prefix words all written blocks mid new NothingWritten running done fits short failed = absurd failed
 
 -- ## The file is begun
 
 -- a file that could not be begun
-pub entered_not : (old new : Mounted) (name blocks : ℕ) (words : List ℕ) (why : FileFault) → IsNamed name → 0 < blocks → blocks ≡ blocks_filled words → old.tentative ≡ None → Enters old name blocks (Err why) new → Puts old name words (Err why) new
+pub entered_not : (old new : Mounted) (name blocks : ℕ) (words : List ℕ) (why : FileFault) → IsNamed name → 0 < blocks → blocks ≡ blocks_filled words → old.tentative ≡ None → Enters old name blocks (Err why) new → PutsFile old name words (Err why) new
 entered_not old new name blocks words BadName named some count none failed = absurd (unnamed (name / 68719476736) named failed.1)
   where
     unnamed : (n : ℕ) → 0 < n → n ≡ 0 → ⊥
@@ -212,7 +212,7 @@ spent-entered : (old m1 : Mounted) (name blocks token : ℕ) → HasEntered old 
 spent-entered old m1 name blocks token e = ap Spent e.others ∙ ap (λ (t : Option Begun). record old { tentative = t }) (sym e.ready.none)
 
 -- a file whose blocks were not all written is given up
-pub filled_failed : (old m1 m2 new : Mounted) (name blocks token : ℕ) (words : List ℕ) (why : FileFault) → blocks ≡ blocks_filled words → HasEntered old name blocks token m1 → Fills m1 words blocks (Err why) m2 → new ≡ Spent m2 → Puts old name words (Err why) new
+pub filled_failed : (old m1 m2 new : Mounted) (name blocks token : ℕ) (words : List ℕ) (why : FileFault) → blocks ≡ blocks_filled words → HasEntered old name blocks token m1 → Fills m1 words blocks (Err why) m2 → new ≡ Spent m2 → PutsFile old name words (Err why) new
 filled_failed old m1 m2 new name blocks token words Device count e failed is = record {
   ready = e.ready;
   free = e.free;
@@ -406,7 +406,7 @@ closed_not old m1 m2 new name blocks token words begun b count e filled was has 
     low k one few = kept.kept.segments k one (omega (arith, few, part.low))
 
 -- the file that was filled is closed
-pub closed : (old m1 m2 new : Mounted) (name blocks token : ℕ) (words : List ℕ) (begun : Begun) (r : Result (Unit {0}) FileFault) → 0 < blocks → blocks ≡ blocks_filled words → HasEntered old name blocks token m1 → HasFilled m1 begun words blocks m2 → Closes m2 name [] r new → Puts old name words r new
+pub closed : (old m1 m2 new : Mounted) (name blocks token : ℕ) (words : List ℕ) (begun : Begun) (r : Result (Unit {0}) FileFault) → 0 < blocks → blocks ≡ blocks_filled words → HasEntered old name blocks token m1 → HasFilled m1 begun words blocks m2 → Closes m2 name [] r new → PutsFile old name words r new
 closed old m1 m2 new name blocks token words begun (Ok done) some count e filled has = closed_done old m1 m2 new name blocks token words begun count e filled has
 closed old m1 m2 new name blocks token words begun (Err NothingWritten) some count e filled has = absurd (written (ap (λ (b : Begun). b.written) (some-same _ _ (sym has.1.was ∙ begun_now m1 begun words blocks m2 filled))) has.2)
   where

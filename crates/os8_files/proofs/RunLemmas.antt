@@ -43,11 +43,11 @@ with_run-sets : (blocks : List (List ℕ)) (place : ℕ) (ws : List (List ℕ)) 
 with_run-sets blocks place [] = refl
 with_run-sets blocks place (x ∷ ws) = with_run-sets (slice_set blocks place x) (suc place) ws
 
-seam : {A : Type 0} (n : ℕ) (front ws rest : List A) → length front ≡ n → take (length ws) (drop n (front ++ ws ++ rest)) ≡ ws
-seam n front ws rest long =
-    ap (λ j. take (length ws) (drop j (front ++ ws ++ rest))) (sym long)
-    ∙ ap (λ xs. take (length ws) (drop (length front) xs)) (append_assoc front ws rest)
-    ∙ ap (take (length ws)) (drop-append_seam front (ws ++ rest))
+seam : {A : Type 0} (n : ℕ) (prefix ws rest : List A) → length prefix ≡ n → take (length ws) (drop n (prefix ++ ws ++ rest)) ≡ ws
+seam n prefix ws rest long =
+    ap (λ j. take (length ws) (drop j (prefix ++ ws ++ rest))) (sym long)
+    ∙ ap (λ xs. take (length ws) (drop (length prefix) xs)) (append_assoc prefix ws rest)
+    ∙ ap (take (length ws)) (drop-append_seam prefix (ws ++ rest))
     ∙ take-append_seam ws rest
 
 pub run-written : (blocks : List (List ℕ)) (place : ℕ) (ws : List (List ℕ)) → place + length ws ≤ length blocks → run (with_run blocks place ws) place (length ws) ≡ joined ws

@@ -3,7 +3,7 @@ use Rattle.std.proofs.Common.{◌≡◌, ℕ, true, false, true≢false, List, R
 use Rattle.std.specs.Global.{Vec}
 use Rattle.os8_files.specs.Mounted.{Mounted}
 use Rattle.os8_files.specs.Laws.{IsStopped}
-use Rattle.os8_files.specs.Calls.{Reads, Lists, Holds, Enters, Writes, Closes, Deletes, Squeezes}
+use Rattle.os8_files.specs.Calls.{ReadsBlock, ListsFiles, HoldsFile, Enters, Writes, Closes, Deletes, Squeezes}
 use Rattle.os8_files.specs.declared.faults.FileFault.{FileFault}
 use Rattle.os8_files.specs.declared.faults.FileFault.TheVariants.{NotFound, NoRoom, DirectoryFull, Busy, BadName, TooLong, TentativeOpen, Device, Stopped, Memory, NothingWritten}
 use Rattle.os8_files.specs.declared.tokens.Squeezed.{Squeezed}
@@ -15,7 +15,7 @@ running old result other runs = ((λ is. absurd (other is)), (λ is. absurd (tru
 pub stopped : {A : Type 0} (old : Mounted) → old.stopped ≡ true → IsStopped {A = A} old (Err Stopped)
 stopped old is = ((λ answer. is), (λ was. refl))
 
-pub reads-stopped : (old new : Mounted) (name k : ℕ) (before after : List ℕ) (result : Result (Unit {0}) FileFault) → Reads old name k before result new after → IsStopped old result
+pub reads-stopped : (old new : Mounted) (name k : ℕ) (before after : List ℕ) (result : Result (Unit {0}) FileFault) → ReadsBlock old name k before result new after → IsStopped old result
 reads-stopped old new name k before after (Ok done) is = running old _ (λ e. cc) is.running
 reads-stopped old new name k before after (Err NotFound) is = running old _ (λ e. cc) is.0
 reads-stopped old new name k before after (Err (NoRoom n)) is = absurd is
@@ -29,7 +29,7 @@ reads-stopped old new name k before after (Err Stopped) is = stopped old is.0
 reads-stopped old new name k before after (Err Memory) is = absurd is
 reads-stopped old new name k before after (Err NothingWritten) is = absurd is
 
-pub lists-stopped : (old : Mounted) (result : Result (Vec (ℕ × ℕ)) FileFault) → Lists old result → IsStopped old result
+pub lists-stopped : (old : Mounted) (result : Result (Vec (ℕ × ℕ)) FileFault) → ListsFiles old result → IsStopped old result
 lists-stopped old (Ok list) is = running old _ (λ e. cc) is.0
 lists-stopped old (Err NotFound) is = absurd is
 lists-stopped old (Err (NoRoom n)) is = absurd is
@@ -43,7 +43,7 @@ lists-stopped old (Err Stopped) is = stopped old is
 lists-stopped old (Err Memory) is = running old _ (λ e. cc) is
 lists-stopped old (Err NothingWritten) is = absurd is
 
-pub holds-stopped : (old new : Mounted) (name : ℕ) (result : Result ℕ FileFault) → Holds old name result new → IsStopped old result
+pub holds-stopped : (old new : Mounted) (name : ℕ) (result : Result ℕ FileFault) → HoldsFile old name result new → IsStopped old result
 holds-stopped old new name (Ok hold) is = running old _ (λ e. cc) is.running
 holds-stopped old new name (Err NotFound) is = running old _ (λ e. cc) is.0
 holds-stopped old new name (Err (NoRoom n)) is = absurd is

@@ -11,7 +11,7 @@ use Rattle.os8_dir.specs.Found.{Placed, IsDirectory, files_at, find, count_files
 use Rattle.os8_dir.specs.Files.{Files, Held, files_of, held_of, run, above_of}
 use Rattle.os8_files.specs.Mounted.{Mounted}
 use Rattle.os8_files.specs.Service.{blocks_in, count_of}
-use Rattle.os8_files.specs.Calls.{Reads}
+use Rattle.os8_files.specs.Calls.{ReadsBlock}
 use Rattle.os8_files.specs.Laws.{IsHeldThrough, KeepsHolds}
 use Rattle.os8_files.proofs.BoundLemmas.{AboveIs, IsMade}
 use Rattle.os8_files.proofs.CallLemmas.{FindsFiles}
@@ -31,7 +31,7 @@ abbrev words_or : Option Held → List ℕ
 words_or None = []
 words_or (Some file) = file.1
 
-pub held-block : (name k : ℕ) (first last new : Mounted) (others : List Mounted) (before after : List ℕ) (file : Held) → IsHeldThrough name first others last → get (files_of first.blocks) name ≡ Some file → Reads last name k before (Ok tt) new after → after ≡ take 256 (drop (256 * k) file.1)
+pub held-block : (name k : ℕ) (first last new : Mounted) (others : List Mounted) (before after : List ℕ) (file : Held) → IsHeldThrough name first others last → get (files_of first.blocks) name ≡ Some file → ReadsBlock last name k before (Ok tt) new after → after ≡ take 256 (drop (256 * k) file.1)
 held-block name k first last new others before after file through there read =
     let same = held-files name first others last through read.running in
     read.block ∙ ap (λ o. take 256 (drop (256 * k) (words_or o))) (sym read.there ∙ same.1 ∙ there)

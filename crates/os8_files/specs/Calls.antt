@@ -88,19 +88,19 @@ pub record HasRead (old : Mounted) (name k : ℕ) (words : List ℕ) (new : Moun
   pub block : words ≡ take 256 (drop (256 * k) file.1)
   pub others : new ≡ record old { reads = counted old.reads }
 
-abbrev pub Reads : Mounted → ℕ → ℕ → List ℕ → Result (Unit {0}) FileFault → Mounted → List ℕ → Type 0
-Reads old name k before (Ok done) new after = HasRead old name k after new
-Reads old name k before (Err NotFound) new after = (old.stopped ≡ false) × (get (files_of old.blocks) name ≡ None) × (new ≡ old) × (after ≡ before)
-Reads old name k before (Err Device) new after = (old.stopped ≡ false) × (new ≡ record old { reads = counted old.reads; failed_reads = old.failed_reads + 1 }) × (after ≡ before)
-Reads old name k before (Err Stopped) new after = (old.stopped ≡ true) × (new ≡ old) × (after ≡ before)
-Reads old name k before (Err fault) new after = ⊥
+abbrev pub ReadsBlock : Mounted → ℕ → ℕ → List ℕ → Result (Unit {0}) FileFault → Mounted → List ℕ → Type 0
+ReadsBlock old name k before (Ok done) new after = HasRead old name k after new
+ReadsBlock old name k before (Err NotFound) new after = (old.stopped ≡ false) × (get (files_of old.blocks) name ≡ None) × (new ≡ old) × (after ≡ before)
+ReadsBlock old name k before (Err Device) new after = (old.stopped ≡ false) × (new ≡ record old { reads = counted old.reads; failed_reads = old.failed_reads + 1 }) × (after ≡ before)
+ReadsBlock old name k before (Err Stopped) new after = (old.stopped ≡ true) × (new ≡ old) × (after ≡ before)
+ReadsBlock old name k before (Err fault) new after = ⊥
 
 -- the names of the files with the blocks of each, in name order
-abbrev pub Lists : Mounted → Result (Vec (ℕ × ℕ)) FileFault → Type 0
-Lists m (Ok list) = (m.stopped ≡ false) × (list.items ≡ lengths_of (files_of m.blocks))
-Lists m (Err Stopped) = m.stopped ≡ true
-Lists m (Err Memory) = m.stopped ≡ false
-Lists m (Err fault) = ⊥
+abbrev pub ListsFiles : Mounted → Result (Vec (ℕ × ℕ)) FileFault → Type 0
+ListsFiles m (Ok list) = (m.stopped ≡ false) × (list.items ≡ lengths_of (files_of m.blocks))
+ListsFiles m (Err Stopped) = m.stopped ≡ true
+ListsFiles m (Err Memory) = m.stopped ≡ false
+ListsFiles m (Err fault) = ⊥
 
 -- one hold more of a file that is there, which has whole blocks, at least one
 pub record HasTaken (old : Mounted) (name hold : ℕ) (new : Mounted) : Type 0 where
@@ -113,12 +113,12 @@ pub record HasTaken (old : Mounted) (name hold : ℕ) (new : Mounted) : Type 0 w
   pub names : hold ≡ name
   pub others : new ≡ record old { holds = with_hold name old.holds }
 
-abbrev pub Holds : Mounted → ℕ → Result ℕ FileFault → Mounted → Type 0
-Holds old name (Ok hold) new = HasTaken old name hold new
-Holds old name (Err NotFound) new = (old.stopped ≡ false) × (get (files_of old.blocks) name ≡ None) × (new ≡ old)
-Holds old name (Err Stopped) new = HasStopped old new
-Holds old name (Err Memory) new = (old.stopped ≡ false) × IsThere old name × (new ≡ old)
-Holds old name (Err fault) new = ⊥
+abbrev pub HoldsFile : Mounted → ℕ → Result ℕ FileFault → Mounted → Type 0
+HoldsFile old name (Ok hold) new = HasTaken old name hold new
+HoldsFile old name (Err NotFound) new = (old.stopped ≡ false) × (get (files_of old.blocks) name ≡ None) × (new ≡ old)
+HoldsFile old name (Err Stopped) new = HasStopped old new
+HoldsFile old name (Err Memory) new = (old.stopped ≡ false) × IsThere old name × (new ≡ old)
+HoldsFile old name (Err fault) new = ⊥
 
 -- a call may change files: no write has failed, and no file is being written
 pub record IsReady (m : Mounted) : Type 0 where

@@ -110,19 +110,19 @@ pub record PutFailed (old : Mounted) (name : ℕ) (words : List ℕ) (new : Moun
   pub writes : RisesBy (blocks_filled words + 6) old.writes new.writes
   pub others : HasFailed old new
 
-abbrev pub Puts : Mounted → ℕ → List ℕ → Result (Unit {0}) FileFault → Mounted → Type 0
-Puts old name words (Ok done) new = HasPut old name words new
-Puts old name words (Err (Busy other)) new = IsReady old × (other ≡ name) × IsHeld old name × (new ≡ old)
-Puts old name words (Err (NoRoom largest)) new =
+abbrev pub PutsFile : Mounted → ℕ → List ℕ → Result (Unit {0}) FileFault → Mounted → Type 0
+PutsFile old name words (Ok done) new = HasPut old name words new
+PutsFile old name words (Err (Busy other)) new = IsReady old × (other ≡ name) × IsHeld old name × (new ≡ old)
+PutsFile old name words (Err (NoRoom largest)) new =
     IsReady old × IsFree old name × (largest < blocks_filled words) × IsLargest old.blocks largest × (new ≡ old)
     × (fitting (blocks_filled words) (rooms_of old.blocks) ≡ None)
-Puts old name words (Err DirectoryFull) new =
+PutsFile old name words (Err DirectoryFull) new =
     IsReady old × IsFree old name × IsOver old.blocks (insert (files_of old.blocks) name (plain_file old words))
     × HasKept old (blocks_filled words) new × HasNoEntry old.blocks name words
-Puts old name words (Err Device) new = PutFailed old name words new
-Puts old name words (Err Stopped) new = HasStopped old new
-Puts old name words (Err Memory) new = IsReady old × IsFree old name × HasKept old (blocks_filled words) new
-Puts old name words (Err fault) new = ⊥
+PutsFile old name words (Err Device) new = PutFailed old name words new
+PutsFile old name words (Err Stopped) new = HasStopped old new
+PutsFile old name words (Err Memory) new = IsReady old × IsFree old name × HasKept old (blocks_filled words) new
+PutsFile old name words (Err fault) new = ⊥
 
 -- What a refusal of words under a name tells of the blocks, beside the files: NO ROOM tells their largest empty, and DIRECTORY FULL
 -- that their list of entries would be too long with the file.

@@ -52,7 +52,9 @@ pub(crate) fn write_run<S: BlockStore>(
 ) -> Result<(), DeviceFault>
     requires { place + length run.now ≤ length (S.contents store.old) }
     ensures ok { OnOk result (S.contents store.new ≡ with_run (S.contents store.old) place run.now) }
-    ensures err { OnErr result (HasBrokenOff (S.contents store.old) place (length run.now) (S.contents store.new) (S.writes store.old) (S.writes store.new)) }
+    ensures err { OnErr result
+        (HasBrokenOff (S.contents store.old) place (length run.now) (S.contents store.new)
+        (S.writes store.old) (S.writes store.new)) }
     ensures volume { IsVolume (S.contents store.new) }
     ensures writes { OnOk result (S.writes store.new ≡ counted_more (length run.now) (S.writes store.old)) }
     ensures reads { S.reads store.new ≡ S.reads store.old }

@@ -7,8 +7,8 @@ ghost use Rattle.os8_dir.specs.Entries.{contains};
 ghost use Rattle.os8_dir.specs.Files.{Held, files_of, above_of};
 ghost use Rattle.os8_files.specs.Service.{blocks_in, count_of};
 ghost use Rattle.os8_files.specs.Mounted.{Mounted};
-ghost use Rattle.os8_files.specs.Calls.{Reads, Lists, Holds, Deletes, Enters, Writes, Closes, Squeezes, Spent, HasMissed};
-ghost use Rattle.os8_files.specs.Puts.{Puts};
+ghost use Rattle.os8_files.specs.Calls.{ReadsBlock, ListsFiles, HoldsFile, Deletes, Enters, Writes, Closes, Squeezes, Spent, HasMissed};
+ghost use Rattle.os8_files.specs.Puts.{PutsFile};
 ghost use Rattle.os8_files.specs.Holds.{with_hold, without_hold, times};
 ghost use Rattle.os8_files.specs.Failed.{KeepsDirectory, Survives};
 ghost use Rattle.os8_files.specs.Laws.{KeepsHeld, KeepsHolds, IsHeldThrough, KeepsPlaces, KeepsOtherPlaces, MovesOne, ReadsOne, ReadsLowest, IsStopped};
@@ -22,8 +22,11 @@ use os8_dir::laws::{
 
 /// A file that is held keeps its words through every call, whatever is answered, until a write fails.
 pub fn held_files()
-    ensures read_block { (old new : Mounted) (name k : ℕ) (before after : List ℕ) (result : Result (Unit {0}) FileFault) → Reads old name k before result new after → KeepsHeld old new }
-    ensures hold { (old new : Mounted) (name : ℕ) (result : Result ℕ FileFault) → Holds old name result new
+    ensures read_block { (old new : Mounted) (name k : ℕ) (before after : List ℕ)
+        (result : Result (Unit {0}) FileFault) → ReadsBlock old name k before result new after
+        → KeepsHeld old new }
+    ensures hold { (old new : Mounted) (name : ℕ) (result : Result ℕ FileFault)
+        → HoldsFile old name result new
         → KeepsHeld old new }
     ensures enter { (old new : Mounted) (name wish : ℕ) (result : Result ℕ FileFault)
         → Enters old name wish result new → KeepsHeld old new }
@@ -32,7 +35,7 @@ pub fn held_files()
     ensures close { (old new : Mounted) (name : ℕ) (info : List ℕ) (result : Result (Unit {0}) FileFault)
         → Closes old name info result new → KeepsHeld old new }
     ensures put { (old new : Mounted) (name : ℕ) (words : List ℕ) (result : Result (Unit {0}) FileFault)
-        → Puts old name words result new → KeepsHeld old new }
+        → PutsFile old name words result new → KeepsHeld old new }
     ensures delete { (old new : Mounted) (name : ℕ) (result : Result (Unit {0}) FileFault)
         → Deletes old name result new → KeepsHeld old new }
     ensures squeeze_turn { (old new : Mounted) (result : Result Squeezed FileFault) → Squeezes old result new
@@ -44,14 +47,20 @@ pub fn held_files()
 
 /// Block k of a file that stays held is block k of the same words at each later call, wherever the file lies by then.
 pub fn held_blocks()
-    ensures { (name k : ℕ) (first last new : Mounted) (others : List Mounted) (before after : List ℕ) (file : Held) → IsHeldThrough name first others last → get (files_of first.blocks) name ≡ Some file → Reads last name k before (Ok tt) new after → after ≡ take 256 (drop (256 * k) file.1) }
+    ensures { (name k : ℕ) (first last new : Mounted) (others : List Mounted) (before after : List ℕ)
+        (file : Held) → IsHeldThrough name first others last
+        → get (files_of first.blocks) name ≡ Some file → ReadsBlock last name k before (Ok tt) new after
+        → after ≡ take 256 (drop (256 * k) file.1) }
 {}
 
 /// Calls that speak of no hold take and release none, and behind them files that are held have their words; so behind two
 /// such calls. None of them, and no hold that is taken, lets a service go on that has stopped.
 pub fn kept_holds()
-    ensures read_block { (old new : Mounted) (name k : ℕ) (before after : List ℕ) (result : Result (Unit {0}) FileFault) → Reads old name k before result new after → KeepsHolds old new }
-    ensures hold { (old new : Mounted) (name : ℕ) (result : Result ℕ FileFault) → Holds old name result new
+    ensures read_block { (old new : Mounted) (name k : ℕ) (before after : List ℕ)
+        (result : Result (Unit {0}) FileFault) → ReadsBlock old name k before result new after
+        → KeepsHolds old new }
+    ensures hold { (old new : Mounted) (name : ℕ) (result : Result ℕ FileFault)
+        → HoldsFile old name result new
         → new.stopped ≡ old.stopped }
     ensures enter { (old new : Mounted) (name wish : ℕ) (result : Result ℕ FileFault)
         → Enters old name wish result new → KeepsHolds old new }
@@ -60,7 +69,7 @@ pub fn kept_holds()
     ensures close { (old new : Mounted) (name : ℕ) (info : List ℕ) (result : Result (Unit {0}) FileFault)
         → Closes old name info result new → KeepsHolds old new }
     ensures put { (old new : Mounted) (name : ℕ) (words : List ℕ) (result : Result (Unit {0}) FileFault)
-        → Puts old name words result new → KeepsHolds old new }
+        → PutsFile old name words result new → KeepsHolds old new }
     ensures give_up { (old : Mounted) → KeepsHolds old (Spent old) }
     ensures delete { (old new : Mounted) (name : ℕ) (result : Result (Unit {0}) FileFault)
         → Deletes old name result new → KeepsHolds old new }
@@ -89,8 +98,11 @@ pub fn counted_holds()
 /// Of all calls only a turn of squeezing changes the place of a file that it neither writes nor deletes, and of one file at
 /// most, the one that it answers.
 pub fn file_places()
-    ensures read_block { (old new : Mounted) (name k : ℕ) (before after : List ℕ) (result : Result (Unit {0}) FileFault) → Reads old name k before result new after → KeepsPlaces old new }
-    ensures hold { (old new : Mounted) (name : ℕ) (result : Result ℕ FileFault) → Holds old name result new
+    ensures read_block { (old new : Mounted) (name k : ℕ) (before after : List ℕ)
+        (result : Result (Unit {0}) FileFault) → ReadsBlock old name k before result new after
+        → KeepsPlaces old new }
+    ensures hold { (old new : Mounted) (name : ℕ) (result : Result ℕ FileFault)
+        → HoldsFile old name result new
         → KeepsPlaces old new }
     ensures release { (old : Mounted) (hold : ℕ)
         → KeepsPlaces old (record old { holds = without_hold hold old.holds }) }
@@ -101,7 +113,7 @@ pub fn file_places()
     ensures close { (old new : Mounted) (name : ℕ) (info : List ℕ) (result : Result (Unit {0}) FileFault)
         → Closes old name info result new → KeepsOtherPlaces name old new }
     ensures put { (old new : Mounted) (name : ℕ) (words : List ℕ) (result : Result (Unit {0}) FileFault)
-        → Puts old name words result new → KeepsOtherPlaces name old new }
+        → PutsFile old name words result new → KeepsOtherPlaces name old new }
     ensures give_up { (old : Mounted) → KeepsPlaces old (Spent old) }
     ensures delete { (old new : Mounted) (name : ℕ) (result : Result (Unit {0}) FileFault)
         → Deletes old name result new → KeepsOtherPlaces name old new }
@@ -112,8 +124,11 @@ pub fn file_places()
 /// Which calls of a mounted volume read: `read_block` one block at most, and `squeeze_turn` each block of the file that it is to
 /// move at most once. The others read none.
 pub fn block_reads()
-    ensures read_block { (old new : Mounted) (name k : ℕ) (before after : List ℕ) (result : Result (Unit {0}) FileFault) → Reads old name k before result new after → ReadsOne old new }
-    ensures hold { (old new : Mounted) (name : ℕ) (result : Result ℕ FileFault) → Holds old name result new
+    ensures read_block { (old new : Mounted) (name k : ℕ) (before after : List ℕ)
+        (result : Result (Unit {0}) FileFault) → ReadsBlock old name k before result new after
+        → ReadsOne old new }
+    ensures hold { (old new : Mounted) (name : ℕ) (result : Result ℕ FileFault)
+        → HoldsFile old name result new
         → new.reads ≡ old.reads }
     ensures enter { (old new : Mounted) (name wish : ℕ) (result : Result ℕ FileFault)
         → Enters old name wish result new → new.reads ≡ old.reads }
@@ -122,7 +137,7 @@ pub fn block_reads()
     ensures close { (old new : Mounted) (name : ℕ) (info : List ℕ) (result : Result (Unit {0}) FileFault)
         → Closes old name info result new → new.reads ≡ old.reads }
     ensures put { (old new : Mounted) (name : ℕ) (words : List ℕ) (result : Result (Unit {0}) FileFault)
-        → Puts old name words result new → new.reads ≡ old.reads }
+        → PutsFile old name words result new → new.reads ≡ old.reads }
     ensures delete { (old new : Mounted) (name : ℕ) (result : Result (Unit {0}) FileFault)
         → Deletes old name result new → new.reads ≡ old.reads }
     ensures squeeze_turn { (old new : Mounted) (result : Result Squeezed FileFault) → Squeezes old result new
@@ -157,7 +172,9 @@ pub fn files_above()
 
 /// What a read that fails leaves: nothing is changed but the two counts of reads.
 pub fn failed_reads()
-    ensures read_block { (old new : Mounted) (name k : ℕ) (before after : List ℕ) (result : Result (Unit {0}) FileFault) → Reads old name k before result new after → old.failed_reads < new.failed_reads → HasMissed old new × (after ≡ before) }
+    ensures read_block { (old new : Mounted) (name k : ℕ) (before after : List ℕ)
+        (result : Result (Unit {0}) FileFault) → ReadsBlock old name k before result new after
+        → old.failed_reads < new.failed_reads → HasMissed old new × (after ≡ before) }
     ensures squeeze_turn { (old new : Mounted) (result : Result Squeezed FileFault) → Squeezes old result new
         → old.failed_reads < new.failed_reads → HasMissed old new }
 {}
@@ -174,7 +191,7 @@ pub fn failed_writes()
         → Closes old name info result new → old.failed_writes < new.failed_writes
         → Survives old.blocks new.blocks }
     ensures put { (old new : Mounted) (name : ℕ) (words : List ℕ) (result : Result (Unit {0}) FileFault)
-        → Puts old name words result new → old.failed_writes < new.failed_writes
+        → PutsFile old name words result new → old.failed_writes < new.failed_writes
         → Survives old.blocks new.blocks }
     ensures delete { (old new : Mounted) (name : ℕ) (result : Result (Unit {0}) FileFault)
         → Deletes old name result new → old.failed_writes < new.failed_writes
@@ -187,10 +204,13 @@ pub fn failed_writes()
 
 /// Each call that can answer a `FileFault` answers `Stopped` just where a write has failed before.
 pub fn stopped_calls()
-    ensures read_block { (old new : Mounted) (name k : ℕ) (before after : List ℕ) (result : Result (Unit {0}) FileFault) → Reads old name k before result new after → IsStopped old result }
-    ensures listing { (old : Mounted) (result : Result (Vec (ℕ × ℕ)) FileFault) → Lists old result
+    ensures read_block { (old new : Mounted) (name k : ℕ) (before after : List ℕ)
+        (result : Result (Unit {0}) FileFault) → ReadsBlock old name k before result new after
         → IsStopped old result }
-    ensures hold { (old new : Mounted) (name : ℕ) (result : Result ℕ FileFault) → Holds old name result new
+    ensures listing { (old : Mounted) (result : Result (Vec (ℕ × ℕ)) FileFault) → ListsFiles old result
+        → IsStopped old result }
+    ensures hold { (old new : Mounted) (name : ℕ) (result : Result ℕ FileFault)
+        → HoldsFile old name result new
         → IsStopped old result }
     ensures enter { (old new : Mounted) (name wish : ℕ) (result : Result ℕ FileFault)
         → Enters old name wish result new → IsStopped old result }
@@ -199,7 +219,7 @@ pub fn stopped_calls()
     ensures close { (old new : Mounted) (name : ℕ) (info : List ℕ) (result : Result (Unit {0}) FileFault)
         → Closes old name info result new → IsStopped old result }
     ensures put { (old new : Mounted) (name : ℕ) (words : List ℕ) (result : Result (Unit {0}) FileFault)
-        → Puts old name words result new → IsStopped old result }
+        → PutsFile old name words result new → IsStopped old result }
     ensures delete { (old new : Mounted) (name : ℕ) (result : Result (Unit {0}) FileFault)
         → Deletes old name result new → IsStopped old result }
     ensures squeeze_turn { (old new : Mounted) (result : Result Squeezed FileFault) → Squeezes old result new

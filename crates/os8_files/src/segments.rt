@@ -63,7 +63,9 @@ pub(crate) fn write_segments<S: BlockStore>(
         ≡ with_segments (segment_count directory.now) directory.now (S.contents store.old)) }
     ensures kept { OnOk result (AreSegments (S.contents store.new) kept.new) }
     ensures err { OnErr result (KeepsHigh (S.contents store.old) (S.contents store.new)) }
-    ensures part { OnErr result (StopsInPart (S.contents store.old) (S.contents store.new) directory.now (S.writes store.old) (S.writes store.new)) }
+    ensures part { OnErr result
+        (StopsInPart (S.contents store.old) (S.contents store.new) directory.now (S.writes store.old)
+        (S.writes store.new)) }
     ensures few { segment_count directory.now ≤ 6 }
     ensures volume { IsVolume (S.contents store.new) }
     ensures writes { OnOk result (S.writes store.new

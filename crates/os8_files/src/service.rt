@@ -1,6 +1,6 @@
 ghost use Rattle.std.specs.Prelude.{◌≡◌, ℕ, ◌+◌, ◌<◌, ◌≤◌, ◌↔◌, List, [], true, false, Option, Some, None, Ok, IfOk, IfErr, OnErr};
 ghost use Rattle.std.specs.FinMap.{get};
-ghost use Rattle.os8_dir.specs.Reading.{Sound, HasFault, Meets, directory_of};
+ghost use Rattle.os8_dir.specs.Reading.{Sound, HasFault, MeetsFault, directory_of};
 ghost use Rattle.std.specs.Option.{is_some};
 ghost use Rattle.os8_dir.specs.Found.{free_blocks, count_files};
 ghost use Rattle.os8_dir.specs.Files.{files_of, capacity_of, above_of};
@@ -8,7 +8,7 @@ ghost use Rattle.os8_dir.specs.declared.faults.DirFault.TheVariants.{Device};
 ghost use Rattle.os8_files.specs.Service.{blocks_of, used_of, count_of};
 ghost use Rattle.os8_files.specs.Failed.{size_in};
 ghost use Rattle.os8_files.specs.Holds.{without_hold};
-ghost use Rattle.os8_files.specs.Calls.{Reads, Lists, Holds, IsLonger};
+ghost use Rattle.os8_files.specs.Calls.{ReadsBlock, ListsFiles, HoldsFile, IsLonger};
 ghost use Rattle.os8_dir.specs.Entries.{Listed, contains};
 
 use crate::begun::Begun;
@@ -74,7 +74,7 @@ impl<S: BlockStore> FileService<S> {
         ensures no_write { IfErr result (λ e. S.writes e.0 ≡ S.writes store) }
         ensures handed_back { IfErr result (λ e. (S.contents e.0 ≡ S.contents store)
             × (S.reads e.0 ≤ S.reads store + 12) × (S.failed_writes e.0 ≡ S.failed_writes store)) }
-        ensures fault { IfErr result (λ e. Meets e.1 (directory_of (S.contents store))) }
+        ensures fault { IfErr result (λ e. MeetsFault e.1 (directory_of (S.contents store))) }
         ensures device { IfErr result (λ e. (e.1 ≡ Device) ↔ (S.failed_reads store < S.failed_reads e.0)) }
     {
         let _blocks = store.blocks();
@@ -171,7 +171,7 @@ impl<S: BlockStore> FileService<S> {
 
     /// The names of the files in name order, each with its length in blocks.
     pub fn listing(&self, alloc: Global) -> Result<Vec<(Name, usize)>, FileFault>
-        ensures { Lists self.now result }
+        ensures { ListsFiles self.now result }
     {
         if self.stopped {
             return Err(FileFault::Stopped);
@@ -195,7 +195,7 @@ impl<S: BlockStore> FileService<S> {
     /// file has the name it is `NotFound`, and a read that fails is `Device`.
     pub fn read_block(&mut self, name: &Name, k: usize, words: &mut Block) -> Result<(), FileFault>
         requires { IsLonger self.old name.now k }
-        ensures { Reads self.old name.now k words.old result self.new words.new }
+        ensures { ReadsBlock self.old name.now k words.old result self.new words.new }
     {
         if self.stopped {
             return Err(FileFault::Stopped);
@@ -215,7 +215,7 @@ impl<S: BlockStore> FileService<S> {
     /// Holds a file, so that it is neither replaced nor deleted; it may be held more than once. Where no file has the
     /// name it is `NotFound`.
     pub fn hold(&mut self, name: &Name) -> Result<Hold, FileFault>
-        ensures { Holds self.old name.now result self.new }
+        ensures { HoldsFile self.old name.now result self.new }
     {
         if self.stopped {
             return Err(FileFault::Stopped);

@@ -14,7 +14,7 @@ use Rattle.pal_asm.specs.Expressions.{Known}
 use Rattle.pal_asm.specs.Places.{Source, is_word, sets_location, words_since, set_by, with_tags, with_body, is_among, is_fixed, fixed_at, last_setting, values, place_at, values_at, field_by}
 use Rattle.pal_asm.specs.Faults.{first_of, tags_fault, body_fault, statement_fault, at_line}
 use Rattle.pal_asm.specs.Progress.{Progress}
-use Rattle.pal_asm.specs.PassSteps.{place_by, spot_by, AreDefined, PassesBody, IsRead, Reads, fault_by_table, tagged, tagged_fixed}
+use Rattle.pal_asm.specs.PassSteps.{place_by, spot_by, AreDefined, PassesBody, IsRead, ReadsStatement, fault_by_table, tagged, tagged_fixed}
 use Rattle.pal_asm.specs.Passes.{IsFirst, AnswersFirst}
 
 place_step : (known : Known) (body : Body) (setting words : ℕ)
@@ -44,7 +44,7 @@ body_left tags body spot old middle defined =
 
 -- the tags and then the body
 pub tags_then_body : (tags : List ℕ) (body : Body) (spot : Spot) (old middle new : SymbolTable) (result : Result Spot Code)
-    → AreDefined tags spot.location old middle → PassesBody body spot middle new result → Reads tags body spot old new result
+    → AreDefined tags spot.location old middle → PassesBody body spot middle new result → ReadsStatement tags body spot old new result
 tags_then_body tags body spot old middle new (Ok next) defined passed =
     let same : symbol_value middle ≡ tagged tags spot.location old = fun_ext defined.values in
     record {

@@ -110,7 +110,7 @@ first_failed before text rest others (At code line) old new assembler after join
     let goes = byte_goes before text s.here (behind_one rest) (get_or rest 0 0) others old law clear none (with_byte s.here rest text long s.whole) may passes.1 in
     ap first_order goes.1 ∙ first_stays goes.0 (statements (get_or rest 0 0 ∷ s.here ++ before)) (At code line) passes.0
 first_failed before text rest others Memory old new assembler after joins law clear long s may passes = record {
-  front = s.here ++ before;
+  prefix = s.here ++ before;
   behind = so_far before text s.here rest others joins clear (no_lex_fault (statements (s.here ++ before)) s.first.no_fault) s.whole;
   no_fault = s.first.no_fault;
 }
@@ -152,7 +152,7 @@ second_failed before text rest others (At code line) old new pairs after assembl
     let goes = split_byte before text rest others old pairs assembler law clear long s may makes.1 in
     ap (words_fault (values whole)) goes.1 ∙ words_stay (values whole) goes.0 (statements (get_or rest 0 0 ∷ s.here ++ before)) (At code line) makes.0
 second_failed before text rest others Memory old new pairs after assembler moved joins law clear long s may makes = record {
-  front = s.here ++ before;
+  prefix = s.here ++ before;
   behind = so_far before text s.here rest others joins clear (no_lex_fault (statements (s.here ++ before)) s.made.2) s.split;
   no_fault = makes;
 }

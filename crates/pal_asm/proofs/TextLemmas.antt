@@ -4,7 +4,7 @@ use Rattle.pal_lex.specs.Text.{ends_statement, stretch, line_after, text_from}
 use Rattle.pal_lex.specs.Statements.{statements, first_fault, first_of as lex_first_of, with_stretch, judged, radix_after}
 use Rattle.pal_lex.specs.Joins.{pauses}
 use Rattle.pal_lex.specs.Laws.{PauseIsBad}
-use Rattle.pal_lex.specs.Reading.{HasRead, Pauses, HandsOut, Tells, Answers, Ends, ReadsOn, tokens_behind, with_tokens}
+use Rattle.pal_lex.specs.Reading.{HasRead, Pauses, HandsOut, TellsFault, Answers, Ends, ReadsOn, tokens_behind, with_tokens}
 use Rattle.pal_lex.specs.Progress as lex
 use Rattle.pal_lex.specs.declared.faults.LexFault.{LexFault}
 use Rattle.pal_lex.specs.declared.faults.LexFault.TheVariants as fault
@@ -124,7 +124,7 @@ no_pause old text b bad before none = and_false old.may_pause (pauses text b) (�
     by_test false e = refl
 
 -- what the first pass answers for a fault of the lexer
-first_tells : (seam : ℕ) (text : List ℕ) (b : ℕ) (f : LexFault) (old new : lex.Progress) → Tells seam text b f old new → first_order (statements text) ≡ None
+first_tells : (seam : ℕ) (text : List ℕ) (b : ℕ) (f : LexFault) (old new : lex.Progress) → TellsFault seam text b f old new → first_order (statements text) ≡ None
     → (first_order (statements (b ∷ text)) ≡ Some (lexical f)) × (ends_source old text b ≡ false)
 first_tells seam text b f old new tells none =
     (lex_told text b f none tells.0, and_false old.may_pause (pauses text b) (tells.1 (no_lex_fault (statements text) none)))
@@ -152,7 +152,7 @@ end_lexical text (fault.NE line) answer e ends none =
 end_lexical text fault.Memory answer e ends none = absurd ends
 
 -- what the second pass answers for a fault of the lexer, which the first pass didn't meet
-second_tells : {A : Type 0} (whole : Source) (seam : ℕ) (text : List ℕ) (b : ℕ) (f : LexFault) (old new : lex.Progress) → Tells seam text b f old new
+second_tells : {A : Type 0} (whole : Source) (seam : ℕ) (text : List ℕ) (b : ℕ) (f : LexFault) (old new : lex.Progress) → TellsFault seam text b f old new
     → (ends_source old text b ≡ false → Behind whole (statements (b ∷ text))) → first_order whole ≡ None → first_order (statements text) ≡ None → A
 second_tells whole seam text b f old new tells split none before =
     let behind = split (and_false old.may_pause (pauses text b) (tells.1 (no_lex_fault (statements text) before))) in

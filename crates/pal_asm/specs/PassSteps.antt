@@ -36,9 +36,9 @@ spot_by known body spot = record {
 }
 
 -- a value, or the fault that refuses it
-abbrev pub Gives : Option ℕ → Option Code → Result ℕ Code → Type 0
-Gives value fault (Ok found) = (value ≡ Some found) × (fault ≡ None)
-Gives value fault (Err code) = fault ≡ Some code
+abbrev pub GivesValue : Option ℕ → Option Code → Result ℕ Code → Type 0
+GivesValue value fault (Ok found) = (value ≡ Some found) × (fault ≡ None)
+GivesValue value fault (Err code) = fault ≡ Some code
 
 -- the spot behind a body, or the fault that refuses it
 abbrev pub Moves : Spot → Option Code → Result Spot Code → Type 0
@@ -96,9 +96,9 @@ pub record IsRead (tags : List ℕ) (body : Body) (spot : Spot) (old new : Symbo
   pub fixed : (n : ℕ) → fixed_in new n ≡ tagged_fixed tags old n
   pub moved : next ≡ spot_by (tagged tags spot.location old) body spot
 
-abbrev pub Reads : List ℕ → Body → Spot → SymbolTable → SymbolTable → Result Spot Code → Type 0
-Reads tags body spot old new (Ok next) = IsRead tags body spot old new next
-Reads tags body spot old new (Err code) = fault_by_table tags body spot.location old ≡ Some code
+abbrev pub ReadsStatement : List ℕ → Body → Spot → SymbolTable → SymbolTable → Result Spot Code → Type 0
+ReadsStatement tags body spot old new (Ok next) = IsRead tags body spot old new next
+ReadsStatement tags body spot old new (Err code) = fault_by_table tags body spot.location old ≡ Some code
 
 -- what keeps an assembler from going on behind a body, where each name may be defined again
 abbrev pub spot_fault : Known → ℕ → Body → Option Code
@@ -157,6 +157,6 @@ pub record IsMade (known : Known) (new : SymbolTable) (spot next : Spot) (body :
   pub handed : pair ≡ pair_at spot (body_word known spot.location body)
   pub values : (n : ℕ) → symbol_value new n ≡ with_body_again known spot.location body n
 
-abbrev pub Makes : Known → SymbolTable → Spot → Body → Result (Spot × Option (ℕ × ℕ)) Code → Type 0
-Makes known new spot body (Ok made) = IsMade known new spot made.0 body made.1
-Makes known new spot body (Err code) = first_of (word_fault known spot.location body) (spot_fault known spot.location body) ≡ Some code
+abbrev pub MakesBody : Known → SymbolTable → Spot → Body → Result (Spot × Option (ℕ × ℕ)) Code → Type 0
+MakesBody known new spot body (Ok made) = IsMade known new spot made.0 body made.1
+MakesBody known new spot body (Err code) = first_of (word_fault known spot.location body) (spot_fault known spot.location body) ≡ Some code

@@ -22,15 +22,15 @@ Behind whole older = (later : Source) × (whole ≡ later ++ older)
 
 -- The first pass wanted memory behind these bytes, and none of their statements has a fault that it tells.
 pub record RanOut (whole : Source) : Type 0 where
-  pub front : List ℕ
-  pub behind : Behind whole (statements front)
-  pub no_fault : first_order (statements front) ≡ None
+  pub prefix : List ℕ
+  pub behind : Behind whole (statements prefix)
+  pub no_fault : first_order (statements prefix) ≡ None
 
 -- The second pass wanted memory behind these bytes, and none of their words has a fault.
 pub record RanOutAgain (whole : Source) : Type 0 where
-  pub front : List ℕ
-  pub behind : Behind whole (statements front)
-  pub no_fault : words_fault (values whole) (statements front) ≡ None
+  pub prefix : List ℕ
+  pub behind : Behind whole (statements prefix)
+  pub no_fault : words_fault (values whole) (statements prefix) ≡ None
 
 -- One of the two passes wanted memory. The second is made only of a text with its `$` and a word, none of whose statements
 -- has a fault that the first one tells.

@@ -3,7 +3,7 @@
 ghost use Rattle.std.specs.Prelude.{◌≡◌, ℕ, ◌+◌, ◌<◌, ◌≤◌, Option, Some, None, IfOk, OnOk};
 ghost use Rattle.pal_sym.specs.Values.{symbol_value};
 ghost use Rattle.pal_lex.specs.declared.phrases.Body.{Body};
-ghost use Rattle.pal_asm.specs.PassSteps.{Moves, Makes, SetsValue, spot_by, spot_fault, with_tags_again, with_body_again};
+ghost use Rattle.pal_asm.specs.PassSteps.{Moves, MakesBody, SetsValue, spot_by, spot_fault, with_tags_again, with_body_again};
 
 use crate::Code;
 use crate::expressions::value_of;
@@ -36,7 +36,8 @@ fn set_value(symbols: &mut Symbols, location: u16, name: Name, parts: &[Part]) -
 
 /// The spot behind a body, in the second pass, which sets names again.
 fn moved(symbols: &mut Symbols, spot: Spot, body: &Body) -> Result<Spot, Code>
-    ensures spot { Moves (spot_by (symbol_value symbols.old) body.now spot) (spot_fault (symbol_value symbols.old) spot.location body.now) result }
+    ensures spot { Moves (spot_by (symbol_value symbols.old) body.now spot)
+        (spot_fault (symbol_value symbols.old) spot.location body.now) result }
     ensures values { OnOk result ((n : ℕ) → symbol_value symbols.new n
         ≡ with_body_again (symbol_value symbols.old) spot.location body.now n) }
     ensures field { spot.field < 8 → IfOk result (λ s. s.field < 8) }
@@ -60,7 +61,7 @@ pub fn made(
     body: &Body,
 ) -> Result<(Spot, Option<(Cell, Word)>), Code>
     requires { spot.field < 8 }
-    ensures made { Makes (symbol_value symbols.old) symbols.new spot body.now result }
+    ensures made { MakesBody (symbol_value symbols.old) symbols.new spot body.now result }
     ensures field { IfOk result (λ made. made.0.field < 8) }
 {
     let word = word_of(symbols, spot.location, body)?;

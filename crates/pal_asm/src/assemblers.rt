@@ -5,7 +5,7 @@ ghost use Rattle.pal_lex.specs.Reading.{with_tokens, is_pause_body};
 ghost use Rattle.pal_asm.specs.declared.faults.AsmFault.TheVariants.{At};
 ghost use Rattle.pal_asm.specs.Places.{Source};
 ghost use Rattle.pal_asm.specs.Faults.{past};
-ghost use Rattle.pal_asm.specs.PassSteps.{Moves, Makes, spot_by, spot_fault, with_tags_again, with_body_again, SetsValue};
+ghost use Rattle.pal_asm.specs.PassSteps.{Moves, MakesBody, spot_by, spot_fault, with_tags_again, with_body_again, SetsValue};
 ghost use Rattle.pal_asm.specs.Passes.{IsFirst, IsSecond, AnswersFirst, IsJudged, AnswersSecond, TurnsOver, HasTurned, HasNotTurned, StaysFailed};
 
 use crate::again::{made, set_tags};
@@ -81,7 +81,8 @@ impl Assembler {
     /// taken.
     pub fn first(&mut self, statement: &Statement) -> Result<(), AsmFault>
         ensures answers { (older : Source) (tokens : List Token) → is_pause_body statement.now.body ≡ false
-            → IsFirst self.old older → AnswersFirst older (with_tokens tokens statement.now) result self.old self.new }
+            → IsFirst self.old older → AnswersFirst older (with_tokens tokens statement.now) result
+            self.old self.new }
         ensures judged { (older : Source) → IsFirst self.old older → IsJudged older statement.now result }
         ensures paused { (older : Source) → is_pause_body statement.now.body ≡ true → IsFirst self.old older
             → (result ≡ Ok tt) × (self.new ≡ self.old) }

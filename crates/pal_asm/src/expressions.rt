@@ -2,7 +2,7 @@ ghost use Rattle.std.specs.Prelude.{◌≡◌, ◌<◌, IfOk};
 ghost use Rattle.pal_sym.specs.Values.{symbol_value};
 ghost use Rattle.pal_asm.specs.Expressions.{term_value, value_of, joined, address_value};
 ghost use Rattle.pal_asm.specs.Faults.{undefined, past, term_fault, terms_fault, address_fault};
-ghost use Rattle.pal_asm.specs.PassSteps.{Gives};
+ghost use Rattle.pal_asm.specs.PassSteps.{GivesValue};
 
 use crate::Code;
 use pal_lex::{Expression, Joint, Name, Part, Term};
@@ -11,7 +11,8 @@ use word12::Word;
 
 /// The value of a name.
 fn name_value(symbols: &Symbols, name: Name) -> Result<Word, Code>
-    ensures value { Gives (symbol_value symbols.now name) (undefined (symbol_value symbols.now name)) result }
+    ensures value { GivesValue (symbol_value symbols.now name) (undefined (symbol_value symbols.now name))
+        result }
     ensures range { IfOk result (λ word. word < 0o10000) }
 {
     match symbols.value(SymbolName::numbered(name.number())) {
@@ -25,7 +26,7 @@ fn name_value(symbols: &Symbols, name: Name) -> Result<Word, Code>
 
 /// The place as a word.
 pub fn place_value(location: u16) -> Result<Word, Code>
-    ensures value { Gives (Some location) (past location) result }
+    ensures value { GivesValue (Some location) (past location) result }
     ensures range { IfOk result (λ word. word < 0o10000) }
 {
     match Word::new(location) {
@@ -39,7 +40,8 @@ pub fn place_value(location: u16) -> Result<Word, Code>
 
 /// The value of a term at a place.
 fn term_value(symbols: &Symbols, location: u16, term: Term) -> Result<Word, Code>
-    ensures value { Gives (term_value (symbol_value symbols.now) location term) (term_fault (symbol_value symbols.now) location term) result }
+    ensures value { GivesValue (term_value (symbol_value symbols.now) location term)
+        (term_fault (symbol_value symbols.now) location term) result }
     ensures range { IfOk result (λ word. word < 0o10000) }
 {
     match term {
@@ -66,7 +68,8 @@ fn joined(joint: Joint, before: Word, value: Word) -> Word
 
 /// The value of an expression at a place, from left to right.
 pub fn value_of(symbols: &Symbols, location: u16, parts: &[Part]) -> Result<Word, Code>
-    ensures value { Gives (value_of (symbol_value symbols.now) location parts.now) (terms_fault (symbol_value symbols.now) location parts.now) result }
+    ensures value { GivesValue (value_of (symbol_value symbols.now) location parts.now)
+        (terms_fault (symbol_value symbols.now) location parts.now) result }
     ensures range { IfOk result (λ word. word < 0o10000) }
 {
     let mut rest = parts;
@@ -84,7 +87,8 @@ pub fn address_value(
     location: u16,
     address: &Option<Expression>,
 ) -> Result<Word, Code>
-    ensures value { Gives (address_value (symbol_value symbols.now) location address.now) (address_fault (symbol_value symbols.now) location address.now) result }
+    ensures value { GivesValue (address_value (symbol_value symbols.now) location address.now)
+        (address_fault (symbol_value symbols.now) location address.now) result }
     ensures range { IfOk result (λ word. word < 0o10000) }
 {
     match address {

@@ -3,7 +3,7 @@ ghost use Rattle.pal_sym.specs.Values.{symbol_value};
 ghost use Rattle.pal_lex.specs.declared.phrases.Body.{Body};
 ghost use Rattle.pal_asm.specs.Passes.{definitions};
 ghost use Rattle.pal_asm.specs.Faults.{tags_fault};
-ghost use Rattle.pal_asm.specs.PassSteps.{tag_fault, Judges, DefinesTags, PassesBody, Reads};
+ghost use Rattle.pal_asm.specs.PassSteps.{tag_fault, Judges, DefinesTags, PassesBody, ReadsStatement};
 
 use crate::Code;
 use crate::expressions::{place_value, value_of};
@@ -95,7 +95,7 @@ fn pass_body(symbols: &mut Symbols, spot: Spot, body: &Body) -> Result<Spot, Cod
 /// Passes a statement in the first pass: its tags, then its body.
 pub fn pass(symbols: &mut Symbols, spot: Spot, tags: &[Name], body: &Body) -> Result<Spot, Code>
     requires { length tags.now + definitions body.now ≤ symbols.old.room }
-    ensures { Reads tags.now body.now spot symbols.old symbols.new result }
+    ensures { ReadsStatement tags.now body.now spot symbols.old symbols.new result }
 {
     define_tags(symbols, tags, spot.location)?;
     pass_body(symbols, spot, body)

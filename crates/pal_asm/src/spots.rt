@@ -37,7 +37,8 @@ pub fn first_spot() -> Spot
 
 /// The spot behind an origin.
 pub fn origin(symbols: &Symbols, spot: Spot, parts: &[Part]) -> Result<Spot, Code>
-    ensures spot { Moves (spot_by (symbol_value symbols.now) (Body.Origin parts.now) spot) (spot_fault (symbol_value symbols.now) spot.location (Body.Origin parts.now)) result }
+    ensures spot { Moves (spot_by (symbol_value symbols.now) (Body.Origin parts.now) spot)
+        (spot_fault (symbol_value symbols.now) spot.location (Body.Origin parts.now)) result }
     ensures field { IfOk result (λ s. s.field ≡ spot.field) }
 {
     let place = value_of(symbols, spot.location, parts)?;
@@ -50,7 +51,8 @@ pub fn origin(symbols: &Symbols, spot: Spot, parts: &[Part]) -> Result<Spot, Cod
 
 /// The spot behind a `FIELD`.
 pub fn field(symbols: &Symbols, spot: Spot, parts: &[Part]) -> Result<Spot, Code>
-    ensures spot { Moves (spot_by (symbol_value symbols.now) (Body.Field parts.now) spot) (spot_fault (symbol_value symbols.now) spot.location (Body.Field parts.now)) result }
+    ensures spot { Moves (spot_by (symbol_value symbols.now) (Body.Field parts.now) spot)
+        (spot_fault (symbol_value symbols.now) spot.location (Body.Field parts.now)) result }
     ensures field { IfOk result (λ s. s.field < 8) }
 {
     let number = value_of(symbols, spot.location, parts)?.get();
@@ -66,7 +68,8 @@ pub fn field(symbols: &Symbols, spot: Spot, parts: &[Part]) -> Result<Spot, Code
 
 /// The spot behind a word.
 pub fn behind_word(spot: Spot) -> Result<Spot, Code>
-    ensures spot { Moves (record { location = spot.location + 1; field = spot.field; word = true }) (past spot.location) result }
+    ensures spot { Moves (record { location = spot.location + 1; field = spot.field; word = true })
+        (past spot.location) result }
     ensures field { IfOk result (λ s. s.field ≡ spot.field) }
 {
     let place = place_value(spot.location)?;

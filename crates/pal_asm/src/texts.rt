@@ -103,7 +103,8 @@ fn ended(lexer: &Lexer) -> Result<(), AsmFault>
 /// Takes a statement more in the first pass, and answers whether the source goes on.
 fn first_statement(assembler: &mut Assembler, statement: &Statement) -> Result<bool, AsmFault>
     ensures { (older : Source) (tokens : List Token) → IsFirst assembler.old older
-        → PassesStatement (is_pause_body statement.now.body) older (with_tokens tokens statement.now) result assembler.old assembler.new }
+        → PassesStatement (is_pause_body statement.now.body) older (with_tokens tokens statement.now)
+        result assembler.old assembler.new }
 {
     if is_pause(statement) {
         return Ok(false);
@@ -199,7 +200,8 @@ fn second_statement(
         → (is_pause_body statement.now.body ≡ false
         → Behind whole (Ok (with_tokens tokens statement.now) ∷ older))
         → HasMade whole older pairs.old.items assembler.old
-        → MakesStatement (is_pause_body statement.now.body) whole older (with_tokens tokens statement.now) result pairs.new.items assembler.new }
+        → MakesStatement (is_pause_body statement.now.body) whole older (with_tokens tokens statement.now)
+        result pairs.new.items assembler.new }
 {
     if is_pause(statement) {
         return Ok(false);

@@ -2,7 +2,7 @@ ghost use Rattle.std.specs.Prelude.{◌≡◌, ◌<◌, IfOk, IfSome};
 ghost use Rattle.pal_sym.specs.Values.{symbol_value};
 ghost use Rattle.pal_asm.specs.Words.{offset_of, body_word};
 ghost use Rattle.pal_asm.specs.Faults.{word_fault};
-ghost use Rattle.pal_asm.specs.PassSteps.{Gives, MakesWord};
+ghost use Rattle.pal_asm.specs.PassSteps.{GivesValue, MakesWord};
 ghost use Rattle.pal_lex.specs.declared.phrases.Body.{Body};
 
 use crate::Code;
@@ -39,7 +39,10 @@ pub fn reference_word(
     indirect: bool,
     address: &Option<Expression>,
 ) -> Result<Word, Code>
-    ensures value { Gives (body_word (symbol_value symbols.now) location (Body.Reference operation indirect address.now)) (word_fault (symbol_value symbols.now) location (Body.Reference operation indirect address.now)) result }
+    ensures value { GivesValue
+        (body_word (symbol_value symbols.now) location (Body.Reference operation indirect address.now))
+        (word_fault (symbol_value symbols.now) location (Body.Reference operation indirect address.now))
+        result }
     ensures range { IfOk result (λ word. word < 0o10000) }
 {
     let address = address_value(symbols, location, address)?;
@@ -54,7 +57,8 @@ pub fn reference_word(
 
 /// The word of a body at a place, if it is one.
 pub fn word_of(symbols: &Symbols, location: u16, body: &Body) -> Result<Option<Word>, Code>
-    ensures value { MakesWord (body_word (symbol_value symbols.now) location body.now) (word_fault (symbol_value symbols.now) location body.now) result }
+    ensures value { MakesWord (body_word (symbol_value symbols.now) location body.now)
+        (word_fault (symbol_value symbols.now) location body.now) result }
     ensures range { IfOk result (λ word. IfSome word (λ w. w < 0o10000)) }
 {
     match body {

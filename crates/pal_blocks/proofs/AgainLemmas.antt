@@ -21,7 +21,7 @@ use Rattle.pal_blocks.specs.Blocks.{blocks_in, blocks_among, first_blocks, AreFi
 use Rattle.pal_blocks.specs.Sources.{newest_first, IsTapeOfSources}
 use Rattle.pal_blocks.specs.Schedule.{statements_in, joined_blocks, from_turn, known_at}
 use Rattle.pal_blocks.specs.Passing.{text_in, added, IsOver, IsMade}
-use Rattle.pal_blocks.specs.Steps.{Tells, IsWithin, HasMade, MakesBlock, EndsSource, HoldsTape}
+use Rattle.pal_blocks.specs.Steps.{TellsJoinFault, IsWithin, HasMade, MakesBlock, EndsSource, HoldsTape}
 use Rattle.pal_blocks.specs.Progress.{due_of, block_of, Place, GoesOn, IsInPass, IsSecondPass, IsAtEnd, IsAssembling}
 use Rattle.pal_blocks.specs.Turns.{TakesBlock, MakesTarget}
 use Rattle.pal_blocks.proofs.BeginLemmas.{as_many}
@@ -31,8 +31,8 @@ use Rattle.pal_blocks.proofs.TurnLemmas.{the_second, due_block, block_inside, mo
 
 abbrev pub MakesClause : Pass → List (ℕ × ℕ) → List ℕ → ℕ → ℕ → Result (Unit {0}) AsmFault → Pass → List (ℕ × ℕ) → Type 0
 MakesClause old pairs block offset offset' result new pairs' =
-    (whole : Source) (front given : List ℕ) (several : Bool) → HasMade whole old pairs front several (text_from (text_in given) (take offset (added given block))) (is_ended given)
-    → IsWithin whole front several (text_in (given ++ frames block)) → MakesBlock whole front several given block offset' result new pairs'
+    (whole : Source) (prefix given : List ℕ) (several : Bool) → HasMade whole old pairs prefix several (text_from (text_in given) (take offset (added given block))) (is_ended given)
+    → IsWithin whole prefix several (text_in (given ++ frames block)) → MakesBlock whole prefix several given block offset' result new pairs'
 
 abbrev pub SkipsClause : Pass → Vec (ℕ × ℕ) → Result (Unit {0}) AsmFault → Pass → Vec (ℕ × ℕ) → Type 0
 SkipsClause old pairs result new pairs' = old.ended ≡ true → (result ≡ Ok tt) × (new ≡ old) × (pairs' ≡ pairs)
@@ -188,22 +188,22 @@ second_not chars law sources left it block offset pass pairs f is more again thi
     fine : (first_order (Whole sources) ≡ None) × (no_word (Whole sources) ≡ None)
     fine = some_second sources it left second law chars is.files
 
-    by_fault : (g : AsmFault) (front : List ℕ) → GoesOn sources (blocks_among second.place.before) (second.place.words ∷ second.place.others) front
-        → MakesBlock (Whole sources) front (has_next second.place.others) given block offset (Err g) pass pairs.items → TakesBlock sources left (Err g) new
-    by_fault (At code line) front goes tells =
+    by_fault : (g : AsmFault) (prefix : List ℕ) → GoesOn sources (blocks_among second.place.before) (second.place.words ∷ second.place.others) prefix
+        → MakesBlock (Whole sources) prefix (has_next second.place.others) given block offset (Err g) pass pairs.items → TakesBlock sources left (Err g) new
+    by_fault (At code line) prefix goes tells =
         takes_fault sources left (blocks_among sources + (blocks_among second.place.before + (it.block + 1))) (At code line) new (turn_again (blocks_among sources) (blocks_among second.place.before) it.block left second.turns) is.none (λ e. other e)
         (known_later sources (blocks_among second.place.before + (it.block + 1)) (Some (At code line)) is.files fine.0 second.ends
-        (ap (λ o. first_of o (no_word (Whole sources))) (told_in (words_fault (values (Whole sources))) sources second.place.before second.place.words second.place.others front (it.block + 1) (At code line) goes here)))
+        (ap (λ o. first_of o (no_word (Whole sources))) (told_in (words_fault (values (Whole sources))) sources second.place.before second.place.words second.place.others prefix (it.block + 1) (At code line) goes here)))
         (fault_all (newest_first sources) (Some (At code line)) fine.0 second.ends
         (ap (λ o. first_of o (no_word (Whole sources)))
-        (told_whole chars (words_fault (values (Whole sources))) sources second.place.before second.place.words second.place.others front (it.block + 1) (At code line) is.files second.place.split (block_inside sources it.source it.block second.place is.files) goes here)))
+        (told_whole chars (words_fault (values (Whole sources))) sources second.place.before second.place.words second.place.others prefix (it.block + 1) (At code line) is.files second.place.split (block_inside sources it.source it.block second.place is.files) goes here)))
       where
         other : At code line ≡ Memory → ⊥
         other e = cc
 
-        here : Tells (words_fault (values (Whole sources))) front (has_next second.place.others) (text_in (frames (first_blocks (it.block + 1) second.place.words))) (At code line)
-        here = subst (λ l. Tells (words_fault (values (Whole sources))) front (has_next second.place.others) (text_in l) (At code line)) (more_frames sources it second.place block is.files this) tells
-    by_fault Memory front goes has = record {
+        here : TellsJoinFault (words_fault (values (Whole sources))) prefix (has_next second.place.others) (text_in (frames (first_blocks (it.block + 1) second.place.words))) (At code line)
+        here = subst (λ l. TellsJoinFault (words_fault (values (Whole sources))) prefix (has_next second.place.others) (text_in l) (At code line)) (more_frames sources it second.place block is.files this) tells
+    by_fault Memory prefix goes has = record {
       files = is.files;
       each = is.each;
       more = is.more;
@@ -213,7 +213,7 @@ second_not chars law sources left it block offset pass pairs f is more again thi
         ends = second.ends;
         place = second.place;
         turns = second.turns;
-        pass = inl (front, goes, subst (λ b. HasMade (Whole sources) pass pairs.items front (has_next second.place.others) (text_from (text_in given) (take offset (added given b))) (is_ended given)) (due_block sources it second.place block this) has);
+        pass = inl (prefix, goes, subst (λ b. HasMade (Whole sources) pass pairs.items prefix (has_next second.place.others) (text_from (text_in given) (take offset (added given b))) (is_ended given)) (due_block sources it second.place block this) has);
       }));
     }
 

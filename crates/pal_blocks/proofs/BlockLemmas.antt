@@ -17,7 +17,7 @@ use Rattle.pal_asm.specs.declared.faults.AsmFault.{AsmFault}
 use Rattle.pal_asm.specs.declared.faults.AsmFault.TheVariants.{At, Memory}
 use Rattle.pal_blocks.specs.declared.passing.Pass.{Pass}
 use Rattle.pal_blocks.specs.Passing.{text_in, added, Counts, Paused, Stands, IsBehind}
-use Rattle.pal_blocks.specs.Steps.{Tells, HasPassed, Settles, PassesTo, PassesBlock}
+use Rattle.pal_blocks.specs.Steps.{TellsJoinFault, HasPassed, Settles, PassesTo, PassesBlock}
 use Rattle.pal_blocks.proofs.TextLemmas.{JoinedCharacters, JoinedEnd, block_text, the_rest, all_taken}
 use Rattle.pal_blocks.proofs.PassLemmas.{paused_more, settled_by, not_settled, settle_tells}
 
@@ -26,13 +26,13 @@ pub all_added : (given block text : List ℕ) → is_ended given ≡ false → t
 all_added given block text not is = ap (λ b. if b then [] else characters (frames block)) not ∙ sym is
 
 -- a block is read from a place on
-pub begins_block : (lexer : lex.Progress) (ended : Bool) (front : List ℕ) (several : Bool) (given block text : List ℕ) (offset : ℕ) (Fits : Source → Type 0) → ended ≡ false → text ≡ characters (frames block)
-    → Stands lexer ended front several (text_from (text_in given) (take offset (added given block))) (is_ended given) Fits
-    → (is_ended given ≡ false) × Stands lexer ended front several (text_from (text_in given) (take offset text)) false Fits
-begins_block lexer ended front several given block text offset Fits going is stands = elim stands [
+pub begins_block : (lexer : lex.Progress) (ended : Bool) (prefix : List ℕ) (several : Bool) (given block text : List ℕ) (offset : ℕ) (Fits : Source → Type 0) → ended ≡ false → text ≡ characters (frames block)
+    → Stands lexer ended prefix several (text_from (text_in given) (take offset (added given block))) (is_ended given) Fits
+    → (is_ended given ≡ false) × Stands lexer ended prefix several (text_from (text_in given) (take offset text)) false Fits
+begins_block lexer ended prefix several given block text offset Fits going is stands = elim stands [
   | inl counts ↦
       let not = sym counts.0 ∙ going in
-      (not, inl (going, subst (λ l. Counts lexer front several (text_from (text_in given) (take offset l)) Fits) (all_added given block text not is) counts.1))
+      (not, inl (going, subst (λ l. Counts lexer prefix several (text_from (text_in given) (take offset l)) Fits) (all_added given block text not is) counts.1))
   | inr paused ↦ absurd (true≢false (sym paused.0 ∙ going))
 ]
 
@@ -45,15 +45,15 @@ either_way true = refl
 either_way false = refl
 
 -- a block was read to its end
-pub ends_block : JoinedCharacters → JoinedEnd → (lexer : lex.Progress) (ended : Bool) (front : List ℕ) (several : Bool) (given block text : List ℕ) (offset : ℕ) (last : Bool) (Fits : Source → Type 0) → is_ended given ≡ false
+pub ends_block : JoinedCharacters → JoinedEnd → (lexer : lex.Progress) (ended : Bool) (prefix : List ℕ) (several : Bool) (given block text : List ℕ) (offset : ℕ) (last : Bool) (Fits : Source → Type 0) → is_ended given ≡ false
     → text ≡ characters (frames block) → length text ≤ offset → is_ended (frames block) ≡ last
-    → Stands lexer ended front several (text_from (text_in given) (take offset text)) false Fits
-    → Stands lexer (if last then true else ended) front several (text_in (given ++ frames block)) (is_ended (given ++ frames block)) Fits
-ends_block chars ends lexer ended front several given block text offset last Fits not is long at_end stands = elim stands [
+    → Stands lexer ended prefix several (text_from (text_in given) (take offset text)) false Fits
+    → Stands lexer (if last then true else ended) prefix several (text_in (given ++ frames block)) (is_ended (given ++ frames block)) Fits
+ends_block chars ends lexer ended prefix several given block text offset last Fits not is long at_end stands = elim stands [
   | inl counts ↦
-      inl (ap (λ e. if last then true else e) counts.0 ∙ whether last ∙ sym ended_is, subst (λ t. Counts lexer front several t Fits) (sym text_is) counts.1)
+      inl (ap (λ e. if last then true else e) counts.0 ∙ whether last ∙ sym ended_is, subst (λ t. Counts lexer prefix several t Fits) (sym text_is) counts.1)
   | inr paused ↦
-      inr (ap (λ e. if last then true else e) paused.0 ∙ either_way last, subst (λ t. Paused lexer front several t Fits) (sym text_is) paused.1)
+      inr (ap (λ e. if last then true else e) paused.0 ∙ either_way last, subst (λ t. Paused lexer prefix several t Fits) (sym text_is) paused.1)
 ]
   where
     ended_is : is_ended (given ++ frames block) ≡ last
@@ -63,21 +63,21 @@ ends_block chars ends lexer ended front several given block text offset last Fit
     text_is = block_text chars given block ∙ ap (text_from (text_in given)) (all_added given block text not is) ∙ sym (all_taken (text_in given) text offset long)
 
 -- nothing more of the source is read
-pub skips_block : JoinedCharacters → JoinedEnd → (lexer : lex.Progress) (ended : Bool) (front : List ℕ) (several : Bool) (given block : List ℕ) (offset : ℕ) (Fits : Source → Type 0) → ended ≡ true
-    → Stands lexer ended front several (text_from (text_in given) (take offset (added given block))) (is_ended given) Fits
-    → Stands lexer ended front several (text_in (given ++ frames block)) (is_ended (given ++ frames block)) Fits
-skips_block chars ends lexer ended front several given block offset Fits done stands = elim stands [
+pub skips_block : JoinedCharacters → JoinedEnd → (lexer : lex.Progress) (ended : Bool) (prefix : List ℕ) (several : Bool) (given block : List ℕ) (offset : ℕ) (Fits : Source → Type 0) → ended ≡ true
+    → Stands lexer ended prefix several (text_from (text_in given) (take offset (added given block))) (is_ended given) Fits
+    → Stands lexer ended prefix several (text_in (given ++ frames block)) (is_ended (given ++ frames block)) Fits
+skips_block chars ends lexer ended prefix several given block offset Fits done stands = elim stands [
   | inl counts ↦
       let last = sym counts.0 ∙ done in
       inl (
         done ∙ sym (ends given (frames block) ∙ ap (λ b. if b then true else is_ended (frames block)) last),
-        subst (λ t. Counts lexer front several t Fits) (all_taken (text_in given) (added given block) offset (nothing last) ∙ sym (block_text chars given block)) counts.1,
+        subst (λ t. Counts lexer prefix several t Fits) (all_taken (text_in given) (added given block) offset (nothing last) ∙ sym (block_text chars given block)) counts.1,
       )
   | inr paused ↦
       inr (
         paused.0,
-        subst (λ t. Paused lexer front several t Fits) (sym (block_text chars given block ∙ the_rest (text_in given) (added given block) offset))
-            (paused_more lexer front several (text_from (text_in given) (take offset (added given block))) (drop offset (added given block)) Fits paused.1),
+        subst (λ t. Paused lexer prefix several t Fits) (sym (block_text chars given block ∙ the_rest (text_in given) (added given block) offset))
+            (paused_more lexer prefix several (text_from (text_in given) (take offset (added given block))) (drop offset (added given block)) Fits paused.1),
       )
 ]
   where
@@ -110,24 +110,24 @@ statement_refused s new pass source f is answers behind =
     by_fault Memory told = ap (λ (a : asm.Progress). record { lexer = pass.lexer; assembler = a; waiting = pass.waiting; ended = pass.ended }) told.0
 
 -- a block behind the end of what is read of a source
-pub block_skipped : JoinedCharacters → JoinedEnd → JoinGoesOn → StatementsStay → (pass new : Pass) (front : List ℕ) (several : Bool) (given block : List ℕ) (offset : ℕ) (r : Result (Unit {0}) AsmFault) → pass.ended ≡ true
+pub block_skipped : JoinedCharacters → JoinedEnd → JoinGoesOn → StatementsStay → (pass new : Pass) (prefix : List ℕ) (several : Bool) (given block : List ℕ) (offset : ℕ) (r : Result (Unit {0}) AsmFault) → pass.ended ≡ true
     → ((source : Source) → IsBehind pass.waiting pass.assembler source → Settles source r pass new) → (r ≡ Ok tt → new.waiting ≡ None)
-    → HasPassed pass front several (text_from (text_in given) (take offset (added given block))) (is_ended given) → PassesBlock front several given block offset r new
-block_skipped chars ends goes stay pass new front several given block offset (Ok tt) done settles none has = (
-  settled_by pass new front several (text_in (given ++ frames block)) (is_ended (given ++ frames block)) settles
-      (skips_block chars ends pass.lexer pass.ended front several given block offset (λ s. IsBehind pass.waiting pass.assembler s) done has),
+    → HasPassed pass prefix several (text_from (text_in given) (take offset (added given block))) (is_ended given) → PassesBlock prefix several given block offset r new
+block_skipped chars ends goes stay pass new prefix several given block offset (Ok tt) done settles none has = (
+  settled_by pass new prefix several (text_in (given ++ frames block)) (is_ended (given ++ frames block)) settles
+      (skips_block chars ends pass.lexer pass.ended prefix several given block offset (λ s. IsBehind pass.waiting pass.assembler s) done has),
   none refl,
 )
-block_skipped chars ends goes stay pass new front several given block offset (Err Memory) done settles none has = not_settled pass new front several _ (is_ended given) settles has
-block_skipped chars ends goes stay pass new front several given block offset (Err (At code line)) done settles none has =
-    settle_tells goes stay pass new front several (text_in (given ++ frames block)) (is_ended (given ++ frames block)) (At code line) settles
-    (skips_block chars ends pass.lexer pass.ended front several given block offset (λ s. IsBehind pass.waiting pass.assembler s) done has)
+block_skipped chars ends goes stay pass new prefix several given block offset (Err Memory) done settles none has = not_settled pass new prefix several _ (is_ended given) settles has
+block_skipped chars ends goes stay pass new prefix several given block offset (Err (At code line)) done settles none has =
+    settle_tells goes stay pass new prefix several (text_in (given ++ frames block)) (is_ended (given ++ frames block)) (At code line) settles
+    (skips_block chars ends pass.lexer pass.ended prefix several given block offset (λ s. IsBehind pass.waiting pass.assembler s) done has)
 
 -- characters of a block were refused, or memory ran out
-pub block_refused : JoinedCharacters → (front : List ℕ) (several : Bool) (given block text : List ℕ) (offset : ℕ) (new : Pass) (f : AsmFault) → is_ended given ≡ false → text ≡ characters (frames block)
-    → PassesTo front several (text_in given) text offset (Err f) new → PassesBlock front several given block offset (Err f) new
-block_refused chars front several given block text offset new (At code line) not is tells =
-    subst (λ t. Tells first_order front several t (At code line)) (sym (block_text chars given block ∙ ap (text_from (text_in given)) (all_added given block text not is))) tells
-block_refused chars front several given block text offset new Memory not is has =
-    subst (λ b. HasPassed new front several (text_from (text_in given) (take offset (added given block))) b) (sym not)
-    (subst (λ l. HasPassed new front several (text_from (text_in given) (take offset l)) false) (sym (all_added given block text not is)) has)
+pub block_refused : JoinedCharacters → (prefix : List ℕ) (several : Bool) (given block text : List ℕ) (offset : ℕ) (new : Pass) (f : AsmFault) → is_ended given ≡ false → text ≡ characters (frames block)
+    → PassesTo prefix several (text_in given) text offset (Err f) new → PassesBlock prefix several given block offset (Err f) new
+block_refused chars prefix several given block text offset new (At code line) not is tells =
+    subst (λ t. TellsJoinFault first_order prefix several t (At code line)) (sym (block_text chars given block ∙ ap (text_from (text_in given)) (all_added given block text not is))) tells
+block_refused chars prefix several given block text offset new Memory not is has =
+    subst (λ b. HasPassed new prefix several (text_from (text_in given) (take offset (added given block))) b) (sym not)
+    (subst (λ l. HasPassed new prefix several (text_from (text_in given) (take offset l)) false) (sym (all_added given block text not is)) has)

@@ -6,7 +6,7 @@ use Rattle.pal_lex.specs.Text.{text_from}
 use Rattle.pal_lex.specs.Statements.{statements, first_fault}
 use Rattle.pal_lex.specs.Joins.{pauses, join_of}
 use Rattle.pal_lex.specs.Laws.{ByteGoesOn, PauseJoins, PauseIsBad}
-use Rattle.pal_lex.specs.Reading.{HasRead, HasPaused, Answers, HandsOut, Tells as LexTells, is_pause_body, with_tokens, tokens_behind}
+use Rattle.pal_lex.specs.Reading.{HasRead, HasPaused, Answers, HandsOut, TellsFault as LexTells, is_pause_body, with_tokens, tokens_behind}
 use Rattle.pal_lex.specs.Progress as lex
 use Rattle.pal_lex.specs.Progress.{setting}
 use Rattle.pal_lex.specs.declared.faults.LexFault.{LexFault}
@@ -24,7 +24,7 @@ use Rattle.pal_asm.specs.declared.faults.AsmFault.{AsmFault}
 use Rattle.pal_asm.specs.declared.faults.AsmFault.TheVariants.{At, Memory}
 use Rattle.pal_blocks.specs.declared.passing.Pass.{Pass}
 use Rattle.pal_blocks.specs.Passing.{text_in, added, Counts, IsMade}
-use Rattle.pal_blocks.specs.Steps.{Tells, Behind, IsWithin, HasMade, MakesStatement, MakesSome, MakesAnswer, MakesByte, MakesTo, MakesBlock}
+use Rattle.pal_blocks.specs.Steps.{TellsJoinFault, Behind, IsWithin, HasMade, MakesStatement, MakesSome, MakesAnswer, MakesByte, MakesTo, MakesBlock}
 use Rattle.pal_blocks.proofs.TextLemmas.{JoinedCharacters, from_behind, the_rest, one_more, block_text}
 use Rattle.pal_blocks.proofs.PassLemmas.{Stays, IsNothing, same_answer, not_ok, tells_more, counts_more, pauses_here, paused_byte, goes_on_by}
 use Rattle.pal_blocks.proofs.BlockLemmas.{all_added}
@@ -80,10 +80,10 @@ answer_refused answer s f pass new pairs is other seconds =
 -- ## A character
 
 -- a text of a source with a byte more is in the whole
-pub behind_here : ByteGoesOn → (whole : Source) (front here : List ℕ) (b : ℕ) (several : Bool) (lexer : lex.Progress) (Fits : Source → Type 0) → Counts lexer front several here Fits → (lexer.may_pause ≡ true → pauses (here ++ front) b ≡ false)
-    → IsWithin whole front several (b ∷ here) → Behind whole (statements (b ∷ here ++ front))
-behind_here goes whole front here b several lexer Fits counts quiet within =
-    let more = goes_on_by goes front here within.0 b within.1.0 several lexer Fits counts within.1.1.0 quiet in
+pub behind_here : ByteGoesOn → (whole : Source) (prefix here : List ℕ) (b : ℕ) (several : Bool) (lexer : lex.Progress) (Fits : Source → Type 0) → Counts lexer prefix several here Fits → (lexer.may_pause ≡ true → pauses (here ++ prefix) b ≡ false)
+    → IsWithin whole prefix several (b ∷ here) → Behind whole (statements (b ∷ here ++ prefix))
+behind_here goes whole prefix here b several lexer Fits counts quiet within =
+    let more = goes_on_by goes prefix here within.0 b within.1.0 several lexer Fits counts within.1.1.0 quiet in
     (more.0, within.1.1.1 ∙ more.1)
 
 -- a byte that ends a statement without fault doesn't end PAUSE
@@ -97,141 +97,141 @@ quiet_at bad text b before none = by_test (pauses text b) refl
 abbrev Fitting : Source → Pass → List (ℕ × ℕ) → Source → Type 0
 Fitting whole pass pairs s = IsMade whole pass pairs s
 
-pub made_byte : PauseJoins → ByteGoesOn → PauseIsBad → (whole : Source) (pass new : Pass) (pairs pairs2 : List (ℕ × ℕ)) (lexer : lex.Progress) (answer : Option Statement) (result : Result (Unit {0}) AsmFault) (front : List ℕ) (several : Bool) (here : List ℕ) (b : ℕ)
+pub made_byte : PauseJoins → ByteGoesOn → PauseIsBad → (whole : Source) (pass new : Pass) (pairs pairs2 : List (ℕ × ℕ)) (lexer : lex.Progress) (answer : Option Statement) (result : Result (Unit {0}) AsmFault) (prefix : List ℕ) (several : Bool) (here : List ℕ) (b : ℕ)
     → ((seam : ℕ) (text : List ℕ) → HasRead pass.lexer seam text → Answers seam text b (Ok answer) pass.lexer lexer)
     → ((text : List ℕ) → HasPaused pass.lexer text → IsNothing (Ok answer) × (lexer ≡ pass.lexer))
     → setting lexer ≡ setting pass.lexer
     → MakesAnswer answer result (record { lexer = lexer; assembler = pass.assembler; waiting = pass.waiting; ended = pass.ended }) pairs new pairs2
-    → HasMade whole pass pairs front several here false → IsWithin whole front several (b ∷ here) → MakesByte whole front several here b result new pairs2
-made_byte joins goes bad whole pass new pairs pairs2 lexer answer result front several here b answers paused same makes has within = elim has [
-  | inl counts ↦ by_answer answer makes counts.0 counts.1 (answers (length front) (here ++ front) counts.1.read)
+    → HasMade whole pass pairs prefix several here false → IsWithin whole prefix several (b ∷ here) → MakesByte whole prefix several here b result new pairs2
+made_byte joins goes bad whole pass new pairs pairs2 lexer answer result prefix several here b answers paused same makes has within = elim has [
+  | inl counts ↦ by_answer answer makes counts.0 counts.1 (answers (length prefix) (here ++ prefix) counts.1.read)
   | inr p ↦
       let is = paused p.1.cut p.1.paused in
       let made : MakesAnswer None result now pairs new pairs2 = subst (λ a. MakesAnswer a result now pairs new pairs2) (same_answer answer is.0) makes in
-      all_same made.0 made.1 made.2 (inr (p.0, paused_byte pass.lexer lexer front several here b (λ q. IsMade whole pass pairs q) p.1 is.1))
+      all_same made.0 made.1 made.2 (inr (p.0, paused_byte pass.lexer lexer prefix several here b (λ q. IsMade whole pass pairs q) p.1 is.1))
 ]
   where
     now : Pass
     now = record { lexer = lexer; assembler = pass.assembler; waiting = pass.waiting; ended = pass.ended }
 
-    all_same : result ≡ Ok tt → new ≡ now → pairs2 ≡ pairs → HasMade whole now pairs front several (b ∷ here) false → MakesByte whole front several here b result new pairs2
+    all_same : result ≡ Ok tt → new ≡ now → pairs2 ≡ pairs → HasMade whole now pairs prefix several (b ∷ here) false → MakesByte whole prefix several here b result new pairs2
     all_same is_ok is_now is_pairs made =
-        subst (λ r. MakesByte whole front several here b r new pairs2) (sym is_ok)
-        (subst (λ (n : Pass). HasMade whole n pairs2 front several (b ∷ here) false) (sym is_now)
-        (subst (λ (l : List (ℕ × ℕ)). HasMade whole now l front several (b ∷ here) false) (sym is_pairs) made))
+        subst (λ r. MakesByte whole prefix several here b r new pairs2) (sym is_ok)
+        (subst (λ (n : Pass). HasMade whole n pairs2 prefix several (b ∷ here) false) (sym is_now)
+        (subst (λ (l : List (ℕ × ℕ)). HasMade whole now l prefix several (b ∷ here) false) (sym is_pairs) made))
 
-    after_pause : (s : Statement) (p : Bool) → MakesSome p s result now pairs new pairs2 → is_pause_body s.body ≡ p → pass.ended ≡ false → Counts pass.lexer front several here (λ q. IsMade whole pass pairs q)
-        → HandsOut p (length front) (here ++ front) b s pass.lexer lexer → MakesByte whole front several here b result new pairs2
+    after_pause : (s : Statement) (p : Bool) → MakesSome p s result now pairs new pairs2 → is_pause_body s.body ≡ p → pass.ended ≡ false → Counts pass.lexer prefix several here (λ q. IsMade whole pass pairs q)
+        → HandsOut p (length prefix) (here ++ prefix) b s pass.lexer lexer → MakesByte whole prefix several here b result new pairs2
     after_pause s true made pause going counts out =
-        subst (λ r. MakesByte whole front several here b r new pairs2) (sym made.0)
-        (subst (λ (n : Pass). HasMade whole n pairs2 front several (b ∷ here) false) (sym made.1)
-        (subst (λ (l : List (ℕ × ℕ)). HasMade whole (record { lexer = lexer; assembler = pass.assembler; waiting = pass.waiting; ended = true }) l front several (b ∷ here) false) (sym made.2)
-        (inr (refl, pauses_here joins pass.lexer lexer front several here b s (λ q. IsMade whole pass pairs q) counts out))))
+        subst (λ r. MakesByte whole prefix several here b r new pairs2) (sym made.0)
+        (subst (λ (n : Pass). HasMade whole n pairs2 prefix several (b ∷ here) false) (sym made.1)
+        (subst (λ (l : List (ℕ × ℕ)). HasMade whole (record { lexer = lexer; assembler = pass.assembler; waiting = pass.waiting; ended = true }) l prefix several (b ∷ here) false) (sym made.2)
+        (inr (refl, pauses_here joins pass.lexer lexer prefix several here b s (λ q. IsMade whole pass pairs q) counts out))))
     after_pause s false made pause going counts out =
-        by_result result (made.1 whole (statements (here ++ front)) (tokens_behind (here ++ front)) (within_whole.0, within_whole.1 ∙ ap (λ l. within_whole.0 ++ l) out.newest) counts.at.1 counts.at.2)
+        by_result result (made.1 whole (statements (here ++ prefix)) (tokens_behind (here ++ prefix)) (within_whole.0, within_whole.1 ∙ ap (λ l. within_whole.0 ++ l) out.newest) counts.at.1 counts.at.2)
       where
-        quiet : pauses (here ++ front) b ≡ false
-        quiet = quiet_at bad (here ++ front) b counts.fine out.no_fault
+        quiet : pauses (here ++ prefix) b ≡ false
+        quiet = quiet_at bad (here ++ prefix) b counts.fine out.no_fault
 
-        within_whole : Behind whole (statements (b ∷ here ++ front))
-        within_whole = behind_here goes whole front here b several pass.lexer (λ q. IsMade whole pass pairs q) counts (λ may. quiet) within
+        within_whole : Behind whole (statements (b ∷ here ++ prefix))
+        within_whole = behind_here goes whole prefix here b several pass.lexer (λ q. IsMade whole pass pairs q) counts (λ may. quiet) within
 
-        by_result : (r : Result (Unit {0}) AsmFault) → MakesStatement whole (Ok (with_tokens (tokens_behind (here ++ front)) s) ∷ statements (here ++ front)) r new.assembler pairs2 → MakesByte whole front several here b r new pairs2
+        by_result : (r : Result (Unit {0}) AsmFault) → MakesStatement whole (Ok (with_tokens (tokens_behind (here ++ prefix)) s) ∷ statements (here ++ prefix)) r new.assembler pairs2 → MakesByte whole prefix several here b r new pairs2
         by_result (Ok done) m =
-            subst (λ (n : Pass). HasMade whole n pairs2 front several (b ∷ here) false) (sym made.0)
+            subst (λ (n : Pass). HasMade whole n pairs2 prefix several (b ∷ here) false) (sym made.0)
             (inl (
               going,
-              counts_more pass.lexer lexer front several here b (λ q. IsMade whole pass pairs q) (λ q. IsMade whole (record { lexer = lexer; assembler = new.assembler; waiting = pass.waiting; ended = pass.ended }) pairs2 q) counts same out.no_fault out.read
+              counts_more pass.lexer lexer prefix several here b (λ q. IsMade whole pass pairs q) (λ q. IsMade whole (record { lexer = lexer; assembler = new.assembler; waiting = pass.waiting; ended = pass.ended }) pairs2 q) counts same out.no_fault out.read
                   (counts.at.0, subst (λ q. IsSecond new.assembler whole q) (sym out.newest) m.0, m.1 ∙ ap (pairs_by (values whole)) (sym out.newest)),
             ))
         by_result (Err (At code line)) m = λ later others follows.
-            let more = goes_on_by goes front here later b others several pass.lexer (λ q. IsMade whole pass pairs q) counts follows (λ may. quiet) in
-            ap (words_fault (values whole)) more.1 ∙ words_stay (values whole) more.0 (statements (b ∷ here ++ front)) (At code line) (ap (words_fault (values whole)) out.newest ∙ m)
+            let more = goes_on_by goes prefix here later b others several pass.lexer (λ q. IsMade whole pass pairs q) counts follows (λ may. quiet) in
+            ap (words_fault (values whole)) more.1 ∙ words_stay (values whole) more.0 (statements (b ∷ here ++ prefix)) (At code line) (ap (words_fault (values whole)) out.newest ∙ m)
         by_result (Err Memory) m = absurd m
 
-    by_answer : (a : Option Statement) → MakesAnswer a result now pairs new pairs2 → pass.ended ≡ false → Counts pass.lexer front several here (λ q. IsMade whole pass pairs q)
-        → Answers (length front) (here ++ front) b (Ok a) pass.lexer lexer → MakesByte whole front several here b result new pairs2
+    by_answer : (a : Option Statement) → MakesAnswer a result now pairs new pairs2 → pass.ended ≡ false → Counts pass.lexer prefix several here (λ q. IsMade whole pass pairs q)
+        → Answers (length prefix) (here ++ prefix) b (Ok a) pass.lexer lexer → MakesByte whole prefix several here b result new pairs2
     by_answer None made going counts told =
         all_same made.0 made.1 made.2
         (inl (
           going,
-          counts_more pass.lexer lexer front several here b (λ q. IsMade whole pass pairs q) (λ q. IsMade whole now pairs q) counts same told.0 told.2
+          counts_more pass.lexer lexer prefix several here b (λ q. IsMade whole pass pairs q) (λ q. IsMade whole now pairs q) counts same told.0 told.2
               (subst (λ q. IsMade whole now pairs q) (sym told.1) counts.at),
         ))
     by_answer (Some s) made going counts told = after_pause s (is_pause_body s.body) made refl going counts told
 
 -- the lexer refuses nothing in the second pass
-pub made_not : ByteGoesOn → NoFaultBefore → NoLexicalFault → (whole : Source) (pass : Pass) (pairs : List (ℕ × ℕ)) (lexer : lex.Progress) (f : LexFault) (answer : AsmFault) (front : List ℕ) (several : Bool) (here : List ℕ) (b : ℕ) → answer ≡ lexical f
+pub made_not : ByteGoesOn → NoFaultBefore → NoLexicalFault → (whole : Source) (pass : Pass) (pairs : List (ℕ × ℕ)) (lexer : lex.Progress) (f : LexFault) (answer : AsmFault) (prefix : List ℕ) (several : Bool) (here : List ℕ) (b : ℕ) → answer ≡ lexical f
     → ((seam : ℕ) (text : List ℕ) → HasRead pass.lexer seam text → Answers seam text b (Err f) pass.lexer lexer)
     → ((text : List ℕ) → HasPaused pass.lexer text → IsNothing (Err f) × (lexer ≡ pass.lexer))
-    → HasMade whole pass pairs front several here false → IsWithin whole front several (b ∷ here)
-    → MakesByte whole front several here b (Err answer) (record { lexer = lexer; assembler = pass.assembler; waiting = pass.waiting; ended = pass.ended }) pairs
-made_not goes before lexless whole pass pairs lexer f answer front several here b e answers paused has within = elim has [
-  | inl counts ↦ subst (λ a. MakesByte whole front several here b (Err a) now pairs) (sym e) (by_fault f counts.0 counts.1 (answers (length front) (here ++ front) counts.1.read))
+    → HasMade whole pass pairs prefix several here false → IsWithin whole prefix several (b ∷ here)
+    → MakesByte whole prefix several here b (Err answer) (record { lexer = lexer; assembler = pass.assembler; waiting = pass.waiting; ended = pass.ended }) pairs
+made_not goes before lexless whole pass pairs lexer f answer prefix several here b e answers paused has within = elim has [
+  | inl counts ↦ subst (λ a. MakesByte whole prefix several here b (Err a) now pairs) (sym e) (by_fault f counts.0 counts.1 (answers (length prefix) (here ++ prefix) counts.1.read))
   | inr p ↦ not_ok f (paused p.1.cut p.1.paused).0
 ]
   where
     now : Pass
     now = record { lexer = lexer; assembler = pass.assembler; waiting = pass.waiting; ended = pass.ended }
 
-    never : {C : Type 0} (g : LexFault) → Counts pass.lexer front several here (λ q. IsMade whole pass pairs q) → LexTells (length front) (here ++ front) b g pass.lexer lexer → C
+    never : {C : Type 0} (g : LexFault) → Counts pass.lexer prefix several here (λ q. IsMade whole pass pairs q) → LexTells (length prefix) (here ++ prefix) b g pass.lexer lexer → C
     never g counts is =
-        let behind = behind_here goes whole front here b several pass.lexer (λ q. IsMade whole pass pairs q) counts (is.1 counts.fine) within in
-        some_none g (sym is.0 ∙ lexless (statements (b ∷ here ++ front)) (before behind.0 (statements (b ∷ here ++ front)) (ap first_order (sym behind.1) ∙ counts.at.1.no_fault)))
+        let behind = behind_here goes whole prefix here b several pass.lexer (λ q. IsMade whole pass pairs q) counts (is.1 counts.fine) within in
+        some_none g (sym is.0 ∙ lexless (statements (b ∷ here ++ prefix)) (before behind.0 (statements (b ∷ here ++ prefix)) (ap first_order (sym behind.1) ∙ counts.at.1.no_fault)))
 
-    by_fault : (g : LexFault) → pass.ended ≡ false → Counts pass.lexer front several here (λ q. IsMade whole pass pairs q) → Answers (length front) (here ++ front) b (Err g) pass.lexer lexer
-        → MakesByte whole front several here b (Err (lexical g)) now pairs
+    by_fault : (g : LexFault) → pass.ended ≡ false → Counts pass.lexer prefix several here (λ q. IsMade whole pass pairs q) → Answers (length prefix) (here ++ prefix) b (Err g) pass.lexer lexer
+        → MakesByte whole prefix several here b (Err (lexical g)) now pairs
     by_fault (fault.IC line) going counts is = never (fault.IC line) counts is
     by_fault (fault.SY line) going counts is = never (fault.SY line) counts is
     by_fault (fault.NU line) going counts is = never (fault.NU line) counts is
     by_fault (fault.NE line) going counts is = absurd is
     by_fault fault.Memory going counts is =
-        subst (λ (l : lex.Progress). HasMade whole (record { lexer = l; assembler = pass.assembler; waiting = pass.waiting; ended = pass.ended }) pairs front several here false) (sym is.3) (inl (going, counts))
+        subst (λ (l : lex.Progress). HasMade whole (record { lexer = l; assembler = pass.assembler; waiting = pass.waiting; ended = pass.ended }) pairs prefix several here false) (sym is.3) (inl (going, counts))
 
 -- ## Characters
 
 -- a beginning of a text is in the whole where the text is
-pub within_part : (whole : Source) (front : List ℕ) (several : Bool) (here bytes : List ℕ) → IsWithin whole front several (text_from here bytes) → IsWithin whole front several here
-within_part whole front several here bytes within =
+pub within_part : (whole : Source) (prefix : List ℕ) (several : Bool) (here bytes : List ℕ) → IsWithin whole prefix several (text_from here bytes) → IsWithin whole prefix several here
+within_part whole prefix several here bytes within =
     let rest = from_behind bytes here in (
       within.0 ++ rest.0,
       (
         within.1.0,
         (
           within.1.1.0,
-          within.1.1.1 ∙ ap (λ t. statements (join_of (t ∷ within.1.0) ++ front)) (ap (λ t. within.0 ++ t) rest.1 ∙ sym (append_assoc within.0 rest.0 here)),
+          within.1.1.1 ∙ ap (λ t. statements (join_of (t ∷ within.1.0) ++ prefix)) (ap (λ t. within.0 ++ t) rest.1 ∙ sym (append_assoc within.0 rest.0 here)),
         ),
       ),
     )
 
-pub within_byte : (whole : Source) (front : List ℕ) (several : Bool) (here bytes : List ℕ) (i b : ℕ) → i < length bytes → b ≡ get_or bytes i 0 → IsWithin whole front several (text_from here bytes)
-    → IsWithin whole front several (b ∷ text_from here (take i bytes))
-within_byte whole front several here bytes i b inside is within =
-    within_part whole front several (b ∷ text_from here (take i bytes)) (drop (i + 1) bytes)
-    (subst (λ t. IsWithin whole front several t) (the_rest here bytes (i + 1) ∙ ap (λ t. text_from t (drop (i + 1) bytes)) (one_more here bytes i b inside is)) within)
+pub within_byte : (whole : Source) (prefix : List ℕ) (several : Bool) (here bytes : List ℕ) (i b : ℕ) → i < length bytes → b ≡ get_or bytes i 0 → IsWithin whole prefix several (text_from here bytes)
+    → IsWithin whole prefix several (b ∷ text_from here (take i bytes))
+within_byte whole prefix several here bytes i b inside is within =
+    within_part whole prefix several (b ∷ text_from here (take i bytes)) (drop (i + 1) bytes)
+    (subst (λ t. IsWithin whole prefix several t) (the_rest here bytes (i + 1) ∙ ap (λ t. text_from t (drop (i + 1) bytes)) (one_more here bytes i b inside is)) within)
 
-pub made_to : (whole : Source) (front : List ℕ) (several : Bool) (here bytes : List ℕ) (i b : ℕ) (new : Pass) (pairs : List (ℕ × ℕ)) → i < length bytes → b ≡ get_or bytes i 0
-    → HasMade whole new pairs front several (b ∷ text_from here (take i bytes)) false → HasMade whole new pairs front several (text_from here (take (i + 1) bytes)) false
-made_to whole front several here bytes i b new pairs inside is has = subst (λ t. HasMade whole new pairs front several t false) (sym (one_more here bytes i b inside is)) has
+pub made_to : (whole : Source) (prefix : List ℕ) (several : Bool) (here bytes : List ℕ) (i b : ℕ) (new : Pass) (pairs : List (ℕ × ℕ)) → i < length bytes → b ≡ get_or bytes i 0
+    → HasMade whole new pairs prefix several (b ∷ text_from here (take i bytes)) false → HasMade whole new pairs prefix several (text_from here (take (i + 1) bytes)) false
+made_to whole prefix several here bytes i b new pairs inside is has = subst (λ t. HasMade whole new pairs prefix several t false) (sym (one_more here bytes i b inside is)) has
 
-pub made_not_in : (whole : Source) (front : List ℕ) (several : Bool) (here bytes : List ℕ) (i b : ℕ) (new : Pass) (pairs : List (ℕ × ℕ)) (f : AsmFault) → i < length bytes → b ≡ get_or bytes i 0
-    → MakesByte whole front several (text_from here (take i bytes)) b (Err f) new pairs → MakesTo whole front several here bytes i (Err f) new pairs
-made_not_in whole front several here bytes i b new pairs (At code line) inside is tells =
-    subst (λ t. Tells (words_fault (values whole)) front several t (At code line)) (sym (the_rest here bytes (i + 1)))
-    (tells_more (words_fault (values whole)) front several (text_from here (take (i + 1) bytes)) (drop (i + 1) bytes) (At code line)
-    (subst (λ t. Tells (words_fault (values whole)) front several t (At code line)) (sym (one_more here bytes i b inside is)) tells))
-made_not_in whole front several here bytes i b new pairs Memory inside is has = has
+pub made_not_in : (whole : Source) (prefix : List ℕ) (several : Bool) (here bytes : List ℕ) (i b : ℕ) (new : Pass) (pairs : List (ℕ × ℕ)) (f : AsmFault) → i < length bytes → b ≡ get_or bytes i 0
+    → MakesByte whole prefix several (text_from here (take i bytes)) b (Err f) new pairs → MakesTo whole prefix several here bytes i (Err f) new pairs
+made_not_in whole prefix several here bytes i b new pairs (At code line) inside is tells =
+    subst (λ t. TellsJoinFault (words_fault (values whole)) prefix several t (At code line)) (sym (the_rest here bytes (i + 1)))
+    (tells_more (words_fault (values whole)) prefix several (text_from here (take (i + 1) bytes)) (drop (i + 1) bytes) (At code line)
+    (subst (λ t. TellsJoinFault (words_fault (values whole)) prefix several t (At code line)) (sym (one_more here bytes i b inside is)) tells))
+made_not_in whole prefix several here bytes i b new pairs Memory inside is has = has
 
-pub block_not_made : JoinedCharacters → (whole : Source) (front : List ℕ) (several : Bool) (given block text : List ℕ) (offset : ℕ) (new : Pass) (pairs : List (ℕ × ℕ)) (f : AsmFault) → is_ended given ≡ false → text ≡ characters (frames block)
-    → MakesTo whole front several (text_in given) text offset (Err f) new pairs → MakesBlock whole front several given block offset (Err f) new pairs
-block_not_made chars whole front several given block text offset new pairs (At code line) not is tells =
-    subst (λ t. Tells (words_fault (values whole)) front several t (At code line)) (sym (block_text chars given block ∙ ap (text_from (text_in given)) (all_added given block text not is))) tells
-block_not_made chars whole front several given block text offset new pairs Memory not is has =
-    subst (λ b. HasMade whole new pairs front several (text_from (text_in given) (take offset (added given block))) b) (sym not)
-    (subst (λ l. HasMade whole new pairs front several (text_from (text_in given) (take offset l)) false) (sym (all_added given block text not is)) has)
+pub block_not_made : JoinedCharacters → (whole : Source) (prefix : List ℕ) (several : Bool) (given block text : List ℕ) (offset : ℕ) (new : Pass) (pairs : List (ℕ × ℕ)) (f : AsmFault) → is_ended given ≡ false → text ≡ characters (frames block)
+    → MakesTo whole prefix several (text_in given) text offset (Err f) new pairs → MakesBlock whole prefix several given block offset (Err f) new pairs
+block_not_made chars whole prefix several given block text offset new pairs (At code line) not is tells =
+    subst (λ t. TellsJoinFault (words_fault (values whole)) prefix several t (At code line)) (sym (block_text chars given block ∙ ap (text_from (text_in given)) (all_added given block text not is))) tells
+block_not_made chars whole prefix several given block text offset new pairs Memory not is has =
+    subst (λ b. HasMade whole new pairs prefix several (text_from (text_in given) (take offset (added given block))) b) (sym not)
+    (subst (λ l. HasMade whole new pairs prefix several (text_from (text_in given) (take offset l)) false) (sym (all_added given block text not is)) has)
 
 -- the characters of a block are in the whole where the block is
-pub within_block : JoinedCharacters → (whole : Source) (front : List ℕ) (several : Bool) (given block text : List ℕ) → is_ended given ≡ false → text ≡ characters (frames block)
-    → IsWithin whole front several (text_in (given ++ frames block)) → IsWithin whole front several (text_from (text_in given) text)
-within_block chars whole front several given block text not is within =
-    subst (λ t. IsWithin whole front several t) (block_text chars given block ∙ ap (text_from (text_in given)) (all_added given block text not is)) within
+pub within_block : JoinedCharacters → (whole : Source) (prefix : List ℕ) (several : Bool) (given block text : List ℕ) → is_ended given ≡ false → text ≡ characters (frames block)
+    → IsWithin whole prefix several (text_in (given ++ frames block)) → IsWithin whole prefix several (text_from (text_in given) text)
+within_block chars whole prefix several given block text not is within =
+    subst (λ t. IsWithin whole prefix several t) (block_text chars given block ∙ ap (text_from (text_in given)) (all_added given block text not is)) within

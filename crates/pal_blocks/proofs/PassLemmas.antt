@@ -4,7 +4,7 @@ use Rattle.pal_lex.specs.Text.{text_from, up_to_end}
 use Rattle.pal_lex.specs.Statements.{statements, first_fault}
 use Rattle.pal_lex.specs.Joins.{pauses, join_of}
 use Rattle.pal_lex.specs.Laws.{has_next, ByteGoesOn, JoinGoesOn, PauseJoins}
-use Rattle.pal_lex.specs.Reading.{HasRead, HasPaused, Answers, HandsOut, Pauses, Tells as LexTells, is_pause_body, tokens_behind}
+use Rattle.pal_lex.specs.Reading.{HasRead, HasPaused, Answers, HandsOut, Pauses, TellsFault as LexTells, is_pause_body, tokens_behind}
 use Rattle.pal_lex.specs.Progress as lex
 use Rattle.pal_lex.specs.Progress.{Setting, setting}
 use Rattle.pal_lex.specs.declared.faults.LexFault.{LexFault}
@@ -18,7 +18,7 @@ use Rattle.pal_asm.specs.declared.faults.AsmFault.{AsmFault}
 use Rattle.pal_asm.specs.declared.faults.AsmFault.TheVariants.{At, Memory}
 use Rattle.pal_blocks.specs.declared.passing.Pass.{Pass}
 use Rattle.pal_blocks.specs.Passing.{Counts, Paused, Stands, IsBehind}
-use Rattle.pal_blocks.specs.Steps.{Tells, is_pause_answer, HasPassed, Settles, PassesByte, PassesTo}
+use Rattle.pal_blocks.specs.Steps.{TellsJoinFault, is_pause_answer, HasPassed, Settles, PassesByte, PassesTo}
 use Rattle.pal_blocks.proofs.TextLemmas.{from_behind, the_rest, up_to, one_more}
 
 -- ## Faults that are told
@@ -33,22 +33,22 @@ first_stays (Ok s ∷ later) older f told = ap (λ o. first_of o (at_line s.line
 first_stays (Err g ∷ later) older f told = ap (λ o. first_of o (Some (lexical g))) (first_stays later older f told)
 
 -- what a text tells is told by one that goes on
-pub tells_more : (fault_in : Source → Option AsmFault) (front : List ℕ) (several : Bool) (here bytes : List ℕ) (f : AsmFault) → Tells fault_in front several here f → Tells fault_in front several (text_from here bytes) f
-tells_more fault_in front several here bytes f tells later others follows =
+pub tells_more : (fault_in : Source → Option AsmFault) (prefix : List ℕ) (several : Bool) (here bytes : List ℕ) (f : AsmFault) → TellsJoinFault fault_in prefix several here f → TellsJoinFault fault_in prefix several (text_from here bytes) f
+tells_more fault_in prefix several here bytes f tells later others follows =
     let rest = from_behind bytes here in
-    ap (λ t. fault_in (statements (join_of (t ∷ others) ++ front))) (ap (λ t. later ++ t) rest.1 ∙ sym (append_assoc later rest.0 here)) ∙ tells (later ++ rest.0) others follows
+    ap (λ t. fault_in (statements (join_of (t ∷ others) ++ prefix))) (ap (λ t. later ++ t) rest.1 ∙ sym (append_assoc later rest.0 here)) ∙ tells (later ++ rest.0) others follows
 
 -- where the pass stands is told what is told by the statements there
-pub tells_here : (fault_in : Source → Option AsmFault) → Stays fault_in → JoinGoesOn → StatementsStay → (lexer : lex.Progress) (ended : Bool) (front : List ℕ) (several : Bool) (here : List ℕ) (is_last : Bool) (Fits : Source → Type 0) (f : AsmFault)
-    → Stands lexer ended front several here is_last Fits → ((s : Source) → Fits s → fault_in s ≡ Some f) → Tells fault_in front several here f
-tells_here fault_in stays goes stay lexer ended front several here is_last Fits f stands told later others follows = elim stands [
+pub tells_here : (fault_in : Source → Option AsmFault) → Stays fault_in → JoinGoesOn → StatementsStay → (lexer : lex.Progress) (ended : Bool) (prefix : List ℕ) (several : Bool) (here : List ℕ) (is_last : Bool) (Fits : Source → Type 0) (f : AsmFault)
+    → Stands lexer ended prefix several here is_last Fits → ((s : Source) → Fits s → fault_in s ≡ Some f) → TellsJoinFault fault_in prefix several here f
+tells_here fault_in stays goes stay lexer ended prefix several here is_last Fits f stands told later others follows = elim stands [
   | inl counts ↦
-      let more = goes front here later others counts.1.clear counts.1.fine in
-      ap fault_in more.1 ∙ stays more.0 (statements (here ++ front)) f (told (statements (here ++ front)) counts.1.at)
+      let more = goes prefix here later others counts.1.clear counts.1.fine in
+      ap fault_in more.1 ∙ stays more.0 (statements (here ++ prefix)) f (told (statements (here ++ prefix)) counts.1.at)
   | inr paused ↦ by_others others follows paused.1
 ]
   where
-    by_others : (os : List (List ℕ)) → has_next os ≡ several → Paused lexer front several here Fits → fault_in (statements (join_of ((later ++ here) ∷ os) ++ front)) ≡ Some f
+    by_others : (os : List (List ℕ)) → has_next os ≡ several → Paused lexer prefix several here Fits → fault_in (statements (join_of ((later ++ here) ∷ os) ++ prefix)) ≡ Some f
     by_others [] e p = absurd (never several e p.follows)
       where
         never : (b : Bool) → false ≡ b → b ≡ true → ⊥
@@ -60,16 +60,16 @@ tells_here fault_in stays goes stay lexer ended front several here is_last Fits 
 
 -- ## Where a pass stands
 
-pub stands_map : (lexer : lex.Progress) (ended : Bool) (front : List ℕ) (several : Bool) (here : List ℕ) (is_last : Bool) (Fits Fits' : Source → Type 0) → ((s : Source) → Fits s → Fits' s)
-    → Stands lexer ended front several here is_last Fits → Stands lexer ended front several here is_last Fits'
-stands_map lexer ended front several here is_last Fits Fits' change stands = elim stands [
+pub stands_map : (lexer : lex.Progress) (ended : Bool) (prefix : List ℕ) (several : Bool) (here : List ℕ) (is_last : Bool) (Fits Fits' : Source → Type 0) → ((s : Source) → Fits s → Fits' s)
+    → Stands lexer ended prefix several here is_last Fits → Stands lexer ended prefix several here is_last Fits'
+stands_map lexer ended prefix several here is_last Fits Fits' change stands = elim stands [
   | inl counts ↦ inl (counts.0, record { read = counts.1.read; may_pause = counts.1.may_pause; clear = counts.1.clear; fine = counts.1.fine; at = change _ counts.1.at })
   | inr paused ↦ inr (paused.0, record { cut = paused.1.cut; paused = paused.1.paused; clear = paused.1.clear; follows = paused.1.follows; joins = paused.1.joins; at = change _ paused.1.at })
 ]
 
 -- behind PAUSE anything may come
-pub paused_more : (lexer : lex.Progress) (front : List ℕ) (several : Bool) (here bytes : List ℕ) (Fits : Source → Type 0) → Paused lexer front several here Fits → Paused lexer front several (text_from here bytes) Fits
-paused_more lexer front several here bytes Fits p =
+pub paused_more : (lexer : lex.Progress) (prefix : List ℕ) (several : Bool) (here bytes : List ℕ) (Fits : Source → Type 0) → Paused lexer prefix several here Fits → Paused lexer prefix several (text_from here bytes) Fits
+paused_more lexer prefix several here bytes Fits p =
     let rest = from_behind bytes here in
     record {
       cut = p.cut;
@@ -77,18 +77,18 @@ paused_more lexer front several here bytes Fits p =
       clear = p.clear;
       follows = p.follows;
       joins = λ later next others.
-          ap (λ t. join_of (t ∷ next ∷ others) ++ front) (ap (λ t. later ++ t) rest.1 ∙ sym (append_assoc later rest.0 here)) ∙ p.joins (later ++ rest.0) next others;
+          ap (λ t. join_of (t ∷ next ∷ others) ++ prefix) (ap (λ t. later ++ t) rest.1 ∙ sym (append_assoc later rest.0 here)) ∙ p.joins (later ++ rest.0) next others;
       at = p.at;
     }
 
 -- the lexer took bytes that end no statement
-pub stands_read : (old new : lex.Progress) (ended : Bool) (front : List ℕ) (several : Bool) (here bytes : List ℕ) (i j : ℕ) (is_last : Bool) (Fits : Source → Type 0) → i ≤ j
+pub stands_read : (old new : lex.Progress) (ended : Bool) (prefix : List ℕ) (several : Bool) (here bytes : List ℕ) (i j : ℕ) (is_last : Bool) (Fits : Source → Type 0) → i ≤ j
     → ((seam : ℕ) (before here : List ℕ) → HasRead old seam (text_from here (take i bytes) ++ before) → HasRead new seam (text_from here (take j bytes) ++ before) × (statements (text_from here (take j bytes) ++ before) ≡ statements (text_from here (take i bytes) ++ before)))
     → ((cut : List ℕ) → HasPaused old cut → new ≡ old) → setting new ≡ setting old
-    → Stands old ended front several (text_from here (take i bytes)) is_last Fits → Stands new ended front several (text_from here (take j bytes)) is_last Fits
-stands_read old new ended front several here bytes i j is_last Fits low read paused same stands = elim stands [
+    → Stands old ended prefix several (text_from here (take i bytes)) is_last Fits → Stands new ended prefix several (text_from here (take j bytes)) is_last Fits
+stands_read old new ended prefix several here bytes i j is_last Fits low read paused same stands = elim stands [
   | inl counts ↦
-      let now = read (length front) front here counts.1.read in
+      let now = read (length prefix) prefix here counts.1.read in
       inl (
         counts.0,
         record {
@@ -102,8 +102,8 @@ stands_read old new ended front several here bytes i j is_last Fits low read pau
   | inr p ↦
       inr (
         p.0,
-        subst (λ (l : lex.Progress). Paused l front several (text_from here (take j bytes)) Fits) (sym (paused p.1.cut p.1.paused))
-            (subst (λ t. Paused old front several t Fits) (sym (farther i j low)) (paused_more old front several (text_from here (take i bytes)) (take (j - i) (drop i bytes)) Fits p.1)),
+        subst (λ (l : lex.Progress). Paused l prefix several (text_from here (take j bytes)) Fits) (sym (paused p.1.cut p.1.paused))
+            (subst (λ t. Paused old prefix several t Fits) (sym (farther i j low)) (paused_more old prefix several (text_from here (take i bytes)) (take (j - i) (drop i bytes)) Fits p.1)),
       )
 ]
   where
@@ -126,9 +126,9 @@ pub not_ok : {C : Type 0} (f : LexFault) → IsNothing (Err f) → C
 not_ok f e = absurd cc
 
 -- a byte that ended no statement, or one that isn't PAUSE
-pub counts_more : (old new : lex.Progress) (front : List ℕ) (several : Bool) (here : List ℕ) (b : ℕ) (Fits Fits' : Source → Type 0) → Counts old front several here Fits → setting new ≡ setting old
-    → first_fault (statements (b ∷ here ++ front)) ≡ None → HasRead new (length front) (b ∷ here ++ front) → Fits' (statements (b ∷ here ++ front)) → Counts new front several (b ∷ here) Fits'
-counts_more old new front several here b Fits Fits' counts same fine read at = record {
+pub counts_more : (old new : lex.Progress) (prefix : List ℕ) (several : Bool) (here : List ℕ) (b : ℕ) (Fits Fits' : Source → Type 0) → Counts old prefix several here Fits → setting new ≡ setting old
+    → first_fault (statements (b ∷ here ++ prefix)) ≡ None → HasRead new (length prefix) (b ∷ here ++ prefix) → Fits' (statements (b ∷ here ++ prefix)) → Counts new prefix several (b ∷ here) Fits'
+counts_more old new prefix several here b Fits Fits' counts same fine read at = record {
   read = read;
   may_pause = ap (λ (s : Setting). s.may_pause) same ∙ counts.may_pause;
   clear = counts.clear;
@@ -137,65 +137,65 @@ counts_more old new front several here b Fits Fits' counts same fine read at = r
 }
 
 -- a byte that ended PAUSE
-pub pauses_here : PauseJoins → (old new : lex.Progress) (front : List ℕ) (several : Bool) (here : List ℕ) (b : ℕ) (s : Statement) (Fits : Source → Type 0) → Counts old front several here Fits
-    → Pauses (length front) (here ++ front) b s old new → Paused new front several (b ∷ here) Fits
-pauses_here law old new front several here b s Fits counts p = record {
-  cut = up_to_end (here ++ front);
+pub pauses_here : PauseJoins → (old new : lex.Progress) (prefix : List ℕ) (several : Bool) (here : List ℕ) (b : ℕ) (s : Statement) (Fits : Source → Type 0) → Counts old prefix several here Fits
+    → Pauses (length prefix) (here ++ prefix) b s old new → Paused new prefix several (b ∷ here) Fits
+pauses_here law old new prefix several here b s Fits counts p = record {
+  cut = up_to_end (here ++ prefix);
   paused = p.paused;
   clear = p.clear;
   follows = sym counts.may_pause ∙ p.may_pause;
-  joins = λ later next others. law front here later b next others counts.clear counts.fine p.pauses;
+  joins = λ later next others. law prefix here later b next others counts.clear counts.fine p.pauses;
   at = subst Fits (sym p.same) counts.at;
 }
 
 -- behind PAUSE
-pub paused_byte : (old new : lex.Progress) (front : List ℕ) (several : Bool) (here : List ℕ) (b : ℕ) (Fits : Source → Type 0) → Paused old front several here Fits → new ≡ old → Paused new front several (b ∷ here) Fits
-paused_byte old new front several here b Fits p same =
-    subst (λ (l : lex.Progress). Paused l front several (b ∷ here) Fits) (sym same) (paused_more old front several here (b ∷ []) Fits p)
+pub paused_byte : (old new : lex.Progress) (prefix : List ℕ) (several : Bool) (here : List ℕ) (b : ℕ) (Fits : Source → Type 0) → Paused old prefix several here Fits → new ≡ old → Paused new prefix several (b ∷ here) Fits
+paused_byte old new prefix several here b Fits p same =
+    subst (λ (l : lex.Progress). Paused l prefix several (b ∷ here) Fits) (sym same) (paused_more old prefix several here (b ∷ []) Fits p)
 
 waits : (pass : Pass) (source : Source) → pass.waiting ≡ None → IsBehind pass.waiting pass.assembler source → IsFirst pass.assembler source
 waits pass source none is = subst (λ w. IsBehind w pass.assembler source) none is
 
 -- a character was taken
-pub passed_byte : PauseJoins → (pass new : Pass) (lexer : lex.Progress) (answer : Option Statement) (front : List ℕ) (several : Bool) (here : List ℕ) (b : ℕ) → pass.waiting ≡ None
+pub passed_byte : PauseJoins → (pass new : Pass) (lexer : lex.Progress) (answer : Option Statement) (prefix : List ℕ) (several : Bool) (here : List ℕ) (b : ℕ) → pass.waiting ≡ None
     → ((seam : ℕ) (text : List ℕ) → HasRead pass.lexer seam text → Answers seam text b (Ok answer) pass.lexer lexer)
     → ((text : List ℕ) → HasPaused pass.lexer text → IsNothing (Ok answer) × (lexer ≡ pass.lexer))
     → setting lexer ≡ setting pass.lexer
     → (is_pause_answer answer ≡ true → new ≡ record { lexer = lexer; assembler = pass.assembler; waiting = pass.waiting; ended = true })
     → (is_pause_answer answer ≡ false → new ≡ record { lexer = lexer; assembler = pass.assembler; waiting = answer; ended = pass.ended })
-    → HasPassed pass front several here false → HasPassed new front several (b ∷ here) false
-passed_byte joins pass new lexer answer front several here b none answers paused same pausing keeping has = elim has [
-  | inl counts ↦ by_answer answer refl counts.0 counts.1 (answers (length front) (here ++ front) counts.1.read)
+    → HasPassed pass prefix several here false → HasPassed new prefix several (b ∷ here) false
+passed_byte joins pass new lexer answer prefix several here b none answers paused same pausing keeping has = elim has [
+  | inl counts ↦ by_answer answer refl counts.0 counts.1 (answers (length prefix) (here ++ prefix) counts.1.read)
   | inr p ↦
       let is = paused p.1.cut p.1.paused in
       let nothing = same_answer answer is.0 in
-      subst (λ (n : Pass). HasPassed n front several (b ∷ here) false) (sym (keeping (ap is_pause_answer nothing)))
-      (subst (λ w. HasPassed (record { lexer = lexer; assembler = pass.assembler; waiting = w; ended = pass.ended }) front several (b ∷ here) false) (none ∙ sym nothing)
-      (inr (p.0, paused_byte pass.lexer lexer front several here b (λ s. IsBehind pass.waiting pass.assembler s) p.1 is.1)))
+      subst (λ (n : Pass). HasPassed n prefix several (b ∷ here) false) (sym (keeping (ap is_pause_answer nothing)))
+      (subst (λ w. HasPassed (record { lexer = lexer; assembler = pass.assembler; waiting = w; ended = pass.ended }) prefix several (b ∷ here) false) (none ∙ sym nothing)
+      (inr (p.0, paused_byte pass.lexer lexer prefix several here b (λ s. IsBehind pass.waiting pass.assembler s) p.1 is.1)))
 ]
   where
-    after_pause : (s : Statement) (p : Bool) → answer ≡ Some s → is_pause_body s.body ≡ p → pass.ended ≡ false → Counts pass.lexer front several here (λ q. IsBehind pass.waiting pass.assembler q)
-        → HandsOut p (length front) (here ++ front) b s pass.lexer lexer → HasPassed new front several (b ∷ here) false
+    after_pause : (s : Statement) (p : Bool) → answer ≡ Some s → is_pause_body s.body ≡ p → pass.ended ≡ false → Counts pass.lexer prefix several here (λ q. IsBehind pass.waiting pass.assembler q)
+        → HandsOut p (length prefix) (here ++ prefix) b s pass.lexer lexer → HasPassed new prefix several (b ∷ here) false
     after_pause s true is pause going counts out =
-        subst (λ (n : Pass). HasPassed n front several (b ∷ here) false) (sym (pausing (ap is_pause_answer is ∙ pause)))
-        (inr (refl, pauses_here joins pass.lexer lexer front several here b s (λ q. IsBehind pass.waiting pass.assembler q) counts out))
+        subst (λ (n : Pass). HasPassed n prefix several (b ∷ here) false) (sym (pausing (ap is_pause_answer is ∙ pause)))
+        (inr (refl, pauses_here joins pass.lexer lexer prefix several here b s (λ q. IsBehind pass.waiting pass.assembler q) counts out))
     after_pause s false is pause going counts out =
-        subst (λ (n : Pass). HasPassed n front several (b ∷ here) false) (sym (keeping (ap is_pause_answer is ∙ pause)))
-        (subst (λ w. HasPassed (record { lexer = lexer; assembler = pass.assembler; waiting = w; ended = pass.ended }) front several (b ∷ here) false) (sym is)
+        subst (λ (n : Pass). HasPassed n prefix several (b ∷ here) false) (sym (keeping (ap is_pause_answer is ∙ pause)))
+        (subst (λ w. HasPassed (record { lexer = lexer; assembler = pass.assembler; waiting = w; ended = pass.ended }) prefix several (b ∷ here) false) (sym is)
         (inl (
           going,
-          counts_more pass.lexer lexer front several here b (λ q. IsBehind pass.waiting pass.assembler q) (λ q. IsBehind (Some s) pass.assembler q) counts same out.no_fault out.read
-              (statements (here ++ front), (tokens_behind (here ++ front), (out.newest, pause, waits pass _ none counts.at))),
+          counts_more pass.lexer lexer prefix several here b (λ q. IsBehind pass.waiting pass.assembler q) (λ q. IsBehind (Some s) pass.assembler q) counts same out.no_fault out.read
+              (statements (here ++ prefix), (tokens_behind (here ++ prefix), (out.newest, pause, waits pass _ none counts.at))),
         )))
 
-    by_answer : (a : Option Statement) → answer ≡ a → pass.ended ≡ false → Counts pass.lexer front several here (λ q. IsBehind pass.waiting pass.assembler q)
-        → Answers (length front) (here ++ front) b (Ok a) pass.lexer lexer → HasPassed new front several (b ∷ here) false
+    by_answer : (a : Option Statement) → answer ≡ a → pass.ended ≡ false → Counts pass.lexer prefix several here (λ q. IsBehind pass.waiting pass.assembler q)
+        → Answers (length prefix) (here ++ prefix) b (Ok a) pass.lexer lexer → HasPassed new prefix several (b ∷ here) false
     by_answer None is going counts told =
-        subst (λ (n : Pass). HasPassed n front several (b ∷ here) false) (sym (keeping (ap is_pause_answer is)))
-        (subst (λ w. HasPassed (record { lexer = lexer; assembler = pass.assembler; waiting = w; ended = pass.ended }) front several (b ∷ here) false) (sym is)
+        subst (λ (n : Pass). HasPassed n prefix several (b ∷ here) false) (sym (keeping (ap is_pause_answer is)))
+        (subst (λ w. HasPassed (record { lexer = lexer; assembler = pass.assembler; waiting = w; ended = pass.ended }) prefix several (b ∷ here) false) (sym is)
         (inl (
           going,
-          counts_more pass.lexer lexer front several here b (λ q. IsBehind pass.waiting pass.assembler q) (λ q. IsBehind None pass.assembler q) counts same told.0 told.2
+          counts_more pass.lexer lexer prefix several here b (λ q. IsBehind pass.waiting pass.assembler q) (λ q. IsBehind None pass.assembler q) counts same told.0 told.2
               (subst (λ q. IsFirst pass.assembler q) (sym told.1) (waits pass _ none counts.at)),
         )))
     by_answer (Some s) is going counts told = after_pause s (is_pause_body s.body) is refl going counts told
@@ -205,90 +205,90 @@ and_false true may pausing is quiet = quiet (sym is)
 and_false false may pausing is quiet = refl
 
 -- no PAUSE ends here
-pub goes_on_by : ByteGoesOn → (front here later : List ℕ) (b : ℕ) (others : List (List ℕ)) (several : Bool) (lexer : lex.Progress) (Fits : Source → Type 0) → Counts lexer front several here Fits → has_next others ≡ several
-    → (lexer.may_pause ≡ true → pauses (here ++ front) b ≡ false) → (more : Source) × (statements (join_of ((later ++ b ∷ here) ∷ others) ++ front) ≡ more ++ statements (b ∷ here ++ front))
-goes_on_by goes front here later b others several lexer Fits counts follows quiet =
-    goes front here later b others counts.clear counts.fine (and_false (has_next others) lexer.may_pause (pauses (here ++ front) b) (follows ∙ sym counts.may_pause) quiet)
+pub goes_on_by : ByteGoesOn → (prefix here later : List ℕ) (b : ℕ) (others : List (List ℕ)) (several : Bool) (lexer : lex.Progress) (Fits : Source → Type 0) → Counts lexer prefix several here Fits → has_next others ≡ several
+    → (lexer.may_pause ≡ true → pauses (here ++ prefix) b ≡ false) → (more : Source) × (statements (join_of ((later ++ b ∷ here) ∷ others) ++ prefix) ≡ more ++ statements (b ∷ here ++ prefix))
+goes_on_by goes prefix here later b others several lexer Fits counts follows quiet =
+    goes prefix here later b others counts.clear counts.fine (and_false (has_next others) lexer.may_pause (pauses (here ++ prefix) b) (follows ∙ sym counts.may_pause) quiet)
 
 -- a character was refused
-pub refused_byte : ByteGoesOn → LexicalFaultIsTold → (pass : Pass) (lexer : lex.Progress) (f : LexFault) (answer : AsmFault) (front : List ℕ) (several : Bool) (here : List ℕ) (b : ℕ) → answer ≡ lexical f → pass.waiting ≡ None
+pub refused_byte : ByteGoesOn → LexicalFaultIsTold → (pass : Pass) (lexer : lex.Progress) (f : LexFault) (answer : AsmFault) (prefix : List ℕ) (several : Bool) (here : List ℕ) (b : ℕ) → answer ≡ lexical f → pass.waiting ≡ None
     → ((seam : ℕ) (text : List ℕ) → HasRead pass.lexer seam text → Answers seam text b (Err f) pass.lexer lexer)
     → ((text : List ℕ) → HasPaused pass.lexer text → IsNothing (Err f) × (lexer ≡ pass.lexer))
-    → HasPassed pass front several here false → PassesByte front several here b (Err answer) (record { lexer = lexer; assembler = pass.assembler; waiting = pass.waiting; ended = pass.ended })
-refused_byte goes told pass lexer f answer front several here b e none answers paused has = elim has [
-  | inl counts ↦ subst (λ a. PassesByte front several here b (Err a) now) (sym e) (by_fault f counts.0 counts.1 (answers (length front) (here ++ front) counts.1.read))
+    → HasPassed pass prefix several here false → PassesByte prefix several here b (Err answer) (record { lexer = lexer; assembler = pass.assembler; waiting = pass.waiting; ended = pass.ended })
+refused_byte goes told pass lexer f answer prefix several here b e none answers paused has = elim has [
+  | inl counts ↦ subst (λ a. PassesByte prefix several here b (Err a) now) (sym e) (by_fault f counts.0 counts.1 (answers (length prefix) (here ++ prefix) counts.1.read))
   | inr p ↦ not_ok f (paused p.1.cut p.1.paused).0
 ]
   where
     now : Pass
     now = record { lexer = lexer; assembler = pass.assembler; waiting = pass.waiting; ended = pass.ended }
 
-    tells : (g : LexFault) → Counts pass.lexer front several here (λ q. IsBehind pass.waiting pass.assembler q) → LexTells (length front) (here ++ front) b g pass.lexer lexer → Tells first_order front several (b ∷ here) (lexical g)
+    tells : (g : LexFault) → Counts pass.lexer prefix several here (λ q. IsBehind pass.waiting pass.assembler q) → LexTells (length prefix) (here ++ prefix) b g pass.lexer lexer → TellsJoinFault first_order prefix several (b ∷ here) (lexical g)
     tells g counts is later others follows =
-        let more = goes_on_by goes front here later b others several pass.lexer (λ q. IsBehind pass.waiting pass.assembler q) counts follows (is.1 counts.fine) in
-        ap first_order more.1 ∙ first_stays more.0 (statements (b ∷ here ++ front)) (lexical g) (told (here ++ front) b g (waits pass _ none counts.at).no_fault is.0)
+        let more = goes_on_by goes prefix here later b others several pass.lexer (λ q. IsBehind pass.waiting pass.assembler q) counts follows (is.1 counts.fine) in
+        ap first_order more.1 ∙ first_stays more.0 (statements (b ∷ here ++ prefix)) (lexical g) (told (here ++ prefix) b g (waits pass _ none counts.at).no_fault is.0)
 
-    by_fault : (g : LexFault) → pass.ended ≡ false → Counts pass.lexer front several here (λ q. IsBehind pass.waiting pass.assembler q) → Answers (length front) (here ++ front) b (Err g) pass.lexer lexer
-        → PassesByte front several here b (Err (lexical g)) now
+    by_fault : (g : LexFault) → pass.ended ≡ false → Counts pass.lexer prefix several here (λ q. IsBehind pass.waiting pass.assembler q) → Answers (length prefix) (here ++ prefix) b (Err g) pass.lexer lexer
+        → PassesByte prefix several here b (Err (lexical g)) now
     by_fault (fault.IC line) going counts is = tells (fault.IC line) counts is
     by_fault (fault.SY line) going counts is = tells (fault.SY line) counts is
     by_fault (fault.NU line) going counts is = tells (fault.NU line) counts is
     by_fault (fault.NE line) going counts is = absurd is
     by_fault fault.Memory going counts is =
-        subst (λ (l : lex.Progress). HasPassed (record { lexer = l; assembler = pass.assembler; waiting = pass.waiting; ended = pass.ended }) front several here false) (sym is.3) (inl (going, counts))
+        subst (λ (l : lex.Progress). HasPassed (record { lexer = l; assembler = pass.assembler; waiting = pass.waiting; ended = pass.ended }) prefix several here false) (sym is.3) (inl (going, counts))
 
 -- ## Characters
 
 -- a statement was taken up to its end
-pub passed_to : (front : List ℕ) (several : Bool) (here bytes : List ℕ) (i b : ℕ) (new : Pass) → i < length bytes → b ≡ get_or bytes i 0
-    → HasPassed new front several (b ∷ text_from here (take i bytes)) false → HasPassed new front several (text_from here (take (i + 1) bytes)) false
-passed_to front several here bytes i b new inside is has = subst (λ t. HasPassed new front several t false) (sym (one_more here bytes i b inside is)) has
+pub passed_to : (prefix : List ℕ) (several : Bool) (here bytes : List ℕ) (i b : ℕ) (new : Pass) → i < length bytes → b ≡ get_or bytes i 0
+    → HasPassed new prefix several (b ∷ text_from here (take i bytes)) false → HasPassed new prefix several (text_from here (take (i + 1) bytes)) false
+passed_to prefix several here bytes i b new inside is has = subst (λ t. HasPassed new prefix several t false) (sym (one_more here bytes i b inside is)) has
 
 -- a character of a text was refused
-pub refused_in : (front : List ℕ) (several : Bool) (here bytes : List ℕ) (i b : ℕ) (new : Pass) (f : AsmFault) → i < length bytes → b ≡ get_or bytes i 0
-    → PassesByte front several (text_from here (take i bytes)) b (Err f) new → PassesTo front several here bytes i (Err f) new
-refused_in front several here bytes i b new (At code line) inside is tells =
-    subst (λ t. Tells first_order front several t (At code line)) (sym (the_rest here bytes (i + 1)))
-    (tells_more first_order front several (text_from here (take (i + 1) bytes)) (drop (i + 1) bytes) (At code line)
-    (subst (λ t. Tells first_order front several t (At code line)) (sym (one_more here bytes i b inside is)) tells))
-refused_in front several here bytes i b new Memory inside is has = has
+pub refused_in : (prefix : List ℕ) (several : Bool) (here bytes : List ℕ) (i b : ℕ) (new : Pass) (f : AsmFault) → i < length bytes → b ≡ get_or bytes i 0
+    → PassesByte prefix several (text_from here (take i bytes)) b (Err f) new → PassesTo prefix several here bytes i (Err f) new
+refused_in prefix several here bytes i b new (At code line) inside is tells =
+    subst (λ t. TellsJoinFault first_order prefix several t (At code line)) (sym (the_rest here bytes (i + 1)))
+    (tells_more first_order prefix several (text_from here (take (i + 1) bytes)) (drop (i + 1) bytes) (At code line)
+    (subst (λ t. TellsJoinFault first_order prefix several t (At code line)) (sym (one_more here bytes i b inside is)) tells))
+refused_in prefix several here bytes i b new Memory inside is has = has
 
 -- ## A statement that waits
 
-pub settled_by : (pass new : Pass) (front : List ℕ) (several : Bool) (here : List ℕ) (is_last : Bool) → ((source : Source) → IsBehind pass.waiting pass.assembler source → Settles source (Ok tt) pass new)
-    → HasPassed pass front several here is_last → HasPassed new front several here is_last
-settled_by pass new front several here is_last settles has = elim has [
+pub settled_by : (pass new : Pass) (prefix : List ℕ) (several : Bool) (here : List ℕ) (is_last : Bool) → ((source : Source) → IsBehind pass.waiting pass.assembler source → Settles source (Ok tt) pass new)
+    → HasPassed pass prefix several here is_last → HasPassed new prefix several here is_last
+settled_by pass new prefix several here is_last settles has = elim has [
   | inl counts ↦
       let now = settles _ counts.1.at in
-      subst (λ (n : Pass). HasPassed n front several here is_last) (sym now.0)
+      subst (λ (n : Pass). HasPassed n prefix several here is_last) (sym now.0)
       (inl (counts.0, record { read = counts.1.read; may_pause = counts.1.may_pause; clear = counts.1.clear; fine = counts.1.fine; at = now.1 }))
   | inr p ↦
       let now = settles _ p.1.at in
-      subst (λ (n : Pass). HasPassed n front several here is_last) (sym now.0)
+      subst (λ (n : Pass). HasPassed n prefix several here is_last) (sym now.0)
       (inr (p.0, record { cut = p.1.cut; paused = p.1.paused; clear = p.1.clear; follows = p.1.follows; joins = p.1.joins; at = now.1 }))
 ]
 
 -- want of memory for it changes nothing
-pub not_settled : (pass new : Pass) (front : List ℕ) (several : Bool) (here : List ℕ) (is_last : Bool) → ((source : Source) → IsBehind pass.waiting pass.assembler source → Settles source (Err Memory) pass new)
-    → HasPassed pass front several here is_last → HasPassed new front several here is_last
-not_settled pass new front several here is_last settles has = elim has [
-  | inl counts ↦ subst (λ (n : Pass). HasPassed n front several here is_last) (sym (settles _ counts.1.at)) (inl counts)
-  | inr p ↦ subst (λ (n : Pass). HasPassed n front several here is_last) (sym (settles _ p.1.at)) (inr p)
+pub not_settled : (pass new : Pass) (prefix : List ℕ) (several : Bool) (here : List ℕ) (is_last : Bool) → ((source : Source) → IsBehind pass.waiting pass.assembler source → Settles source (Err Memory) pass new)
+    → HasPassed pass prefix several here is_last → HasPassed new prefix several here is_last
+not_settled pass new prefix several here is_last settles has = elim has [
+  | inl counts ↦ subst (λ (n : Pass). HasPassed n prefix several here is_last) (sym (settles _ counts.1.at)) (inl counts)
+  | inr p ↦ subst (λ (n : Pass). HasPassed n prefix several here is_last) (sym (settles _ p.1.at)) (inr p)
 ]
 
 -- its fault is told
-pub settle_tells : JoinGoesOn → StatementsStay → (pass new : Pass) (front : List ℕ) (several : Bool) (here : List ℕ) (is_last : Bool) (f : AsmFault) → ((source : Source) → IsBehind pass.waiting pass.assembler source → first_order source ≡ Some f)
-    → HasPassed pass front several here is_last → Tells first_order front several here f
-settle_tells goes stay pass new front several here is_last f told has =
-    tells_here first_order first_stays goes stay pass.lexer pass.ended front several here is_last (λ s. IsBehind pass.waiting pass.assembler s) f has told
+pub settle_tells : JoinGoesOn → StatementsStay → (pass new : Pass) (prefix : List ℕ) (several : Bool) (here : List ℕ) (is_last : Bool) (f : AsmFault) → ((source : Source) → IsBehind pass.waiting pass.assembler source → first_order source ≡ Some f)
+    → HasPassed pass prefix several here is_last → TellsJoinFault first_order prefix several here f
+settle_tells goes stay pass new prefix several here is_last f told has =
+    tells_here first_order first_stays goes stay pass.lexer pass.ended prefix several here is_last (λ s. IsBehind pass.waiting pass.assembler s) f has told
 
 -- what it comes to within characters
-pub settle_in : JoinGoesOn → StatementsStay → (pass new : Pass) (front : List ℕ) (several : Bool) (here bytes : List ℕ) (i : ℕ) (r : Result (Unit {0}) AsmFault)
+pub settle_in : JoinGoesOn → StatementsStay → (pass new : Pass) (prefix : List ℕ) (several : Bool) (here bytes : List ℕ) (i : ℕ) (r : Result (Unit {0}) AsmFault)
     → ((source : Source) → IsBehind pass.waiting pass.assembler source → Settles source r pass new)
-    → HasPassed pass front several (text_from here (take i bytes)) false → PassesTo front several here bytes i r new
-settle_in goes stay pass new front several here bytes i (Ok done) settles has = settled_by pass new front several (text_from here (take i bytes)) false settles has
-settle_in goes stay pass new front several here bytes i (Err Memory) settles has = not_settled pass new front several (text_from here (take i bytes)) false settles has
-settle_in goes stay pass new front several here bytes i (Err (At code line)) settles has =
-    subst (λ t. Tells first_order front several t (At code line)) (sym (the_rest here bytes i))
-    (tells_more first_order front several (text_from here (take i bytes)) (drop i bytes) (At code line)
-    (settle_tells goes stay pass new front several (text_from here (take i bytes)) false (At code line) settles has))
+    → HasPassed pass prefix several (text_from here (take i bytes)) false → PassesTo prefix several here bytes i r new
+settle_in goes stay pass new prefix several here bytes i (Ok done) settles has = settled_by pass new prefix several (text_from here (take i bytes)) false settles has
+settle_in goes stay pass new prefix several here bytes i (Err Memory) settles has = not_settled pass new prefix several (text_from here (take i bytes)) false settles has
+settle_in goes stay pass new prefix several here bytes i (Err (At code line)) settles has =
+    subst (λ t. TellsJoinFault first_order prefix several t (At code line)) (sym (the_rest here bytes i))
+    (tells_more first_order prefix several (text_from here (take i bytes)) (drop i bytes) (At code line)
+    (settle_tells goes stay pass new prefix several (text_from here (take i bytes)) false (At code line) settles has))

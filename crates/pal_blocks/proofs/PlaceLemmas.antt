@@ -19,7 +19,7 @@ use Rattle.pal_blocks.specs.Blocks.{blocks_in, blocks_among, blocks_of_each, fir
 use Rattle.pal_blocks.specs.Sources.{texts_of, newest_first}
 use Rattle.pal_blocks.specs.Schedule.{statements_in, joined_blocks, if_paused}
 use Rattle.pal_blocks.specs.Passing.{text_in, Counts, Paused, Stands, IsOver}
-use Rattle.pal_blocks.specs.Steps.{Tells, IsWithin, EndsSource}
+use Rattle.pal_blocks.specs.Steps.{TellsJoinFault, IsWithin, EndsSource}
 use Rattle.pal_blocks.specs.Progress.{GoesOn, IsJoined}
 use Rattle.pal_blocks.proofs.TextLemmas.{JoinedCharacters, from_behind, from_both, frames-append}
 use Rattle.pal_blocks.proofs.BetweenLemmas.{fine_there}
@@ -86,42 +86,42 @@ blocks_text chars words count inside =
 -- The pass stands behind so many blocks of a source.
 abbrev pub IsAfter : List (List ℕ) → List (List ℕ) → List ℕ → List (List ℕ) → ℕ → lex.Progress → Bool → (Source → Type 0) → Type 0
 IsAfter sources before words others count lexer ended Fits =
-    ((front : List ℕ) × GoesOn sources (blocks_among before) (words ∷ others) front
-    × Stands lexer ended front (has_next others) (text_in (frames (first_blocks count words))) (is_ended (frames (first_blocks count words))) Fits)
+    ((prefix : List ℕ) × GoesOn sources (blocks_among before) (words ∷ others) prefix
+    × Stands lexer ended prefix (has_next others) (text_in (frames (first_blocks count words))) (is_ended (frames (first_blocks count words))) Fits)
     ⊎ ((text : List ℕ) × IsJoined sources (blocks_among before) text × IsOver lexer ended text Fits)
 
 enough : (before rest : List (List ℕ)) (sources : List (List ℕ)) → sources ≡ before ++ rest → blocks_among sources ≡ blocks_among before + blocks_among rest
 enough before rest sources split = ap blocks_among split ∙ among_append before rest
 
-pub whole_join : (sources before rest : List (List ℕ)) (front : List ℕ) → AreFiles sources → sources ≡ before ++ rest → GoesOn sources (blocks_among before) rest front → newest_first sources ≡ newest_first rest ++ front
-whole_join sources before rest front are split goes =
+pub whole_join : (sources before rest : List (List ℕ)) (prefix : List ℕ) → AreFiles sources → sources ≡ before ++ rest → GoesOn sources (blocks_among before) rest prefix → newest_first sources ≡ newest_first rest ++ prefix
+whole_join sources before rest prefix are split goes =
     ap newest_first (sym (all_among sources (blocks_among before + blocks_among rest) are (omega (arith, enough before rest sources split))))
-    ∙ goes.joins (blocks_among rest) ∙ ap (λ l. newest_first l ++ front) (all_among rest (blocks_among rest) (files_at before rest (subst AreFiles split are)) (omega arith))
+    ∙ goes.joins (blocks_among rest) ∙ ap (λ l. newest_first l ++ prefix) (all_among rest (blocks_among rest) (files_at before rest (subst AreFiles split are)) (omega arith))
 
 pub whole_text : (sources before rest : List (List ℕ)) (text : List ℕ) → AreFiles sources → sources ≡ before ++ rest → IsJoined sources (blocks_among before) text → newest_first sources ≡ text
 whole_text sources before rest text are split joined =
     ap newest_first (sym (all_among sources (blocks_among before + blocks_among rest) are (omega (arith, enough before rest sources split)))) ∙ joined (blocks_among rest)
 
 -- a fault that is told by so many blocks is told by the statements up to there
-pub told_in : (fault_in : Source → Option AsmFault) (sources before : List (List ℕ)) (words : List ℕ) (others : List (List ℕ)) (front : List ℕ) (count : ℕ) (f : AsmFault) → GoesOn sources (blocks_among before) (words ∷ others) front
-    → Tells fault_in front (has_next others) (text_in (frames (first_blocks count words))) f → fault_in (statements_in (blocks_among before + count) sources) ≡ Some f
-told_in fault_in sources before words others front count f goes tells =
+pub told_in : (fault_in : Source → Option AsmFault) (sources before : List (List ℕ)) (words : List ℕ) (others : List (List ℕ)) (prefix : List ℕ) (count : ℕ) (f : AsmFault) → GoesOn sources (blocks_among before) (words ∷ others) prefix
+    → TellsJoinFault fault_in prefix (has_next others) (text_in (frames (first_blocks count words))) f → fault_in (statements_in (blocks_among before + count) sources) ≡ Some f
+told_in fault_in sources before words others prefix count f goes tells =
     ap (λ t. fault_in (statements t)) (goes.joins count) ∙ tells [] (texts_of (first_among (count - blocks_in words) others)) (has_texts (count - blocks_in words) others)
 
 -- and by those of the whole
-pub told_whole : JoinedCharacters → (fault_in : Source → Option AsmFault) (sources before : List (List ℕ)) (words : List ℕ) (others : List (List ℕ)) (front : List ℕ) (count : ℕ) (f : AsmFault) → AreFiles sources → sources ≡ before ++ words ∷ others
-    → 256 * count ≤ length words → GoesOn sources (blocks_among before) (words ∷ others) front
-    → Tells fault_in front (has_next others) (text_in (frames (first_blocks count words))) f → fault_in (statements (newest_first sources)) ≡ Some f
-told_whole chars fault_in sources before words others front count f are split inside goes tells =
+pub told_whole : JoinedCharacters → (fault_in : Source → Option AsmFault) (sources before : List (List ℕ)) (words : List ℕ) (others : List (List ℕ)) (prefix : List ℕ) (count : ℕ) (f : AsmFault) → AreFiles sources → sources ≡ before ++ words ∷ others
+    → 256 * count ≤ length words → GoesOn sources (blocks_among before) (words ∷ others) prefix
+    → TellsJoinFault fault_in prefix (has_next others) (text_in (frames (first_blocks count words))) f → fault_in (statements (newest_first sources)) ≡ Some f
+told_whole chars fault_in sources before words others prefix count f are split inside goes tells =
     let later = blocks_text chars words count inside in
-    ap (λ t. fault_in (statements t)) (whole_join sources before (words ∷ others) front are split goes ∙ ap (λ t. join_of (t ∷ texts_of others) ++ front) later.1) ∙ tells later.0 (texts_of others) (has_all_texts others)
+    ap (λ t. fault_in (statements t)) (whole_join sources before (words ∷ others) prefix are split goes ∙ ap (λ t. join_of (t ∷ texts_of others) ++ prefix) later.1) ∙ tells later.0 (texts_of others) (has_all_texts others)
 
 -- so many blocks are in the whole
-pub within_whole : JoinedCharacters → (sources before : List (List ℕ)) (words : List ℕ) (others : List (List ℕ)) (front : List ℕ) (count : ℕ) → AreFiles sources → sources ≡ before ++ words ∷ others
-    → 256 * count ≤ length words → GoesOn sources (blocks_among before) (words ∷ others) front → IsWithin (statements (newest_first sources)) front (has_next others) (text_in (frames (first_blocks count words)))
-within_whole chars sources before words others front count are split inside goes =
+pub within_whole : JoinedCharacters → (sources before : List (List ℕ)) (words : List ℕ) (others : List (List ℕ)) (prefix : List ℕ) (count : ℕ) → AreFiles sources → sources ≡ before ++ words ∷ others
+    → 256 * count ≤ length words → GoesOn sources (blocks_among before) (words ∷ others) prefix → IsWithin (statements (newest_first sources)) prefix (has_next others) (text_in (frames (first_blocks count words)))
+within_whole chars sources before words others prefix count are split inside goes =
     let later = blocks_text chars words count inside in
-    (later.0, (texts_of others, (has_all_texts others, ap statements (whole_join sources before (words ∷ others) front are split goes ∙ ap (λ t. join_of (t ∷ texts_of others) ++ front) later.1))))
+    (later.0, (texts_of others, (has_all_texts others, ap statements (whole_join sources before (words ∷ others) prefix are split goes ∙ ap (λ t. join_of (t ∷ texts_of others) ++ prefix) later.1))))
 
 -- the join so far, and what stands behind its statements
 pub so_far : EndsJoin → (sources before : List (List ℕ)) (words : List ℕ) (others : List (List ℕ)) (count : ℕ) (lexer : lex.Progress) (ended : Bool) (Fits : Source → Type 0) → count ≤ blocks_in words
@@ -137,22 +137,22 @@ so_far law sources before words others count lexer ended Fits low after = elim a
     none : more ≡ 0
     none = omega (arith, low)
 
-    by_paused : (os : List (List ℕ)) (front : List ℕ) → Paused lexer front (has_next os) (text_in (frames (first_blocks count words))) Fits
-        → (so : List ℕ) × ((join_of (text_in (frames (first_blocks count words)) ∷ texts_of (first_among more os)) ++ front ≡ so) × Fits (statements so))
-    by_paused [] front p = absurd (true≢false (sym p.follows))
-    by_paused (next ∷ os) front p =
+    by_paused : (os : List (List ℕ)) (prefix : List ℕ) → Paused lexer prefix (has_next os) (text_in (frames (first_blocks count words))) Fits
+        → (so : List ℕ) × ((join_of (text_in (frames (first_blocks count words)) ∷ texts_of (first_among more os)) ++ prefix ≡ so) × Fits (statements so))
+    by_paused [] prefix p = absurd (true≢false (sym p.follows))
+    by_paused (next ∷ os) prefix p =
         (p.cut, (p.joins [] (text_of (text (first_blocks more next))) (texts_of (first_among (more - blocks_in next) os)) ∙ ap (λ l. l ++ p.cut) (none_at more (next ∷ os) none), p.at))
 
-    by_stands : (front : List ℕ) → GoesOn sources (blocks_among before) (words ∷ others) front
-        → Stands lexer ended front (has_next others) (text_in (frames (first_blocks count words))) (is_ended (frames (first_blocks count words))) Fits
+    by_stands : (prefix : List ℕ) → GoesOn sources (blocks_among before) (words ∷ others) prefix
+        → Stands lexer ended prefix (has_next others) (text_in (frames (first_blocks count words))) (is_ended (frames (first_blocks count words))) Fits
         → (so : List ℕ) × ((newest_first (first_among (blocks_among before + count) sources) ≡ so) × Fits (statements so))
-    by_stands front goes stands = elim stands [
+    by_stands prefix goes stands = elim stands [
       | inl counts ↦ (
-        text_in (frames (first_blocks count words)) ++ front,
-        (goes.joins count ∙ ap (λ l. l ++ front) (law front (text_in (frames (first_blocks count words))) (texts_of (first_among more others)) counts.1.clear counts.1.fine), counts.1.at),
+        text_in (frames (first_blocks count words)) ++ prefix,
+        (goes.joins count ∙ ap (λ l. l ++ prefix) (law prefix (text_in (frames (first_blocks count words))) (texts_of (first_among more others)) counts.1.clear counts.1.fine), counts.1.at),
       )
       | inr paused ↦
-          let there = by_paused others front paused.1 in
+          let there = by_paused others prefix paused.1 in
           (there.0, (goes.joins count ∙ there.1.0, there.1.1))
     ]
 
@@ -161,22 +161,22 @@ so_far law sources before words others count lexer ended Fits low after = elim a
 too_long : {C : Type 0} (a b c d : List ℕ) → a ++ b ≡ (0 ∷ a ++ b) ++ d → C
 too_long a b c d e = absurd (omega (arith, ap length e, length-append (0 ∷ a ++ b) d))
 
-pub some_pause : (lexer : lex.Progress) (front : List ℕ) (several : Bool) (here : List ℕ) (Fits : Source → Type 0) (behind : ℕ) → Paused lexer front several here Fits → if_paused (before_pause here) behind ≡ behind
-some_pause lexer front several here Fits behind p = by_pause (before_pause here) refl
+pub some_pause : (lexer : lex.Progress) (prefix : List ℕ) (several : Bool) (here : List ℕ) (Fits : Source → Type 0) (behind : ℕ) → Paused lexer prefix several here Fits → if_paused (before_pause here) behind ≡ behind
+some_pause lexer prefix several here Fits behind p = by_pause (before_pause here) refl
   where
     by_pause : (o : Option (List ℕ)) → before_pause here ≡ o → if_paused o behind ≡ behind
     by_pause None e =
-        too_long here front [] p.cut
-        (ap (λ o. continued here o (0 ∷ here ++ front) ++ front) (sym e) ∙ p.joins [] (0 ∷ here ++ front) [])
+        too_long here prefix [] p.cut
+        (ap (λ o. continued here o (0 ∷ here ++ prefix) ++ prefix) (sym e) ∙ p.joins [] (0 ∷ here ++ prefix) [])
     by_pause (Some cut) e = refl
 
-pub no_pause : EndsJoin → (lexer : lex.Progress) (front : List ℕ) (several : Bool) (here : List ℕ) (Fits : Source → Type 0) (behind : ℕ) → Counts lexer front several here Fits → if_paused (before_pause here) behind ≡ 0
-no_pause law lexer front several here Fits behind counts = by_pause (before_pause here) refl
+pub no_pause : EndsJoin → (lexer : lex.Progress) (prefix : List ℕ) (several : Bool) (here : List ℕ) (Fits : Source → Type 0) (behind : ℕ) → Counts lexer prefix several here Fits → if_paused (before_pause here) behind ≡ 0
+no_pause law lexer prefix several here Fits behind counts = by_pause (before_pause here) refl
   where
     by_pause : (o : Option (List ℕ)) → before_pause here ≡ o → if_paused o behind ≡ 0
     by_pause None e = refl
     by_pause (Some cut) e =
-        absurd (omega (arith, ap length (ap (λ o. continued here o (0 ∷ here)) (sym e) ∙ law front here ((0 ∷ here) ∷ []) counts.clear counts.fine), length-append (0 ∷ here) cut))
+        absurd (omega (arith, ap length (ap (λ o. continued here o (0 ∷ here)) (sym e) ∙ law prefix here ((0 ∷ here) ∷ []) counts.clear counts.fine), length-append (0 ∷ here) cut))
 
 pub joined_least : (words : List ℕ) (others : List (List ℕ)) → blocks_in words ≤ joined_blocks (words ∷ others)
 joined_least words [] = omega arith
@@ -236,34 +236,34 @@ next_source law sources before words next others count old new last over ended F
     whole_here : text_in (frames (first_blocks count words)) ≡ text_in (frames words)
     whole_here = ap (λ w. text_in (frames w)) (all count (omega (arith, is)))
 
-    by_stands : (front : List ℕ) → GoesOn sources (blocks_among before) (words ∷ next ∷ others) front
-        → Stands old ended front true (text_in (frames (first_blocks count words))) (is_ended (frames (first_blocks count words))) Fits
+    by_stands : (prefix : List ℕ) → GoesOn sources (blocks_among before) (words ∷ next ∷ others) prefix
+        → Stands old ended prefix true (text_in (frames (first_blocks count words))) (is_ended (frames (first_blocks count words))) Fits
         → IsAfter sources (before ++ words ∷ []) next others 0 new over Fits
-    by_stands front goes stands = elim stands [
+    by_stands prefix goes stands = elim stands [
       | inl counts ↦
-          let now = ends.1 (length front) (text_in (frames (first_blocks count words)) ++ front) counts.1.read counts.1.fine in
+          let now = ends.1 (length prefix) (text_in (frames (first_blocks count words)) ++ prefix) counts.1.read counts.1.fine in
           inr (
-            text_in (frames (first_blocks count words)) ++ front,
-            all_joined (λ c. goes.joins (blocks_in words + c) ∙ ap (λ l. l ++ front) (behind c ∙ ap (λ t. join_of (t ∷ texts_of (first_among c (next ∷ others)))) (sym whole_here)
-                ∙ law front (text_in (frames (first_blocks count words))) (texts_of (first_among c (next ∷ others))) counts.1.clear counts.1.fine)),
+            text_in (frames (first_blocks count words)) ++ prefix,
+            all_joined (λ c. goes.joins (blocks_in words + c) ∙ ap (λ l. l ++ prefix) (behind c ∙ ap (λ t. join_of (t ∷ texts_of (first_among c (next ∷ others)))) (sym whole_here)
+                ∙ law prefix (text_in (frames (first_blocks count words))) (texts_of (first_among c (next ∷ others))) counts.1.clear counts.1.fine)),
             record {
               no_more = now.1;
-              seam = length front;
-              read = subst (λ (l : lex.Progress). HasRead l (length front) (text_in (frames (first_blocks count words)) ++ front)) (sym now.0) counts.1.read;
+              seam = length prefix;
+              read = subst (λ (l : lex.Progress). HasRead l (length prefix) (text_in (frames (first_blocks count words)) ++ prefix)) (sym now.0) counts.1.read;
               over = now.2;
               fine = counts.1.fine;
               at = counts.1.at;
             },
           )
       | inr paused ↦
-          let p : Paused old front true (text_in (frames words)) Fits = subst (λ t. Paused old front true t Fits) whole_here paused.1 in
+          let p : Paused old prefix true (text_in (frames words)) Fits = subst (λ t. Paused old prefix true t Fits) whole_here paused.1 in
           let begins = ends.0 p.cut p.paused p.clear in
           inl (
             p.cut,
             record {
-              joins = λ c. ap (λ n. newest_first (first_among n sources)) (further c) ∙ goes.joins (blocks_in words + c) ∙ ap (λ l. l ++ front) (behind c)
+              joins = λ c. ap (λ n. newest_first (first_among n sources)) (further c) ∙ goes.joins (blocks_in words + c) ∙ ap (λ l. l ++ prefix) (behind c)
                   ∙ p.joins [] (text_of (text (first_blocks c next))) (texts_of (first_among (c - blocks_in next) others));
-              blocks = goes.blocks ∙ ap (λ n. blocks_among before + (blocks_in words + n)) (some_pause old front true (text_in (frames words)) Fits (joined_blocks (next ∷ others)) p) ∙ omega (arith, base_is);
+              blocks = goes.blocks ∙ ap (λ n. blocks_among before + (blocks_in words + n)) (some_pause old prefix true (text_in (frames words)) Fits (joined_blocks (next ∷ others)) p) ∙ omega (arith, base_is);
             },
             inl (
               begins.counts,

@@ -26,7 +26,7 @@ use Rattle.pal_blocks.specs.Sources.{texts_of, newest_first}
 use Rattle.pal_blocks.specs.Schedule.{statements_in, joined_blocks, from_turn, known_again, known_at}
 use Rattle.pal_blocks.specs.Schedule.{if_paused}
 use Rattle.pal_blocks.specs.Passing.{text_in, added, Counts, IsMade, IsOver, IsBehind}
-use Rattle.pal_blocks.specs.Steps.{Tells, HasPassed, Settles, PassesBlock, EndsSource, TurnsPass}
+use Rattle.pal_blocks.specs.Steps.{TellsJoinFault, HasPassed, Settles, PassesBlock, EndsSource, TurnsPass}
 use Rattle.pal_blocks.specs.Progress.{due_of, block_of, Place, text_taken, IsInPass, IsFirstPass, IsSecondPass, IsAssembling}
 use Rattle.pal_blocks.specs.Turns.{TakesBlock}
 use Rattle.pal_blocks.proofs.BeginLemmas.{lt_true, lt_false, not_yet, nothing_read, no_text, as_many, has_others, nothing_more}
@@ -151,7 +151,7 @@ not_memory text f told is = by_test (is_over text) (told ∙ ap (λ g. Some g) i
 
 abbrev pub PassesClause : Pass → List ℕ → ℕ → ℕ → Result (Unit {0}) AsmFault → Pass → Type 0
 PassesClause old block offset offset' result new =
-    (front given : List ℕ) (several : Bool) → HasPassed old front several (text_from (text_in given) (take offset (added given block))) (is_ended given) → PassesBlock front several given block offset' result new
+    (prefix given : List ℕ) (several : Bool) → HasPassed old prefix several (text_from (text_in given) (take offset (added given block))) (is_ended given) → PassesBlock prefix several given block offset' result new
 
 abbrev pub EndedClause : Pass → Result (Unit {0}) AsmFault → Pass → Type 0
 EndedClause old result new = old.ended ≡ true → (source : Source) → IsBehind old.waiting old.assembler source → Settles source result old new
@@ -272,9 +272,9 @@ first_not chars sources left it block offset pass f is more again this passes se
     turn_at : turn_of (assembling_turns (blocks_among sources)) left ≡ blocks_among first.place.before + (it.block + 1)
     turn_at = turn_is (blocks_among sources) (blocks_among first.place.before) it.block left first.turns
 
-    in_block : (front : List ℕ) → HasPassed it.pass front (has_next first.place.others) (text_taken first.place.words it.block it.offset) (is_ended given)
-        → HasPassed it.pass front (has_next first.place.others) (text_from (text_in given) (take it.offset (added given block))) (is_ended given)
-    in_block front has = subst (λ b. HasPassed it.pass front (has_next first.place.others) (text_from (text_in given) (take it.offset (added given b))) (is_ended given)) (sym (due_block sources it first.place block this)) has
+    in_block : (prefix : List ℕ) → HasPassed it.pass prefix (has_next first.place.others) (text_taken first.place.words it.block it.offset) (is_ended given)
+        → HasPassed it.pass prefix (has_next first.place.others) (text_from (text_in given) (take it.offset (added given block))) (is_ended given)
+    in_block prefix has = subst (λ b. HasPassed it.pass prefix (has_next first.place.others) (text_from (text_in given) (take it.offset (added given b))) (is_ended given)) (sym (due_block sources it first.place block this)) has
 
     told : (g : AsmFault) → (g ≡ Memory → ⊥) → first_order (statements_in (blocks_among first.place.before + (it.block + 1)) sources) ≡ Some g → first_order (statements (newest_first sources)) ≡ Some g → TakesBlock sources left (Err g) new
     told g not here whole =
@@ -283,8 +283,8 @@ first_not chars sources left it block offset pass f is more again this passes se
     by_fault : (g : AsmFault) → PassesClause it.pass block it.offset offset (Err g) pass → EndedClause it.pass (Err g) pass → TakesBlock sources left (Err g) new
     by_fault (At code line) passed settled = elim first.pass [
       | inl here ↦
-          let tells : Tells first_order here.0 (has_next first.place.others) (text_in (frames (first_blocks (it.block + 1) first.place.words))) (At code line) =
-          subst (λ l. Tells first_order here.0 (has_next first.place.others) (text_in l) (At code line)) (more_frames sources it first.place block is.files this)
+          let tells : TellsJoinFault first_order here.0 (has_next first.place.others) (text_in (frames (first_blocks (it.block + 1) first.place.words))) (At code line) =
+          subst (λ l. TellsJoinFault first_order here.0 (has_next first.place.others) (text_in l) (At code line)) (more_frames sources it first.place block is.files this)
           (passed here.0 given (has_next first.place.others) (in_block here.0 here.2)) in
           told (At code line) (λ e. never e)
           (told_in first_order sources first.place.before first.place.words first.place.others here.0 (it.block + 1) (At code line) here.1 tells)

@@ -26,27 +26,27 @@ added given block = if is_ended given then [] else characters (frames block)
 -- ## A pass in one of several sources
 
 -- The pass reads a source so far to this text, behind this text of the sources before it; nothing of it has paused.
-pub record Counts (lexer : lex.Progress) (front : List ℕ) (several : Bool) (here : List ℕ) (Fits : Source → Type 0) : Type 0 where
-  pub read : HasRead lexer (length front) (here ++ front)
+pub record Counts (lexer : lex.Progress) (prefix : List ℕ) (several : Bool) (here : List ℕ) (Fits : Source → Type 0) : Type 0 where
+  pub read : HasRead lexer (length prefix) (here ++ prefix)
   pub may_pause : lexer.may_pause ≡ several
-  pub clear : IsClear front
-  pub fine : first_fault (statements (here ++ front)) ≡ None
-  pub at : Fits (statements (here ++ front))
+  pub clear : IsClear prefix
+  pub fine : first_fault (statements (here ++ prefix)) ≡ None
+  pub at : Fits (statements (here ++ prefix))
 
 -- The source has paused, and others follow it: whatever comes in it, the join goes on behind this text.
-pub record Paused (lexer : lex.Progress) (front : List ℕ) (several : Bool) (here : List ℕ) (Fits : Source → Type 0) : Type 0 where
+pub record Paused (lexer : lex.Progress) (prefix : List ℕ) (several : Bool) (here : List ℕ) (Fits : Source → Type 0) : Type 0 where
   pub cut : List ℕ
   pub paused : HasPaused lexer cut
   pub clear : IsClear cut
   pub follows : several ≡ true
-  pub joins : (later next : List ℕ) (others : List (List ℕ)) → join_of ((later ++ here) ∷ next ∷ others) ++ front ≡ join_of (next ∷ others) ++ cut
+  pub joins : (later next : List ℕ) (others : List (List ℕ)) → join_of ((later ++ here) ∷ next ∷ others) ++ prefix ≡ join_of (next ∷ others) ++ cut
   pub at : Fits (statements cut)
 
 -- The pass stands in a source behind this text of it, of which a control Z was the end or not, and nothing more of it is
 -- read where it has paused or ended.
 abbrev pub Stands : lex.Progress → Bool → List ℕ → Bool → List ℕ → Bool → (Source → Type 0) → Type 0
-Stands lexer ended front several here is_last Fits =
-    ((ended ≡ is_last) × Counts lexer front several here Fits) ⊎ ((ended ≡ true) × Paused lexer front several here Fits)
+Stands lexer ended prefix several here is_last Fits =
+    ((ended ≡ is_last) × Counts lexer prefix several here Fits) ⊎ ((ended ≡ true) × Paused lexer prefix several here Fits)
 
 -- A `$` has ended this text, which is all of the source, and nothing behind it is read.
 pub record IsOver (lexer : lex.Progress) (ended : Bool) (text : List ℕ) (Fits : Source → Type 0) : Type 0 where

@@ -41,8 +41,8 @@ pub record Place (sources : List (List ℕ)) (source block : ℕ) : Type 0 where
   pub inside : block < blocks_in words
 
 -- What comes behind so many first blocks of sources are these, and their join goes on behind this text.
-pub record GoesOn (sources : List (List ℕ)) (done : ℕ) (rest : List (List ℕ)) (front : List ℕ) : Type 0 where
-  pub joins : (count : ℕ) → newest_first (first_among (done + count) sources) ≡ newest_first (first_among count rest) ++ front
+pub record GoesOn (sources : List (List ℕ)) (done : ℕ) (rest : List (List ℕ)) (prefix : List ℕ) : Type 0 where
+  pub joins : (count : ℕ) → newest_first (first_among (done + count) sources) ≡ newest_first (first_among count rest) ++ prefix
   pub blocks : joined_blocks sources ≡ done + joined_blocks rest
 
 -- whatever comes behind so many first blocks of sources, this text is their join
@@ -57,8 +57,8 @@ text_taken words block offset =
 -- A pass stands in a source that counts, or behind the `$` that ended one before it.
 abbrev pub IsInPass : (sources : List (List ℕ)) (source block offset : ℕ) → Place sources source block → Pass → (Source → Type 0) → Type 0
 IsInPass sources source block offset place pass Fits =
-    ((front : List ℕ) × GoesOn sources (blocks_among place.before) (place.words ∷ place.others) front
-    × Stands pass.lexer pass.ended front (has_next place.others) (text_taken place.words block offset) (is_ended (frames (first_blocks block place.words))) Fits)
+    ((prefix : List ℕ) × GoesOn sources (blocks_among place.before) (place.words ∷ place.others) prefix
+    × Stands pass.lexer pass.ended prefix (has_next place.others) (text_taken place.words block offset) (is_ended (frames (first_blocks block place.words))) Fits)
     ⊎ ((text : List ℕ) × IsJoined sources (blocks_among place.before) text × IsOver pass.lexer pass.ended text Fits)
 
 -- The blocks are read for the first time.

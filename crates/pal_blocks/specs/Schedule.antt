@@ -18,7 +18,7 @@ statements_in count sources = statements (newest_first (first_among count source
 -- what comes behind a PAUSE, if there is one
 abbrev pub if_paused : Option (List ℕ) → ℕ → ℕ
 if_paused None behind = 0
-if_paused (Some front) behind = behind
+if_paused (Some prefix) behind = behind
 
 -- how many blocks there are up to the end of the source that the join ends in, with its `$` or without
 abbrev pub joined_blocks : List (List ℕ) → ℕ

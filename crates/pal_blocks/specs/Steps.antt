@@ -25,9 +25,9 @@ use Rattle.pal_asm.specs.Progress as asm
 -- ## A pass in one of several sources
 
 -- A fault is told by the statements of the join, whatever follows this text in its source, and whatever sources follow.
-abbrev pub Tells : (Source → Option AsmFault) → List ℕ → Bool → List ℕ → AsmFault → Type 0
-Tells fault_in front several here fault =
-    (later : List ℕ) (others : List (List ℕ)) → has_next others ≡ several → fault_in (statements (join_of ((later ++ here) ∷ others) ++ front)) ≡ Some fault
+abbrev pub TellsJoinFault : (Source → Option AsmFault) → List ℕ → Bool → List ℕ → AsmFault → Type 0
+TellsJoinFault fault_in prefix several here fault =
+    (later : List ℕ) (others : List (List ℕ)) → has_next others ≡ several → fault_in (statements (join_of ((later ++ here) ∷ others) ++ prefix)) ≡ Some fault
 
 -- ## The first pass
 
@@ -37,7 +37,7 @@ is_pause_answer (Some statement) = is_pause_body statement.body
 
 -- the first pass stands in a source behind this text of it
 abbrev pub HasPassed : Pass → List ℕ → Bool → List ℕ → Bool → Type 0
-HasPassed pass front several here is_last = Stands pass.lexer pass.ended front several here is_last (λ source. IsBehind pass.waiting pass.assembler source)
+HasPassed pass prefix several here is_last = Stands pass.lexer pass.ended prefix several here is_last (λ source. IsBehind pass.waiting pass.assembler source)
 
 -- what the statement that may wait comes to
 abbrev pub Settles : Source → Result (Unit {0}) AsmFault → Pass → Pass → Type 0
@@ -47,28 +47,28 @@ Settles source (Err (At code line)) old new = first_order source ≡ Some (At co
 
 -- what a character behind a text of a source comes to
 abbrev pub PassesByte : List ℕ → Bool → List ℕ → ℕ → Result (Unit {0}) AsmFault → Pass → Type 0
-PassesByte front several here b (Ok done) pass = HasPassed pass front several (b ∷ here) false
-PassesByte front several here b (Err Memory) pass = HasPassed pass front several here false
-PassesByte front several here b (Err (At code line)) pass = Tells first_order front several (b ∷ here) (At code line)
+PassesByte prefix several here b (Ok done) pass = HasPassed pass prefix several (b ∷ here) false
+PassesByte prefix several here b (Err Memory) pass = HasPassed pass prefix several here false
+PassesByte prefix several here b (Err (At code line)) pass = TellsJoinFault first_order prefix several (b ∷ here) (At code line)
 
 -- What characters of a source come to, behind a text of it: they were taken up to a place, or a fault is told by them.
 abbrev pub PassesTo : List ℕ → Bool → List ℕ → List ℕ → ℕ → Result (Unit {0}) AsmFault → Pass → Type 0
-PassesTo front several here bytes offset (Ok done) pass = HasPassed pass front several (text_from here (take offset bytes)) false
-PassesTo front several here bytes offset (Err Memory) pass = HasPassed pass front several (text_from here (take offset bytes)) false
-PassesTo front several here bytes offset (Err (At code line)) pass = Tells first_order front several (text_from here bytes) (At code line)
+PassesTo prefix several here bytes offset (Ok done) pass = HasPassed pass prefix several (text_from here (take offset bytes)) false
+PassesTo prefix several here bytes offset (Err Memory) pass = HasPassed pass prefix several (text_from here (take offset bytes)) false
+PassesTo prefix several here bytes offset (Err (At code line)) pass = TellsJoinFault first_order prefix several (text_from here bytes) (At code line)
 
 -- what a block comes to behind frames of the same source
 abbrev pub PassesBlock : List ℕ → Bool → List ℕ → List ℕ → ℕ → Result (Unit {0}) AsmFault → Pass → Type 0
-PassesBlock front several given block offset (Ok done) pass =
-    HasPassed pass front several (text_in (given ++ frames block)) (is_ended (given ++ frames block)) × (pass.waiting ≡ None)
-PassesBlock front several given block offset (Err Memory) pass = HasPassed pass front several (text_from (text_in given) (take offset (added given block))) (is_ended given)
-PassesBlock front several given block offset (Err (At code line)) pass = Tells first_order front several (text_in (given ++ frames block)) (At code line)
+PassesBlock prefix several given block offset (Ok done) pass =
+    HasPassed pass prefix several (text_in (given ++ frames block)) (is_ended (given ++ frames block)) × (pass.waiting ≡ None)
+PassesBlock prefix several given block offset (Err Memory) pass = HasPassed pass prefix several (text_from (text_in given) (take offset (added given block))) (is_ended given)
+PassesBlock prefix several given block offset (Err (At code line)) pass = TellsJoinFault first_order prefix several (text_in (given ++ frames block)) (At code line)
 
 -- ## The second pass
 
 -- the second pass stands in a source behind this text of it
 abbrev pub HasMade : Source → Pass → List (ℕ × ℕ) → List ℕ → Bool → List ℕ → Bool → Type 0
-HasMade whole pass pairs front several here is_last = Stands pass.lexer pass.ended front several here is_last (λ source. IsMade whole pass pairs source)
+HasMade whole pass pairs prefix several here is_last = Stands pass.lexer pass.ended prefix several here is_last (λ source. IsMade whole pass pairs source)
 
 -- statements stand at the beginning of a whole
 abbrev pub Behind : Source → Source → Type 0
@@ -82,8 +82,8 @@ MakesStatement whole source (Err Memory) new pairs = ⊥
 
 -- this text of a source is in a whole
 abbrev pub IsWithin : Source → List ℕ → Bool → List ℕ → Type 0
-IsWithin whole front several here =
-    (later : List ℕ) × ((others : List (List ℕ)) × ((has_next others ≡ several) × (whole ≡ statements (join_of ((later ++ here) ∷ others) ++ front))))
+IsWithin whole prefix several here =
+    (later : List ℕ) × ((others : List (List ℕ)) × ((has_next others ≡ several) × (whole ≡ statements (join_of ((later ++ here) ∷ others) ++ prefix))))
 
 -- what a statement that was handed out comes to in the second pass: PAUSE, or another
 abbrev pub MakesSome : Bool → Statement → Result (Unit {0}) AsmFault → Pass → List (ℕ × ℕ) → Pass → List (ℕ × ℕ) → Type 0
@@ -100,31 +100,31 @@ MakesAnswer (Some s) result old pairs new pairs' = MakesSome (is_pause_body s.bo
 
 -- what a character behind a text of a source comes to in the second pass of a whole
 abbrev pub MakesByte : Source → List ℕ → Bool → List ℕ → ℕ → Result (Unit {0}) AsmFault → Pass → List (ℕ × ℕ) → Type 0
-MakesByte whole front several here b (Ok done) pass pairs = HasMade whole pass pairs front several (b ∷ here) false
-MakesByte whole front several here b (Err Memory) pass pairs = HasMade whole pass pairs front several here false
-MakesByte whole front several here b (Err (At code line)) pass pairs = Tells (words_fault (values whole)) front several (b ∷ here) (At code line)
+MakesByte whole prefix several here b (Ok done) pass pairs = HasMade whole pass pairs prefix several (b ∷ here) false
+MakesByte whole prefix several here b (Err Memory) pass pairs = HasMade whole pass pairs prefix several here false
+MakesByte whole prefix several here b (Err (At code line)) pass pairs = TellsJoinFault (words_fault (values whole)) prefix several (b ∷ here) (At code line)
 
 -- what characters of a source come to in the second pass of a whole
 abbrev pub MakesTo : Source → List ℕ → Bool → List ℕ → List ℕ → ℕ → Result (Unit {0}) AsmFault → Pass → List (ℕ × ℕ) → Type 0
-MakesTo whole front several here bytes offset (Ok done) pass pairs = HasMade whole pass pairs front several (text_from here (take offset bytes)) false
-MakesTo whole front several here bytes offset (Err Memory) pass pairs = HasMade whole pass pairs front several (text_from here (take offset bytes)) false
-MakesTo whole front several here bytes offset (Err (At code line)) pass pairs = Tells (words_fault (values whole)) front several (text_from here bytes) (At code line)
+MakesTo whole prefix several here bytes offset (Ok done) pass pairs = HasMade whole pass pairs prefix several (text_from here (take offset bytes)) false
+MakesTo whole prefix several here bytes offset (Err Memory) pass pairs = HasMade whole pass pairs prefix several (text_from here (take offset bytes)) false
+MakesTo whole prefix several here bytes offset (Err (At code line)) pass pairs = TellsJoinFault (words_fault (values whole)) prefix several (text_from here bytes) (At code line)
 
 -- what a block comes to in the second pass of a whole
 abbrev pub MakesBlock : Source → List ℕ → Bool → List ℕ → List ℕ → ℕ → Result (Unit {0}) AsmFault → Pass → List (ℕ × ℕ) → Type 0
-MakesBlock whole front several given block offset (Ok done) pass pairs =
-    HasMade whole pass pairs front several (text_in (given ++ frames block)) (is_ended (given ++ frames block))
-MakesBlock whole front several given block offset (Err Memory) pass pairs =
-    HasMade whole pass pairs front several (text_from (text_in given) (take offset (added given block))) (is_ended given)
-MakesBlock whole front several given block offset (Err (At code line)) pass pairs =
-    Tells (words_fault (values whole)) front several (text_in (given ++ frames block)) (At code line)
+MakesBlock whole prefix several given block offset (Ok done) pass pairs =
+    HasMade whole pass pairs prefix several (text_in (given ++ frames block)) (is_ended (given ++ frames block))
+MakesBlock whole prefix several given block offset (Err Memory) pass pairs =
+    HasMade whole pass pairs prefix several (text_from (text_in given) (take offset (added given block))) (is_ended given)
+MakesBlock whole prefix several given block offset (Err (At code line)) pass pairs =
+    TellsJoinFault (words_fault (values whole)) prefix several (text_in (given ++ frames block)) (At code line)
 
 -- ## Between sources
 
 -- The next source begins behind this text.
-pub record Begins (lexer : lex.Progress) (ended : Bool) (last : Bool) (front : List ℕ) : Type 0 where
+pub record Begins (lexer : lex.Progress) (ended : Bool) (last : Bool) (prefix : List ℕ) : Type 0 where
   pub counts : ended ≡ false
-  pub read : HasRead lexer (length front) front
+  pub read : HasRead lexer (length prefix) prefix
   pub may_pause : lexer.may_pause ≡ (if last then false else true)
 
 -- What comes behind a source that may pause: at its PAUSE the next begins; its `$` ended all; or it has neither.

@@ -56,10 +56,10 @@ fn make_answer(
 
 /// Takes the next character in the second pass.
 fn make_byte(pass: &mut Pass, pairs: &mut Vec<(Cell, Word)>, byte: u8) -> Result<(), AsmFault>
-    ensures { (whole : Source) (front here : List ℕ) (several : Bool)
-        → HasMade whole pass.old pairs.old.items front several here false
-        → IsWithin whole front several (byte ∷ here)
-        → MakesByte whole front several here byte result pass.new pairs.new.items }
+    ensures { (whole : Source) (prefix here : List ℕ) (several : Bool)
+        → HasMade whole pass.old pairs.old.items prefix several here false
+        → IsWithin whole prefix several (byte ∷ here)
+        → MakesByte whole prefix several here byte result pass.new pairs.new.items }
 {
     byte_goes_on();
     pause_joins();
@@ -84,8 +84,11 @@ fn make_statement(
 ) -> Result<(), AsmFault>
     requires { offset.old < length text.now }
     ensures more { OnOk result (offset.old < offset.new) }
-    ensures makes { (whole : Source) (front here : List ℕ) (several : Bool)
-        → HasMade whole pass.old pairs.old.items front several (text_from here (take offset.old text.now)) false → IsWithin whole front several (text_from here text.now) → MakesTo whole front several here text.now offset.new result pass.new pairs.new.items }
+    ensures makes { (whole : Source) (prefix here : List ℕ) (several : Bool)
+        → HasMade whole pass.old pairs.old.items prefix several
+        (text_from here (take offset.old text.now)) false
+        → IsWithin whole prefix several (text_from here text.now)
+        → MakesTo whole prefix several here text.now offset.new result pass.new pairs.new.items }
 {
     *offset = read_on(&mut pass.lexer, text, *offset);
     if *offset < text.len() {
@@ -105,8 +108,11 @@ fn make_text(
     offset: &mut usize,
 ) -> Result<(), AsmFault>
     ensures range { OnOk result (length text.now ≤ offset.new) }
-    ensures makes { (whole : Source) (front here : List ℕ) (several : Bool)
-        → HasMade whole pass.old pairs.old.items front several (text_from here (take offset.old text.now)) false → IsWithin whole front several (text_from here text.now) → MakesTo whole front several here text.now offset.new result pass.new pairs.new.items }
+    ensures makes { (whole : Source) (prefix here : List ℕ) (several : Bool)
+        → HasMade whole pass.old pairs.old.items prefix several
+        (text_from here (take offset.old text.now)) false
+        → IsWithin whole prefix several (text_from here text.now)
+        → MakesTo whole prefix several here text.now offset.new result pass.new pairs.new.items }
 {
     while *offset < text.len() {
         match make_statement(pass, pairs, text, offset) {
@@ -126,8 +132,11 @@ pub(crate) fn make_block(
     offset: &mut usize,
 ) -> Result<(), AsmFault>
     requires { length block.now ≡ 256 }
-    ensures makes { (whole : Source) (front given : List ℕ) (several : Bool)
-        → HasMade whole pass.old pairs.old.items front several (text_from (text_in given) (take offset.old (added given block.now))) (is_ended given) → IsWithin whole front several (text_in (given ++ frames block.now)) → MakesBlock whole front several given block.now offset.new result pass.new pairs.new.items }
+    ensures makes { (whole : Source) (prefix given : List ℕ) (several : Bool)
+        → HasMade whole pass.old pairs.old.items prefix several
+        (text_from (text_in given) (take offset.old (added given block.now))) (is_ended given)
+        → IsWithin whole prefix several (text_in (given ++ frames block.now))
+        → MakesBlock whole prefix several given block.now offset.new result pass.new pairs.new.items }
     ensures ended { pass.old.ended ≡ true → (result ≡ Ok tt) × (pass.new ≡ pass.old)
         × (pairs.new ≡ pairs.old) }
 {

@@ -121,8 +121,8 @@ fn keep(pass: &mut Pass, answer: Option<Statement>)
 /// Takes the next character, where no statement waits.
 fn pass_byte(pass: &mut Pass, byte: u8) -> Result<(), AsmFault>
     requires { pass.old.waiting ≡ None }
-    ensures { (front here : List ℕ) (several : Bool) → HasPassed pass.old front several here false
-        → PassesByte front several here byte result pass.new }
+    ensures { (prefix here : List ℕ) (several : Bool) → HasPassed pass.old prefix several here false
+        → PassesByte prefix several here byte result pass.new }
 {
     byte_goes_on();
     pause_joins();
@@ -142,9 +142,9 @@ fn pass_statement(pass: &mut Pass, text: &[u8], offset: &mut usize) -> Result<()
     requires range { offset.old < length text.now }
     ensures range { offset.new ≤ length text.now }
     ensures more { OnOk result (offset.old < offset.new) }
-    ensures passes { (front here : List ℕ) (several : Bool)
-        → HasPassed pass.old front several (text_from here (take offset.old text.now)) false
-        → PassesTo front several here text.now offset.new result pass.new }
+    ensures passes { (prefix here : List ℕ) (several : Bool)
+        → HasPassed pass.old prefix several (text_from here (take offset.old text.now)) false
+        → PassesTo prefix several here text.now offset.new result pass.new }
 {
     *offset = read_on(&mut pass.lexer, text, *offset);
     if *offset < text.len() {
@@ -159,9 +159,9 @@ fn pass_statement(pass: &mut Pass, text: &[u8], offset: &mut usize) -> Result<()
 /// Takes characters from a place on. Where memory runs out the place tells how many were taken.
 fn pass_text(pass: &mut Pass, text: &[u8], offset: &mut usize) -> Result<(), AsmFault>
     ensures none { OnOk result ((pass.new.waiting ≡ None) × (length text.now ≤ offset.new)) }
-    ensures passes { (front here : List ℕ) (several : Bool)
-        → HasPassed pass.old front several (text_from here (take offset.old text.now)) false
-        → PassesTo front several here text.now offset.new result pass.new }
+    ensures passes { (prefix here : List ℕ) (several : Bool)
+        → HasPassed pass.old prefix several (text_from here (take offset.old text.now)) false
+        → PassesTo prefix several here text.now offset.new result pass.new }
 {
     join_goes_on();
     statements_stay();
@@ -184,8 +184,10 @@ pub(crate) fn pass_block(
     offset: &mut usize,
 ) -> Result<(), AsmFault>
     requires { length block.now ≡ 256 }
-    ensures passes { (front given : List ℕ) (several : Bool)
-        → HasPassed pass.old front several (text_from (text_in given) (take offset.old (added given block.now))) (is_ended given) → PassesBlock front several given block.now offset.new result pass.new }
+    ensures passes { (prefix given : List ℕ) (several : Bool)
+        → HasPassed pass.old prefix several
+        (text_from (text_in given) (take offset.old (added given block.now))) (is_ended given)
+        → PassesBlock prefix several given block.now offset.new result pass.new }
     ensures ended { pass.old.ended ≡ true → (source : Source)
         → IsBehind pass.old.waiting pass.old.assembler source → Settles source result pass.old pass.new }
     ensures none { OnOk result (pass.new.waiting ≡ None) }

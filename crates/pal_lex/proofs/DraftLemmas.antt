@@ -64,8 +64,8 @@ mark_is_no_run false false place weight e = cc
 pub run_more : (base : ℕ) (before : List Piece) (b at weight : ℕ) (is_bad : Bool) (tokens longer : List Token) (end : ℕ)
     → 1 ≤ base → record { illegal = is_bad; tail = tail.Run weight; tokens = tokens } ≡ cut_of base false before
     → end ≡ limit (at + 1)
-    → ((front : List Token) (last : Token) → tokens ≡ front ++ last ∷ []
-    → longer ≡ front ++ record { kind = grown base weight b last.kind; start = last.start; end = end } ∷ [])
+    → ((prefix : List Token) (last : Token) → tokens ≡ prefix ++ last ∷ []
+    → longer ≡ prefix ++ record { kind = grown base weight b last.kind; start = last.start; end = end } ∷ [])
     → record { illegal = is_bad; tail = tail.Run (weight / 64); tokens = longer } ≡ cut_of base false (with_character b at before)
 run_more base [] b at weight is_bad tokens longer end least e ends more =
     let no : tail.Run weight ≡ tail.Sign = ap (λ (cut : Cut). cut.tail) e in cc

@@ -9,7 +9,7 @@ use Rattle.pal_lex.specs.Statements.{radix_by, radix_after, statements, fault_of
 use Rattle.pal_lex.specs.Joins.{is_lone_pause, is_pause}
 use Rattle.pal_lex.specs.Progress.{Progress}
 use Rattle.pal_lex.specs.JudgeSteps.{Judges, dies, comment_after, ended, ended_statement, paused, pause_statement, next, failed}
-use Rattle.pal_lex.specs.Reading.{IsReading, StateIs, HasRead, IsPaused, HasPaused, tokens_behind, tokens_since, with_tokens, is_pause_body, IsHandedOut, Pauses, HandsOut, Tells, Answers, ReadsOn, BeginsSource}
+use Rattle.pal_lex.specs.Reading.{IsReading, StateIs, HasRead, IsPaused, HasPaused, tokens_behind, tokens_since, with_tokens, is_pause_body, IsHandedOut, Pauses, HandsOut, TellsFault, Answers, ReadsOn, BeginsSource}
 use Rattle.pal_lex.specs.declared.faults.LexFault.{LexFault}
 use Rattle.pal_lex.specs.declared.faults.LexFault.TheVariants.{IC, SY, NU, NE, Memory}
 use Rattle.pal_lex.specs.declared.lexing.State.{State}
@@ -184,7 +184,7 @@ and_false false b e = refl
 
 tells : (old : Progress) (seam : ℕ) (text : List ℕ) (b : ℕ) (fault : LexFault) → Here old seam text b
     → (old.may_pause ≡ true → (not old.draft.illegal && is_lone_pause old.draft.tokens) ≡ false) → newest text b ≡ Err fault
-    → Tells seam text b fault old (record old { state = Failed fault })
+    → TellsFault seam text b fault old (record old { state = Failed fault })
 tells old seam text b fault h quiet bad =
     let told : first_fault (statements (b ∷ text)) ≡ Some fault =
     ap first_fault (newest_is old seam text b h) ∙ ap (λ f. first_of f (fault_of (newest text b))) h.now.no_fault ∙ ap fault_of bad in
@@ -194,14 +194,14 @@ pub fault_finished : (old new : Progress) (seam : ℕ) (text : List ℕ) (b : �
     → (old.may_pause ≡ true → (not old.draft.illegal && is_lone_pause old.draft.tokens) ≡ false) → Judges old.line old.draft.illegal old.draft.tokens (Err fault)
     → new ≡ failed fault old → Answers seam text b (Err fault) old new
 fault_finished old new seam text b (IC line) h quiet judges becomes =
-    subst (λ (n : Progress). Tells seam text b (IC line) old n) (sym becomes)
+    subst (λ (n : Progress). TellsFault seam text b (IC line) old n) (sym becomes)
     (tells old seam text b (IC line) h quiet (rw (illegal_is old seam text b h ∙ judges.1) (ap (λ l. Err (IC l)) (sym h.now.line ∙ sym judges.0))))
 fault_finished old new seam text b (NU line) h quiet judges becomes =
-    subst (λ (n : Progress). Tells seam text b (NU line) old n) (sym becomes)
+    subst (λ (n : Progress). TellsFault seam text b (NU line) old n) (sym becomes)
     (tells old seam text b (NU line) h quiet
     (rw (illegal_is old seam text b h ∙ judges.1, bad_is old seam text b h judges.1 ∙ judges.2) (ap (λ l. Err (NU l)) (sym h.now.line ∙ sym judges.0))))
 fault_finished old new seam text b (SY line) h quiet judges becomes =
-    subst (λ (n : Progress). Tells seam text b (SY line) old n) (sym becomes)
+    subst (λ (n : Progress). TellsFault seam text b (SY line) old n) (sym becomes)
     (tells old seam text b (SY line) h quiet
     (rw (illegal_is old seam text b h ∙ judges.1, bad_is old seam text b h judges.1 ∙ judges.2, said_is old seam text b h judges.1 ∙ judges.3) (ap (λ l. Err (SY l)) (sym h.now.line ∙ sym judges.0))))
 fault_finished old new seam text b (NE line) h quiet judges becomes = absurd judges
@@ -232,7 +232,7 @@ pub over_read : (l : Progress) (seam : ℕ) (text bytes : List ℕ) → l.state 
 over_read l seam text bytes e h =
     let parts = over_parts l seam text e h in
     let all = over_all bytes text parts.1 in
-    subst (λ front. (length bytes ≤ length bytes) × (statements (text_from text front) ≡ statements text) × HasRead l seam (text_from text front)) (sym (all_taken bytes))
+    subst (λ prefix. (length bytes ≤ length bytes) × (statements (text_from text prefix) ≡ statements text) × HasRead l seam (text_from text prefix)) (sym (all_taken bytes))
     (omega arith, all.0, has_over l seam (text_from text bytes) e (ap first_fault all.0 ∙ parts.0) all.1)
 
 -- ## The next source

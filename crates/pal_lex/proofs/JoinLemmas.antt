@@ -197,9 +197,9 @@ no_pause (b ∷ here) before clear none = by_test (pauses (here ++ before) b) re
     by_test true e earlier = none_some (sym none ∙ pause_told (here ++ before) b e older)
     by_test false e earlier = rw (earlier, sym (pauses_joined here before b clear) ∙ e) refl
 
-first_stays : (later text front : List ℕ) → before_pause text ≡ Some front → before_pause (later ++ text) ≡ Some front
-first_stays [] text front e = e
-first_stays (b ∷ later) text front e = ap (λ f. first_text f (if pauses (later ++ text) b then Some (up_to_end (later ++ text)) else None)) (first_stays later text front e)
+first_stays : (later text prefix : List ℕ) → before_pause text ≡ Some prefix → before_pause (later ++ text) ≡ Some prefix
+first_stays [] text prefix e = e
+first_stays (b ∷ later) text prefix e = ap (λ f. first_text f (if pauses (later ++ text) b then Some (up_to_end (later ++ text)) else None)) (first_stays later text prefix e)
 
 pub pause_joins : PauseJoins
 pause_joins before here later b next others clear none pausing =
@@ -218,39 +218,39 @@ further whole middle older last first = (last.0 ++ first.0, last.1 ∙ ap (λ s.
 same_some : {A : Type 0} {a b : A} → Some a ≡ Some b → a ≡ b
 same_some e = cc
 
-whole_front : (later text before : List ℕ) → Behind (statements ((later ++ text) ++ before)) (statements (text ++ before))
-whole_front later text before = let s = stays (text ++ before) later in (s.0, ap statements (append_assoc later text before) ∙ s.1)
+whole_prefix : (later text before : List ℕ) → Behind (statements ((later ++ text) ++ before)) (statements (text ++ before))
+whole_prefix later text before = let s = stays (text ++ before) later in (s.0, ap statements (append_assoc later text before) ∙ s.1)
 
-front_of : (later text before front : List ℕ) → IsClear before → before_pause text ≡ None → before_pause (later ++ text) ≡ Some front
-    → Behind (statements (front ++ before)) (statements (text ++ before))
-front_of [] text before front clear none some = none_some (sym none ∙ some)
-front_of (b ∷ later) text before front clear none some = by_front (before_pause (later ++ text)) refl (λ f is. front_of later text before f clear none is)
+prefix_of : (later text before prefix : List ℕ) → IsClear before → before_pause text ≡ None → before_pause (later ++ text) ≡ Some prefix
+    → Behind (statements (prefix ++ before)) (statements (text ++ before))
+prefix_of [] text before prefix clear none some = none_some (sym none ∙ some)
+prefix_of (b ∷ later) text before prefix clear none some = by_prefix (before_pause (later ++ text)) refl (λ f is. prefix_of later text before f clear none is)
   where
-    by_test : (test : Bool) → (if test then Some (up_to_end (later ++ text)) else None) ≡ Some front → Behind (statements (front ++ before)) (statements (text ++ before))
+    by_test : (test : Bool) → (if test then Some (up_to_end (later ++ text)) else None) ≡ Some prefix → Behind (statements (prefix ++ before)) (statements (text ++ before))
     by_test true e =
-        let w = whole_front later text before in
+        let w = whole_prefix later text before in
         (w.0, ap (λ f. statements (f ++ before)) (sym (same_some e)) ∙ ap statements (sym (cut_joined (later ++ text) before clear)) ∙ cut_statements ((later ++ text) ++ before) ∙ w.1)
     by_test false e = none_some e
 
-    by_front : (f : Option (List ℕ)) → before_pause (later ++ text) ≡ f
+    by_prefix : (f : Option (List ℕ)) → before_pause (later ++ text) ≡ f
         → ((g : List ℕ) → before_pause (later ++ text) ≡ Some g → Behind (statements (g ++ before)) (statements (text ++ before)))
-        → Behind (statements (front ++ before)) (statements (text ++ before))
-    by_front (Some g) e earlier =
-        let same : Some g ≡ Some front = sym (ap (λ f. first_text f (if pauses (later ++ text) b then Some (up_to_end (later ++ text)) else None)) e) ∙ some in
+        → Behind (statements (prefix ++ before)) (statements (text ++ before))
+    by_prefix (Some g) e earlier =
+        let same : Some g ≡ Some prefix = sym (ap (λ f. first_text f (if pauses (later ++ text) b then Some (up_to_end (later ++ text)) else None)) e) ∙ some in
         subst (λ f. Behind (statements (f ++ before)) (statements (text ++ before))) (same_some same) (earlier g e)
-    by_front None e earlier =
+    by_prefix None e earlier =
         by_test (pauses (later ++ text) b) (sym (ap (λ f. first_text f (if pauses (later ++ text) b then Some (up_to_end (later ++ text)) else None)) e) ∙ some)
 
 join_front : (later text before : List ℕ) (others : List (List ℕ)) → IsClear before → (has_next others ≡ true → before_pause text ≡ None)
     → Behind (statements (join_of ((later ++ text) ∷ others) ++ before)) (statements (text ++ before))
-join_front later text before [] clear none = whole_front later text before
-join_front later text before (next ∷ others) clear none = by_front (before_pause (later ++ text)) refl
+join_front later text before [] clear none = whole_prefix later text before
+join_front later text before (next ∷ others) clear none = by_prefix (before_pause (later ++ text)) refl
   where
-    by_front : (f : Option (List ℕ)) → before_pause (later ++ text) ≡ f
+    by_prefix : (f : Option (List ℕ)) → before_pause (later ++ text) ≡ f
         → Behind (statements (continued (later ++ text) f (join_of (next ∷ others)) ++ before)) (statements (text ++ before))
-    by_front None e = whole_front later text before
-    by_front (Some front) e =
-        further _ _ _ (whole_front (join_of (next ∷ others)) front before) (front_of later text before front clear (none refl) e)
+    by_prefix None e = whole_prefix later text before
+    by_prefix (Some prefix) e =
+        further _ _ _ (whole_prefix (join_of (next ∷ others)) prefix before) (prefix_of later text before prefix clear (none refl) e)
 
 pub join_goes_on : JoinGoesOn
 join_goes_on before here later others clear none = join_front later here before others clear (λ _. no_pause here before clear none)

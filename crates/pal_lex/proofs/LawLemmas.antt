@@ -21,10 +21,10 @@ pub one_more : (b : ℕ) (text : List ℕ) → statements (b ∷ text) ≡ (if e
 unfolding statements
 one_more b text = refl
 
-step : (ends : Bool) (s : Result Statement LexFault) (older front text : List (Result Statement LexFault)) → older ≡ front ++ text
+step : (ends : Bool) (s : Result Statement LexFault) (older prefix text : List (Result Statement LexFault)) → older ≡ prefix ++ text
     → (more : List (Result Statement LexFault)) × ((if ends then s ∷ older else older) ≡ more ++ text)
-step true s older front text e = (s ∷ front, ap (λ l. s ∷ l) e)
-step false s older front text e = (front, e)
+step true s older prefix text e = (s ∷ prefix, ap (λ l. s ∷ l) e)
+step false s older prefix text e = (prefix, e)
 
 pub stays : StatementsStay
 stays text [] = ([], refl)

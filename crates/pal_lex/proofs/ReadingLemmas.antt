@@ -9,7 +9,7 @@ use Rattle.pal_lex.specs.Drafting.{Cut, cut}
 use Rattle.pal_lex.specs.Statements.{stated, judged, radix_by, radix_after, statements, fault_of, first_of, first_fault}
 use Rattle.pal_lex.specs.Progress.{Progress}
 use Rattle.pal_lex.specs.JudgeSteps.{passed, ended}
-use Rattle.pal_lex.specs.Reading.{StateIs, HasRead, Tells, Answers, Ends, EndsSource}
+use Rattle.pal_lex.specs.Reading.{StateIs, HasRead, TellsFault, Answers, Ends, EndsSource}
 use Rattle.pal_lex.specs.Laws.{IsOfStatement, FaultsAreOfStatements}
 use Rattle.pal_lex.specs.declared.faults.LexFault.{LexFault}
 use Rattle.pal_lex.specs.declared.faults.LexFault.TheVariants.{IC, SY, NU, NE, Memory}
@@ -74,7 +74,7 @@ has_failed l seam text fault e h = subst (λ (s : State). StateIs s l seam text)
 not_none : {A : Type 0} (text : List ℕ) (fault : LexFault) → first_fault (statements text) ≡ Some fault → first_fault (statements text) ≡ None → A
 not_none text fault some none = let no : Some fault ≡ None = sym some ∙ none in absurd cc
 
-failed_tells : (l : Progress) (seam : ℕ) (text : List ℕ) (b : ℕ) (fault : LexFault) → l.state ≡ Failed fault → HasRead l seam text → Tells seam text b fault l l
+failed_tells : (l : Progress) (seam : ℕ) (text : List ℕ) (b : ℕ) (fault : LexFault) → l.state ≡ Failed fault → HasRead l seam text → TellsFault seam text b fault l l
 failed_tells l seam text b fault e h =
     let was = has_failed l seam text fault e h in
     let is = fault_stays text (b ∷ []) fault was in

@@ -35,10 +35,10 @@ both : (a b : Bool) → (a && b) ≡ true → (a ≡ true) × (b ≡ true)
 both true b e = (refl, e)
 both false b e = absurd cc
 
-coded_more : (front : List ℕ) (b : ℕ) → are_coded front ≡ true → is_coded b ≡ true → are_coded (front ++ b ∷ []) ≡ true
-coded_more [] b front coded = rw coded refl
-coded_more (x ∷ others) b front coded =
-    let parts = both (is_coded x) (are_coded others) front in
+coded_more : (prefix : List ℕ) (b : ℕ) → are_coded prefix ≡ true → is_coded b ≡ true → are_coded (prefix ++ b ∷ []) ≡ true
+coded_more [] b prefix coded = rw coded refl
+coded_more (x ∷ others) b prefix coded =
+    let parts = both (is_coded x) (are_coded others) prefix in
     rw (parts.0, coded_more others b parts.1 coded) refl
 
 -- ## A run
@@ -59,17 +59,17 @@ pub longer_run : (base first : ℕ) (others : List ℕ) (at : ℕ) (run : Grown)
     → IsRun base first others at record { token = record { kind = kind; start = run.token.start; end = end }; more = run.more + 1; weight = run.weight / 64 }
 longer_run base first others at run kind end least is short coded grows ends =
     let b = get_or others run.more 0 in
-    let front = take run.more others in
-    let longer : take (run.more + 1) others ≡ front ++ b ∷ [] = ap (λ n. take n others) (next run.more) ∙ one_more others run.more short in
-    let many : length front ≡ run.more = length_taken others run.more is.range in
-    let kinds : kind ≡ run_kind base first (front ++ b ∷ []) =
-    grows ∙ ap (λ t. grown base run.weight b t.kind) is.token ∙ ap (λ v. grown base v b (run_kind base first front)) (is.weight ∙ ap (λ n. weight_after (suc n)) (sym many))
-    ∙ run_grown base first front b least in
+    let prefix = take run.more others in
+    let longer : take (run.more + 1) others ≡ prefix ++ b ∷ [] = ap (λ n. take n others) (next run.more) ∙ one_more others run.more short in
+    let many : length prefix ≡ run.more = length_taken others run.more is.range in
+    let kinds : kind ≡ run_kind base first (prefix ++ b ∷ []) =
+    grows ∙ ap (λ t. grown base run.weight b t.kind) is.token ∙ ap (λ v. grown base v b (run_kind base first prefix)) (is.weight ∙ ap (λ n. weight_after (suc n)) (sym many))
+    ∙ run_grown base first prefix b least in
     let starts : run.token.start ≡ limit at = ap (λ (t : Token). t.start) is.token in
     let ended : run.token.end ≡ limit (at + 1 + run.more) = ap (λ (t : Token). t.end) is.token in
     record {
       range = omega (arith, short);
-      coded = ap are_coded longer ∙ coded_more front b is.coded (sym coded);
+      coded = ap are_coded longer ∙ coded_more prefix b is.coded (sym coded);
       token = ap (λ k. record { kind = k; start = run.token.start; end = end }) (kinds ∙ ap (run_kind base first) (sym longer))
           ∙ ap (λ p. record { kind = run_kind base first (take (run.more + 1) others); start = p; end = end }) starts
           ∙ ap (λ e. record { kind = run_kind base first (take (run.more + 1) others); start = limit at; end = e }) (omega (arith, ended, ends));
@@ -117,29 +117,29 @@ pub run_put : (base : ℕ) (before : List Piece) (first : ℕ) (others : List �
     → PutsRun base false before first others at (Some run.more) old new
 run_put base before first others at run old new apart is was put = (is.range, is.coded, put ∙ same ∙ ap (cut_of base false) (sym joined))
   where
-    front : List ℕ
-    front = take run.more others
+    prefix : List ℕ
+    prefix = take run.more others
 
     no_run : NoRun before
     no_run weight e = apart weight (ap (λ (c : Cut). c.tail) was ∙ e)
 
-    joined : with_characters (first ∷ front) at before ≡ Run first front at (at + 1 + length front) ∷ before
-    joined = ap (with_characters front (at + 1)) (one_character first at before no_run) ∙ all_characters front first [] at (at + 1) before
+    joined : with_characters (first ∷ prefix) at before ≡ Run first prefix at (at + 1 + length prefix) ∷ before
+    joined = ap (with_characters prefix (at + 1)) (one_character first at before no_run) ∙ all_characters prefix first [] at (at + 1) before
 
-    many : length front ≡ run.more
+    many : length prefix ≡ run.more
     many = length_taken others run.more is.range
 
-    tokens : old.tokens ++ pending old.tail ++ run.token ∷ [] ≡ in_order base before ++ token base (Run first front at (at + 1 + length front)) ∷ []
+    tokens : old.tokens ++ pending old.tail ++ run.token ∷ [] ≡ in_order base before ++ token base (Run first prefix at (at + 1 + length prefix)) ∷ []
     tokens =
         ap (λ (c : Cut). c.tokens ++ pending c.tail ++ run.token ∷ []) was ∙ ap (λ l. l ++ run.token ∷ []) (all_tokens base before no_run)
         ∙ ap (λ t. in_order base before ++ t ∷ []) is.token
-        ∙ ap (λ n. in_order base before ++ record { kind = run_kind base first front; start = limit at; end = limit (at + 1 + n) } ∷ []) (sym many)
+        ∙ ap (λ n. in_order base before ++ record { kind = run_kind base first prefix; start = limit at; end = limit (at + 1 + n) } ∷ []) (sym many)
 
-    same : record { illegal = old.illegal; tail = tail.Run run.weight; tokens = old.tokens ++ pending old.tail ++ run.token ∷ [] } ≡ cut_of base false (Run first front at (at + 1 + length front) ∷ before)
+    same : record { illegal = old.illegal; tail = tail.Run run.weight; tokens = old.tokens ++ pending old.tail ++ run.token ∷ [] } ≡ cut_of base false (Run first prefix at (at + 1 + length prefix) ∷ before)
     same =
         ap (λ b. record { illegal = b; tail = tail.Run run.weight; tokens = old.tokens ++ pending old.tail ++ run.token ∷ [] }) (ap (λ (c : Cut). c.illegal) was)
         ∙ ap (λ v. record { illegal = false; tail = tail.Run v; tokens = old.tokens ++ pending old.tail ++ run.token ∷ [] }) (is.weight ∙ ap (λ n. weight_after (suc n)) (sym many))
-        ∙ ap (λ t. record { illegal = false; tail = tail.Run (weight_after (suc (length front))); tokens = t }) tokens
+        ∙ ap (λ t. record { illegal = false; tail = tail.Run (weight_after (suc (length prefix))); tokens = t }) tokens
 
 -- a run of a stretch with no illegal byte
 pub puts_legal : (base : ℕ) (illegal : Bool) (before : List Piece) (first : ℕ) (others : List ℕ) (at more : ℕ) (old new : Cut) → old ≡ cut_of base illegal before → old.illegal ≡ false
@@ -250,7 +250,7 @@ run_read old seam text bytes others first more count place draft e outside coded
     let many : length bytes ≡ suc (length others) = ap (λ l. length l) whole in
     let next : count ≡ suc more = omega (arith, counted, many, done.0) in
     let taken : take count bytes ≡ run = ap (λ n. take n bytes) next ∙ ap (take (suc more)) whole in
-    subst (λ front. (count ≤ length bytes) × (statements (text_from text front) ≡ statements text) × HasRead (moved old place draft) seam (text_from text front)) (sym taken) (
+    subst (λ prefix. (count ≤ length bytes) × (statements (text_from text prefix) ≡ statements text) × HasRead (moved old place draft) seam (text_from text prefix)) (sym taken) (
       omega (arith, counted),
       passes.same_statements,
       has_read (moved old place draft) seam (text_from text run) e record {
@@ -359,19 +359,19 @@ pub comment_read : (old : Progress) (seam : ℕ) (text bytes : List ℕ) (count 
     → HasRead old seam text → place ≡ min (old.place + count) 18446744073709551615 → ReadsOn seam text bytes count (moved old place old.draft)
 comment_read old seam text bytes count place e inside short none read there =
     let now = reading old seam text e read in
-    let front = take count bytes in
-    let dies = all_die front text none (sym now.comment ∙ inside) in
-    let long : length front ≡ count = length_taken bytes count short in (
+    let prefix = take count bytes in
+    let dies = all_die prefix text none (sym now.comment ∙ inside) in
+    let long : length prefix ≡ count = length_taken bytes count short in (
       short,
       dies.same_statements,
-      has_read (moved old place old.draft) seam (text_from text front) e record {
+      has_read (moved old place old.draft) seam (text_from text prefix) e record {
         begun = omega (arith, dies.many, now.begun);
         comment = inside ∙ sym dies.still_comment;
         place = there ∙ omega (arith, now.place, now.begun, dies.many, long);
         line = now.line ∙ sym dies.same_line;
         radix = now.radix ∙ ap radix_after (sym dies.same_statements);
         draft = now.draft ∙ ap (λ s. cut (radix_after s) (since seam (stretch text))) (sym dies.same_statements)
-            ∙ ap (λ l. cut (radix_after (statements (text_from text front))) (since seam l)) (sym dies.same_stretch);
+            ∙ ap (λ l. cut (radix_after (statements (text_from text prefix))) (since seam l)) (sym dies.same_stretch);
         no_fault = ap first_fault dies.same_statements ∙ now.no_fault;
         not_over = dies.same_over ∙ now.not_over;
       },

@@ -38,7 +38,7 @@ before_pause (b ∷ older) = first_text (before_pause older) (if pauses older b 
 -- what stands before a PAUSE, and then the next texts; or the text alone
 abbrev pub continued : List ℕ → Option (List ℕ) → List ℕ → List ℕ
 continued text None others = text
-continued text (Some front) others = others ++ front
+continued text (Some prefix) others = others ++ prefix
 
 -- The join of texts, which stand in their order: each up to the first PAUSE, followed by the join of those behind it. A text
 -- that is the last, or has no PAUSE, is joined whole, and none behind it.

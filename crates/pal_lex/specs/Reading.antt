@@ -108,8 +108,8 @@ HandsOut false seam text b statement old new = IsHandedOut seam text b statement
 HandsOut true seam text b statement old new = Pauses seam text b statement old new
 
 -- A byte behind a text is answered a fault: this is the first of the text, and no PAUSE of a source that may pause.
-abbrev pub Tells : ℕ → List ℕ → ℕ → LexFault → Progress → Progress → Type 0
-Tells seam text b fault old new =
+abbrev pub TellsFault : ℕ → List ℕ → ℕ → LexFault → Progress → Progress → Type 0
+TellsFault seam text b fault old new =
     IsFault (b ∷ text) fault × (first_fault (statements text) ≡ None → old.may_pause ≡ true → pauses text b ≡ false) × HasRead new seam (b ∷ text)
 
 -- What a byte behind a text is answered: the statement that it ends, with its tokens or with none, or nothing where it
@@ -118,9 +118,9 @@ abbrev pub Answers : ℕ → List ℕ → ℕ → Result (Option Statement) LexF
 Answers seam text b (Ok None) old new =
     (first_fault (statements (b ∷ text)) ≡ None) × (statements (b ∷ text) ≡ statements text) × HasRead new seam (b ∷ text)
 Answers seam text b (Ok (Some statement)) old new = HandsOut (is_pause_body statement.body) seam text b statement old new
-Answers seam text b (Err (IC line)) old new = Tells seam text b (IC line) old new
-Answers seam text b (Err (SY line)) old new = Tells seam text b (SY line) old new
-Answers seam text b (Err (NU line)) old new = Tells seam text b (NU line) old new
+Answers seam text b (Err (IC line)) old new = TellsFault seam text b (IC line) old new
+Answers seam text b (Err (SY line)) old new = TellsFault seam text b (SY line) old new
+Answers seam text b (Err (NU line)) old new = TellsFault seam text b (NU line) old new
 Answers seam text b (Err (NE line)) old new = ⊥
 Answers seam text b (Err Memory) old new = (first_fault (statements text) ≡ None) × (is_over text ≡ false) × (is_dead text b ≡ false) × (new ≡ old)
 

@@ -64,7 +64,12 @@ fn sign_of(byte: u8) -> Option<Kind>
 #[inline(always)]
 fn lengthen(tokens: &mut [Token], radix: Radix, weight: u32, character: u8, end: u64)
     ensures { (before : List Token) (last : Token) → tokens.old ≡ before ++ last ∷ []
-        → tokens.new ≡ before ++ record { kind = grown (base radix) weight character last.kind; start = last.start; end = end } ∷ [] }
+        → tokens.new ≡ before ++ record {
+          kind = grown (base radix) weight character last.kind;
+          start =
+              last.start;
+          end = end;
+        } ∷ [] }
 {
     if let Some(last) = tokens.last_mut() {
         last.kind = grown(last.kind, radix, weight, character);
@@ -175,7 +180,8 @@ impl Draft {
     fn put_character(&mut self, radix: Radix, byte: u8, place: u64) -> Result<(), AllocError>
         requires { is_coded byte ≡ true }
         ensures refused { OnErr result (self.new ≡ self.old) }
-        ensures put { (before : List Piece) (at : ℕ) → place ≡ limit at → self.old ≡ cut_of (base radix) false before
+        ensures put { (before : List Piece) (at : ℕ) → place ≡ limit at
+            → self.old ≡ cut_of (base radix) false before
             → OnOk result (self.new ≡ cut_of (base radix) false (with_character byte at before)) }
     {
         let end = place.saturating_add(1);
@@ -192,14 +198,15 @@ impl Draft {
         self.add(token, Tail::Run(0o100000000))
     }
 
-    /// Puts a letter or a digit behind the stretch, and the letters and digits that stand at the front of other bytes as
+    /// Puts a letter or a digit behind the stretch, and the letters and digits that stand at the prefix of other bytes as
     /// far as it likes. It answers how many of these, or nothing where memory ran out.
     #[inline(always)]
     pub fn put_run(&mut self, radix: Radix, first: u8, others: &[u8], place: u64) -> Option<usize>
         requires { is_coded first ≡ true }
         ensures range { IfSome result (λ more. more ≤ length others.now) }
         ensures refused { result ≡ None → self.new ≡ self.old }
-        ensures put { (illegal : Bool) (before : List Piece) (at : ℕ) → place ≡ limit at → self.old ≡ cut_of (base radix) illegal before
+        ensures put { (illegal : Bool) (before : List Piece) (at : ℕ) → place ≡ limit at
+            → self.old ≡ cut_of (base radix) illegal before
             → PutsRun (base radix) illegal before first others.now at result self.old self.new }
     {
         if self.illegal {
@@ -220,7 +227,8 @@ impl Draft {
 
     #[inline(always)]
     fn put_blank(&mut self, place: u64)
-        ensures { (base : ℕ) (before : List Piece) (at : ℕ) → place ≡ limit at → self.old ≡ cut_of base false before
+        ensures { (base : ℕ) (before : List Piece) (at : ℕ) → place ≡ limit at
+            → self.old ≡ cut_of base false before
             → self.new ≡ cut_of base false (with_blank at before) }
     {
         match self.tail {
@@ -234,7 +242,8 @@ impl Draft {
     #[inline(always)]
     fn put_dot(&mut self, place: u64) -> Result<(), AllocError>
         ensures refused { OnErr result (self.new ≡ self.old) }
-        ensures put { (base : ℕ) (before : List Piece) (at : ℕ) → place ≡ limit at → self.old ≡ cut_of base false before
+        ensures put { (base : ℕ) (before : List Piece) (at : ℕ) → place ≡ limit at
+            → self.old ≡ cut_of base false before
             → OnOk result (self.new ≡ cut_of base false (Mark (Kind.Term Term.Here) at ∷ before)) }
     {
         let token = Token {
@@ -251,7 +260,8 @@ impl Draft {
         requires operand { is_operand sign ≡ false }
         requires blank { is_blank sign ≡ false }
         ensures refused { OnErr result (self.new ≡ self.old) }
-        ensures put { (base : ℕ) (before : List Piece) (at : ℕ) → place ≡ limit at → self.old ≡ cut_of base false before
+        ensures put { (base : ℕ) (before : List Piece) (at : ℕ) → place ≡ limit at
+            → self.old ≡ cut_of base false before
             → OnOk result (self.new ≡ cut_of base false (with_sign (Some sign) at before)) }
     {
         self.tokens.push(Token {

@@ -27,7 +27,8 @@ fn addressed(
     indirect: bool,
     tokens: &[Token],
 ) -> Result<Option<Body>, AllocError>
-    ensures { IfOk result (λ b. b ≡ map_body (λ e. Body.Reference operation indirect (Some e)) (sum tokens.now)) }
+    ensures { IfOk result (λ b. b ≡ map_body (λ e. Body.Reference operation indirect (Some e))
+        (sum tokens.now)) }
 {
     let address = terms(alloc, false, tokens)?;
     Ok(address.map(|address| Body::Reference {

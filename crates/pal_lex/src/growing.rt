@@ -1,4 +1,4 @@
-//! Names and numbers, read from the front of bytes.
+//! Names and numbers, read from the beginning of bytes.
 
 ghost use Rattle.std.specs.Prelude.{◌≡◌, ℕ, true, ◌≤◌, length};
 ghost use Rattle.pal_lex.specs.Text.{limit};

@@ -61,7 +61,7 @@ fn dies(comment: bool, byte: u8) -> bool
     is_ignored(byte) || comment_after(comment, byte)
 }
 
-/// How many bytes at the front of these are no CR.
+/// How many bytes at the prefix of these are no CR.
 #[inline(always)]
 fn before_cr(bytes: &[u8]) -> usize
     ensures range { result ≤ length bytes.now }
@@ -223,7 +223,7 @@ impl Lexer {
         }
     }
 
-    /// Takes bytes from the front of these that end no statement, as many as it likes, and answers how many. It stops before
+    /// Takes bytes from the beginning of these that end no statement, as many as it likes, and answers how many. It stops before
     /// a byte that ends a statement, and where memory runs out, which [`Lexer::push`] tells. What [`Lexer::push`] answers
     /// nothing behind the end of a source is taken whole.
     #[tactic(auto, unfolding(crate::specs::Reading::HasRead, crate::specs::Reading::HasPaused, crate::specs::Reading::HasFailed))]

@@ -1,7 +1,7 @@
 -- The tags of a tape's source are all different, and its references name them.
 use Rattle.std.proofs.Common.{◌≡◌, ◌≢◌, ℕ, ◌<◌, ◌≤◌, Bool, true, false, Option, Some, None, Ok, zero, suc, reverse, List, [], ◌∷◌, ◌++◌, ap, sym, subst, ◌∙◌, arith, append-nil}
 use Rattle.std.proofs.lemmas.List.{reverse-append}
-use Rattle.bin_tape.specs.Items.{Item, IsFront, tape_map}
+use Rattle.bin_tape.specs.Items.{Item, IsPrefix, tape_map}
 use Rattle.bin_tape.specs.Pairs.{last_word}
 use Rattle.pal_lex.specs.declared.phrases.Body.TheVariants.{Nothing}
 use Rattle.pal_asm.specs.Places.{Source}
@@ -75,16 +75,16 @@ tags_all_differ tagged items (suc count) enough =
     (tags_all_differ tagged items count (omega (arith, enough)))
     (tags_below tagged items count count (omega arith) (omega (arith, enough))))
 
-pub tape_tags : (items : List Item) → IsFront items → DefinesTags (source_of (words_of_tape items)) (words_of_tape items)
-tape_tags items front =
+pub tape_tags : (items : List Item) → IsPrefix items → DefinesTags (source_of (words_of_tape items)) (words_of_tape items)
+tape_tags items prefix =
     let words = words_of_tape items in
-    source_tags words (are_shown (is_tagged words) words (below_pairs items 32768 front)) (tags_all_differ (is_tagged words) items 32768 (omega arith))
+    source_tags words (are_shown (is_tagged words) words (below_pairs items 32768 prefix)) (tags_all_differ (is_tagged words) items 32768 (omega arith))
 
-pub tape_names : (items : List Item) → IsFront items → NamesTags (source_of (words_of_tape items)) items
-tape_names items front = λ cell word there r g.
+pub tape_names : (items : List Item) → IsPrefix items → NamesTags (source_of (words_of_tape items)) items
+tape_names items prefix = λ cell word there r g.
     let words = words_of_tape items in
     let name = tag_name (referred_cell cell word) in
-    let whole = source_whole words (are_shown (is_tagged words) words (below_pairs items 32768 front)) in
-    let last : last_word (reverse words) cell ≡ Some word = last_of_tape 32768 items (omega arith) front cell ∙ there in
+    let whole = source_whole words (are_shown (is_tagged words) words (below_pairs items 32768 prefix)) in
+    let last : last_word (reverse words) cell ≡ Some word = last_of_tape 32768 items (omega arith) prefix cell ∙ there in
     subst (λ (s : Source). NamesThere s cell word name) (sym whole.statements_are)
     (names_older (Ok (statement_of whole.line true [] [] Nothing)) whole.lines cell word name (whole.stands.named_are cell word last r g))

@@ -1,7 +1,7 @@
 -- The tagged cells of a tape are those that its memory references name.
 use Rattle.std.proofs.Common.{◌≡◌, ◌≢◌, ◌↔◌, ℕ, ◌<◌, ◌%◌, nat_eq, Bool, true, false, ◌&&◌, ◌||◌, ◌⊎◌, inl, inr, Option, Some, None, is_some, zero, suc, List, refl, ap, sym, ◌∙◌, arith}
 use Rattle.std.proofs.lemmas.Bool.Decides.{eqb_tells}
-use Rattle.bin_tape.specs.Items.{Item, IsFront, tape_map}
+use Rattle.bin_tape.specs.Items.{Item, IsPrefix, tape_map}
 use Rattle.pal_list.specs.References.{is_reference, referred_cell}
 use Rattle.pal_list.specs.Tags.{is_given, is_referred}
 use Rattle.pal_list.specs.Sources.{with_word, words_below}
@@ -94,14 +94,14 @@ not_none_some : (o : Option ℕ) → o ≢ None → is_some o ≡ true
 not_none_some None ne = absurd (ne refl)
 not_none_some (Some word) ne = refl
 
-pub tags_what_is_named : (items : List Item) (count : ℕ) → count ≡ 32768 → IsFront items → (cell : ℕ) → cell < count
+pub tags_what_is_named : (items : List Item) (count : ℕ) → count ≡ 32768 → IsPrefix items → (cell : ℕ) → cell < count
     → ((is_given (words_below items count) cell && is_referred (words_below items count) cell) ≡ true) ↔ ((tape_map items cell ≢ None) × Refers items cell)
-tags_what_is_named items count size front cell small = (
+tags_what_is_named items count size prefix cell small = (
   λ e.
       let parts = both (is_given (words_below items count) cell) (is_referred (words_below items count) cell) e in
       (some_not_none (tape_map items cell) (sym (given_below items count cell small) ∙ parts.0), found items count cell parts.1),
   λ named.
       let is = named.1 in
-      let low = inside (tape_map items is.cell) is.cell is.word (map_fits items front is.cell) is.there in
+      let low = inside (tape_map items is.cell) is.cell is.word (map_fits items prefix is.cell) is.there in
       rw (given_below items count cell small ∙ not_none_some (tape_map items cell) named.0, there_found items count cell is (omega (arith, low, size))) refl,
 )

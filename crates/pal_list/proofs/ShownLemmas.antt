@@ -2,7 +2,7 @@
 use Rattle.std.proofs.Common.{◌≡◌, ◌≢◌, ℕ, ◌/◌, ◌%◌, ◌<◌, nat_eq, Bool, true, false, true≢false, if◌then◌else◌, None, inl, inr, length, reverse, List, [], ◌∷◌, ◌++◌, refl, ap, sym, ◌∙◌, arith}
 use Rattle.std.specs.Prelude.{codes}
 use Rattle.std.proofs.lemmas.Bool.Decides.{eqb_tells}
-use Rattle.bin_tape.specs.Items.{Item, IsFront, tape_map}
+use Rattle.bin_tape.specs.Items.{Item, IsPrefix, tape_map}
 use Rattle.bin_tape.specs.Pairs.{ArePairs, last_word}
 use Rattle.bin_tape.specs.Writing.{field_behind, is_next, newest_cell}
 use Rattle.word12.specs.Octal.{octal4}
@@ -66,16 +66,16 @@ same_statement f g same cell word small =
 same_lines : (f g : ℕ → Bool) → ((cell : ℕ) → cell < 32768 → f cell ≡ g cell) → (pairs : List (ℕ × ℕ)) → ArePairs pairs → lines_of f pairs ≡ lines_of g pairs
 same_lines f g same [] all = refl
 same_lines f g same (pair ∷ older) all =
-    let front = (if nat_eq (pair.0 / 4096) (field_behind (newest_cell older)) then [] else field_line pair.0) ++ (if is_next (newest_cell older) pair.0 then [] else origin_line pair.0) in
+    let prefix = (if nat_eq (pair.0 / 4096) (field_behind (newest_cell older)) then [] else field_line pair.0) ++ (if is_next (newest_cell older) pair.0 then [] else origin_line pair.0) in
     let end = 9 ∷ comment pair.0 pair.1 in
     ap (λ l. l ++ cell_lines f (newest_cell older) pair.0 pair.1) (same_lines f g same older all.2)
-    ∙ ap (λ (b : Bool). lines_of g older ++ (front ++ ((if b then tag pair.0 ++ 44 ∷ [] else []) ++ led 9 (statement f pair.0 pair.1) ++ end ++ line_end))) (same pair.0 all.0)
-    ∙ ap (λ s. lines_of g older ++ (front ++ (tag_part g pair.0 ++ led 9 s ++ end ++ line_end))) (same_statement f g same pair.0 pair.1 all.0)
+    ∙ ap (λ (b : Bool). lines_of g older ++ (prefix ++ ((if b then tag pair.0 ++ 44 ∷ [] else []) ++ led 9 (statement f pair.0 pair.1) ++ end ++ line_end))) (same pair.0 all.0)
+    ∙ ap (λ s. lines_of g older ++ (prefix ++ (tag_part g pair.0 ++ led 9 s ++ end ++ line_end))) (same_statement f g same pair.0 pair.1 all.0)
 
 -- lines with these cells tagged are those of the tape's source
-pub tape_lines : (items : List Item) (tags : List Bool) → IsFront items → HoldsTags (tagged_below items 32768) tags
+pub tape_lines : (items : List Item) (tags : List Bool) → IsPrefix items → HoldsTags (tagged_below items 32768) tags
     → lines_of (tagged_in tags) (words_of_tape items) ≡ lines_of (is_tagged (words_of_tape items)) (words_of_tape items)
-tape_lines items tags front holds = same_lines (tagged_in tags) (is_tagged (words_of_tape items)) holds (words_of_tape items) (below_pairs items 32768 front)
+tape_lines items tags prefix holds = same_lines (tagged_in tags) (is_tagged (words_of_tape items)) holds (words_of_tape items) (below_pairs items 32768 prefix)
 
 -- ## The source of a tape
 
@@ -101,20 +101,20 @@ some_pair tagged [] some = absurd (some refl)
 some_pair tagged (pair ∷ pairs) some = omega arith
 
 -- the source of a tape that gives a word says what the tape says
-pub source_says : (items : List Item) → IsFront items → lines_of (is_tagged (words_of_tape items)) (words_of_tape items) ≢ [] → Says (source_of (words_of_tape items)) items
-source_says items front some =
+pub source_says : (items : List Item) → IsPrefix items → lines_of (is_tagged (words_of_tape items)) (words_of_tape items) ≢ [] → Says (source_of (words_of_tape items)) items
+source_says items prefix some =
     let words = words_of_tape items in
-    let read = reads_back words (below_pairs items 32768 front) (some_pair (is_tagged words) words some) in
+    let read = reads_back words (below_pairs items 32768 prefix) (some_pair (is_tagged words) words some) in
     record {
       no_fault = read.no_fault;
       pairs = read.pairs_are;
-      map = λ cell. ap (λ p. last_word p cell) read.pairs_are ∙ last_of_tape 32768 items (omega arith) front cell;
+      map = λ cell. ap (λ p. last_word p cell) read.pairs_are ∙ last_of_tape 32768 items (omega arith) prefix cell;
     }
 
 -- a tape with no line gives no word
-pub gives_none : (items : List Item) → IsFront items → lines_of (is_tagged (words_of_tape items)) (words_of_tape items) ≡ [] → (cell : ℕ) → tape_map items cell ≡ None
-gives_none items front none cell =
-    sym (last_of_tape 32768 items (omega arith) front cell)
+pub gives_none : (items : List Item) → IsPrefix items → lines_of (is_tagged (words_of_tape items)) (words_of_tape items) ≡ [] → (cell : ℕ) → tape_map items cell ≡ None
+gives_none items prefix none cell =
+    sym (last_of_tape 32768 items (omega arith) prefix cell)
     ∙ ap (λ p. last_word (reverse p) cell) (no_lines (is_tagged (words_of_tape items)) (words_of_tape items) none)
 
 true_not : false ≡ true → ⊥

@@ -98,13 +98,13 @@ behind_tag cell piece words body runs says = record {
       (legal_append (spaced (piece ∷ words)) (9 ∷ []) (spaced_legal (piece ∷ words) runs) refl);
   tokens_of = λ at. run_token at (tag cell) ∷ comma_token (at + 6) ∷ tokens_at (at + 8) (piece ∷ words);
   cut = λ at.
-      let front = tag cell ++ 44 ∷ 9 ∷ [] in
-      let live = laid [] at front in
+      let prefix = tag cell ++ 44 ∷ 9 ∷ [] in
+      let live = laid [] at prefix in
       let code = spaced (piece ∷ words) in
       let cut = tag_cut cell at in
       let done = cut_runs piece words live (at + 8) runs (starts_of live Comma (at + 6) _ cut) in
       let all = pieces (laid live (at + 8) code) in
-      ap (λ l. in_order 8 (trimmed (pieces l))) (laid_append front (code ++ 9 ∷ []) [] at ∙ laid_append code (9 ∷ []) live (at + 8))
+      ap (λ l. in_order 8 (trimmed (pieces l))) (laid_append prefix (code ++ 9 ∷ []) [] at ∙ laid_append code (9 ∷ []) live (at + 8))
       ∙ ap (in_order 8) (blank_trimmed all (at + 8 + length code) done.ends)
       ∙ done.tokens
       ∙ ap (λ p. in_order 8 p ++ tokens_at (at + 8) (piece ∷ words)) cut;
@@ -257,15 +257,15 @@ word_part tagged text cell word pairs small shown is =
     let place = cell % 4096 in
     let field = cell / 4096 in
     let words = shown.first ∷ shown.others in
-    let front = tag_part tagged cell in
-    let code = front ++ 9 ∷ (spaced words ++ 9 ∷ []) in
+    let prefix = tag_part tagged cell in
+    let code = prefix ++ 9 ∷ (spaced words ++ 9 ∷ []) in
     let tags = label (tagged cell) cell in
     let codes_here = labelled (tagged cell) cell shown.first shown.others shown.body shown.runs shown.says in
     let line = code ++ (47 ∷ ((octal_digit field ∷ octal4 place ++ 32 ∷ octal4 word) ++ 13 ∷ 10 ∷ [])) in
     let shape : word_line tagged cell word ≡ line =
-    ap (λ w. front ++ led 9 w ++ 9 ∷ comment cell word ++ line_end) shown.some
-    ∙ ap (λ l. front ++ l ++ 9 ∷ comment cell word ++ line_end) (led_spaced 9 shown.first shown.others)
-    ∙ regroup front (spaced words) (47 ∷ octal_digit field ∷ octal4 place ++ 32 ∷ octal4 word) (13 ∷ 10 ∷ []) in
+    ap (λ w. prefix ++ led 9 w ++ 9 ∷ comment cell word ++ line_end) shown.some
+    ∙ ap (λ l. prefix ++ l ++ 9 ∷ comment cell word ++ line_end) (led_spaced 9 shown.first shown.others)
+    ∙ regroup prefix (spaced words) (47 ∷ octal_digit field ∷ octal4 place ++ 32 ∷ octal4 word) (13 ∷ 10 ∷ []) in
     let done =
     line_step tagged text code tags (text_from text line) place field pairs (place + 1) field (pairs ++ (cell, word) ∷ []) shown.body is codes_here
     (ends_commented text code (octal_digit field ∷ octal4 place ++ 32 ∷ octal4 word) is.no_comment is.not_over codes_here.legal (no_return cell word))

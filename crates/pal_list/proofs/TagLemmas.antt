@@ -59,8 +59,8 @@ spread_rises (suc count) n m small less =
       | inl same ↦ let e = same.1 in last (spread count (n / 8)) (spread count (m / 8)) (n % 8) (m % 8) (ap (spread count) e) (omega (arith, less, e))
       | inr other ↦
           let ne = other.1 in
-          let front = spread_rises count (n / 8) (m / 8) (omega (arith, small)) (omega (arith, less, ne)) in
-          omega (arith, front)
+          let prefix = spread_rises count (n / 8) (m / 8) (omega (arith, small)) (omega (arith, less, ne)) in
+          omega (arith, prefix)
     ]
   where
     last : (x y c d : ℕ) → x ≡ y → c < d → 64 * x + c < 64 * y + d

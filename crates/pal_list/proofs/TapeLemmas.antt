@@ -5,7 +5,7 @@ use Rattle.std.proofs.lemmas.Bool.Decides.{eqb_tells, leb_tells}
 use Rattle.std.proofs.lemmas.Grind.{get_or-set_at}
 use Rattle.std.proofs.lemmas.List.{get_or-replicate, reverse-append}
 use Rattle.std.proofs.Math.Seq.{take-append_seam}
-use Rattle.bin_tape.specs.Items.{Item, Leader, Field, Origin, Word, IsFront, field_after, address_after, cell_after, words_of, tape_map}
+use Rattle.bin_tape.specs.Items.{Item, Leader, Field, Origin, Word, IsPrefix, field_after, address_after, cell_after, words_of, tape_map}
 use Rattle.bin_tape.specs.Pairs.{last_word, ArePairs}
 use Rattle.bin_tape.specs.Progress.{Progress}
 use Rattle.bin_tape.specs.Reading.{HasRead}
@@ -61,35 +61,35 @@ abbrev pub Fits : Option ℕ → ℕ → Type 0
 Fits None cell = Unit {0}
 Fits (Some word) cell = (word < 4096) × (cell < 32768)
 
-field_small : (items : List Item) → IsFront items → field_after items < 8
-field_small [] front = omega arith
-field_small (Leader f ∷ older) front = field_small older front.2
-field_small (Field n ∷ older) front = front.0
-field_small (Origin high low ∷ older) front = field_small older front.2
-field_small (Word high low ∷ older) front = field_small older front.3
+field_small : (items : List Item) → IsPrefix items → field_after items < 8
+field_small [] prefix = omega arith
+field_small (Leader f ∷ older) prefix = field_small older prefix.2
+field_small (Field n ∷ older) prefix = prefix.0
+field_small (Origin high low ∷ older) prefix = field_small older prefix.2
+field_small (Word high low ∷ older) prefix = field_small older prefix.3
 
-address_small : (items : List Item) → IsFront items → address_after items < 4096
-address_small [] front = omega arith
-address_small (Leader f ∷ older) front = address_small older front.2
-address_small (Field n ∷ older) front = address_small older front.1
-address_small (Origin high low ∷ older) front = let h = front.0 in let l = front.1 in omega (arith, h, l)
-address_small (Word high low ∷ older) front = omega arith
+address_small : (items : List Item) → IsPrefix items → address_after items < 4096
+address_small [] prefix = omega arith
+address_small (Leader f ∷ older) prefix = address_small older prefix.2
+address_small (Field n ∷ older) prefix = address_small older prefix.1
+address_small (Origin high low ∷ older) prefix = let h = prefix.0 in let l = prefix.1 in omega (arith, h, l)
+address_small (Word high low ∷ older) prefix = omega arith
 
-pub map_fits : (items : List Item) → IsFront items → (cell : ℕ) → Fits (tape_map items cell) cell
-map_fits [] front cell = tt
-map_fits (Leader f ∷ older) front cell = map_fits older front.2 cell
-map_fits (Field n ∷ older) front cell = map_fits older front.1 cell
-map_fits (Origin high low ∷ older) front cell = map_fits older front.2 cell
-map_fits (Word high low ∷ older) front cell =
+pub map_fits : (items : List Item) → IsPrefix items → (cell : ℕ) → Fits (tape_map items cell) cell
+map_fits [] prefix cell = tt
+map_fits (Leader f ∷ older) prefix cell = map_fits older prefix.2 cell
+map_fits (Field n ∷ older) prefix cell = map_fits older prefix.1 cell
+map_fits (Origin high low ∷ older) prefix cell = map_fits older prefix.2 cell
+map_fits (Word high low ∷ older) prefix cell =
     elim (eqb_tells (cell_after older) cell) [
       | inl same ↦
-          let h = front.0 in
-          let l = front.1 in
-          let f = field_small older front.3 in
-          let a = address_small older front.3 in
+          let h = prefix.0 in
+          let l = prefix.1 in
+          let f = field_small older prefix.3 in
+          let a = address_small older prefix.3 in
           let e = same.1 in
           rw same.0 (omega (arith, h, l), omega (arith, f, a, e))
-      | inr other ↦ rw other.0 (map_fits older front.3 cell)
+      | inr other ↦ rw other.0 (map_fits older prefix.3 cell)
     ]
 
 -- ## The words below a cell
@@ -152,20 +152,20 @@ either : (n cell : ℕ) → (cell < n) ⊎ (n ≤ cell)
 either n cell = elim (leb_tells n cell) [ inl high ↦ inr high.1 | inr low ↦ inl low.1 ]
 
 -- the last words of cells are those of the tape
-pub last_of_tape : (count : ℕ) (items : List Item) → 32768 ≤ count → IsFront items → (cell : ℕ) → last_word (reverse (words_below items count)) cell ≡ tape_map items cell
-last_of_tape count items enough front cell =
+pub last_of_tape : (count : ℕ) (items : List Item) → 32768 ≤ count → IsPrefix items → (cell : ℕ) → last_word (reverse (words_below items count)) cell ≡ tape_map items cell
+last_of_tape count items enough prefix cell =
     elim (either count cell) [
       | inl low ↦ below items count cell low
-      | inr high ↦ above items count cell high ∙ outside (tape_map items cell) cell (map_fits items front cell) (omega (arith, high, enough))
+      | inr high ↦ above items count cell high ∙ outside (tape_map items cell) cell (map_fits items prefix cell) (omega (arith, high, enough))
     ]
 
 pairs_more : (word : Option ℕ) (cell : ℕ) (below : List (ℕ × ℕ)) → Fits word cell → ArePairs below → ArePairs (with_word word cell below)
 pairs_more None cell below fits pairs = pairs
 pairs_more (Some word) cell below fits pairs = (fits.1, fits.0, pairs)
 
-pub below_pairs : (items : List Item) (n : ℕ) → IsFront items → ArePairs (words_below items n)
-below_pairs items zero front = rw (below_none items) tt
-below_pairs items (suc n) front = rw (below_more items n) (pairs_more (tape_map items n) n (words_below items n) (map_fits items front n) (below_pairs items n front))
+pub below_pairs : (items : List Item) (n : ℕ) → IsPrefix items → ArePairs (words_below items n)
+below_pairs items zero prefix = rw (below_none items) tt
+below_pairs items (suc n) prefix = rw (below_more items n) (pairs_more (tape_map items n) n (words_below items n) (map_fits items prefix n) (below_pairs items n prefix))
 
 -- no cell has a word where no frame was read
 pub holds_first : (count : ℕ) (reader : Progress) (words : List (Option ℕ)) → 32768 ≤ count → HasRead reader [] [] → words ≡ replicate {A = Option ℕ} count None

@@ -109,7 +109,8 @@ fn put_next(
     word: Option<Word>,
 ) -> Result<Option<Cell>, AllocError>
     requires { length tags.now ≡ 0o100000 }
-    ensures text { (older : List (ℕ × ℕ)) → text.old.items ≡ lines_of (tagged_in tags.now) older → before ≡ newest_cell older
+    ensures text { (older : List (ℕ × ℕ)) → text.old.items ≡ lines_of (tagged_in tags.now) older
+        → before ≡ newest_cell older
         → OnOk result (text.new.items ≡ lines_of (tagged_in tags.now) (with_word word cell older)) }
     ensures cell { (older : List (ℕ × ℕ)) → before ≡ newest_cell older
         → IfOk result (λ next. next ≡ newest_cell (with_word word cell older)) }

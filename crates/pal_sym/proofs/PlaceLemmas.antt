@@ -12,11 +12,11 @@ use Rattle.std.proofs.lemmas.Bool.Decides.{nat_tests}
 use Rattle.std.proofs.lemmas.Grind.{common_steps}
 use Rattle.pal_sym.specs.declared.symbols.Symbol.{Symbol}
 use Rattle.pal_sym.specs.Entries.{Entries, no_entry, name_at, Rise}
-use Rattle.pal_sym.specs.Steps.{IsAt, IsGapFor, Puts}
+use Rattle.pal_sym.specs.Steps.{IsAt, IsGapFor, PutsSymbol}
 use Rattle.pal_sym.proofs.EntryLemmas.{NoneBefore, Sets, found_sought, sought_absent, sought_present, sought_set, sought_insert}
 
 -- entries that rise and have one name set
-puts : (old new : Entries) (name : ℕ) (symbol : Symbol) → Rise new → Sets old new name symbol → Puts name symbol old new
+puts : (old new : Entries) (name : ℕ) (symbol : Symbol) → Rise new → Sets old new name symbol → PutsSymbol name symbol old new
 puts old new name symbol rise sets = record {
   rise = rise;
   found = λ n. found_sought new n ∙ sets n ∙ ap (λ o. if nat_eq name n then Some symbol else o) (sym (found_sought old n));
@@ -59,7 +59,7 @@ module _ (entries : Entries) (rise : Rise entries) (name place : ℕ) (is_at : I
   rise_set : (symbol : Symbol) → Rise (set entries place (name, symbol))
   rise_set symbol i j lt in_range = grind (arith, common_steps, rise i j, rise i place, rise place j, is_at.in_range, is_at.has_name)
 
-  pub put_over : (symbol : Symbol) → Puts name symbol entries (set entries place (name, symbol))
+  pub put_over : (symbol : Symbol) → PutsSymbol name symbol entries (set entries place (name, symbol))
   put_over symbol = puts entries _ name symbol (rise_set symbol) (sought_set entries name symbol place is_at none_before_at)
 
 module _ (entries : Entries) (name place : ℕ) (gap : IsGapFor entries name place) where
@@ -79,6 +79,6 @@ module _ (entries : Entries) (name place : ℕ) (gap : IsGapFor entries name pla
       λ i lt. subst (λ q. name_at new q ≡ name_at entries (i - 1)) {x = i - 1 + 1} (omega arith) (ap key (get_or-insert_above entries place (name, symbol) no_entry (i - 1) (omega arith) gap.in_range)) in
       grind (arith, below i, here i, above i, below j, here j, above j, rise i j, rise i (j - 1), rise (i - 1) (j - 1), gap.smaller_before i, gap.greater_after (j - 1))
 
-  pub put_in_gap : (symbol : Symbol) → Rise entries → Puts name symbol entries (insert entries place (name, symbol))
+  pub put_in_gap : (symbol : Symbol) → Rise entries → PutsSymbol name symbol entries (insert entries place (name, symbol))
   put_in_gap symbol rise =
       puts entries _ name symbol (rise_insert symbol rise) (sought_insert entries name symbol place (λ j lt same. omega (arith, gap.smaller_before j lt)))

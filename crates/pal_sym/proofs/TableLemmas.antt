@@ -6,7 +6,7 @@ use Rattle.std.proofs.lemmas.Cmp.{nat_cmp_total}
 use Rattle.std.specs.Ordering.{nat_cmp}
 use Rattle.std.specs.FinMap.{find, from_entries, get-from_entries}
 use Rattle.pal_sym.specs.Entries.{Entries}
-use Rattle.pal_sym.specs.Steps.{Puts, IsRefused}
+use Rattle.pal_sym.specs.Steps.{PutsSymbol, IsRefused}
 use Rattle.pal_sym.specs.Permanent.{permanent}
 use Rattle.pal_sym.specs.SymbolTable.{SymbolTable}
 use Rattle.pal_sym.specs.Values.{symbol_value, is_fixed, if_none, defined_value, is_tag, set_again, IsOther, StandsFor, DefinesTag, DefinesValue, IsSetAgain, HasRoom}
@@ -87,7 +87,7 @@ under_permanent : (test : Bool) (fixed value found : Option ℕ) → (test ≡ t
 under_permanent true fixed value found none = rw (none refl) refl
 under_permanent false fixed value found none = refl
 
-pub values_put : (name : ℕ) (symbol : Symbol) (old new : Entries) (room less : ℕ) → permanent name ≡ None → Puts name symbol old new
+pub values_put : (name : ℕ) (symbol : Symbol) (old new : Entries) (room less : ℕ) → permanent name ≡ None → PutsSymbol name symbol old new
     → (n : ℕ) → symbol_value (table_of new less) n ≡ (if nat_eq name n then Some symbol.value else symbol_value (table_of old room) n)
 values_put name symbol old new room less none put n =
     value_listed new less n ∙ ap (λ o. if_none (permanent n) (defined_value o)) (put.found n)
@@ -103,7 +103,7 @@ beside_permanent : (test fixed value found : Bool) → (test ≡ true → fixed 
 beside_permanent true fixed value found none = rw (none refl) refl
 beside_permanent false fixed value found none = refl
 
-pub fixed_put : (name : ℕ) (symbol : Symbol) (old new : Entries) (room less : ℕ) → permanent name ≡ None → Puts name symbol old new
+pub fixed_put : (name : ℕ) (symbol : Symbol) (old new : Entries) (room less : ℕ) → permanent name ≡ None → PutsSymbol name symbol old new
     → (n : ℕ) → is_fixed (table_of new less) n ≡ (if nat_eq name n then symbol.is_tag else is_fixed (table_of old room) n)
 fixed_put name symbol old new room less none put n =
     fixed_listed new less n ∙ ap (λ o. is_some (permanent n) || is_tag o) (put.found n)
@@ -127,17 +127,17 @@ module _ (entries : Entries) (room name : ℕ) (table : SymbolTable) (is : table
   absent : find nat_cmp name entries ≡ None → symbol_value table name ≡ None
   absent found = listed_value ∙ ap defined_value found
 
-  put_values : (symbol : Symbol) (new : Entries) (less : ℕ) → Puts name symbol entries new → (n : ℕ) → symbol_value (table_of new less) n ≡ (if nat_eq name n then Some symbol.value else symbol_value table n)
+  put_values : (symbol : Symbol) (new : Entries) (less : ℕ) → PutsSymbol name symbol entries new → (n : ℕ) → symbol_value (table_of new less) n ≡ (if nat_eq name n then Some symbol.value else symbol_value table n)
   put_values symbol new less put n = values_put name symbol entries new room less (sym none) put n ∙ ap (λ t. if nat_eq name n then Some symbol.value else symbol_value t n) is
 
-  put_fixed : (symbol : Symbol) (new : Entries) (less : ℕ) → Puts name symbol entries new → (n : ℕ) → is_fixed (table_of new less) n ≡ (if nat_eq name n then symbol.is_tag else is_fixed table n)
+  put_fixed : (symbol : Symbol) (new : Entries) (less : ℕ) → PutsSymbol name symbol entries new → (n : ℕ) → is_fixed (table_of new less) n ≡ (if nat_eq name n then symbol.is_tag else is_fixed table n)
   put_fixed symbol new less put n = fixed_put name symbol entries new room less (sym none) put n ∙ ap (λ t. if nat_eq name n then symbol.is_tag else is_fixed t n) is
 
   same_room : (less : ℕ) → less ≡ room → less ≡ table.room
   same_room less e = e ∙ ap (λ t. t.room) is
 
   module _ (value : ℕ) (new : Entries) (less : ℕ) where
-    pub tag_over : (symbol found : Symbol) → find nat_cmp name entries ≡ Some found → found.value ≡ value → symbol.value ≡ value → symbol.is_tag ≡ true → less ≡ room → Puts name symbol entries new
+    pub tag_over : (symbol found : Symbol) → find nat_cmp name entries ≡ Some found → found.value ≡ value → symbol.value ≡ value → symbol.is_tag ≡ true → less ≡ room → PutsSymbol name symbol entries new
         → DefinesTag name value table (table_of new less) (Ok tt)
     tag_over symbol found there same sets tags e put = (
       inr (listed_value ∙ ap defined_value there ∙ ap Some same),
@@ -149,7 +149,7 @@ module _ (entries : Entries) (room name : ℕ) (table : SymbolTable) (is : table
       λ n. put_fixed symbol new less put n ∙ ap (λ b. if nat_eq name n then b else is_fixed table n) tags,
     )
 
-    pub tag_added : (symbol : Symbol) → find nat_cmp name entries ≡ None → symbol.value ≡ value → symbol.is_tag ≡ true → room ≤ less + 1 → Puts name symbol entries new
+    pub tag_added : (symbol : Symbol) → find nat_cmp name entries ≡ None → symbol.value ≡ value → symbol.is_tag ≡ true → room ≤ less + 1 → PutsSymbol name symbol entries new
         → DefinesTag name value table (table_of new less) (Ok tt)
     tag_added symbol missing sets tags enough put = (
       inl (absent missing),
@@ -161,7 +161,7 @@ module _ (entries : Entries) (room name : ℕ) (table : SymbolTable) (is : table
       λ n. put_fixed symbol new less put n ∙ ap (λ b. if nat_eq name n then b else is_fixed table n) tags,
     )
 
-    pub value_over : (symbol found : Symbol) → find nat_cmp name entries ≡ Some found → found.is_tag ≡ false → symbol.value ≡ value → symbol.is_tag ≡ false → less ≡ room → Puts name symbol entries new
+    pub value_over : (symbol found : Symbol) → find nat_cmp name entries ≡ Some found → found.is_tag ≡ false → symbol.value ≡ value → symbol.is_tag ≡ false → less ≡ room → PutsSymbol name symbol entries new
         → DefinesValue name value table (table_of new less) (Ok tt)
     value_over symbol found there free sets tags e put = (
       inl (listed_fixed ∙ ap is_tag there ∙ free),
@@ -173,7 +173,7 @@ module _ (entries : Entries) (room name : ℕ) (table : SymbolTable) (is : table
       chosen_same (is_fixed (table_of new less)) (is_fixed table) name symbol.is_tag (put_fixed symbol new less put) (listed_fixed ∙ ap is_tag there ∙ free ∙ sym tags),
     )
 
-    pub value_added : (symbol : Symbol) → find nat_cmp name entries ≡ None → symbol.value ≡ value → symbol.is_tag ≡ false → room ≤ less + 1 → Puts name symbol entries new
+    pub value_added : (symbol : Symbol) → find nat_cmp name entries ≡ None → symbol.value ≡ value → symbol.is_tag ≡ false → room ≤ less + 1 → PutsSymbol name symbol entries new
         → DefinesValue name value table (table_of new less) (Ok tt)
     value_added symbol missing sets tags enough put = (
       inl (listed_fixed ∙ ap is_tag missing),
@@ -185,7 +185,7 @@ module _ (entries : Entries) (room name : ℕ) (table : SymbolTable) (is : table
       chosen_same (is_fixed (table_of new less)) (is_fixed table) name symbol.is_tag (put_fixed symbol new less put) (listed_fixed ∙ ap is_tag missing ∙ sym tags),
     )
 
-    pub set_over : (symbol found : Symbol) → find nat_cmp name entries ≡ Some found → symbol.value ≡ value → symbol.is_tag ≡ found.is_tag → less ≡ room → Puts name symbol entries new
+    pub set_over : (symbol found : Symbol) → find nat_cmp name entries ≡ Some found → symbol.value ≡ value → symbol.is_tag ≡ found.is_tag → less ≡ room → PutsSymbol name symbol entries new
         → IsSetAgain name value table (table_of new less)
     set_over symbol found there sets tags e put = record {
       values = λ n. put_values symbol new less put n

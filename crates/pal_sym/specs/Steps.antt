@@ -21,13 +21,13 @@ pub record IsGapFor (entries : Entries) (name place : ℕ) : Type 0 where
   pub greater_after : (j : ℕ) → place ≤ j → j < length entries → name < name_at entries j
 
 -- The names still rise; the name is defined as this, and the others as they were.
-pub record Puts (name : ℕ) (symbol : Symbol) (old new : Entries) : Type 0 where
+pub record PutsSymbol (name : ℕ) (symbol : Symbol) (old new : Entries) : Type 0 where
   pub rise : Rise new
   pub found : (n : ℕ) → find nat_cmp n new ≡ (if nat_eq name n then Some symbol else find nat_cmp n old)
 
 -- What putting a name among entries with so much room answers: it takes the room of one, or there was none.
 abbrev pub Inserts : ℕ → Symbol → Entries → ℕ → Entries → ℕ → Result (Unit {0}) AllocError → Type 0
-Inserts name symbol old room new less (Ok done) = Puts name symbol old new × (room ≤ less + 1)
+Inserts name symbol old room new less (Ok done) = PutsSymbol name symbol old new × (room ≤ less + 1)
 Inserts name symbol old room new less (Err refused) = (new ≡ old) × (room ≡ 0) × (less ≡ 0)
 
 -- ## Permanent

@@ -46,7 +46,8 @@ pub fn insert(
 ) -> Result<(), AllocError>
     requires rise { Rise entries.old.items }
     requires gap { IsGapFor entries.old.items name place }
-    ensures { Inserts name symbol entries.old.items (vec_capacity entries.old - vec_len entries.old) entries.new.items (vec_capacity entries.new - vec_len entries.new) result }
+    ensures { Inserts name symbol entries.old.items (vec_capacity entries.old - vec_len entries.old)
+        entries.new.items (vec_capacity entries.new - vec_len entries.new) result }
 {
     entries.reserve(1)?;
     entries.insert(place, (name, symbol))?;

@@ -1,4 +1,4 @@
--- Lines that are counted from the front of a text.
+-- Lines that are counted from the beginning of a text.
 use Rattle.std.proofs.Common.{◌≡◌, ◌<◌, ◌≤◌, ◌+◌, ◌-◌, zero, suc, arith, true≢false, ℕ, refl, sym, ◌∙◌, ap, inl, inr, Bool, true, false, if◌then◌else◌, Option, Some, None, List, [], ◌∷◌, ◌++◌, ◌≢◌, length, take, drop, get_or, add-one, ◌⊎◌}
 use Rattle.std.specs.Prelude.{◌==◌}
 use Rattle.std.proofs.lemmas.Bool.Decides.{eqb_tells}
@@ -19,7 +19,7 @@ last_of true true (suc n) = None
 last_of true false n = None
 last_of false begun n = None
 
--- the bytes of so many lines at the front of a text, the first of which is begun or not
+-- the bytes of so many lines at the prefix of a text, the first of which is begun or not
 abbrev pub taken : Bool → Bool → ℕ → List ℕ → Option (List ℕ)
 taken is_end begun zero bs = Some []
 taken is_end begun (suc n) [] = last_of is_end begun n
@@ -45,19 +45,19 @@ lines_same [] = refl
 lines_same (b ∷ bs) = elim (eqb_tells b 10) [ inl is ↦ rw is.0 (ap (λ l. [] ∷ l) (lines_same bs)) | inr other ↦ rw other.0 (onto_begun b bs (lines_same bs)) ]
 
 -- the lines of a text that goes on, the first of which is begun or not, begin with these
-pub record Fronts (begun : Bool) (bs : List ℕ) (front : List (List ℕ)) (rest : List ℕ) : Type 0 where
-  pub script : (more : List ℕ) → lines_in begun (bs ++ more) ≡ front ++ lines_of (rest ++ more)
-  pub whole : (more : List ℕ) → ended_lines (bs ++ more) ≡ front ++ ended_lines (rest ++ more)
+pub record Fronts (begun : Bool) (bs : List ℕ) (prefix : List (List ℕ)) (rest : List ℕ) : Type 0 where
+  pub script : (more : List ℕ) → lines_in begun (bs ++ more) ≡ prefix ++ lines_of (rest ++ more)
+  pub whole : (more : List ℕ) → ended_lines (bs ++ more) ≡ prefix ++ ended_lines (rest ++ more)
 
 -- these are the bytes of so many lines
-pub record Front (is_end begun : Bool) (n : ℕ) (bs xs : List ℕ) : Type 0 where
+pub record Prefix (is_end begun : Bool) (n : ℕ) (bs xs : List ℕ) : Type 0 where
   pub rest : List ℕ
-  pub front : List (List ℕ)
+  pub prefix : List (List ℕ)
   pub parts : bs ≡ xs ++ rest
-  pub size : length front ≡ n
-  pub content : text_of front ≡ ended_behind begun xs
-  pub script : lines_in begun bs ≡ front ++ lines_of rest
-  pub on : is_end ≡ false → Fronts begun bs front rest
+  pub size : length prefix ≡ n
+  pub content : text_of prefix ≡ ended_behind begun xs
+  pub script : lines_in begun bs ≡ prefix ++ lines_of rest
+  pub on : is_end ≡ false → Fronts begun bs prefix rest
 
 abbrev pub Few : Bool → Bool → ℕ → List ℕ → Type 0
 Few true begun n bs = length (lines_in begun bs) < n
@@ -65,7 +65,7 @@ Few false begun n bs = length (ended_lines bs) < n
 
 abbrev pub Met : Bool → Bool → ℕ → List ℕ → Option (List ℕ) → Type 0
 Met is_end begun n bs None = Few is_end begun n bs
-Met is_end begun n bs (Some xs) = Front is_end begun n bs xs
+Met is_end begun n bs (Some xs) = Prefix is_end begun n bs xs
 
 -- an LF ends a line
 lf_met : (is_end begun : Bool) (n b : ℕ) (bs : List ℕ) (r : Option (List ℕ)) → (b == 10) ≡ true → b ≡ 10 → Met is_end false n bs r → Met is_end begun (suc n) (b ∷ bs) (onto b r)
@@ -73,7 +73,7 @@ lf_met true begun n b bs None is same few = rw is (omega (arith, few))
 lf_met false begun n b bs None is same few = rw is (omega (arith, few))
 lf_met is_end begun n b bs (Some xs) is same met = record {
   rest = met.rest;
-  front = [] ∷ met.front;
+  prefix = [] ∷ met.prefix;
   parts = ap (λ l. b ∷ l) met.parts;
   size = ap suc met.size;
   content = rw is (ap (λ l. 10 ∷ l) met.content ∙ ap (λ x. x ∷ ended_behind false xs) (sym same));
@@ -100,12 +100,12 @@ none_some : (n : ℕ) → 0 ≡ suc n → ⊥
 none_some n is = omega (arith, is)
 
 -- any other byte stands in a line
-in_some : (is_end begun : Bool) (n b : ℕ) (bs xs rest : List ℕ) (front : List (List ℕ)) → (b == 10) ≡ false → bs ≡ xs ++ rest → length front ≡ suc n → text_of front ≡ ended_behind true xs
-    → lines_in true bs ≡ front ++ lines_of rest → (is_end ≡ false → Fronts true bs front rest) → Front is_end begun (suc n) (b ∷ bs) (b ∷ xs)
+in_some : (is_end begun : Bool) (n b : ℕ) (bs xs rest : List ℕ) (prefix : List (List ℕ)) → (b == 10) ≡ false → bs ≡ xs ++ rest → length prefix ≡ suc n → text_of prefix ≡ ended_behind true xs
+    → lines_in true bs ≡ prefix ++ lines_of rest → (is_end ≡ false → Fronts true bs prefix rest) → Prefix is_end begun (suc n) (b ∷ bs) (b ∷ xs)
 in_some is_end begun n b bs xs rest [] other parts size content script on = absurd (none_some n size)
 in_some is_end begun n b bs xs rest (line ∷ lines) other parts size content script on = record {
   rest = rest;
-  front = (b ∷ line) ∷ lines;
+  prefix = (b ∷ line) ∷ lines;
   parts = ap (λ l. b ∷ l) parts;
   size = size;
   content = rw other (ap (λ l. b ∷ l) content);
@@ -119,13 +119,13 @@ in_some is_end begun n b bs xs rest (line ∷ lines) other parts size content sc
 in_met : (is_end begun : Bool) (n b : ℕ) (bs : List ℕ) (r : Option (List ℕ)) → (b == 10) ≡ false → Met is_end true (suc n) bs r → Met is_end begun (suc n) (b ∷ bs) (onto b r)
 in_met true begun n b bs None other few = rw other (rw (onto_length b bs) few)
 in_met false begun n b bs None other few = rw other (rw (ended_length b (ended_lines bs)) few)
-in_met is_end begun n b bs (Some xs) other met = in_some is_end begun n b bs xs met.rest met.front other met.parts met.size met.content met.script met.on
+in_met is_end begun n b bs (Some xs) other met = in_some is_end begun n b bs xs met.rest met.prefix other met.parts met.size met.content met.script met.on
 
 -- the bytes that are taken are those of so many lines, and where none are, the lines are too few
 met_by : (is_end begun : Bool) (n : ℕ) (bs : List ℕ) → (n ≡ 0 → begun ≡ false) → Met is_end begun n bs (taken is_end begun n bs)
 met_by is_end true zero bs fit = absurd (true≢false (fit refl))
-met_by is_end false zero bs fit = record { rest = bs; front = []; parts = refl; size = refl; content = refl; script = lines_same bs; on = λ goes_on. record { script = λ more. lines_same (bs ++ more); whole = λ more. refl } }
-met_by true true (suc zero) [] fit = record { rest = []; front = [] ∷ []; parts = refl; size = refl; content = refl; script = refl; on = λ goes_on. absurd (true≢false goes_on) }
+met_by is_end false zero bs fit = record { rest = bs; prefix = []; parts = refl; size = refl; content = refl; script = lines_same bs; on = λ goes_on. record { script = λ more. lines_same (bs ++ more); whole = λ more. refl } }
+met_by true true (suc zero) [] fit = record { rest = []; prefix = [] ∷ []; parts = refl; size = refl; content = refl; script = refl; on = λ goes_on. absurd (true≢false goes_on) }
 met_by true true (suc (suc n)) [] fit = omega arith
 met_by true false (suc n) [] fit = omega arith
 met_by false begun (suc n) [] fit = omega arith
@@ -134,33 +134,33 @@ met_by is_end begun (suc n) (b ∷ bs) fit = elim (eqb_tells b 10) [
   | inr other ↦ rw other.0 (in_met is_end begun n b bs (taken is_end true (suc n) bs) other.0 (met_by is_end true (suc n) bs (λ none. absurd (none_some n (sym none)))))
 ]
 
-take_front : (xs rest : List ℕ) → take (length xs) (xs ++ rest) ≡ xs
-take_front [] rest = refl
-take_front (b ∷ xs) rest = ap (λ l. b ∷ l) (take_front xs rest)
+take_prefix : (xs rest : List ℕ) → take (length xs) (xs ++ rest) ≡ xs
+take_prefix [] rest = refl
+take_prefix (b ∷ xs) rest = ap (λ l. b ∷ l) (take_prefix xs rest)
 
-drop_front : (xs rest : List ℕ) → drop (length xs) (xs ++ rest) ≡ rest
-drop_front [] rest = refl
-drop_front (b ∷ xs) rest = drop_front xs rest
+drop_prefix : (xs rest : List ℕ) → drop (length xs) (xs ++ rest) ≡ rest
+drop_prefix [] rest = refl
+drop_prefix (b ∷ xs) rest = drop_prefix xs rest
 
-front_within : (xs rest : List ℕ) → length xs ≤ length (xs ++ rest)
-front_within [] rest = omega arith
-front_within (b ∷ xs) rest = omega (arith, front_within xs rest)
+prefix_within : (xs rest : List ℕ) → length xs ≤ length (xs ++ rest)
+prefix_within [] rest = omega arith
+prefix_within (b ∷ xs) rest = omega (arith, prefix_within xs rest)
 
-cuts_by : (text : List ℕ) (is_end : Bool) (count bytes : ℕ) (xs : List ℕ) → bytes ≡ length xs → Front is_end false count text xs → Cuts text is_end count bytes
+cuts_by : (text : List ℕ) (is_end : Bool) (count bytes : ℕ) (xs : List ℕ) → bytes ≡ length xs → Prefix is_end false count text xs → Cuts text is_end count bytes
 cuts_by text is_end count bytes xs is met = record {
-  front = met.front;
-  within = rw is (rw met.parts (front_within xs met.rest));
+  prefix = met.prefix;
+  within = rw is (rw met.parts (prefix_within xs met.rest));
   size = met.size;
-  content = met.content ∙ ap ended (sym (ap (λ n. take n text) is ∙ ap (take (length xs)) met.parts ∙ take_front xs met.rest));
-  script = sym (lines_same text) ∙ met.script ∙ ap (λ r. met.front ++ lines_of r) (sym behind);
+  content = met.content ∙ ap ended (sym (ap (λ n. take n text) is ∙ ap (take (length xs)) met.parts ∙ take_prefix xs met.rest));
+  script = sym (lines_same text) ∙ met.script ∙ ap (λ r. met.prefix ++ lines_of r) (sym behind);
   on = λ goes_on. record {
-    script = λ more. sym (lines_same (text ++ more)) ∙ (met.on goes_on).script more ∙ ap (λ r. met.front ++ lines_of (r ++ more)) (sym behind);
-    whole = λ more. (met.on goes_on).whole more ∙ ap (λ r. met.front ++ ended_lines (r ++ more)) (sym behind);
+    script = λ more. sym (lines_same (text ++ more)) ∙ (met.on goes_on).script more ∙ ap (λ r. met.prefix ++ lines_of (r ++ more)) (sym behind);
+    whole = λ more. (met.on goes_on).whole more ∙ ap (λ r. met.prefix ++ ended_lines (r ++ more)) (sym behind);
   };
 }
   where
     behind : drop bytes text ≡ met.rest
-    behind = ap (λ n. drop n text) is ∙ ap (drop (length xs)) met.parts ∙ drop_front xs met.rest
+    behind = ap (λ n. drop n text) is ∙ ap (drop (length xs)) met.parts ∙ drop_prefix xs met.rest
 
 -- the lines that were looked for are found, or are too few
 abbrev CutBy : List ℕ → Bool → ℕ → Option ℕ → Type 0
@@ -176,27 +176,27 @@ counted : (text : List ℕ) (is_end : Bool) (count : ℕ) (size : Option ℕ) �
 counted text is_end count size is = rw (sym is) (cut_by text is_end count (taken is_end false count text) (met_by is_end false count text (λ none. refl)))
 
 -- a text whose last byte is an LF
-pub is_ended : (text front : List ℕ) → text ≡ front ++ 10 ∷ [] → ended text ≡ text
-is_ended text front is = ap ended is ∙ whole false front ∙ sym is
+pub is_ended : (text prefix : List ℕ) → text ≡ prefix ++ 10 ∷ [] → ended text ≡ text
+is_ended text prefix is = ap ended is ∙ whole false prefix ∙ sym is
   where
-    whole : (begun : Bool) (front : List ℕ) → ended_behind begun (front ++ 10 ∷ []) ≡ front ++ 10 ∷ []
+    whole : (begun : Bool) (prefix : List ℕ) → ended_behind begun (prefix ++ 10 ∷ []) ≡ prefix ++ 10 ∷ []
     whole begun [] = refl
     whole begun (b ∷ bs) = elim (eqb_tells b 10) [ inl is ↦ rw is.0 (ap (λ l. b ∷ l) (whole false bs)) | inr other ↦ rw other.0 (ap (λ l. b ∷ l) (whole true bs)) ]
 
 none_length : 0 < 0 → ⊥
 none_length h = omega (arith, h)
 
-open_end : (begun : Bool) (text : List ℕ) → (begun ≡ false → 0 < length text) → ((front : List ℕ) → text ≢ front ++ 10 ∷ []) → ended_behind begun text ≡ text ++ 10 ∷ []
+open_end : (begun : Bool) (text : List ℕ) → (begun ≡ false → 0 < length text) → ((prefix : List ℕ) → text ≢ prefix ++ 10 ∷ []) → ended_behind begun text ≡ text ++ 10 ∷ []
 open_end true [] some other = refl
 open_end false [] some other = absurd (none_length (some refl))
 open_end begun (b ∷ []) some other = elim (eqb_tells b 10) [ inl is ↦ absurd (other [] (ap (λ x. x ∷ []) is.1)) | inr is ↦ rw is.0 refl ]
 open_end begun (b ∷ c ∷ cs) some other = elim (eqb_tells b 10) [
-  | inl is ↦ rw is.0 (ap (λ l. b ∷ l) (open_end false (c ∷ cs) (λ none. omega arith) (λ front same. other (b ∷ front) (ap (λ l. b ∷ l) same))))
-  | inr is ↦ rw is.0 (ap (λ l. b ∷ l) (open_end true (c ∷ cs) (λ none. omega arith) (λ front same. other (b ∷ front) (ap (λ l. b ∷ l) same))))
+  | inl is ↦ rw is.0 (ap (λ l. b ∷ l) (open_end false (c ∷ cs) (λ none. omega arith) (λ prefix same. other (b ∷ prefix) (ap (λ l. b ∷ l) same))))
+  | inr is ↦ rw is.0 (ap (λ l. b ∷ l) (open_end true (c ∷ cs) (λ none. omega arith) (λ prefix same. other (b ∷ prefix) (ap (λ l. b ∷ l) same))))
 ]
 
 -- a text whose last byte is another
-pub is_open : (text : List ℕ) → 0 < length text → ((front : List ℕ) → text ≢ front ++ 10 ∷ []) → ended text ≡ text ++ 10 ∷ []
+pub is_open : (text : List ℕ) → 0 < length text → ((prefix : List ℕ) → text ≢ prefix ++ 10 ∷ []) → ended text ≡ text ++ 10 ∷ []
 is_open text some other = open_end false text (λ none. some) other
 
 size_onto : (i b : ℕ) (r : Option (List ℕ)) → size_from i (onto b r) ≡ size_from (suc i) r
@@ -306,7 +306,7 @@ behind_block is_end begun (suc n) less i (b ∷ block) rest some more is = elim 
 
 block_before : (text block : List ℕ) (place n size : ℕ) → block ≡ take n (drop place text) → n ≡ size → drop place text ≡ block ++ drop (place + size) text
 block_before text block place n size is same =
-    sym (take-append-drop n (drop place text)) ∙ ap (λ front. front ++ drop n (drop place text)) (sym is)
+    sym (take-append-drop n (drop place text)) ∙ ap (λ prefix. prefix ++ drop n (drop place text)) (sym is)
     ∙ ap (λ rest. block ++ rest) (drop-drop n place text ∙ ap (λ k. drop (place + k) text) same)
 
 -- a block that ends fewer lines than are left is passed
@@ -375,10 +375,10 @@ some_text [] some = absurd (true≢false (sym some))
 some_text (b ∷ bs) some = omega arith
 
 -- the bytes of a line are some
-pub some_line : (text front : List ℕ) (is_end : Bool) (bytes : ℕ) → Cuts text is_end 1 bytes → front ≡ take bytes text → 0 < length front
-some_line text [] is_end bytes cuts is = absurd (no_text cuts.front cuts.size (cuts.content ∙ ap ended (sym is)))
+pub some_line : (text prefix : List ℕ) (is_end : Bool) (bytes : ℕ) → Cuts text is_end 1 bytes → prefix ≡ take bytes text → 0 < length prefix
+some_line text [] is_end bytes cuts is = absurd (no_text cuts.prefix cuts.size (cuts.content ∙ ap ended (sym is)))
   where
-    no_text : (front : List (List ℕ)) → length front ≡ 1 → text_of front ≡ [] → ⊥
+    no_text : (prefix : List (List ℕ)) → length prefix ≡ 1 → text_of prefix ≡ [] → ⊥
     no_text [] size none = none_some 0 size
     no_text ([] ∷ lines) size none = none_some (length (text_of lines)) (sym (ap length none))
     no_text ((b ∷ bs) ∷ lines) size none = none_some (length (bs ++ 10 ∷ text_of lines)) (sym (ap length none))

@@ -36,7 +36,7 @@ is_out text false missing few = (
   λ more fewer. ap (items_of [] 0) (no_lines (ended_lines (text ++ more)) (omega (arith, few.0, few.1, fewer, ends_append text more))),
 )
 
-one_line : (front : List (List ℕ)) → length front ≡ 1 → (line : List ℕ) × (front ≡ line ∷ [])
+one_line : (prefix : List (List ℕ)) → length prefix ≡ 1 → (line : List ℕ) × (prefix ≡ line ∷ [])
 one_line [] size = absurd (no_line size)
   where
     no_line : ◌≡◌ {A = ℕ} 0 1 → ⊥
@@ -59,12 +59,12 @@ some_bytes text line zero is = absurd (no_end line is)
 some_bytes text line (suc n) is = omega arith
 
 -- the first line of a text, without its LF
-pub opens : (text front command : List ℕ) (is_end : Bool) (bytes : ℕ) (said : Result Line SessionFault) → Cuts text is_end 1 bytes → front ≡ take bytes text → ended front ≡ command ++ 10 ∷ []
+pub opens : (text prefix command : List ℕ) (is_end : Bool) (bytes : ℕ) (said : Result Line SessionFault) → Cuts text is_end 1 bytes → prefix ≡ take bytes text → ended prefix ≡ command ++ 10 ∷ []
     → said ≡ says command → FirstLineSays text is_end said bytes
-opens text front command is_end bytes said cuts front_is command_is meaning_is =
-    let one = one_line cuts.front cuts.size in
+opens text prefix command is_end bytes said cuts prefix_is command_is meaning_is =
+    let one = one_line cuts.prefix cuts.size in
     let whole_line = sym (ap text_of one.1) ∙ cuts.content in
-    let same = append_cancel_right one.0 command (10 ∷ []) (whole_line ∙ ap ended (sym front_is) ∙ command_is) in
+    let same = append_cancel_right one.0 command (10 ∷ []) (whole_line ∙ ap ended (sym prefix_is) ∙ command_is) in
     record {
       line = one.0;
       meaning_is = ap says same ∙ sym meaning_is;
@@ -116,49 +116,49 @@ gives text is_end said items bytes none are o = record {
         ∙ ap (λ l. l ++ whole_of rest) (are [] (ended_lines rest))
 
 -- lines that belong to a STORE give no items
-past : (short : List Item) (front more : List (List ℕ)) (count : ℕ) → length front ≡ count → items_of short count (front ++ more) ≡ items_of short 0 more
+past : (short : List Item) (prefix more : List (List ℕ)) (count : ℕ) → length prefix ≡ count → items_of short count (prefix ++ more) ≡ items_of short 0 more
 past short [] more zero size = refl
 past short [] more (suc n) size = absurd (no_line n size)
   where
     no_line : (n : ℕ) → 0 ≡ suc n → ⊥
     no_line n h = omega (arith, h)
-past short (line ∷ front) more zero size = absurd (some_line (length front) size)
+past short (line ∷ prefix) more zero size = absurd (some_line (length prefix) size)
   where
     some_line : (n : ℕ) → suc n ≡ 0 → ⊥
     some_line n h = omega (arith, h)
-past short (line ∷ front) more (suc n) size = past short front more n (omega (arith, size))
+past short (line ∷ prefix) more (suc n) size = past short prefix more n (omega (arith, size))
 
 -- the lines of a STORE are its text
-lines_done : (short : List Item) (name : List ℕ) (front more : List (List ℕ)) (count : ℕ) → length front ≡ count → items_of_line short (Ok (line.Store name count)) (front ++ more) ≡ Do (entry.Files (files.Store name (text_of front))) ∷ []
-lines_done short name front more count size = rw (enough front more count size) (ap (λ l. Do (entry.Files (files.Store name (text_of l))) ∷ []) (first front more count size))
+lines_done : (short : List Item) (name : List ℕ) (prefix more : List (List ℕ)) (count : ℕ) → length prefix ≡ count → items_of_line short (Ok (line.Store name count)) (prefix ++ more) ≡ Do (entry.Files (files.Store name (text_of prefix))) ∷ []
+lines_done short name prefix more count size = rw (enough prefix more count size) (ap (λ l. Do (entry.Files (files.Store name (text_of l))) ∷ []) (first prefix more count size))
   where
-    within : (front more : List (List ℕ)) → length front ≤ length (front ++ more)
+    within : (prefix more : List (List ℕ)) → length prefix ≤ length (prefix ++ more)
     within [] more = omega arith
-    within (line ∷ front) more = omega (arith, within front more)
+    within (line ∷ prefix) more = omega (arith, within prefix more)
 
     not_less : (sum less count : ℕ) → less ≡ count → less ≤ sum → suc sum ≤ count → ⊥
     not_less sum less count is most below = omega (arith, is, most, below)
 
-    enough : (front more : List (List ℕ)) (count : ℕ) → length front ≡ count → nat_lt (length (front ++ more)) count ≡ false
-    enough front more count size = elim (leb_tells (suc (length (front ++ more))) count) [ inl h ↦ absurd (not_less _ _ count size (within front more) h.1) | inr h ↦ h.0 ]
+    enough : (prefix more : List (List ℕ)) (count : ℕ) → length prefix ≡ count → nat_lt (length (prefix ++ more)) count ≡ false
+    enough prefix more count size = elim (leb_tells (suc (length (prefix ++ more))) count) [ inl h ↦ absurd (not_less _ _ count size (within prefix more) h.1) | inr h ↦ h.0 ]
 
-    first : (front more : List (List ℕ)) (count : ℕ) → length front ≡ count → take count (front ++ more) ≡ front
+    first : (prefix more : List (List ℕ)) (count : ℕ) → length prefix ≡ count → take count (prefix ++ more) ≡ prefix
     first [] more zero size = refl
     first [] more (suc n) size = absurd (no_line n size)
       where
         no_line : (n : ℕ) → 0 ≡ suc n → ⊥
         no_line n h = omega (arith, h)
-    first (line ∷ front) more zero size = absurd (some_line (length front) size)
+    first (line ∷ prefix) more zero size = absurd (some_line (length prefix) size)
       where
         some_line : (n : ℕ) → suc n ≡ 0 → ⊥
         some_line n h = omega (arith, h)
-    first (line ∷ front) more (suc n) size = ap (λ l. line ∷ l) (first front more n (omega (arith, size)))
+    first (line ∷ prefix) more (suc n) size = ap (λ l. line ∷ l) (first prefix more n (omega (arith, size)))
 
 -- a STORE with its lines
-pub stores : (text rest front content name : List ℕ) (is_end : Bool) (count bytes more sum : ℕ) → FirstLineSays text is_end (Ok (line.Store name count)) bytes → rest ≡ drop bytes text → Cuts rest is_end count more
-    → front ≡ take more rest → content ≡ ended front → sum ≡ bytes + more → GivesItems text is_end (Do (entry.Files (files.Store name content)) ∷ []) sum
+pub stores : (text rest prefix content name : List ℕ) (is_end : Bool) (count bytes more sum : ℕ) → FirstLineSays text is_end (Ok (line.Store name count)) bytes → rest ≡ drop bytes text → Cuts rest is_end count more
+    → prefix ≡ take more rest → content ≡ ended prefix → sum ≡ bytes + more → GivesItems text is_end (Do (entry.Files (files.Store name content)) ∷ []) sum
 unfolding script_of whole_of
-stores text rest front content name is_end count bytes more sum o rest_is cuts front_is content_is sum_is = record {
+stores text rest prefix content name is_end count bytes more sum o rest_is cuts prefix_is content_is sum_is = record {
   some = omega (arith, o.some, sum_is);
   within = omega (arith, sum_is, cuts.within, o.within, rest_length);
   script = script text (drop bytes text) (drop more rest) o.script (ap lines_of (sym rest_is) ∙ cuts.script) ∙ ap (λ r. Do (entry.Files (files.Store name content)) ∷ script_of r) behind;
@@ -173,23 +173,23 @@ stores text rest front content name is_end count bytes more sum o rest_is cuts f
     behind : drop more rest ≡ drop sum text
     behind = ap (drop more) rest_is ∙ drop-drop more bytes text ∙ ap (λ n. drop n text) (sym sum_is)
 
-    content_same : text_of cuts.front ≡ content
-    content_same = cuts.content ∙ ap ended (sym front_is) ∙ sym content_is
+    content_same : text_of cuts.prefix ≡ content
+    content_same = cuts.content ∙ ap ended (sym prefix_is) ∙ sym content_is
 
-    script : (text rest last : List ℕ) → lines_of text ≡ o.line ∷ lines_of rest → lines_of rest ≡ cuts.front ++ lines_of last → script_of text ≡ Do (entry.Files (files.Store name content)) ∷ script_of last
+    script : (text rest last : List ℕ) → lines_of text ≡ o.line ∷ lines_of rest → lines_of rest ≡ cuts.prefix ++ lines_of last → script_of text ≡ Do (entry.Files (files.Store name content)) ∷ script_of last
     script text rest last first next =
         script_opens text o.line rest _ o.meaning_is first
         ∙ ap (λ r. items_of_line (Refused BadLine ∷ []) (Ok (line.Store name count)) r ++ items_of (Refused BadLine ∷ []) count r) next
-        ∙ ap (λ l. l ++ items_of (Refused BadLine ∷ []) count (cuts.front ++ lines_of last)) (lines_done (Refused BadLine ∷ []) name cuts.front (lines_of last) count cuts.size)
-        ∙ ap (λ l. Do (entry.Files (files.Store name (text_of cuts.front))) ∷ l) (past (Refused BadLine ∷ []) cuts.front (lines_of last) count cuts.size)
+        ∙ ap (λ l. l ++ items_of (Refused BadLine ∷ []) count (cuts.prefix ++ lines_of last)) (lines_done (Refused BadLine ∷ []) name cuts.prefix (lines_of last) count cuts.size)
+        ∙ ap (λ l. Do (entry.Files (files.Store name (text_of cuts.prefix))) ∷ l) (past (Refused BadLine ∷ []) cuts.prefix (lines_of last) count cuts.size)
         ∙ ap (λ t. Do (entry.Files (files.Store name t)) ∷ script_of last) content_same
 
-    whole : (text rest last : List ℕ) → ended_lines text ≡ o.line ∷ ended_lines rest → ended_lines rest ≡ cuts.front ++ ended_lines last → whole_of text ≡ Do (entry.Files (files.Store name content)) ∷ whole_of last
+    whole : (text rest last : List ℕ) → ended_lines text ≡ o.line ∷ ended_lines rest → ended_lines rest ≡ cuts.prefix ++ ended_lines last → whole_of text ≡ Do (entry.Files (files.Store name content)) ∷ whole_of last
     whole text rest last first next =
         whole_opens text o.line rest _ o.meaning_is first
         ∙ ap (λ r. items_of_line [] (Ok (line.Store name count)) r ++ items_of [] count r) next
-        ∙ ap (λ l. l ++ items_of [] count (cuts.front ++ ended_lines last)) (lines_done [] name cuts.front (ended_lines last) count cuts.size)
-        ∙ ap (λ l. Do (entry.Files (files.Store name (text_of cuts.front))) ∷ l) (past [] cuts.front (ended_lines last) count cuts.size)
+        ∙ ap (λ l. l ++ items_of [] count (cuts.prefix ++ ended_lines last)) (lines_done [] name cuts.prefix (ended_lines last) count cuts.size)
+        ∙ ap (λ l. Do (entry.Files (files.Store name (text_of cuts.prefix))) ∷ l) (past [] cuts.prefix (ended_lines last) count cuts.size)
         ∙ ap (λ t. Do (entry.Files (files.Store name t)) ∷ whole_of last) content_same
 
     drop_length : (n : ℕ) (text : List ℕ) → n ≤ length text → length (drop n text) + n ≡ length text

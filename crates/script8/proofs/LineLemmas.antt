@@ -13,19 +13,19 @@ use Rattle.script8.specs.declared.faults.SessionFault.TheVariants.{BadLine}
 use Rattle.script8.specs.declared.lines.Line.{Line}
 
 -- the CR at the end of a line is dropped
-pub without_return : (line front : List ℕ) → line ≡ front ++ 13 ∷ [] → front ≡ command_of line
-without_return line front is = sym (ap command_of is ∙ dropped front)
+pub without_return : (line prefix : List ℕ) → line ≡ prefix ++ 13 ∷ [] → prefix ≡ command_of line
+without_return line prefix is = sym (ap command_of is ∙ dropped prefix)
   where
-    dropped : (front : List ℕ) → command_of (front ++ 13 ∷ []) ≡ front
+    dropped : (prefix : List ℕ) → command_of (prefix ++ 13 ∷ []) ≡ prefix
     dropped [] = refl
     dropped (b ∷ []) = refl
     dropped (b ∷ c ∷ bs) = ap (λ t. b ∷ t) (dropped (c ∷ bs))
 
 -- a line that does not end in a CR is its own command
-pub no_return : (line : List ℕ) → ((front : List ℕ) → line ≢ front ++ 13 ∷ []) → line ≡ command_of line
+pub no_return : (line : List ℕ) → ((prefix : List ℕ) → line ≢ prefix ++ 13 ∷ []) → line ≡ command_of line
 no_return [] other = refl
 no_return (b ∷ []) other = elim (eqb_tells b 13) [ inl h ↦ absurd (other [] (ap (λ t. t ∷ []) h.1)) | inr h ↦ rw h.0 refl ]
-no_return (b ∷ c ∷ bs) other = ap (λ t. b ∷ t) (no_return (c ∷ bs) (λ front is. other (b ∷ front) (ap (λ t. b ∷ t) is)))
+no_return (b ∷ c ∷ bs) other = ap (λ t. b ∷ t) (no_return (c ∷ bs) (λ prefix is. other (b ∷ prefix) (ap (λ t. b ∷ t) is)))
 
 -- what stands behind the first part of a text
 abbrev pub behind_part : ℕ → List ℕ → List (List ℕ)

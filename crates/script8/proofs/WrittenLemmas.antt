@@ -24,9 +24,9 @@ parts_alone : (mark : ℕ) (part : List ℕ) → HasNo mark part → parts_of ma
 parts_alone mark [] free = refl
 parts_alone mark (b ∷ bs) (one, free) = rw one (ap (onto_first b) (parts_alone mark bs free))
 
-no_behind : (mark : ℕ) (front rest : List ℕ) → HasNo mark front → HasNo mark rest → HasNo mark (front ++ rest)
-no_behind mark [] rest front_free free = free
-no_behind mark (b ∷ bs) rest (one, front_free) free = (one, no_behind mark bs rest front_free free)
+no_behind : (mark : ℕ) (prefix rest : List ℕ) → HasNo mark prefix → HasNo mark rest → HasNo mark (prefix ++ rest)
+no_behind mark [] rest prefix_free free = free
+no_behind mark (b ∷ bs) rest (one, prefix_free) free = (one, no_behind mark bs rest prefix_free free)
 
 -- plain names have none of the marks
 no_return : (name : List ℕ) → IsPlain name → HasNo 13 name

@@ -24,18 +24,18 @@ abbrev pub ended : List ℕ → List ℕ
 ended text = ended_behind false text
 
 -- the lines of a text that goes on begin with these, and those of the rest come behind them, whatever follows
-pub record HasPrefix (text : List ℕ) (front : List (List ℕ)) (rest : List ℕ) : Type 0 where
-  pub script : (more : List ℕ) → lines_of (text ++ more) ≡ front ++ lines_of (rest ++ more)
-  pub whole : (more : List ℕ) → ended_lines (text ++ more) ≡ front ++ ended_lines (rest ++ more)
+pub record HasPrefix (text : List ℕ) (prefix : List (List ℕ)) (rest : List ℕ) : Type 0 where
+  pub script : (more : List ℕ) → lines_of (text ++ more) ≡ prefix ++ lines_of (rest ++ more)
+  pub whole : (more : List ℕ) → ended_lines (text ++ more) ≡ prefix ++ ended_lines (rest ++ more)
 
 -- so many lines of a text have so many bytes; where it goes on, an LF ends each
 pub record Cuts (text : List ℕ) (is_end : Bool) (count bytes : ℕ) : Type 0 where
-  pub front : List (List ℕ)
+  pub prefix : List (List ℕ)
   pub within : bytes ≤ length text
-  pub size : length front ≡ count
-  pub content : text_of front ≡ ended (take bytes text)
-  pub script : lines_of text ≡ front ++ lines_of (drop bytes text)
-  pub on : is_end ≡ false → HasPrefix text front (drop bytes text)
+  pub size : length prefix ≡ count
+  pub content : text_of prefix ≡ ended (take bytes text)
+  pub script : lines_of text ≡ prefix ++ lines_of (drop bytes text)
+  pub on : is_end ≡ false → HasPrefix text prefix (drop bytes text)
 
 -- the first line of a text has so many bytes, and says this
 pub record FirstLineSays (text : List ℕ) (is_end : Bool) (meaning : Result Line SessionFault) (bytes : ℕ) : Type 0 where

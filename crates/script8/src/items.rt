@@ -188,7 +188,7 @@ fn without_end(line: &[u8]) -> &[u8]
     ensures { ended line.now ≡ result.now ++ 0o12 ∷ [] }
 {
     match line.strip_suffix(b"\n".as_slice()) {
-        Some(front) => front,
+        Some(prefix) => prefix,
         None => line,
     }
 }

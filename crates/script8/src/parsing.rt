@@ -194,7 +194,7 @@ fn without_return(line: &[u8]) -> &[u8]
     ensures { result.now ≡ command_of line.now }
 {
     match line.strip_suffix(b"\r".as_slice()) {
-        Some(front) => front,
+        Some(prefix) => prefix,
         None => line,
     }
 }

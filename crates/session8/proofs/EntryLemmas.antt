@@ -25,18 +25,18 @@ pub no_memory : (a : Answer) → is_memory a ≡ false → a ≢ Err fault.Memor
 no_memory a other is = true≢false (sym (ap is_memory is) ∙ other)
 
 -- one more entry of a run
-pub run_more : (front : List Entry) (answers : List Answer) (old mid new : State) (entry : Entry) (answer : Answer) → Run old front answers false mid → MayAnswer mid entry answer new → answer ≢ Err fault.Memory → Run old (front ++ entry ∷ []) (answers ++ answer ∷ []) false new
+pub run_more : (prefix : List Entry) (answers : List Answer) (old mid new : State) (entry : Entry) (answer : Answer) → Run old prefix answers false mid → MayAnswer mid entry answer new → answer ≢ Err fault.Memory → Run old (prefix ++ entry ∷ []) (answers ++ answer ∷ []) false new
 run_more [] [] old mid new entry answer run step other = (new, subst (λ (s : State). MayAnswer s entry answer new) run.1 step, other, (refl, refl))
 run_more [] (a ∷ answers) old mid new entry answer run step other = absurd run
-run_more (e ∷ front) [] old mid new entry answer run step other = absurd (true≢false (sym run.0))
-run_more (e ∷ front) (a ∷ answers) old mid new entry answer run step other = (run.0, run.1, run.2, run_more front answers run.0 mid new entry answer run.3 step other)
+run_more (e ∷ prefix) [] old mid new entry answer run step other = absurd (true≢false (sym run.0))
+run_more (e ∷ prefix) (a ∷ answers) old mid new entry answer run step other = (run.0, run.1, run.2, run_more prefix answers run.0 mid new entry answer run.3 step other)
 
 -- a run that want of memory ends before an entry
-pub run_stopped : (front rest : List Entry) (answers : List Answer) (old mid : State) (entry : Entry) → Run old front answers false mid → MayLack mid entry → Run old (front ++ entry ∷ rest) answers true mid
+pub run_stopped : (prefix rest : List Entry) (answers : List Answer) (old mid : State) (entry : Entry) → Run old prefix answers false mid → MayLack mid entry → Run old (prefix ++ entry ∷ rest) answers true mid
 run_stopped [] rest [] old mid entry run lack = (refl, subst (λ (s : State). MayLack s entry) run.1 lack, run.1)
 run_stopped [] rest (a ∷ answers) old mid entry run lack = absurd run
-run_stopped (e ∷ front) rest [] old mid entry run lack = absurd (true≢false (sym run.0))
-run_stopped (e ∷ front) rest (a ∷ answers) old mid entry run lack = (run.0, run.1, run.2, run_stopped front rest answers run.0 mid entry run.3 lack)
+run_stopped (e ∷ prefix) rest [] old mid entry run lack = absurd (true≢false (sym run.0))
+run_stopped (e ∷ prefix) rest (a ∷ answers) old mid entry run lack = (run.0, run.1, run.2, run_stopped prefix rest answers run.0 mid entry run.3 lack)
 
 pub memory_err : (a : Answer) → is_memory a ≡ true → IsErrOf a fault.Memory
 memory_err a is = subst (λ (x : Answer). IsErrOf x fault.Memory) (sym (memory_is a is)) refl

@@ -396,25 +396,25 @@ load_refused s v js js' bytes name why named is has = start_refused (order.Load 
 -- ## Assembling
 
 -- one more name
-pub parsed_more : (front : List (List ℕ)) (names : List ℕ) (bytes : List ℕ) (name : ℕ) → parsed_names front ≡ Some names → parsed_name bytes ≡ Some name → parsed_names (front ++ bytes ∷ []) ≡ Some (names ++ name ∷ [])
+pub parsed_more : (prefix : List (List ℕ)) (names : List ℕ) (bytes : List ℕ) (name : ℕ) → parsed_names prefix ≡ Some names → parsed_name bytes ≡ Some name → parsed_names (prefix ++ bytes ∷ []) ≡ Some (names ++ name ∷ [])
 parsed_more [] names bytes name is one = rw one (ap (λ (l : List ℕ). Some (l ++ name ∷ [])) (some_same is))
   where
     some_same : Some [] ≡ Some names → [] ≡ names
     some_same is = cc
-parsed_more (first ∷ front) names bytes name is one = before (parsed_name first) (parsed_names front) (λ ns are. parsed_more front ns bytes name are one) refl is
+parsed_more (first ∷ prefix) names bytes name is one = before (parsed_name first) (parsed_names prefix) (λ ns are. parsed_more prefix ns bytes name are one) refl is
   where
     same : (n : ℕ) (ns names : List ℕ) → Some (n ∷ ns) ≡ Some names → n ∷ ns ≡ names
     same n ns names is = cc
 
-    before : (n : Option ℕ) (o : Option (List ℕ)) → ((ns : List ℕ) → parsed_names front ≡ Some ns → parsed_names (front ++ bytes ∷ []) ≡ Some (ns ++ name ∷ [])) → parsed_names front ≡ o → name_before n o ≡ Some names → name_before n (parsed_names (front ++ bytes ∷ [])) ≡ Some (names ++ name ∷ [])
+    before : (n : Option ℕ) (o : Option (List ℕ)) → ((ns : List ℕ) → parsed_names prefix ≡ Some ns → parsed_names (prefix ++ bytes ∷ []) ≡ Some (ns ++ name ∷ [])) → parsed_names prefix ≡ o → name_before n o ≡ Some names → name_before n (parsed_names (prefix ++ bytes ∷ [])) ≡ Some (names ++ name ∷ [])
     before None o more are is = cc
     before (Some n) None more are is = cc
     before (Some n) (Some ns) more are is = rw (more ns are) (ap (λ (l : List ℕ). Some (l ++ name ∷ [])) (same n ns names is))
 
 -- no names, where one is none
-pub parsed_not : (front : List (List ℕ)) (bytes : List ℕ) (others : List (List ℕ)) → parsed_name bytes ≡ None → parsed_names (front ++ bytes ∷ others) ≡ None
+pub parsed_not : (prefix : List (List ℕ)) (bytes : List ℕ) (others : List (List ℕ)) → parsed_name bytes ≡ None → parsed_names (prefix ++ bytes ∷ others) ≡ None
 parsed_not [] bytes others none = rw none refl
-parsed_not (first ∷ front) bytes others none = rw (parsed_not front bytes others none) (before (parsed_name first))
+parsed_not (first ∷ prefix) bytes others none = rw (parsed_not prefix bytes others none) (before (parsed_name first))
   where
     before : (n : Option ℕ) → name_before n None ≡ None
     before None = refl

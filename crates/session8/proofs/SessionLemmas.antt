@@ -10,7 +10,7 @@ use Rattle.os8_dir.specs.Reading.{directory_of}
 use Rattle.os8_files.specs.Calls.{Deletes, HasDeleted, IsLargest, IsOver}
 use Rattle.os8_files.specs.Failed.{listed_or, Survives}
 use Rattle.os8_files.specs.Mounted.{Mounted, Begun}
-use Rattle.os8_files.specs.Puts.{Puts, PutFailed, HasPut, HasKept, blocks_filled, plain_file}
+use Rattle.os8_files.specs.Puts.{PutsFile, PutFailed, HasPut, HasKept, blocks_filled, plain_file}
 use Rattle.os8_files.specs.declared.faults.FileFault.{FileFault}
 use Rattle.os8_files.specs.declared.faults.FileFault.TheVariants as file
 use Rattle.os8_files.specs.Laws.{KeepsHolds}
@@ -153,12 +153,12 @@ put_failed v v' name words has = record {
 
 -- behind a file that is put the jobs stand, once they are told
 pub put_settled : (old new : Mounted) (js js' : List (Option kept.Job)) (name : ℕ) (words : List ℕ) → ((old new : Mounted) (js : List (Option kept.Job)) → IsSettled old js → KeepsHolds old new → new.tentative ≡ None → IsSettled new (settled.disturbed js))
-    → ((old new : Mounted) (name : ℕ) (words : List ℕ) (result : Result (Unit {0}) FileFault) → Puts old name words result new → KeepsHolds old new) → IsSettled old js → js' ≡ settled.disturbed js → HasPut old name words new → new.tentative ≡ None → IsSettled new js'
+    → ((old new : Mounted) (name : ℕ) (words : List ℕ) (result : Result (Unit {0}) FileFault) → PutsFile old name words result new → KeepsHolds old new) → IsSettled old js → js' ≡ settled.disturbed js → HasPut old name words new → new.tentative ≡ None → IsSettled new js'
 put_settled old new js js' name words told kept settled is has none = subst (λ l. IsSettled new l) (sym is) (told old new js settled (kept old new name words (Ok tt) has) none)
 
 -- a text that is not stored
 pub store_refused : (s : Seen) (v : Mounted) (bytes : List ℕ) (name : ℕ) (text words : List ℕ) (why : FileFault) → parsed_name bytes ≡ Some name → HoldAlike s → is_storable text ≡ true → words ≡ stored text
-    → Puts s.volume name words (Err why) v → DoesEntry (entry.Files (filing.Store bytes text)) s (Err (fault_of_file why)) (over s v)
+    → PutsFile s.volume name words (Err why) v → DoesEntry (entry.Files (filing.Store bytes text)) s (Err (fault_of_file why)) (over s v)
 store_refused s v bytes name text words (file.Busy other) is alike storable words_are has = refused _ _ _ _ has.0.running (λ quiet. quiet) (steady_same _ _ has.3) (name, is, storable, (has.1, sym (alike name) ∙ has.2)) (same_state s v has.3)
 store_refused s v bytes name text words (file.NoRoom n) is alike storable words_are has = refused _ _ _ _ has.0.running (λ quiet. quiet) (steady_same _ _ has.4) (name, is, storable, (sym (alike name) ∙ has.1, crowded s _ n (subst (λ (l : List ℕ). n < blocks_filled l) words_are has.2) has.3)) (same_state s v has.4)
 store_refused s v bytes name text words file.DirectoryFull is alike storable words_are has = refused _ _ _ _ has.0.running (λ quiet. quiet) (steady _ _ _ _ _ has.3.others) (name, is, storable, (sym (alike name) ∙ has.1, full s _ (subst (λ (l : List ℕ). IsOver s.volume.blocks (insert (files_of s.volume.blocks) name (plain_file s.volume l))) words_are has.2))) (kept_state s v _ has.3)

@@ -15,7 +15,7 @@ use Rattle.session8.specs.State.{State}
 use Rattle.session8.specs.RunSteps.{RunsItems, RunsNext, RunsPrefix, RunsGiven, RunsRead, IsRunTo, IsEnded, StartsWithItems, items_in, fault_of}
 use Rattle.session8.specs.Script.{all_lines, WritesAnswers, WritesPrefix, RunsText}
 use Rattle.session8.proofs.ByteLemmas.{appends_more, consumes_more, consumes_none}
-use Rattle.session8.proofs.ToldLemmas.{front_all, front_none, front_more, behind_more, writes_front_more, writes_append}
+use Rattle.session8.proofs.ToldLemmas.{prefix_all, prefix_none, prefix_more, behind_more, writes_prefix_more, writes_append}
 
 -- a last line behind what is written
 pub writes_last : (old : State) (items : List Item) (new : State) (w w1 w2 : Option (List ℕ)) (last : List ℕ) → WritesAnswers old items new w w1 [] → Appends w1 w2 last → WritesAnswers old items new w w2 last
@@ -25,18 +25,18 @@ writes_last old items new w w1 w2 last told more = record {
   written = subst (λ (l : List ℕ). Appends w w2 l) (ap (λ l. l ++ last) (append-nil _)) (appends_more w w1 w2 (all_lines told.lines ++ []) last told.written more);
 }
 
-front_last : (old : State) (items : List Item) (new : State) (w w1 w2 : Option (List ℕ)) (last : List ℕ) → WritesPrefix old items new w w1 [] → Appends w1 w2 last → WritesPrefix old items new w w2 last
-front_last old items new w w1 w2 last told more = (told.0, told.1, subst (λ (l : List ℕ). Appends w w2 l) (ap (λ l. l ++ last) (append-nil _)) (appends_more w w1 w2 (told.0 ++ []) last told.2 more))
+prefix_last : (old : State) (items : List Item) (new : State) (w w1 w2 : Option (List ℕ)) (last : List ℕ) → WritesPrefix old items new w w1 [] → Appends w1 w2 last → WritesPrefix old items new w w2 last
+prefix_last old items new w w1 w2 last told more = (told.0, told.1, subst (λ (l : List ℕ). Appends w w2 l) (ap (λ l. l ++ last) (append-nil _)) (appends_more w w1 w2 (told.0 ++ []) last told.2 more))
 
--- the items of a text are those at its front and those of the rest
-heads_items : (text rest : List ℕ) (is_end : Bool) (front : List Item) → StartsWithItems text is_end front rest → items_in text is_end ≡ front ++ items_in rest is_end
-heads_items text rest true front heads = heads
-heads_items text rest false front heads = ap whole_of (sym (append-nil text)) ∙ heads.whole [] ∙ ap (λ r. front ++ whole_of r) (append-nil rest)
+-- the items of a text are those at its prefix and those of the rest
+heads_items : (text rest : List ℕ) (is_end : Bool) (prefix : List Item) → StartsWithItems text is_end prefix rest → items_in text is_end ≡ prefix ++ items_in rest is_end
+heads_items text rest true prefix heads = heads
+heads_items text rest false prefix heads = ap whole_of (sym (append-nil text)) ∙ heads.whole [] ∙ ap (λ r. prefix ++ whole_of r) (append-nil rest)
 
-leads_script : (text rest : List ℕ) (front : List Item) → LeadsWith text front rest → script_of text ≡ front ++ script_of rest
-leads_script text rest front leads = ap script_of (sym (append-nil text)) ∙ leads.script [] ∙ ap (λ r. front ++ script_of r) (append-nil rest)
+leads_script : (text rest : List ℕ) (prefix : List Item) → LeadsWith text prefix rest → script_of text ≡ prefix ++ script_of rest
+leads_script text rest prefix leads = ap script_of (sym (append-nil text)) ∙ leads.script [] ∙ ap (λ r. prefix ++ script_of r) (append-nil rest)
 
--- a front, and the front of what stands behind it
+-- a prefix, and the prefix of what stands behind it
 heads_more : (a b c : List ℕ) (is_end : Bool) (f g : List Item) → StartsWithItems a is_end f b → StartsWithItems b is_end g c → StartsWithItems a is_end (f ++ g) c
 heads_more a b c true f g first second = first ∙ ap (λ (l : List Item). f ++ l) second ∙ sym (append_assoc f g _)
 heads_more a b c false f g first second = record {
@@ -57,11 +57,11 @@ pub writes_none : (old : State) (w : Option (List ℕ)) → WritesAnswers old []
 writes_none old w = record { lines = []; told = refl; written = Appends-nil w }
 
 -- the rest of a text begins with an item that want of memory or the writer stopped
-pub front_stopped : (text rest : List ℕ) (is_end : Bool) (front : List Item) (old mid new : State) (w w1 w2 : Option (List ℕ)) (why : Ending)
-    → StartsWithItems text is_end front rest → WritesAnswers old front mid w w1 [] → RunsNext rest is_end mid new w1 w2 (Err why) → RunsPrefix text is_end old new w w2 (Err why)
-front_stopped text rest is_end front old mid new w w1 w2 ending.Memory heads first run = writes_front_more (items_in text is_end) front (items_in rest is_end) [] old mid new w w1 w2 (heads_items text rest is_end front heads ∙ ap (λ (l : List Item). front ++ l) (sym (append-nil _))) first run
-front_stopped text rest is_end front old mid new w w1 w2 ending.Writer heads first run = (_, front_more (items_in text is_end) front (items_in rest is_end) [] old mid new w w1 run.0 (heads_items text rest is_end front heads ∙ ap (λ (l : List Item). front ++ l) (sym (append-nil _))) first run.1)
-front_stopped text rest is_end front old mid new w w1 w2 ending.Reader heads first run = absurd run
+pub prefix_stopped : (text rest : List ℕ) (is_end : Bool) (prefix : List Item) (old mid new : State) (w w1 w2 : Option (List ℕ)) (why : Ending)
+    → StartsWithItems text is_end prefix rest → WritesAnswers old prefix mid w w1 [] → RunsNext rest is_end mid new w1 w2 (Err why) → RunsPrefix text is_end old new w w2 (Err why)
+prefix_stopped text rest is_end prefix old mid new w w1 w2 ending.Memory heads first run = writes_prefix_more (items_in text is_end) prefix (items_in rest is_end) [] old mid new w w1 w2 (heads_items text rest is_end prefix heads ∙ ap (λ (l : List Item). prefix ++ l) (sym (append-nil _))) first run
+prefix_stopped text rest is_end prefix old mid new w w1 w2 ending.Writer heads first run = (_, prefix_more (items_in text is_end) prefix (items_in rest is_end) [] old mid new w w1 run.0 (heads_items text rest is_end prefix heads ∙ ap (λ (l : List Item). prefix ++ l) (sym (append-nil _))) first run.1)
+prefix_stopped text rest is_end prefix old mid new w w1 w2 ending.Reader heads first run = absurd run
 
 -- an item that want of memory or the writer stopped
 pub item_stopped : (text : List ℕ) (is_end : Bool) (item : Item) (bytes : ℕ) (old new : State) (w w' : Option (List ℕ)) (why : Ending)
@@ -73,10 +73,10 @@ item_stopped text is_end item bytes old new w w' ending.Writer gives run =
 item_stopped text is_end item bytes old new w w' ending.Reader gives run = absurd run
 
 -- one more item, or a blank line
-pub front_next : (text : List ℕ) (is_end : Bool) (done bytes : ℕ) (front items : List Item) → StartsWithItems text is_end front (drop done text) → GivesItems (drop done text) is_end items bytes
-    → StartsWithItems text is_end (front ++ items) (drop (done + bytes) text)
-front_next text is_end done bytes front items heads gives =
-    heads_more text (drop done text) (drop (done + bytes) text) is_end front items heads (subst (λ (r : List ℕ). StartsWithItems (drop done text) is_end items r) (drop-drop bytes done text) (gives_heads (drop done text) is_end items bytes gives))
+pub prefix_next : (text : List ℕ) (is_end : Bool) (done bytes : ℕ) (prefix items : List Item) → StartsWithItems text is_end prefix (drop done text) → GivesItems (drop done text) is_end items bytes
+    → StartsWithItems text is_end (prefix ++ items) (drop (done + bytes) text)
+prefix_next text is_end done bytes prefix items heads gives =
+    heads_more text (drop done text) (drop (done + bytes) text) is_end prefix items heads (subst (λ (r : List ℕ). StartsWithItems (drop done text) is_end items r) (drop-drop bytes done text) (gives_heads (drop done text) is_end items bytes gives))
 
 -- a text of which a prefix is answered up to some bytes, behind which these lines are written
 abbrev pub IsRunUpTo : List ℕ → Bool → List ℕ → State → State → Option (List ℕ) → Option (List ℕ) → Type 0
@@ -87,7 +87,7 @@ pub up_to_next : (text rest : List ℕ) (is_end : Bool) (done bytes : ℕ) (old 
     → IsRunUpTo text is_end (drop done text) old mid w w1 → RunsNext rest is_end mid new w1 w2 (Ok (Ran bytes)) → IsRunUpTo text is_end (drop (done + bytes) text) old new w w2
 up_to_next text rest is_end done bytes old mid new w w1 w2 back first next = (
   first.0 ++ next.0,
-  front_next text is_end done bytes first.0 next.0 first.1 (subst (λ (l : List ℕ). GivesItems l is_end next.0 bytes) back next.1),
+  prefix_next text is_end done bytes first.0 next.0 first.1 (subst (λ (l : List ℕ). GivesItems l is_end next.0 bytes) back next.1),
   writes_append first.0 next.0 old mid new w w1 w2 [] first.2 next.2,
 )
 
@@ -95,7 +95,7 @@ up_to_next text rest is_end done bytes old mid new w w1 w2 back first next = (
 pub up_to_stopped : (text rest : List ℕ) (is_end : Bool) (done : ℕ) (old mid new : State) (w w1 w2 : Option (List ℕ)) (why : Ending) → rest ≡ drop done text
     → IsRunUpTo text is_end (drop done text) old mid w w1 → RunsNext rest is_end mid new w1 w2 (Err why) → RunsPrefix text is_end old new w w2 (Err why)
 up_to_stopped text rest is_end done old mid new w w1 w2 why back first next =
-    front_stopped text rest is_end first.0 old mid new w w1 w2 why (subst (λ (l : List ℕ). StartsWithItems text is_end first.0 l) (sym back) first.1) first.2 next
+    prefix_stopped text rest is_end first.0 old mid new w w1 w2 why (subst (λ (l : List ℕ). StartsWithItems text is_end first.0 l) (sym back) first.1) first.2 next
 
 -- a text that is run to its end
 pub runs_end : (text : List ℕ) (old new : State) (w w' : Option (List ℕ)) (why : Ending) → RunsPrefix text true old new w w' (Err why) → RunsItems (script_of text) old new w w' (Err why)
@@ -119,11 +119,11 @@ given_done text rest bytes lines old new w w1 w2 (Ok done) is run ok err =
     (run.0, subst (λ (l : List ℕ). LeadsWith text run.0 l) (sym is) run.1, writes_last old run.0 new w w1 w2 [] run.3 ok)
 given_done text rest bytes lines old new w w1 w2 (Err e) is run ok err =
     let all : whole_of text ≡ run.0 ++ whole_of (drop bytes text) = heads_items text (drop bytes text) false run.0 run.1 in
-    subst (λ (e : Ending). RunsGiven text rest old new w w2 (Err e)) (sym err) (_, behind_more run.0 (whole_of (drop bytes text)) (whole_of text) old new _ all (front_all run.0 old new run.3.lines run.3.told))
+    subst (λ (e : Ending). RunsGiven text rest old new w w2 (Err e)) (sym err) (_, behind_more run.0 (whole_of (drop bytes text)) (whole_of text) old new _ all (prefix_all run.0 old new run.3.lines run.3.told))
 
 -- nothing was taken of a reader
 pub none_run : (old : State) (r w : Option (List ℕ)) (rest : List ℕ) → rest ≡ [] → IsRunTo old old r r w w 0 rest
-none_run old r w rest is = subst (λ (l : List ℕ). IsRunTo old old r r w w 0 l) (sym is) (record { text = []; taken = consumes_none r; size = refl; front = []; leads = heads_none [] false; writes = writes_none old w })
+none_run old r w rest is = subst (λ (l : List ℕ). IsRunTo old old r r w w 0 l) (sym is) (record { text = []; taken = consumes_none r; size = refl; prefix = []; leads = heads_none [] false; writes = writes_none old w })
 
 -- more bytes were taken
 pub run_fed : (old mid : State) (r r1 r2 w w1 : Option (List ℕ)) (count : ℕ) (rest bytes : List ℕ) → IsRunTo old mid r r1 w w1 count rest → Consumes r1 r2 bytes → IsRunTo old mid r r2 w w1 (count + length bytes) (rest ++ bytes)
@@ -131,10 +131,10 @@ run_fed old mid r r1 r2 w w1 count rest bytes run taken = record {
   text = run.text ++ bytes;
   taken = consumes_more r r1 r2 run.text bytes run.taken taken;
   size = length-append run.text bytes ∙ ap (λ n. n + length bytes) run.size;
-  front = run.front;
+  prefix = run.prefix;
   leads = record {
-    script = λ more. ap script_of (append_assoc run.text bytes more) ∙ run.leads.script (bytes ++ more) ∙ ap (λ l. run.front ++ script_of l) (sym (append_assoc rest bytes more));
-    whole = λ more. ap whole_of (append_assoc run.text bytes more) ∙ run.leads.whole (bytes ++ more) ∙ ap (λ l. run.front ++ whole_of l) (sym (append_assoc rest bytes more));
+    script = λ more. ap script_of (append_assoc run.text bytes more) ∙ run.leads.script (bytes ++ more) ∙ ap (λ l. run.prefix ++ script_of l) (sym (append_assoc rest bytes more));
+    whole = λ more. ap whole_of (append_assoc run.text bytes more) ∙ run.leads.whole (bytes ++ more) ∙ ap (λ l. run.prefix ++ whole_of l) (sym (append_assoc rest bytes more));
   };
   writes = run.writes;
 }
@@ -145,9 +145,9 @@ run_on old mid new r r1 w w1 w2 count text rest run given = record {
   text = run.text;
   taken = run.taken;
   size = run.size;
-  front = run.front ++ given.0;
-  leads = heads_more run.text text rest false run.front given.0 run.leads given.1;
-  writes = writes_append run.front given.0 old mid new w w1 w2 [] run.writes given.2;
+  prefix = run.prefix ++ given.0;
+  leads = heads_more run.text text rest false run.prefix given.0 run.leads given.1;
+  writes = writes_append run.prefix given.0 old mid new w w1 w2 [] run.writes given.2;
 }
 
 -- so many bytes were taken, and none more
@@ -167,14 +167,14 @@ run_stopped most old mid new r r1 w w1 w2 count text rest ending.Memory run with
   taken_so_far most old mid r r1 w w1 count text run within,
   whole_of run.text,
   inl refl,
-  writes_front_more (whole_of run.text) run.front (whole_of text) [] old mid new w w1 w2 (heads_items run.text text false run.front run.leads ∙ ap (λ (l : List Item). run.front ++ l) (sym (append-nil _))) run.writes given,
+  writes_prefix_more (whole_of run.text) run.prefix (whole_of text) [] old mid new w w1 w2 (heads_items run.text text false run.prefix run.leads ∙ ap (λ (l : List Item). run.prefix ++ l) (sym (append-nil _))) run.writes given,
 )
 run_stopped most old mid new r r1 w w1 w2 count text rest ending.Writer run within given = (
   run.text,
   taken_so_far most old mid r r1 w w1 count text run within,
   whole_of run.text,
   inl refl,
-  (_, front_more (whole_of run.text) run.front (whole_of text) [] old mid new w w1 given.0 (heads_items run.text text false run.front run.leads ∙ ap (λ (l : List Item). run.front ++ l) (sym (append-nil _))) run.writes given.1),
+  (_, prefix_more (whole_of run.text) run.prefix (whole_of text) [] old mid new w w1 given.0 (heads_items run.text text false run.prefix run.leads ∙ ap (λ (l : List Item). run.prefix ++ l) (sym (append-nil _))) run.writes given.1),
 )
 run_stopped most old mid new r r1 w w1 w2 count text rest ending.Reader run within given = absurd given
 
@@ -183,7 +183,7 @@ pub run_unread : (most : ℕ) (old mid : State) (r r1 r2 w w1 : Option (List ℕ
     → RunsRead most old mid r r2 w w1 (Err ending.Memory)
 run_unread most old mid r r1 r2 w w1 count rest lost run taken within =
     let fed = run_fed old mid r r1 r2 w w1 count rest lost run taken in
-    run_stopped most old mid mid r r2 w w1 w1 (count + length lost) (rest ++ lost) rest ending.Memory fed within ([], front_none _ mid mid refl, Appends-nil w1)
+    run_stopped most old mid mid r r2 w w1 w1 (count + length lost) (rest ++ lost) rest ending.Memory fed within ([], prefix_none _ mid mid refl, Appends-nil w1)
 
 -- the reader failed, or gave one byte more than may be taken, where no whole item is left
 pub run_cut : (most : ℕ) (old mid : State) (r r1 r2 w w1 : Option (List ℕ)) (count lines : ℕ) (rest more : List ℕ) → IsRunTo old mid r r1 w w1 count rest → 0 < lines → WaitsForLines rest lines → Consumes r1 r2 more → count ≤ most
@@ -196,15 +196,15 @@ run_cut most old mid r r1 r2 w w1 count lines rest more run some waits taken wit
     within = omega (arith, run.size, within);
     past = elim past [ inl is ↦ inl is | inr is ↦ inr (run.size ∙ is.0, is.1) ];
   },
-  (script_of rest, leads_script run.text rest run.front run.leads ∙ ap (λ (l : List Item). l ++ script_of rest) (sym all)),
+  (script_of rest, leads_script run.text rest run.prefix run.leads ∙ ap (λ (l : List Item). l ++ script_of rest) (sym all)),
   subst (λ (l : List Item). WritesAnswers old l mid w w1 []) (sym all) run.writes,
 )
   where
     none : whole_of rest ≡ []
     none = ap whole_of (sym (append-nil rest)) ∙ waits [] some
 
-    all : whole_of run.text ≡ run.front
-    all = heads_items run.text rest false run.front run.leads ∙ ap (λ (l : List Item). run.front ++ l) none ∙ append-nil run.front
+    all : whole_of run.text ≡ run.prefix
+    all = heads_items run.text rest false run.prefix run.leads ∙ ap (λ (l : List Item). run.prefix ++ l) none ∙ append-nil run.prefix
 
 -- the reader is at its end, and what is left is run
 pub run_over : (most : ℕ) (old mid new : State) (r r1 r2 w w1 w2 : Option (List ℕ)) (count : ℕ) (rest text : List ℕ) (result : Result (Unit {0}) Ending) → IsRunTo old mid r r1 w w1 count rest → count ≤ most → IsRead r1 r2 []
@@ -212,8 +212,8 @@ pub run_over : (most : ℕ) (old mid new : State) (r r1 r2 w w1 w2 : Option (Lis
 run_over most old mid new r r1 r2 w w1 w2 count rest text result run within read is items =
     over result (subst (λ (l : List ℕ). RunsItems (script_of l) mid new w1 w2 result) is items)
   where
-    all : script_of run.text ≡ run.front ++ script_of rest
-    all = leads_script run.text rest run.front run.leads
+    all : script_of run.text ≡ run.prefix ++ script_of rest
+    all = leads_script run.text rest run.prefix run.leads
 
     taken : Consumes r r2 run.text
     taken = subst (λ (l : List ℕ). Consumes r r2 l) (append-nil run.text) (consumes_more r r1 r2 run.text [] run.taken read.taken)
@@ -225,21 +225,21 @@ run_over most old mid new r r1 r2 w w1 w2 count rest text result run within read
     over (Ok done) items = (
       run.text,
       record { read = record { taken = taken; at_end = read.at_end }; within = omega (arith, run.size, within) },
-      subst (λ (l : List Item). WritesAnswers old l new w w2 []) (sym all) (writes_append run.front (script_of rest) old mid new w w1 w2 [] run.writes items),
+      subst (λ (l : List Item). WritesAnswers old l new w w2 []) (sym all) (writes_append run.prefix (script_of rest) old mid new w w1 w2 [] run.writes items),
     )
     over (Err ending.Memory) items = (
       run.text,
       known,
       script_of run.text,
       inr (read.at_end, refl),
-      writes_front_more (script_of run.text) run.front (script_of rest) [] old mid new w w1 w2 (all ∙ ap (λ (l : List Item). run.front ++ l) (sym (append-nil _))) run.writes items,
+      writes_prefix_more (script_of run.text) run.prefix (script_of rest) [] old mid new w w1 w2 (all ∙ ap (λ (l : List Item). run.prefix ++ l) (sym (append-nil _))) run.writes items,
     )
     over (Err ending.Writer) items = (
       run.text,
       known,
       script_of run.text,
       inr (read.at_end, refl),
-      (_, front_more (script_of run.text) run.front (script_of rest) [] old mid new w w1 items.0 (all ∙ ap (λ (l : List Item). run.front ++ l) (sym (append-nil _))) run.writes items.1),
+      (_, prefix_more (script_of run.text) run.prefix (script_of rest) [] old mid new w w1 items.0 (all ∙ ap (λ (l : List Item). run.prefix ++ l) (sym (append-nil _))) run.writes items.1),
     )
     over (Err ending.Reader) items = absurd items
 
@@ -255,17 +255,17 @@ takes_more r r1 r2 count bytes takes more = record {
 taken_all : (most : ℕ) (r r' : Option (List ℕ)) (bytes : List ℕ) → IsReadWithin most r r' bytes → IsTaken most r r' bytes
 taken_all most r r' bytes read = record { more = []; taken = subst (λ (l : List ℕ). Consumes r r' l) (sym (append-nil bytes)) read.read.taken; within = read.within; past = inl refl }
 
--- whatever was run, a front of the items is answered
+-- whatever was run, a prefix of the items is answered
 text_answers : (most : ℕ) (old new : State) (r r' w w' w2 : Option (List ℕ)) (run : Result (Unit {0}) Ending) → RunsRead most old new r r' w w' run → RunsText most old new r r' w w2 (Err fault.Writer)
-text_answers most old new r r' w w' w2 (Ok done) told = (told.0, taken_all most r r' told.0 told.1, script_of told.0, inr (told.1.read.at_end, refl), (_, front_all (script_of told.0) old new told.2.lines told.2.told))
-text_answers most old new r r' w w' w2 (Err ending.Reader) told = (told.0, told.1, whole_of told.0, inl refl, (_, front_all (whole_of told.0) old new told.3.lines told.3.told))
+text_answers most old new r r' w w' w2 (Ok done) told = (told.0, taken_all most r r' told.0 told.1, script_of told.0, inr (told.1.read.at_end, refl), (_, prefix_all (script_of told.0) old new told.2.lines told.2.told))
+text_answers most old new r r' w w' w2 (Err ending.Reader) told = (told.0, told.1, whole_of told.0, inl refl, (_, prefix_all (whole_of told.0) old new told.3.lines told.3.told))
 text_answers most old new r r' w w' w2 (Err ending.Memory) told = (told.0, told.1, told.2, told.3, (told.4.0, told.4.1))
 text_answers most old new r r' w w' w2 (Err ending.Writer) told = told
 
 -- a fault's line behind a run that it ended
 fault_ends : (most : ℕ) (old new : State) (r r' w w1 w2 : Option (List ℕ)) (why : Ending) → RunsRead most old new r r' w w1 (Err why) → Appends w1 w2 (fault_line (fault_of why)) → RunsText most old new r r' w w2 (Err (fault_of why))
 fault_ends most old new r r' w w1 w2 ending.Reader told more = (told.0, told.1, told.2, writes_last old _ new w w1 w2 _ told.3 more)
-fault_ends most old new r r' w w1 w2 ending.Memory told more = (told.0, told.1, told.2, told.3, front_last old _ new w w1 w2 _ told.4 more)
+fault_ends most old new r r' w w1 w2 ending.Memory told more = (told.0, told.1, told.2, told.3, prefix_last old _ new w w1 w2 _ told.4 more)
 fault_ends most old new r r' w w1 w2 ending.Writer told more = told
 
 -- the end of a run

@@ -70,12 +70,12 @@ begun_more (t ∷ turns) (Do e ∷ rest) c begun = absurd begun
 begun_more (t ∷ turns) (Finish ∷ rest) c begun = tt
 begun_more (t ∷ turns) (Refused why ∷ rest) c begun = absurd begun
 
--- a front of items before others
+-- a prefix of items before others
 pub behind_more : (b c items : List Item) (old new : State) (bytes : List ℕ) → items ≡ b ++ c → AnswersPrefix old b new bytes → AnswersPrefix old items new bytes
 behind_more b c items old new bytes is told = record {
-  front = told.front;
+  prefix = told.prefix;
   rest = told.rest ++ c;
-  parts = is ∙ ap (λ (l : List Item). l ++ c) told.parts ∙ append_assoc told.front told.rest c;
+  parts = is ∙ ap (λ (l : List Item). l ++ c) told.parts ∙ append_assoc told.prefix told.rest c;
   lines = told.lines;
   mid = told.mid;
   told = told.told;
@@ -85,39 +85,39 @@ behind_more b c items old new bytes is told = record {
   shown = told.shown;
 }
 
--- a front of items behind others, before others
-pub front_more : (items a b c : List Item) (old mid new : State) (w w1 : Option (List ℕ)) (bytes : List ℕ) → items ≡ a ++ (b ++ c) → (first : WritesAnswers old a mid w w1 []) → AnswersPrefix mid b new bytes → AnswersPrefix old items new (all_lines first.lines ++ bytes)
-front_more items a b c old mid new w w1 bytes is first second = record {
-  front = a ++ second.front;
+-- a prefix of items behind others, before others
+pub prefix_more : (items a b c : List Item) (old mid new : State) (w w1 : Option (List ℕ)) (bytes : List ℕ) → items ≡ a ++ (b ++ c) → (first : WritesAnswers old a mid w w1 []) → AnswersPrefix mid b new bytes → AnswersPrefix old items new (all_lines first.lines ++ bytes)
+prefix_more items a b c old mid new w w1 bytes is first second = record {
+  prefix = a ++ second.prefix;
   rest = second.rest ++ c;
-  parts = is ∙ ap (λ (l : List Item). a ++ l) inner ∙ sym (append_assoc a second.front (second.rest ++ c));
+  parts = is ∙ ap (λ (l : List Item). a ++ l) inner ∙ sym (append_assoc a second.prefix (second.rest ++ c));
   lines = first.lines ++ second.lines;
   mid = second.mid;
-  told = told_append a second.front first.lines second.lines old mid second.mid first.told second.told;
+  told = told_append a second.prefix first.lines second.lines old mid second.mid first.told second.told;
   turns = second.turns;
   taken = second.taken;
   begun = begun_more second.turns second.rest c second.begun;
   shown = ap (λ l. all_lines first.lines ++ l) second.shown ∙ sym (append_assoc (all_lines first.lines) (all_lines second.lines) (turn_lines second.turns)) ∙ ap (λ l. l ++ turn_lines second.turns) (sym (lines_append first.lines second.lines));
 }
   where
-    inner : b ++ c ≡ second.front ++ (second.rest ++ c)
-    inner = ap (λ (l : List Item). l ++ c) second.parts ∙ append_assoc second.front second.rest c
+    inner : b ++ c ≡ second.prefix ++ (second.rest ++ c)
+    inner = ap (λ (l : List Item). l ++ c) second.parts ∙ append_assoc second.prefix second.rest c
 
 -- the same where its lines are written
-pub writes_front_more : (items a b c : List Item) (old mid new : State) (w w1 w2 : Option (List ℕ)) → items ≡ a ++ (b ++ c) → WritesAnswers old a mid w w1 [] → WritesPrefix mid b new w1 w2 [] → WritesPrefix old items new w w2 []
-writes_front_more items a b c old mid new w w1 w2 is first second = (
+pub writes_prefix_more : (items a b c : List Item) (old mid new : State) (w w1 w2 : Option (List ℕ)) → items ≡ a ++ (b ++ c) → WritesAnswers old a mid w w1 [] → WritesPrefix mid b new w1 w2 [] → WritesPrefix old items new w w2 []
+writes_prefix_more items a b c old mid new w w1 w2 is first second = (
   all_lines first.lines ++ second.0,
-  front_more items a b c old mid new w w1 second.0 is first second.1,
+  prefix_more items a b c old mid new w w1 second.0 is first second.1,
   subst (λ (l : List ℕ). Appends w w2 l) (ap (λ l. l ++ (second.0 ++ [])) (append-nil _) ∙ sym (append_assoc (all_lines first.lines) second.0 [])) (appends_more w w1 w2 (all_lines first.lines ++ []) (second.0 ++ []) first.written second.2),
 )
 
 -- nothing of the items is answered
-pub front_none : (items : List Item) (old new : State) → new ≡ old → AnswersPrefix old items new []
-front_none items old new same = record { front = []; rest = items; parts = refl; lines = []; mid = new; told = same; turns = []; taken = refl; begun = tt; shown = refl }
+pub prefix_none : (items : List Item) (old new : State) → new ≡ old → AnswersPrefix old items new []
+prefix_none items old new same = record { prefix = []; rest = items; parts = refl; lines = []; mid = new; told = same; turns = []; taken = refl; begun = tt; shown = refl }
 
 -- all of the items are answered
-pub front_all : (items : List Item) (old new : State) (lines : List (List ℕ)) → AnswersItems old items lines new → AnswersPrefix old items new (all_lines lines)
-front_all items old new lines told = record { front = items; rest = []; parts = sym (append-nil items); lines = lines; mid = new; told = told; turns = []; taken = refl; begun = tt; shown = sym (append-nil _) }
+pub prefix_all : (items : List Item) (old new : State) (lines : List (List ℕ)) → AnswersItems old items lines new → AnswersPrefix old items new (all_lines lines)
+prefix_all items old new lines told = record { prefix = items; rest = []; parts = sym (append-nil items); lines = lines; mid = new; told = told; turns = []; taken = refl; begun = tt; shown = sym (append-nil _) }
 
 -- a report of the console leaves it as it was
 console_unchanged : (it : ConsoleEntry) (report : Report) (old new : Console) → ConsoleReplies old it (reply.Report report) new → new ≡ old
@@ -171,13 +171,13 @@ entry_told entry answer old new w w' (Ok done) step other ok err = record {
   written = subst (λ (l : List ℕ). Appends w w' l) (sym (append-nil _ ∙ append-nil _)) ok;
 }
 entry_told entry answer old new w w' (Err e) step other ok err = elim err [
-  | inl is ↦ subst (λ (e : Ending). RunsItems (Do entry ∷ []) old new w w' (Err e)) (sym is) (_, front_all (Do entry ∷ []) old new (answer_lines (Some entry) answer ∷ []) (new, answer, step, other, refl, refl))
-  | inr is ↦ subst (λ (e : Ending). RunsItems (Do entry ∷ []) old new w w' (Err e)) (sym is.0) ([], front_none (Do entry ∷ []) old new (unchanged entry answer old new step is.2), is.1)
+  | inl is ↦ subst (λ (e : Ending). RunsItems (Do entry ∷ []) old new w w' (Err e)) (sym is) (_, prefix_all (Do entry ∷ []) old new (answer_lines (Some entry) answer ∷ []) (new, answer, step, other, refl, refl))
+  | inr is ↦ subst (λ (e : Ending). RunsItems (Do entry ∷ []) old new w w' (Err e)) (sym is.0) ([], prefix_none (Do entry ∷ []) old new (unchanged entry answer old new step is.2), is.1)
 ]
 
 -- an entry that want of memory left undone
 pub entry_undone : (entry : Entry) (old new : State) (w : Option (List ℕ)) → new ≡ old → Appends w w [] → RunsItems (Do entry ∷ []) old new w w (Err ending.Memory)
-entry_undone entry old new w same none = ([], front_none (Do entry ∷ []) old new same, none)
+entry_undone entry old new w same none = ([], prefix_none (Do entry ∷ []) old new same, none)
 
 -- a line that is refused, and its line
 pub refused_told : (why : SessionFault) (old new : State) (w w' : Option (List ℕ)) (r : Result (Unit {0}) Ending)
@@ -188,7 +188,7 @@ refused_told why old new w w' (Ok done) same ok err = record {
   written = subst (λ (l : List ℕ). Appends w w' l) (sym (append-nil _ ∙ append-nil _)) ok;
 }
 refused_told why old new w w' (Err e) same ok err =
-    subst (λ (e : Ending). RunsItems (Refused why ∷ []) old new w w' (Err e)) (sym err) (_, front_all (Refused why ∷ []) old new (fault_line why ∷ []) (refl, same))
+    subst (λ (e : Ending). RunsItems (Refused why ∷ []) old new w w' (Err e)) (sym err) (_, prefix_all (Refused why ∷ []) old new (fault_line why ∷ []) (refl, same))
 
 -- a turn that left its job, whose line is not shown
 pub turn_working : (n : ℕ) (answer : Answer) (old new : State) (w : Option (List ℕ))
@@ -209,8 +209,8 @@ turn_told n answer old new w w' (Err e) step other ended ok err = elim err [
 ]
 
 -- turns of a FINISH that goes on
-pub turns_front : (turns : List (ℕ × Answer)) (old new : State) → Turns old turns new → AnswersPrefix old (Finish ∷ []) new (turn_lines turns)
-turns_front turns old new taken = record { front = []; rest = Finish ∷ []; parts = refl; lines = []; mid = old; told = refl; turns = turns; taken = taken; begun = begun turns; shown = refl }
+pub turns_prefix : (turns : List (ℕ × Answer)) (old new : State) → Turns old turns new → AnswersPrefix old (Finish ∷ []) new (turn_lines turns)
+turns_prefix turns old new taken = record { prefix = []; rest = Finish ∷ []; parts = refl; lines = []; mid = old; told = refl; turns = turns; taken = taken; begun = begun turns; shown = refl }
   where
     begun : (turns : List (ℕ × Answer)) → HasBegun turns (Finish ∷ [])
     begun [] = tt
@@ -228,7 +228,7 @@ finish_told turns old new w w1 w2 (Ok done) taken none before ok err = record {
 }
 finish_told turns old new w w1 w2 (Err e) taken none before ok err =
     elim err [
-      | inl is ↦ subst (λ (e : Ending). RunsItems (Finish ∷ []) old new w w2 (Err e)) (sym is) (_, turns_front turns old new taken)
+      | inl is ↦ subst (λ (e : Ending). RunsItems (Finish ∷ []) old new w w2 (Err e)) (sym is) (_, turns_prefix turns old new taken)
       | inr is ↦ absurd (is.2 tt)
     ]
 
@@ -238,11 +238,11 @@ pub finish_ended : (turns : List (ℕ × Answer)) (n : ℕ) (old mid new : State
     → RunsItems (Finish ∷ []) old new w w2 (Err why)
 finish_ended turns n old mid new w w1 w2 ending.Memory taken lowest before run = (
   turn_lines turns,
-  turns_front turns old new (subst (λ (s : State). Turns old turns s) (sym run.0) taken),
+  turns_prefix turns old new (subst (λ (s : State). Turns old turns s) (sym run.0) taken),
   appends_more w w1 w2 (turn_lines turns) [] before run.1,
 )
 finish_ended turns n old mid new w w1 w2 ending.Writer taken lowest before run =
-    (_, turns_front (turns ++ (n, run.0) ∷ []) old new (turns_append turns ((n, run.0) ∷ []) old mid new taken (lowest, new, run.1, run.2, refl)))
+    (_, turns_prefix (turns ++ (n, run.0) ∷ []) old new (turns_append turns ((n, run.0) ∷ []) old mid new taken (lowest, new, run.1, run.2, refl)))
 finish_ended turns n old mid new w w1 w2 ending.Reader taken lowest before run = absurd run
 
 -- one more turn of a FINISH

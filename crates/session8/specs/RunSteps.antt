@@ -18,7 +18,7 @@ use Rattle.session8.specs.declared.pending.Begun.{Begun}
 use Rattle.session8.specs.declared.pending.Begun.TheVariants.{Ran, Waiting}
 
 -- What running items comes to: the lines of the answers to all of them are written; where want of memory ends the run, those
--- of a front of them; where the writer failed, the last line may be unwritten.
+-- of a prefix of them; where the writer failed, the last line may be unwritten.
 abbrev pub RunsItems : List Item → State → State → Option (List ℕ) → Option (List ℕ)
     → Result (Unit {0}) Ending → Type 0
 RunsItems items old new w w' (Ok done) = WritesAnswers old items new w w' []
@@ -44,8 +44,8 @@ items_in text false = whole_of text
 
 -- a text begins with these items, and the rest stands behind them; where it goes on, whatever follows
 abbrev pub StartsWithItems : List ℕ → Bool → List Item → List ℕ → Type 0
-StartsWithItems text true front rest = script_of text ≡ front ++ script_of rest
-StartsWithItems text false front rest = LeadsWith text front rest
+StartsWithItems text true prefix rest = script_of text ≡ prefix ++ script_of rest
+StartsWithItems text false prefix rest = LeadsWith text prefix rest
 
 -- What running the first item of a text comes to, where it is a script's end or goes on: so many bytes of it are run, or no item,
 -- or no whole one, is there, and so many lines are wanted.
@@ -60,7 +60,7 @@ RunsNext text is_end old new w w' (Err Writer) =
     (bytes : List ℕ) × AnswersPrefix old (items_in text is_end) new bytes
 RunsNext text is_end old new w w' (Err Reader) = ⊥
 
--- so many bytes stand at the front of a text, or it has no item, or no whole one
+-- so many bytes stand at the prefix of a text, or it has no item, or no whole one
 abbrev pub IsBegun : List ℕ → Bool → Begun → Type 0
 IsBegun text is_end (Ran bytes) = (0 < bytes) × (bytes ≤ length text)
 IsBegun text is_end (Waiting lines) = HasNoItem text is_end lines
@@ -70,8 +70,8 @@ IsBegun text is_end (Waiting lines) = HasNoItem text is_end lines
 abbrev pub RunsPrefix : List ℕ → Bool → State → State → Option (List ℕ) → Option (List ℕ)
     → Result (ℕ × ℕ) Ending → Type 0
 RunsPrefix text is_end old new w w' (Ok (bytes, lines)) =
-    (front : List Item) × StartsWithItems text is_end front (drop bytes text) × HasNoItem (drop bytes text) is_end lines
-    × WritesAnswers old front new w w' []
+    (prefix : List Item) × StartsWithItems text is_end prefix (drop bytes text) × HasNoItem (drop bytes text) is_end lines
+    × WritesAnswers old prefix new w w' []
 RunsPrefix text is_end old new w w' (Err Memory) = WritesPrefix old (items_in text is_end) new w w' []
 RunsPrefix text is_end old new w w' (Err Writer) =
     (bytes : List ℕ) × AnswersPrefix old (items_in text is_end) new bytes
@@ -81,7 +81,7 @@ RunsPrefix text is_end old new w w' (Err Reader) = ⊥
 abbrev pub RunsGiven : List ℕ → List ℕ → State → State → Option (List ℕ) → Option (List ℕ)
     → Result (Unit {0}) Ending → Type 0
 RunsGiven text rest old new w w' (Ok done) =
-    (front : List Item) × LeadsWith text front rest × WritesAnswers old front new w w' []
+    (prefix : List Item) × LeadsWith text prefix rest × WritesAnswers old prefix new w w' []
 RunsGiven text rest old new w w' (Err Memory) = WritesPrefix old (whole_of text) new w w' []
 RunsGiven text rest old new w w' (Err Writer) = (bytes : List ℕ) × AnswersPrefix old (whole_of text) new bytes
 RunsGiven text rest old new w w' (Err Reader) = ⊥
@@ -91,9 +91,9 @@ pub record IsRunTo (old new : State) (r r' w w' : Option (List ℕ)) (count : �
   pub text : List ℕ
   pub taken : Consumes r r' text
   pub size : length text ≡ count
-  pub front : List Item
-  pub leads : LeadsWith text front rest
-  pub writes : WritesAnswers old front new w w' []
+  pub prefix : List Item
+  pub leads : LeadsWith text prefix rest
+  pub writes : WritesAnswers old prefix new w w' []
 
 -- What reading a script and running it comes to, before the line of a fault is written.
 abbrev pub RunsRead : ℕ → State → State → Option (List ℕ) → Option (List ℕ) → Option (List ℕ)

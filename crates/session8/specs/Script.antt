@@ -65,27 +65,27 @@ HasBegun [] items = Unit {0}
 HasBegun turns (Finish ∷ items) = Unit {0}
 HasBegun turns items = ⊥
 
--- the machine may answer a front of the items, and where a FINISH comes next some of its turns; these are the lines
+-- the machine may answer a prefix of the items, and where a FINISH comes next some of its turns; these are the lines
 pub record AnswersPrefix (old : State) (items : List Item) (new : State) (bytes : List ℕ) : Type 0 where
-  pub front : List Item
+  pub prefix : List Item
   pub rest : List Item
-  pub parts : items ≡ front ++ rest
+  pub parts : items ≡ prefix ++ rest
   pub lines : List (List ℕ)
   pub mid : State
-  pub told : AnswersItems old front lines mid
+  pub told : AnswersItems old prefix lines mid
   pub turns : List (ℕ × Answer)
   pub taken : Turns mid turns new
   pub begun : HasBegun turns rest
   pub shown : bytes ≡ all_lines lines ++ turn_lines turns
 
--- the lines of a front of the items are written, and then the last ones
+-- the lines of a prefix of the items are written, and then the last ones
 abbrev pub WritesPrefix : State → List Item → State → Option (List ℕ) → Option (List ℕ) → List ℕ → Type 0
 WritesPrefix old items new w w' last =
     (bytes : List ℕ) × AnswersPrefix old items new bytes × Appends w w' (bytes ++ last)
 
 -- items are the first of others
 abbrev pub IsPrefixOf : List Item → List Item → Type 0
-IsPrefixOf front items = (rest : List Item) × (items ≡ front ++ rest)
+IsPrefixOf prefix items = (rest : List Item) × (items ≡ prefix ++ rest)
 
 -- the items that may be answered of the bytes that a reader gave: the whole ones, or all where it is at its end
 abbrev pub AreDue : Option (List ℕ) → List ℕ → List Item → Type 0
@@ -93,7 +93,7 @@ AreDue r text items = (items ≡ whole_of text) ⊎ (IsAtEnd r × (items ≡ scr
 
 -- What running the script of a reader comes to. On Ok the reader was read to its end, and the lines of the answers to all items are
 -- written. Where the reader ends the run, they are those of the whole items that were taken, and where want of memory does, those of
--- a front of the items of the bytes that were taken; the line of the fault is written last. Where the writer failed, the last line
+-- a prefix of the items of the bytes that were taken; the line of the fault is written last. Where the writer failed, the last line
 -- may be unwritten.
 abbrev pub RunsText : ℕ → State → State → Option (List ℕ) → Option (List ℕ) → Option (List ℕ)
     → Option (List ℕ) → Result (Unit {0}) SessionFault → Type 0

@@ -68,7 +68,7 @@ impl Pending {
         Ok(is_end)
     }
 
-    /// Lets go of bytes at the front, which are run; so many lines are wanted of the others.
+    /// Lets go of bytes at the prefix, which are run; so many lines are wanted of the others.
     pub(crate) fn consume(&mut self, bytes: usize, lines: u32)
         requires { bytes ≤ length self.old.bytes.items }
         ensures bytes { self.new.bytes.items ≡ drop bytes self.old.bytes.items }

@@ -1,5 +1,5 @@
 ghost use Rattle.std.specs.Prelude.{◌≡◌, ◌+◌, ◌<◌, ◌≤◌, ◌↔◌, [], false, true, None, OnOk, IfOk, IfErr, IsErrOf, vec_len, vec_capacity, Err};
-ghost use Rattle.os8_dir.specs.Reading.{Sound, Meets, directory_of};
+ghost use Rattle.os8_dir.specs.Reading.{Sound, MeetsFault, directory_of};
 ghost use Rattle.os8_dir.specs.declared.faults.DirFault.TheVariants.{Device};
 ghost use Rattle.jobs8.specs.Jobs.{no_jobs};
 ghost use Rattle.jobs8.specs.Calls.{Outlives};
@@ -76,7 +76,7 @@ impl<S: BlockStore> Session<S> {
             × (s.volume.failed_writes ≡ S.failed_writes store)) }
         ensures handed_back { IfErr result (λ e. (S.contents e.0 ≡ S.contents store)
             × (S.reads e.0 ≤ S.reads store + 12) × (S.failed_writes e.0 ≡ S.failed_writes store)) }
-        ensures fault { IfErr result (λ e. Meets e.1 (directory_of (S.contents store))) }
+        ensures fault { IfErr result (λ e. MeetsFault e.1 (directory_of (S.contents store))) }
         ensures device { IfErr result (λ e. (e.1 ≡ Device) ↔ (S.failed_reads store < S.failed_reads e.0)) }
     {
         let (line, console) = match parts(alloc) {

@@ -105,16 +105,16 @@ fn run(
         match refused(alloc, &mut own, script, start, out) {
             None => break,
             Some((place, bytes)) => {
-                let (front, rest) = script.split_at(place.min(script.len()));
+                let (prefix, rest) = script.split_at(place.min(script.len()));
                 if behind.spoils {
                     let mut told = Vec::new(alloc);
                     let _ = run_item(alloc, &mut own, SPOILING, &mut told);
                 }
                 if behind.stops {
-                    return same_files(alloc, own.into_store(), front).status();
+                    return same_files(alloc, own.into_store(), prefix).status();
                 }
                 let item = rest.split_at(bytes.min(rest.len())).0;
-                status = status.max(again(alloc, &mut own, front, item, out));
+                status = status.max(again(alloc, &mut own, prefix, item, out));
                 start = place.saturating_add(bytes);
             }
         }
@@ -143,15 +143,15 @@ fn refused(
     None
 }
 
-/// Does an item again that was refused behind a front of the script; the status.
+/// Does an item again that was refused behind a prefix of the script; the status.
 fn again(
     alloc: Global,
     session: &mut Session<MemoryVolume>,
-    front: &[u8],
+    prefix: &[u8],
     item: &[u8],
     out: &mut Vec<u8>,
 ) -> u8 {
-    let same = same_sessions(alloc, session, front);
+    let same = same_sessions(alloc, session, prefix);
     match run_item(alloc, session, item, out) {
         Done::Whole => same.status(),
         Done::Refused => 5,

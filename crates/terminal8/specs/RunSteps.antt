@@ -19,7 +19,7 @@ use Rattle.terminal8.specs.declared.outcomes.Why.TheVariants as why
 
 -- ## Bytes that are read ahead
 
--- what a read into a buffer comes to: so many bytes at its front, none only at the reader's end
+-- what a read into a buffer comes to: so many bytes at its prefix, none only at the reader's end
 abbrev pub Reads : List ℕ → Option (List ℕ) → Option (List ℕ) → Result ℕ TerminalFault → Type 0
 Reads buffer reader reader' (Ok count) = (count ≤ length buffer) × Consumes reader reader' (take count buffer) × (count ≡ 0 → IsAtEnd reader')
 Reads buffer reader reader' (Err fault) = (fault ≡ Reader) × Consumes reader reader' []

@@ -43,14 +43,17 @@ pub fn later_steps()
 
 /// A run has one end: a terminal and a greatest number of steps determine how many are made, and why no more.
 pub fn one_end()
-    ensures steps { (t : Terminal) (n a b : ℕ) (why other : Why) → IsRun t n a why → IsRun t n b other → a ≡ b }
-    ensures why { (t : Terminal) (n a b : ℕ) (why other : Why) → IsRun t n a why → IsRun t n b other → why ≡ other }
+    ensures steps { (t : Terminal) (n a b : ℕ) (why other : Why) → IsRun t n a why → IsRun t n b other
+        → a ≡ b }
+    ensures why { (t : Terminal) (n a b : ℕ) (why other : Why) → IsRun t n a why → IsRun t n b other
+        → why ≡ other }
 {}
 
 /// Where keys end, and the bytes of the reader are known, a run is that of a terminal at which the keys of all of them are
 /// struck, however far the reader was read.
 pub fn known_bytes()
-    ensures { (form : Form) (n : ℕ) (old new : State) (bytes left : List ℕ) (writer written : Option (List ℕ)) (ended : Ended)
+    ensures { (form : Form) (n : ℕ) (old new : State) (bytes left : List ℕ)
+        (writer written : Option (List ℕ)) (ended : Ended)
         → Runs form Ending n old new (Some bytes) (Some left) writer written (Ok ended)
         → IsWholeRun (terminal_of form old bytes) n new writer written ended }
 {}

@@ -56,7 +56,8 @@ impl Operator {
             self.old.ahead self.new.ahead self.old.is_over self.new.is_over machine.old machine.new
             self.old.since self.new.since (R.remaining reader.old) (R.remaining reader.new)) }
         ensures paper { Holds (W.contents writer.old) (W.contents writer.new) paper.old paper.new result }
-        ensures err { IfErr result (λ _. Misses self.old.keyboard self.new.keyboard self.old.ahead self.new.ahead
+        ensures err { IfErr result
+            (λ _. Misses self.old.keyboard self.new.keyboard self.old.ahead self.new.ahead
             self.old.is_over (R.remaining reader.old) (R.remaining reader.new)) }
         ensures input { self.new.input ≡ self.old.input }
         ensures same { IfErr result (λ _. machine.new ≡ machine.old) }
@@ -82,7 +83,8 @@ impl Operator {
         ensures paper { Holds (W.contents writer.old) (W.contents writer.new) paper.old paper.new result }
         ensures since { OnOk result (self.new.since ≡ 0) }
         ensures input { self.new.input ≡ self.old.input }
-        ensures err { IfErr result (λ _. Misses self.old.keyboard self.new.keyboard self.old.ahead self.new.ahead
+        ensures err { IfErr result
+            (λ _. Misses self.old.keyboard self.new.keyboard self.old.ahead self.new.ahead
             self.old.is_over (R.remaining reader.old) (R.remaining reader.new)) }
         ensures same { IfErr result (λ _. machine.new ≡ machine.old) }
     {

@@ -66,7 +66,7 @@ impl ReadAhead {
     }
 }
 
-/// Reads bytes to the front of a buffer that has room, and tells how many.
+/// Reads bytes to the prefix of a buffer that has room, and tells how many.
 fn read<R: Read>(bytes: &mut [u8], reader: &mut R) -> Result<usize, TerminalFault>
     requires { 0 < length bytes.old }
     ensures { Reads bytes.new (R.remaining reader.old) (R.remaining reader.new) result }

@@ -88,7 +88,8 @@ impl Paper {
 
     /// Hands on what was printed to a writer, and has that hand it on too.
     pub(crate) fn flush<W: Write>(&mut self, writer: &mut W) -> Result<(), TerminalFault>
-        ensures ok { OnOk result (Passes (W.contents writer.old) (W.contents writer.new) self.old self.new []) }
+        ensures ok { OnOk result (Passes (W.contents writer.old) (W.contents writer.new) self.old self.new
+            []) }
         ensures rest { OnOk result (self.new ≡ []) }
         ensures err { IfErr result (λ e. e ≡ fault.Writer) }
     {

@@ -85,7 +85,8 @@ impl<S: BlockStore> BlockStore for CountVolume<S> {
         ensures failed_reads { S.failed_reads self.new.store ≡
             (if is_ok result then S.failed_reads self.old.store else S.failed_reads self.old.store + 1) }
         ensures failed_writes { S.failed_writes self.new.store ≡ S.failed_writes self.old.store }
-        ensures counts { self.new ≡ record self.old { store = self.new.store; reads = counted self.old.reads } }
+        ensures counts { self.new ≡ record
+            self.old { store = self.new.store; reads = counted self.old.reads } }
     {
         count_up(&mut self.reads);
         self.store.read(number, words)
@@ -95,13 +96,15 @@ impl<S: BlockStore> BlockStore for CountVolume<S> {
         requires { number < length (S.contents self.old.store) }
         ensures ok { OnOk result (S.contents self.new.store
             ≡ slice_set (S.contents self.old.store) number words.now) }
-        ensures err { OnErr result (IsDamaged (S.contents self.old.store) (S.contents self.new.store) number) }
+        ensures err { OnErr result
+            (IsDamaged (S.contents self.old.store) (S.contents self.new.store) number) }
         ensures reads { S.reads self.new.store ≡ S.reads self.old.store }
         ensures passed_on { S.writes self.new.store ≡ counted (S.writes self.old.store) }
         ensures failed_reads { S.failed_reads self.new.store ≡ S.failed_reads self.old.store }
         ensures failed_writes { S.failed_writes self.new.store ≡
             (if is_ok result then S.failed_writes self.old.store else S.failed_writes self.old.store + 1) }
-        ensures counts { self.new ≡ record self.old { store = self.new.store; writes = counted self.old.writes } }
+        ensures counts { self.new ≡ record
+            self.old { store = self.new.store; writes = counted self.old.writes } }
     {
         count_up(&mut self.writes);
         self.store.write(number, words)

@@ -141,7 +141,12 @@ impl BlockStore for MemoryVolume {
     fn write(&mut self, number: usize, words: &Block) -> Result<(), DeviceFault>
         requires { number < length self.old.blocks }
         ensures done { IsOk result }
-        ensures words { self.new ≡ record self.old { blocks = slice_set self.old.blocks number words.now; writes = counted self.old.writes } }
+        ensures words { self.new ≡ record
+            self.old {
+              blocks = slice_set self.old.blocks number words.now;
+              writes = counted
+                  self.old.writes;
+            } }
     {
         know_words(words);
         count_up(&mut self.writes);

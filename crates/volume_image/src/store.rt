@@ -55,5 +55,6 @@ pub trait BlockStore {
         ensures reads { reads self.new ≡ reads self.old }
         ensures writes { writes self.new ≡ counted (writes self.old) }
         ensures failed_reads { failed_reads self.new ≡ failed_reads self.old }
-        ensures failed_writes { failed_writes self.new ≡ (if is_ok result then failed_writes self.old else failed_writes self.old + 1) };
+        ensures failed_writes { failed_writes
+            self.new ≡ (if is_ok result then failed_writes self.old else failed_writes self.old + 1) };
 }

@@ -125,7 +125,8 @@ impl Processor {
     /// The next instruction, if it is one that is done here. With ASKS a KSF that finds the keyboard flag clear is none.
     #[inline(always)]
     fn step_quietly<const MINDS: bool, const ASKS: bool>(&mut self, core: &mut Core) -> bool
-        ensures does { DoesOrNot (with_core self.old core.old) (fetched (with_core self.old core.old)) result (with_core self.new core.new) }
+        ensures does { DoesOrNot (with_core self.old core.old) (fetched (with_core self.old core.old))
+            result (with_core self.new core.new) }
         ensures asks { ASKS ≡ true → result ≡ true → finds_no_key (with_core self.old core.old) ≡ false }
     {
         let word = core.get(self.next_cell());

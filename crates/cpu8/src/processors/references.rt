@@ -117,7 +117,8 @@ impl Processor {
     /// A jump goes to the field of the instruction buffer, and ends the holding off of interrupts.
     #[inline(always)]
     fn enter_field(&mut self)
-        ensures { self.new ≡ record self.old { instruction_field = self.old.instruction_buffer; held_off = false } }
+        ensures { self.new ≡ record
+            self.old { instruction_field = self.old.instruction_buffer; held_off = false } }
     {
         self.instruction_field = self.instruction_buffer;
         self.held_off = false;

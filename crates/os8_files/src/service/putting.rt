@@ -1,7 +1,7 @@
 //! The putting of whole files.
 ghost use Rattle.std.specs.Prelude.{◌≡◌, ◌*◌, ◌<◌, length, None};
 ghost use Rattle.os8_dir.specs.Entries.{IsNamed};
-ghost use Rattle.os8_files.specs.Puts.{Puts, blocks_filled};
+ghost use Rattle.os8_files.specs.Puts.{PutsFile, blocks_filled};
 ghost use Rattle.os8_files.specs.Steps.{IsBeginning, Fills};
 
 use crate::{FileFault, FileService, Tentative};
@@ -21,7 +21,7 @@ impl<S: BlockStore> FileService<S> {
         requires some { 0 < blocks_filled words.now }
         requires whole { 256 * blocks_filled words.now ≡ length words.now }
         requires none { self.old.tentative ≡ None }
-        ensures call { Puts self.old name words.now result self.new }
+        ensures call { PutsFile self.old name words.now result self.new }
         ensures none { self.new.tentative ≡ None }
     {
         put_file(self, alloc, name, words, words.len() / 256)
@@ -41,7 +41,7 @@ fn put_file<S: BlockStore>(
     requires whole { 256 * blocks ≡ length words.now }
     requires count { blocks ≡ blocks_filled words.now }
     requires none { files.old.tentative ≡ None }
-    ensures call { Puts files.old name words.now result files.new }
+    ensures call { PutsFile files.old name words.now result files.new }
     ensures none { files.new.tentative ≡ None }
 {
     rooms();
@@ -75,9 +75,9 @@ fn fill<S: BlockStore>(
     let mut rest = words;
     let mut written = 0;
     while written < blocks {
-        let (front, behind) = rest.split_at(256);
+        let (prefix, behind) = rest.split_at(256);
         let mut block = [Word::ZERO; 256];
-        block.copy_from_slice(front);
+        block.copy_from_slice(prefix);
         match files.write(tentative, &block) {
             Ok(()) => {
                 rest = behind;

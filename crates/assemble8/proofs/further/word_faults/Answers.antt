@@ -7,7 +7,7 @@ use Rattle.assemble8.specs.NameSteps.{known, Follows}
 use Rattle.assemble8.specs.JudgeSteps.{placed}
 use Rattle.assemble8.proofs.LocateLemmas.{nothing_read}
 use Rattle.assemble8.proofs.PauseLemmas.{next_byte}
-use Rattle.assemble8.proofs.RowLemmas.{fine_front, fine_order}
+use Rattle.assemble8.proofs.RowLemmas.{fine_prefix, fine_order}
 use Rattle.assemble8.proofs.StartLemmas.{comment_more, start_more}
 use Rattle.assemble8.proofs.FurtherLemmas.{judged_more}
 use Rattle.assemble8.proofs.further.word_faults.Goals as goal
@@ -32,7 +32,7 @@ loop-taken-preserved c =
     let next = sym (next_byte text taken byte inside refl) in
     let judged =
     c.in_ok-fault.ensures.judges (text_of (take taken text)) stands.read stands.may (fine_order text taken c.statements_stay.ensures c.no_fault_before.ensures inside c.requires.fine)
-    (fine_front text taken c.fault_stays.ensures inside c.requires.lexical) stands.follows in
+    (fine_prefix text taken c.fault_stays.ensures inside c.requires.lexical) stands.follows in
     let quiet = c.comment_behind-comment.ensures ∙ comment_more text taken byte c.loop-taken.comment inside refl stands.quiet in
     record {
       told = λ place.

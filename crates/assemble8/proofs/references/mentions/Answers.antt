@@ -3,7 +3,7 @@ use Rattle.pal_lex.specs.Text.{text_of}
 use Rattle.pal_lex.specs.Reading.{HasRead}
 use Rattle.assemble8.specs.SpotSteps.{no_spot}
 use Rattle.assemble8.proofs.PauseLemmas.{next_byte}
-use Rattle.assemble8.proofs.RowLemmas.{fine_front}
+use Rattle.assemble8.proofs.RowLemmas.{fine_prefix}
 use Rattle.assemble8.proofs.ReferenceLemmas.{named_more}
 use Rattle.assemble8.proofs.references.mentions.Goals as goal
 
@@ -13,7 +13,7 @@ loop-taken-preserved c =
     let taken = c.loop-taken.taken in
     let here = text_of (take taken text) in
     let stands = c.loop-taken.invariant in
-    let fine = fine_front text taken c.fault_stays.ensures c.loop-taken-test.true c.requires in
+    let fine = fine_prefix text taken c.fault_stays.ensures c.loop-taken-test.true c.requires in
     record {
       names = named_more (λ at. get_or c.args.spots.now at no_spot) text taken c.spot_at-spot.result c.loop-taken.found.items c.take_byte.new.found.items c.loop-taken-test.true c.spot_at-spot.ensures
           (c.in_ok-take_byte.ensures.names here stands.read stands.may fine) stands.names;

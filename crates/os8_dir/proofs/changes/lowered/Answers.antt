@@ -42,9 +42,9 @@ append_all-requires-then-append_all-3-clause-fits c =
 
 pub returns-then-append_all-4-clause-list : goal.returns-then-append_all-4-clause-list
 returns-then-append_all-4-clause-list c =
-    let front = c.split_at.result.0.now in
+    let prefix = c.split_at.result.0.now in
     let gap = c.split_at-2.result.0.now in
     let file = c.split_at-3.result.0.now in
     let rest = c.split_at-3.result.1.now in
-    let same : swapped c.args.name c.args.entries.now ≡ front ++ (file ++ (gap ++ rest)) = c.gap_place.ensures.list ∙ rw (c.split_at-3.ensures.front, c.split_at-3.ensures.back, c.split_at-2.ensures.front, c.split_at-2.ensures.back, c.split_at.ensures.front, c.split_at.ensures.back) refl in
-    parts-tidy c.new-kept.result.items c.append_all.new.entries.items c.append_all-then-append_all.new.entries.items c.append_all-then-append_all-2.new.entries.items c.append_all-then-append_all-3.new.entries.items front file gap rest c.new-kept.ensures.items c.if-append_all.ensures c.if-append_all-2.ensures c.if-append_all-3.ensures c.if-append_all-4.ensures ∙ ap tidy (sym same)
+    let same : swapped c.args.name c.args.entries.now ≡ prefix ++ (file ++ (gap ++ rest)) = c.gap_place.ensures.list ∙ rw (c.split_at-3.ensures.front, c.split_at-3.ensures.back, c.split_at-2.ensures.front, c.split_at-2.ensures.back, c.split_at.ensures.front, c.split_at.ensures.back) refl in
+    parts-tidy c.new-kept.result.items c.append_all.new.entries.items c.append_all-then-append_all.new.entries.items c.append_all-then-append_all-2.new.entries.items c.append_all-then-append_all-3.new.entries.items prefix file gap rest c.new-kept.ensures.items c.if-append_all.ensures c.if-append_all-2.ensures c.if-append_all-3.ensures c.if-append_all-4.ensures ∙ ap tidy (sym same)

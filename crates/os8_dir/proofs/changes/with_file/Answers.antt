@@ -10,8 +10,8 @@ append_laid-requires-clause-neat c = tidied-neat c.loop-entry.kept.items (put c.
 pub append_laid-requires-clause-fits : goal.append_laid-requires-clause-fits
 append_laid-requires-clause-fits c =
     let k = c.loop-entry.entry-index in
-    let front = take k c.args.entries.now in
-    rw (c.emptied.ensures, size-emptied c.args.name c.entry-item.result) (omega (arith, tidied-total c.loop-entry.kept.items (put c.args.first c.args.from c.args.file.now (emptied c.args.name front)) c.loop-entry.invariant.list, total-put c.args.first c.args.from c.args.file.now (emptied c.args.name front), total-emptied c.args.name front, total-item k c.args.entries.now c.entry-item.result c.loop-entry-test.true c.entry-item.is, c.requires.inside))
+    let prefix = take k c.args.entries.now in
+    rw (c.emptied.ensures, size-emptied c.args.name c.entry-item.result) (omega (arith, tidied-total c.loop-entry.kept.items (put c.args.first c.args.from c.args.file.now (emptied c.args.name prefix)) c.loop-entry.invariant.list, total-put c.args.first c.args.from c.args.file.now (emptied c.args.name prefix), total-emptied c.args.name prefix, total-item k c.args.entries.now c.entry-item.result c.loop-entry-test.true c.entry-item.is, c.requires.inside))
 
 pub append_laid-requires-clause-inside : goal.append_laid-requires-clause-inside
 append_laid-requires-clause-inside c =

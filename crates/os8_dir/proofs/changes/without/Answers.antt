@@ -9,8 +9,8 @@ append-requires-clause-neat c = tidied-neat c.loop-entry.kept.items (emptied c.a
 pub append-requires-clause-fits : goal.append-requires-clause-fits
 append-requires-clause-fits c =
     let k = c.loop-entry.entry-index in
-    let front = take k c.args.entries.now in
-    rw (c.emptied.ensures, size-emptied c.args.name c.entry-item.result) (omega (arith, tidied-total c.loop-entry.kept.items (emptied c.args.name front) c.loop-entry.invariant, total-emptied c.args.name front, total-item k c.args.entries.now c.entry-item.result c.loop-entry-test.true c.entry-item.is))
+    let prefix = take k c.args.entries.now in
+    rw (c.emptied.ensures, size-emptied c.args.name c.entry-item.result) (omega (arith, tidied-total c.loop-entry.kept.items (emptied c.args.name prefix) c.loop-entry.invariant, total-emptied c.args.name prefix, total-item k c.args.entries.now c.entry-item.result c.loop-entry-test.true c.entry-item.is))
 
 pub loop-entry-preserved : goal.loop-entry-preserved
 loop-entry-preserved c =

@@ -6,28 +6,28 @@ use Rattle.pal_blocks.proofs.MakeLemmas.{block_not_made, within_block}
 use Rattle.pal_blocks.proofs.making.make_block.Goals as goal
 
 pub returns-then-pass-clause-makes : goal.returns-then-pass-clause-makes
-returns-then-pass-clause-makes c = λ whole front given several has within.
-    skips_block c.joined_text.ensures.characters c.joined_text.ensures.ended c.args.pass.now.lexer c.args.pass.now.ended front several given c.args.block.now c.args.offset.now (λ s. IsMade whole c.args.pass.now c.args.pairs.now.items s) c.if-pass.true has
+returns-then-pass-clause-makes c = λ whole prefix given several has within.
+    skips_block c.joined_text.ensures.characters c.joined_text.ensures.ended c.args.pass.now.lexer c.args.pass.now.ended prefix several given c.args.block.now c.args.offset.now (λ s. IsMade whole c.args.pass.now c.args.pairs.now.items s) c.if-pass.true has
 
 pub returns-then-count-lt-BLOCK_FRAMES-clause-makes : goal.returns-then-count-lt-BLOCK_FRAMES-clause-makes
-returns-then-count-lt-BLOCK_FRAMES-clause-makes c = λ whole front given several has within.
+returns-then-count-lt-BLOCK_FRAMES-clause-makes c = λ whole prefix given several has within.
     let is = c.split_at.ensures.front ∙ c.lay_characters-count.ensures.characters in
-    let now = begins_block c.args.pass.now.lexer c.args.pass.now.ended front several given c.args.block.now _ c.args.offset.now (λ s. IsMade whole c.args.pass.now c.args.pairs.now.items s) c.if-pass.false is has in
-    ends_block c.joined_text.ensures.characters c.joined_text.ensures.ended c.make_text.new.pass.lexer c.make_text.new.pass.ended front several given c.args.block.now _ c.make_text.new.offset true
+    let now = begins_block c.args.pass.now.lexer c.args.pass.now.ended prefix several given c.args.block.now _ c.args.offset.now (λ s. IsMade whole c.args.pass.now c.args.pairs.now.items s) c.if-pass.false is has in
+    ends_block c.joined_text.ensures.characters c.joined_text.ensures.ended c.make_text.new.pass.lexer c.make_text.new.pass.ended prefix several given c.args.block.now _ c.make_text.new.offset true
     (λ s. IsMade whole c.make_text.new.pass c.make_text.new.pairs.items s) now.0 is c.in-Ok.ensures.range (c.lay_characters-count.ensures.ended ∙ lt_true _ 384 c.if-count-lt-BLOCK_FRAMES.true)
-    (c.in-Ok.ensures.makes whole front _ several now.1 (within_block c.joined_text.ensures.characters whole front several given c.args.block.now _ now.0 is within))
+    (c.in-Ok.ensures.makes whole prefix _ several now.1 (within_block c.joined_text.ensures.characters whole prefix several given c.args.block.now _ now.0 is within))
 
 pub returns-else-count-lt-BLOCK_FRAMES-clause-makes : goal.returns-else-count-lt-BLOCK_FRAMES-clause-makes
-returns-else-count-lt-BLOCK_FRAMES-clause-makes c = λ whole front given several has within.
+returns-else-count-lt-BLOCK_FRAMES-clause-makes c = λ whole prefix given several has within.
     let is = c.split_at.ensures.front ∙ c.lay_characters-count.ensures.characters in
-    let now = begins_block c.args.pass.now.lexer c.args.pass.now.ended front several given c.args.block.now _ c.args.offset.now (λ s. IsMade whole c.args.pass.now c.args.pairs.now.items s) c.if-pass.false is has in
-    ends_block c.joined_text.ensures.characters c.joined_text.ensures.ended c.make_text.new.pass.lexer c.make_text.new.pass.ended front several given c.args.block.now _ c.make_text.new.offset false
+    let now = begins_block c.args.pass.now.lexer c.args.pass.now.ended prefix several given c.args.block.now _ c.args.offset.now (λ s. IsMade whole c.args.pass.now c.args.pairs.now.items s) c.if-pass.false is has in
+    ends_block c.joined_text.ensures.characters c.joined_text.ensures.ended c.make_text.new.pass.lexer c.make_text.new.pass.ended prefix several given c.args.block.now _ c.make_text.new.offset false
     (λ s. IsMade whole c.make_text.new.pass c.make_text.new.pairs.items s) now.0 is c.in-Ok.ensures.range (c.lay_characters-count.ensures.ended ∙ lt_false _ 384 (omega (arith, c.if-count-lt-BLOCK_FRAMES.false)))
-    (c.in-Ok.ensures.makes whole front _ several now.1 (within_block c.joined_text.ensures.characters whole front several given c.args.block.now _ now.0 is within))
+    (c.in-Ok.ensures.makes whole prefix _ several now.1 (within_block c.joined_text.ensures.characters whole prefix several given c.args.block.now _ now.0 is within))
 
 pub returns-in-Err-clause-makes : goal.returns-in-Err-clause-makes
-returns-in-Err-clause-makes c = λ whole front given several has within.
+returns-in-Err-clause-makes c = λ whole prefix given several has within.
     let is = c.split_at.ensures.front ∙ c.lay_characters-count.ensures.characters in
-    let now = begins_block c.args.pass.now.lexer c.args.pass.now.ended front several given c.args.block.now _ c.args.offset.now (λ s. IsMade whole c.args.pass.now c.args.pairs.now.items s) c.if-pass.false is has in
-    block_not_made c.joined_text.ensures.characters whole front several given c.args.block.now _ c.make_text.new.offset c.make_text.new.pass c.make_text.new.pairs.items c.in-Err.fault now.0 is
-    (c.in-Err.ensures.makes whole front _ several now.1 (within_block c.joined_text.ensures.characters whole front several given c.args.block.now _ now.0 is within))
+    let now = begins_block c.args.pass.now.lexer c.args.pass.now.ended prefix several given c.args.block.now _ c.args.offset.now (λ s. IsMade whole c.args.pass.now c.args.pairs.now.items s) c.if-pass.false is has in
+    block_not_made c.joined_text.ensures.characters whole prefix several given c.args.block.now _ c.make_text.new.offset c.make_text.new.pass c.make_text.new.pairs.items c.in-Err.fault now.0 is
+    (c.in-Err.ensures.makes whole prefix _ several now.1 (within_block c.joined_text.ensures.characters whole prefix several given c.args.block.now _ now.0 is within))

@@ -7,8 +7,8 @@ use Rattle.pal_blocks.proofs.making.make_text.Given as goal
 -- as many characters were taken as the offset says
 abbrev pub invariant-loop-offset : goal.invariant-loop-offset
 invariant-loop-offset l = record {
-  made : (whole : Source) (front here : List ℕ) (several : Bool) → HasMade whole l.fn.pass l.fn.pairs.items front several (text_from here (take l.fn.offset l.text)) false
-      → IsWithin whole front several (text_from here l.text) → HasMade whole l.pass l.pairs.items front several (text_from here (take l.offset l.text)) false;
+  made : (whole : Source) (prefix here : List ℕ) (several : Bool) → HasMade whole l.fn.pass l.fn.pairs.items prefix several (text_from here (take l.fn.offset l.text)) false
+      → IsWithin whole prefix several (text_from here l.text) → HasMade whole l.pass l.pairs.items prefix several (text_from here (take l.offset l.text)) false;
 }
 
 abbrev pub decreases-loop-offset : goal.decreases-loop-offset

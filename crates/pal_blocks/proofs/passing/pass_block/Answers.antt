@@ -5,32 +5,32 @@ use Rattle.pal_blocks.proofs.BlockLemmas.{begins_block, ends_block, block_skippe
 use Rattle.pal_blocks.proofs.passing.pass_block.Goals as goal
 
 pub returns-then-pass-clause-passes : goal.returns-then-pass-clause-passes
-returns-then-pass-clause-passes c = λ front given several has.
-    block_skipped c.joined_text.ensures.characters c.joined_text.ensures.ended c.join_goes_on.ensures c.statements_stay.ensures c.args.pass.now c.settle.new.pass front several given c.args.block.now c.args.offset.now c.settle.result
+returns-then-pass-clause-passes c = λ prefix given several has.
+    block_skipped c.joined_text.ensures.characters c.joined_text.ensures.ended c.join_goes_on.ensures c.statements_stay.ensures c.args.pass.now c.settle.new.pass prefix several given c.args.block.now c.args.offset.now c.settle.result
     c.if-pass.true c.settle.ensures.settles (λ e. subst (λ r. OnOk r (c.settle.new.pass.waiting ≡ None)) e c.settle.ensures.none) has
 
 pub returns-then-count-lt-BLOCK_FRAMES-clause-passes : goal.returns-then-count-lt-BLOCK_FRAMES-clause-passes
-returns-then-count-lt-BLOCK_FRAMES-clause-passes c = λ front given several has.
+returns-then-count-lt-BLOCK_FRAMES-clause-passes c = λ prefix given several has.
     let is = c.split_at.ensures.front ∙ c.lay_characters-count.ensures.characters in
-    let now = begins_block c.args.pass.now.lexer c.args.pass.now.ended front several given c.args.block.now _ c.args.offset.now (λ s. IsBehind c.args.pass.now.waiting c.args.pass.now.assembler s) c.if-pass.false is has in (
-      ends_block c.joined_text.ensures.characters c.joined_text.ensures.ended c.pass_text.new.pass.lexer c.pass_text.new.pass.ended front several given c.args.block.now _ c.pass_text.new.offset true
+    let now = begins_block c.args.pass.now.lexer c.args.pass.now.ended prefix several given c.args.block.now _ c.args.offset.now (λ s. IsBehind c.args.pass.now.waiting c.args.pass.now.assembler s) c.if-pass.false is has in (
+      ends_block c.joined_text.ensures.characters c.joined_text.ensures.ended c.pass_text.new.pass.lexer c.pass_text.new.pass.ended prefix several given c.args.block.now _ c.pass_text.new.offset true
           (λ s. IsBehind c.pass_text.new.pass.waiting c.pass_text.new.pass.assembler s) now.0 is c.in-Ok.ensures.none.1 (c.lay_characters-count.ensures.ended ∙ lt_true _ 384 c.if-count-lt-BLOCK_FRAMES.true)
-          (c.in-Ok.ensures.passes front _ several now.1),
+          (c.in-Ok.ensures.passes prefix _ several now.1),
       c.in-Ok.ensures.none.0,
     )
 
 pub returns-else-count-lt-BLOCK_FRAMES-clause-passes : goal.returns-else-count-lt-BLOCK_FRAMES-clause-passes
-returns-else-count-lt-BLOCK_FRAMES-clause-passes c = λ front given several has.
+returns-else-count-lt-BLOCK_FRAMES-clause-passes c = λ prefix given several has.
     let is = c.split_at.ensures.front ∙ c.lay_characters-count.ensures.characters in
-    let now = begins_block c.args.pass.now.lexer c.args.pass.now.ended front several given c.args.block.now _ c.args.offset.now (λ s. IsBehind c.args.pass.now.waiting c.args.pass.now.assembler s) c.if-pass.false is has in (
-      ends_block c.joined_text.ensures.characters c.joined_text.ensures.ended c.pass_text.new.pass.lexer c.pass_text.new.pass.ended front several given c.args.block.now _ c.pass_text.new.offset false
+    let now = begins_block c.args.pass.now.lexer c.args.pass.now.ended prefix several given c.args.block.now _ c.args.offset.now (λ s. IsBehind c.args.pass.now.waiting c.args.pass.now.assembler s) c.if-pass.false is has in (
+      ends_block c.joined_text.ensures.characters c.joined_text.ensures.ended c.pass_text.new.pass.lexer c.pass_text.new.pass.ended prefix several given c.args.block.now _ c.pass_text.new.offset false
           (λ s. IsBehind c.pass_text.new.pass.waiting c.pass_text.new.pass.assembler s) now.0 is c.in-Ok.ensures.none.1 (c.lay_characters-count.ensures.ended ∙ lt_false _ 384 (omega (arith, c.if-count-lt-BLOCK_FRAMES.false)))
-          (c.in-Ok.ensures.passes front _ several now.1),
+          (c.in-Ok.ensures.passes prefix _ several now.1),
       c.in-Ok.ensures.none.0,
     )
 
 pub returns-in-Err-clause-passes : goal.returns-in-Err-clause-passes
-returns-in-Err-clause-passes c = λ front given several has.
+returns-in-Err-clause-passes c = λ prefix given several has.
     let is = c.split_at.ensures.front ∙ c.lay_characters-count.ensures.characters in
-    let now = begins_block c.args.pass.now.lexer c.args.pass.now.ended front several given c.args.block.now _ c.args.offset.now (λ s. IsBehind c.args.pass.now.waiting c.args.pass.now.assembler s) c.if-pass.false is has in
-    block_refused c.joined_text.ensures.characters front several given c.args.block.now _ c.pass_text.new.offset c.pass_text.new.pass c.in-Err.fault now.0 is (c.in-Err.ensures.passes front _ several now.1)
+    let now = begins_block c.args.pass.now.lexer c.args.pass.now.ended prefix several given c.args.block.now _ c.args.offset.now (λ s. IsBehind c.args.pass.now.waiting c.args.pass.now.assembler s) c.if-pass.false is has in
+    block_refused c.joined_text.ensures.characters prefix several given c.args.block.now _ c.pass_text.new.offset c.pass_text.new.pass c.in-Err.fault now.0 is (c.in-Err.ensures.passes prefix _ several now.1)

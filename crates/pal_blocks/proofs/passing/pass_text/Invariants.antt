@@ -6,8 +6,8 @@ use Rattle.pal_blocks.proofs.passing.pass_text.Given as goal
 -- as many characters were taken as the offset says
 abbrev pub invariant-loop-offset : goal.invariant-loop-offset
 invariant-loop-offset l = record {
-  passed : (front here : List ℕ) (several : Bool) → HasPassed l.fn.pass front several (text_from here (take l.fn.offset l.text)) false
-      → HasPassed l.pass front several (text_from here (take l.offset l.text)) false;
+  passed : (prefix here : List ℕ) (several : Bool) → HasPassed l.fn.pass prefix several (text_from here (take l.fn.offset l.text)) false
+      → HasPassed l.pass prefix several (text_from here (take l.offset l.text)) false;
 }
 
 abbrev pub decreases-loop-offset : goal.decreases-loop-offset

@@ -5,4 +5,4 @@ use Rattle.pal_list.proofs.laws.references_are_by_tags.Goals as goal
 
 pub returns : goal.returns
 returns c = λ frames text source.
-    subst (λ t. NamesTags t source.items) (sym source.lines) (tape_names source.items source.is_tape.is_front.3)
+    subst (λ t. NamesTags t source.items) (sym source.lines) (tape_names source.items source.is_tape.is_prefix.3)

@@ -6,4 +6,4 @@ use Rattle.pal_list.proofs.laws.tags_are_defined_once.Goals as goal
 
 pub returns : goal.returns
 returns c = λ frames text source.
-    subst (λ t. DefinesTags t (words_of_tape source.items)) (sym source.lines) (tape_tags source.items source.is_tape.is_front.3)
+    subst (λ t. DefinesTags t (words_of_tape source.items)) (sym source.lines) (tape_tags source.items source.is_tape.is_prefix.3)

@@ -10,6 +10,6 @@ pub returns : goal.returns
 returns c = λ frames text rest source.
     let pairs = pairs_of (text_of text) in
     let are : ArePairs pairs =
-    subst ArePairs (sym source.says.pairs) (pairs_reverse (words_of_tape source.items) (below_pairs source.items 32768 source.is_tape.is_front.3)) in
+    subst ArePairs (sym source.says.pairs) (pairs_reverse (words_of_tape source.items) (below_pairs source.items 32768 source.is_tape.is_prefix.3)) in
     let tape = c.written_tape.ensures pairs rest are (c.has_words.ensures (text_of text) source.says.no_fault) in
     record { again = tape.items; is_tape = tape.is_tape; map = λ cell. tape.map cell ∙ source.says.map cell }

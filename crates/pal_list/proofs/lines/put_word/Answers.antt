@@ -8,8 +8,8 @@ joined : (o t s x y z : List ℕ) (cell word : ℕ) → x ≡ o ++ t → y ≡ x
     → z ≡ o ++ (t ++ s ++ 9 ∷ comment cell word ++ line_end)
 joined o t s x y z cell word e f g =
     let c = 9 ∷ comment cell word in
-    let front : y ≡ o ++ (t ++ s) = f ∙ ap (λ l. l ++ s) e ∙ append_assoc o t s in
-    g ∙ ap (λ l. l ++ c ++ line_end) front ∙ ap (λ l. l ++ line_end) (append_assoc o (t ++ s) c) ∙ append_assoc o (t ++ s ++ c) line_end
+    let prefix : y ≡ o ++ (t ++ s) = f ∙ ap (λ l. l ++ s) e ∙ append_assoc o t s in
+    g ∙ ap (λ l. l ++ c ++ line_end) prefix ∙ ap (λ l. l ++ line_end) (append_assoc o (t ++ s) c) ∙ append_assoc o (t ++ s ++ c) line_end
 
 pub returns : goal.returns
 returns c =

@@ -11,4 +11,4 @@ returns-in-Some c =
 
 pub returns-in-None : goal.returns-in-None
 returns-in-None c =
-    is_open _ (some_text _ c.if-is_empty.ensures) (λ front is. strip_suffix_is Decides-eqb _ _ None (c.in-None.ensures).cases front (is ∙ ap (λ p. front ++ p) (sym c.as_slice.ensures)))
+    is_open _ (some_text _ c.if-is_empty.ensures) (λ prefix is. strip_suffix_is Decides-eqb _ _ None (c.in-None.ensures).cases prefix (is ∙ ap (λ p. prefix ++ p) (sym c.as_slice.ensures)))

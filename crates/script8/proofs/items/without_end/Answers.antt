@@ -6,9 +6,9 @@ use Rattle.script8.proofs.items.without_end.Goals as goal
 
 pub returns-in-Some : goal.returns-in-Some
 returns-in-Some c =
-    let parts = strip_suffix_is Decides-eqb _ _ (Some c.in-Some.front) (c.in-Some.ensures).cases ∙ ap (λ p. c.in-Some.front.now ++ p) c.as_slice.ensures in
+    let parts = strip_suffix_is Decides-eqb _ _ (Some c.in-Some.prefix) (c.in-Some.ensures).cases ∙ ap (λ p. c.in-Some.prefix.now ++ p) c.as_slice.ensures in
     is_ended _ _ parts ∙ parts
 
 pub returns-in-None : goal.returns-in-None
 returns-in-None c =
-    is_open _ c.requires (λ front is. strip_suffix_is Decides-eqb _ _ None (c.in-None.ensures).cases front (is ∙ ap (λ p. front ++ p) (sym c.as_slice.ensures)))
+    is_open _ c.requires (λ prefix is. strip_suffix_is Decides-eqb _ _ None (c.in-None.ensures).cases prefix (is ∙ ap (λ p. prefix ++ p) (sym c.as_slice.ensures)))

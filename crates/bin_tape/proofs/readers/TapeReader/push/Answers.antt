@@ -7,7 +7,7 @@ use Rattle.bin_tape.proofs.readers.TapeReader.push.Goals as goal
 both : (c : goal.After-take) (frames : List ℕ) (out : List (ℕ × ℕ)) → HasRead c.args.self.now frames out
     → HasRead c.take.new.self (frames ++ c.args.frame ∷ []) (out ++ words_in c.take.result) × Answers frames out c.args.frame c.take.result
 both c frames out read =
-    read_on c.args.self.now c.count-kept.new.self c.take.new.self c.in-Reading.front c.args.frame c.self.inside.place c.take.result frames out
+    read_on c.args.self.now c.count-kept.new.self c.take.new.self c.in-Reading.prefix c.args.frame c.self.inside.place c.take.result frames out
     (sym c.count-kept.ensures.same ∙ sym (ap (λ (p : Progress). p.state) c.self-2.view_is) ∙ c.in-Reading.is)
     (ap (λ (p : Progress). p.place) c.self.view_is)
     c.take.ensures.same

@@ -11,7 +11,7 @@ returns-else-not-is_between_pairs-clause-read c = λ whole r.
     ∙ ap (λ (p : Progress). min (p.place + (length c.args.frames.now - length c.take_pairs-rest.result.now)) 18446744073709551615) c.self.view_is)
     r
     (c.take_pairs-rest.ensures.reads whole
-    (begins_run whole c.args.frames.now c.args.self.now c.args.words.now c.in-Reading.front
+    (begins_run whole c.args.frames.now c.args.self.now c.args.words.now c.in-Reading.prefix
     (sym (ap (λ (p : Progress). p.state) c.self.view_is) ∙ c.in-Reading.is)
     (sym (ap (λ (p : Progress). p.ignoring) c.self.view_is) ∙ c.if-self.false)
     (c.is_between_pairs.ensures.first c.if-not-is_between_pairs.false)

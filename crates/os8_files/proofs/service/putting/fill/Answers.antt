@@ -16,14 +16,14 @@ write-requires g c = let t = c.loop-written.invariant.text in (_, begun_now _ t.
 pub loop-written-preserved : goal.loop-written-preserved
 loop-written-preserved g c =
     let t = c.loop-written.invariant.text in
-    let front = c.split_at.result.0.now in
+    let prefix = c.split_at.result.0.now in
     record {
       left = (omega (arith, c.loop-written.invariant.left.0, c.split_at.ensures.back_len), omega (arith, c.loop-written-test.true));
       text = (
-        t.0 ++ front,
+        t.0 ++ prefix,
         t.1,
-        t.2 ∙ ap (λ (l : List ℕ). t.0 ++ l) (sym (take-append-drop 256 c.loop-written.rest.now) ∙ ap (λ (l : List ℕ). l ++ drop 256 c.loop-written.rest.now) (sym c.split_at.ensures.front) ∙ ap (λ (l : List ℕ). front ++ l) (sym c.split_at.ensures.back)) ∙ sym (append_assoc t.0 front _),
-        filled_more _ t.1 t.0 front _ _ _ t.3 (subst (λ (l : List ℕ). HasWritten c.loop-written.files l c.write.new.self) c.copy_from_slice.ensures.after c.in-Ok.ensures.call),
+        t.2 ∙ ap (λ (l : List ℕ). t.0 ++ l) (sym (take-append-drop 256 c.loop-written.rest.now) ∙ ap (λ (l : List ℕ). l ++ drop 256 c.loop-written.rest.now) (sym c.split_at.ensures.front) ∙ ap (λ (l : List ℕ). prefix ++ l) (sym c.split_at.ensures.back)) ∙ sym (append_assoc t.0 prefix _),
+        filled_more _ t.1 t.0 prefix _ _ _ t.3 (subst (λ (l : List ℕ). HasWritten c.loop-written.files l c.write.new.self) c.copy_from_slice.ensures.after c.in-Ok.ensures.call),
         t.4,
         t.5 ∙ sym c.in-Ok.ensures.token,
       );

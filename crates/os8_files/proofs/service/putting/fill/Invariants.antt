@@ -7,7 +7,7 @@ use Rattle.os8_files.proofs.service.putting.fill.Given as goal
 abbrev pub invariant-loop-written : goal.invariant-loop-written
 invariant-loop-written g l = record {
   left : (256 * l.written + length l.rest ≡ 256 * l.blocks) × (l.written ≤ l.blocks);
-  text : (front : List ℕ) × (begun : Begun) × (l.words ≡ front ++ l.rest) × HasFilled l.fn.files begun front l.written l.files × (l.blocks ≤ begun.room) × (begun.name ≡ l.tentative);
+  text : (prefix : List ℕ) × (begun : Begun) × (l.words ≡ prefix ++ l.rest) × HasFilled l.fn.files begun prefix l.written l.files × (l.blocks ≤ begun.room) × (begun.name ≡ l.tentative);
   token : l.tentative ≡ l.fn.tentative;
 }
 

@@ -20,4 +20,4 @@ returns-in-Run-clause-put c = λ before at place old.
     c.saturating_add-end.result (base_least c.args.radix)
     (ap (λ (t : Tail). record { illegal = c.self.inside.illegal; tail = t; tokens = c.self.inside.tokens.items }) (sym c.in-Run.is) ∙ c.self.view_is ∙ old)
     (next_place c.saturating_add-end.result c.args.place at c.saturating_add-end.ensures place)
-    (λ front last e. c.lengthen.ensures front last (v ∙ e))
+    (λ prefix last e. c.lengthen.ensures prefix last (v ∙ e))

@@ -8,8 +8,8 @@ use Rattle.session8.proofs.sessions.Session.run_items.Given as goal
 -- the items so far are answered
 abbrev pub invariant-loop-lines : goal.invariant-loop-lines
 invariant-loop-lines g l = record {
-  told : IsQuiet l.fn.self l.self → (front : List Item) × StartsWithItems l.text l.is_end front (drop l.done l.text)
-      × WritesAnswers (state_of l.fn.self) front (state_of l.self) (g.W.Write.contents l.fn.writer) (g.W.Write.contents l.writer) [];
+  told : IsQuiet l.fn.self l.self → (prefix : List Item) × StartsWithItems l.text l.is_end prefix (drop l.done l.text)
+      × WritesAnswers (state_of l.fn.self) prefix (state_of l.self) (g.W.Write.contents l.fn.writer) (g.W.Write.contents l.writer) [];
   within : l.done ≤ length l.text;
   later : IsLater l.fn.self l.self;
   running : IsQuiet l.fn.self l.self → l.self.volume.stopped ≡ false;

@@ -4,7 +4,7 @@ use Rattle.script8.specs.declared.items.Next.{Next}
 use Rattle.std.proofs.KnownBytes.{Appends-nil}
 use Rattle.std.proofs.lemmas.Result.{err_from_is_err_and}
 use Rattle.session8.proofs.TextLemmas.{item_stopped}
-use Rattle.session8.proofs.ToldLemmas.{front_none}
+use Rattle.session8.proofs.ToldLemmas.{prefix_none}
 use Rattle.session8.proofs.sessions.Session.run_next.Goals as goal
 
 pub returns-in_err-run_item-in-Ok-Item-clause-told : goal.returns-in_err-run_item-in-Ok-Item-clause-told
@@ -13,4 +13,4 @@ returns-in_err-run_item-in-Ok-Item-clause-told g c quiet =
     rw (p.1, p.2) (item_stopped _ _ c.in-Ok-Item.item c.in-Ok-Item.bytes _ _ _ _ c.in_err-run_item-in-Ok-Item.field-0.0 (subst (λ (n : Next). BeginsWith c.args.text.now c.args.is_end (Ok n)) c.in-Ok-Item.field-0-is c.in-Ok-Item.ensures) (c.in_err-run_item-in-Ok-Item.ensures.told quiet))
 
 pub returns-in-Err-clause-told : goal.returns-in-Err-clause-told
-returns-in-Err-clause-told g c quiet = ([], front_none _ _ _ refl, Appends-nil _)
+returns-in-Err-clause-told g c quiet = ([], prefix_none _ _ _ refl, Appends-nil _)

@@ -1,11 +1,11 @@
--- What the small steps of a front come to, for private clauses.
+-- What the small steps of a prefix come to, for private clauses.
 use Rattle.std.specs.Prelude.{◌≡◌, ℕ, ◌+◌, ◌*◌, Result, Ok, Err, List, [], ◌∷◌, ◌++◌}
 use Rattle.bin_tape.specs.Items.{Item, Leader, Field, Origin, Word, spelled, check_sum, words_but_last}
 use Rattle.bin_tape.specs.Fault.{IsRefused}
 use Rattle.bin_tape.specs.declared.faults.TapeFault.{TapeFault}
-use Rattle.bin_tape.specs.declared.fronts.Taken.{Taken}
-use Rattle.bin_tape.specs.declared.fronts.Taken.TheVariants.{More, Handed, End}
-use Rattle.bin_tape.specs.Front.{Keeps}
+use Rattle.bin_tape.specs.declared.prefixes.Taken.{Taken}
+use Rattle.bin_tape.specs.declared.prefixes.Taken.TheVariants.{More, Handed, End}
+use Rattle.bin_tape.specs.Prefix.{KeepsFrames}
 
 -- a trailer frame right behind a word that is the sum of the items before it
 abbrev pub EndsTape : List Item → List ℕ → ℕ → Type 0
@@ -16,12 +16,12 @@ EndsTape (Field n ∷ older) part frame = ⊥
 EndsTape (Origin high low ∷ older) part frame = ⊥
 
 -- what one more frame comes to
-abbrev pub Takes : List Item → List ℕ → ℕ → ℕ → Result Taken TapeFault → Type 0
-Takes items part frame place (Ok (More front)) = Keeps front (spelled items ++ part ++ frame ∷ []) (words_but_last items)
-Takes items part frame place (Ok (Handed front cell word)) = Keeps front (spelled items ++ part ++ frame ∷ []) (words_but_last items ++ (cell, word) ∷ [])
-Takes items part frame place (Ok End) = EndsTape items part frame
-Takes items part frame place (Err fault) = IsRefused items part frame place fault
+abbrev pub TakesFrame : List Item → List ℕ → ℕ → ℕ → Result Taken TapeFault → Type 0
+TakesFrame items part frame place (Ok (More prefix)) = KeepsFrames prefix (spelled items ++ part ++ frame ∷ []) (words_but_last items)
+TakesFrame items part frame place (Ok (Handed prefix cell word)) = KeepsFrames prefix (spelled items ++ part ++ frame ∷ []) (words_but_last items ++ (cell, word) ∷ [])
+TakesFrame items part frame place (Ok End) = EndsTape items part frame
+TakesFrame items part frame place (Err fault) = IsRefused items part frame place fault
 
 -- what a word comes to, by its two frames
 abbrev pub TakesWord : List Item → ℕ → ℕ → Taken → Type 0
-TakesWord items high low taken = Takes items (high ∷ []) low 0 (Ok taken)
+TakesWord items high low taken = TakesFrame items (high ∷ []) low 0 (Ok taken)

@@ -1,6 +1,6 @@
 use Rattle.std.proofs.Common.{◌≡◌, ◌-◌, true, length}
 use Rattle.assemble8.proofs.PauseLemmas.{Stands}
-use Rattle.assemble8.proofs.pauses.front_of.Given as goal
+use Rattle.assemble8.proofs.pauses.prefix_of.Given as goal
 
 abbrev pub invariant-loop-taken : goal.invariant-loop-taken
 invariant-loop-taken l = record {

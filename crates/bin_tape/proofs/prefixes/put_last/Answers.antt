@@ -1,8 +1,8 @@
 use Rattle.std.proofs.Common.{Option, subst}
-use Rattle.bin_tape.specs.declared.fronts.LastWord.{LastWord}
-use Rattle.bin_tape.specs.Front.{IsLast}
+use Rattle.bin_tape.specs.declared.prefixes.LastWord.{LastWord}
+use Rattle.bin_tape.specs.Prefix.{IsLast}
 use Rattle.bin_tape.proofs.MapLemmas.{hold_last, hold_no_last}
-use Rattle.bin_tape.proofs.fronts.put_last.Goals as goal
+use Rattle.bin_tape.proofs.prefixes.put_last.Goals as goal
 
 pub returns-in-Some : goal.returns-in-Some
 returns-in-Some c = λ items newest held.

@@ -1,6 +1,6 @@
 use Rattle.bin_tape.proofs.MapLemmas.{word_more, origin_more}
 use Rattle.std.proofs.Common.{arith}
-use Rattle.bin_tape.proofs.fronts.Front.take_pair.Goals as goal
+use Rattle.bin_tape.proofs.prefixes.Prefix.take_pair.Goals as goal
 
 pub returns-then-first-lt64 : goal.returns-then-first-lt64
 returns-then-first-lt64 c = λ whole later r.

@@ -1,12 +1,12 @@
 ghost use Rattle.std.specs.Prelude.{◌≡◌, ◌≢◌, ℕ, ◌+◌, ◌*◌, ◌<◌, ◌≤◌, ◌↔◌, List, [], ◌∷◌, None, true, length};
 ghost use Rattle.std.specs.Bool.{MatchBool};
 ghost use Rattle.bin_tape.specs.Items as item;
-ghost use Rattle.bin_tape.specs.Items.{Item, Leader, Field, Origin, IsFront, has_origin};
+ghost use Rattle.bin_tape.specs.Items.{Item, Leader, Field, Origin, IsPrefix, has_origin};
 ghost use Rattle.bin_tape.specs.Tape.{IsPart};
-ghost use Rattle.bin_tape.specs.Front.{Reads, IsLast};
-ghost use Rattle.bin_tape.specs.FrontSteps.{Takes, TakesWord};
+ghost use Rattle.bin_tape.specs.Prefix.{ReadsItems, IsLast};
+ghost use Rattle.bin_tape.specs.PrefixSteps.{TakesFrame, TakesWord};
 ghost use Rattle.bin_tape.specs.Map.{IsTable};
-ghost use Rattle.bin_tape.specs.MapSteps.{Holds, ReadsTo};
+ghost use Rattle.bin_tape.specs.MapSteps.{HoldsWords, ReadsTo};
 ghost use Rattle.bin_tape.specs.Items.{words_of, words_but_last};
 
 use crate::TapeFault;
@@ -14,7 +14,7 @@ use word12::{Cell, Word};
 
 /// What a reader keeps of the kept frames so far.
 #[derive(Clone, Copy)]
-pub struct Front {
+pub struct Prefix {
     /// The cell of a word that comes next.
     next: Cell,
     /// The origin and word frames, added up.
@@ -38,18 +38,18 @@ pub struct LastWord {
 
 /// What a kept frame comes to.
 pub enum Taken {
-    More(Front),
+    More(Prefix),
     /// The same, and the word before the newest one is no check sum.
-    Handed(Front, Cell, Word),
+    Handed(Prefix, Cell, Word),
     End,
 }
 
-impl Front {
-    /// The front of no frame.
-    pub fn new() -> Front
-        ensures { Reads result [] [] }
+impl Prefix {
+    /// The prefix of no frame.
+    pub fn new() -> Prefix
+        ensures { ReadsItems result [] [] }
     {
-        Front {
+        Prefix {
             next: Cell::at(0, Word::ZERO),
             sum: Word::ZERO,
             has_origin: false,
@@ -62,8 +62,8 @@ impl Front {
     /// Takes a kept frame, which stands at this place.
     pub fn take(self, frame: u8, place: u64) -> Result<Taken, TapeFault>
         requires { frame ≢ 0o377 }
-        ensures { (items : List Item) (part : List ℕ) → Reads self items part
-            → Takes items part frame place result }
+        ensures { (items : List Item) (part : List ℕ) → ReadsItems self items part
+            → TakesFrame items part frame place result }
     {
         match self.first {
             Some(first) => self.take_second(first, frame, place),
@@ -83,7 +83,7 @@ impl Front {
         }
     }
 
-    /// Takes words and origins from the front of these frames, and answers the frames that are left. Each word is put into
+    /// Takes words and origins from the beginning of these frames, and answers the frames that are left. Each word is put into
     /// its cell once a later one shows that it is no check sum.
     pub fn take_pairs<'a>(&mut self, frames: &'a [u8], words: &mut [Option<Word>]) -> &'a [u8]
         requires { IsTable words.old }
@@ -91,15 +91,15 @@ impl Front {
             → ReadsTo whole result.now self.new words.new }
         ensures left { length result.now ≤ length frames.now }
     {
-        let mut front = *self;
+        let mut prefix = *self;
         let mut rest = frames;
         while let [first, second, later @ ..] = rest {
-            if !front.take_pair(*first, *second, words) {
+            if !prefix.take_pair(*first, *second, words) {
                 break;
             }
             rest = later;
         }
-        *self = front;
+        *self = prefix;
         rest
     }
 
@@ -108,7 +108,8 @@ impl Front {
     fn take_pair(&mut self, first: u8, second: u8, words: &mut [Option<Word>]) -> bool
         requires { IsTable words.old }
         ensures { (whole later : List ℕ) → ReadsTo whole (first ∷ second ∷ later) self.old words.old
-            → MatchBool result (ReadsTo whole later self.new words.new) (ReadsTo whole (first ∷ second ∷ later) self.new words.new) }
+            → MatchBool result (ReadsTo whole later self.new words.new)
+            (ReadsTo whole (first ∷ second ∷ later) self.new words.new) }
     {
         if second >= 0o100 {
             return false;
@@ -128,8 +129,8 @@ impl Front {
     /// Takes the second frame of a pair.
     fn take_second(self, first: u8, frame: u8, place: u64) -> Result<Taken, TapeFault>
         requires { self.first ≡ Some first }
-        ensures { (items : List Item) (part : List ℕ) → Reads self items part
-            → Takes items part frame place result }
+        ensures { (items : List Item) (part : List ℕ) → ReadsItems self items part
+            → TakesFrame items part frame place result }
     {
         if frame >= 0o100 {
             return Err(TapeFault::BadFrame(place));
@@ -147,7 +148,7 @@ impl Front {
     fn taken_word(self, high: u8, low: u8) -> Taken
         requires high { high < 0o100 }
         requires low { low < 0o100 }
-        ensures { (items : List Item) → Reads self items (high ∷ []) → TakesWord items high low result }
+        ensures { (items : List Item) → ReadsItems self items (high ∷ []) → TakesWord items high low result }
     {
         let last = self.last;
         let later = self.with_word(high, low);
@@ -161,8 +162,8 @@ impl Front {
     fn take_first(self, frame: u8, place: u64) -> Result<Taken, TapeFault>
         requires first { self.first ≡ None }
         requires frame { frame ≢ 0o377 }
-        ensures { (items : List Item) (part : List ℕ) → Reads self items part
-            → Takes items part frame place result }
+        ensures { (items : List Item) (part : List ℕ) → ReadsItems self items part
+            → TakesFrame items part frame place result }
     {
         match frame {
             0o000 if !self.has_origin => Ok(Taken::More(self.with_leader())),
@@ -181,8 +182,8 @@ impl Front {
     fn take_trailer(self, place: u64) -> Result<Taken, TapeFault>
         requires first { self.first ≡ None }
         requires origin { self.has_origin ≡ true }
-        ensures { (items : List Item) (part : List ℕ) → Reads self items part
-            → Takes items part 0o200 place result }
+        ensures { (items : List Item) (part : List ℕ) → ReadsItems self items part
+            → TakesFrame items part 0o200 place result }
     {
         if !self.ends_in_word {
             return Err(TapeFault::BadFrame(place));
@@ -203,33 +204,34 @@ impl Front {
     }
 
     /// One leader frame more.
-    fn with_leader(self) -> Front
-        ensures { (items : List Item) (frame : ℕ) → Reads self items [] → IsFront (Leader frame ∷ items)
-            → Reads result (Leader frame ∷ items) [] }
+    fn with_leader(self) -> Prefix
+        ensures { (items : List Item) (frame : ℕ) → ReadsItems self items [] → IsPrefix (Leader frame ∷ items)
+            → ReadsItems result (Leader frame ∷ items) [] }
     {
-        Front {
+        Prefix {
             ends_in_word: false,
             ..self
         }
     }
 
     /// The first frame of a pair more.
-    fn begun(self, frame: u8) -> Front
-        ensures { (items : List Item) → Reads self items [] → IsPart items (frame ∷ [])
-            → Reads result items (frame ∷ []) }
+    fn begun(self, frame: u8) -> Prefix
+        ensures { (items : List Item) → ReadsItems self items [] → IsPart items (frame ∷ [])
+            → ReadsItems result items (frame ∷ []) }
     {
-        Front {
+        Prefix {
             first: Some(frame),
             ..self
         }
     }
 
     /// One field setting more.
-    fn with_field(self, field: u8) -> Front
+    fn with_field(self, field: u8) -> Prefix
         requires { field < 8 }
-        ensures { (items : List Item) → Reads self items [] → Reads result (Field field ∷ items) [] }
+        ensures { (items : List Item) → ReadsItems self items []
+            → ReadsItems result (Field field ∷ items) [] }
     {
-        Front {
+        Prefix {
             next: Cell::at(field, self.next.address()),
             ends_in_word: false,
             ..self
@@ -238,13 +240,13 @@ impl Front {
 
     /// One origin more, by the low six bits of its frames.
     #[inline(always)]
-    fn with_origin(self, high: u8, low: u8) -> Front
+    fn with_origin(self, high: u8, low: u8) -> Prefix
         requires high { high < 0o100 }
         requires low { low < 0o100 }
-        ensures { (items : List Item) (part : List ℕ) → Reads self items part
-            → Reads result (Origin high low ∷ items) [] }
+        ensures { (items : List Item) (part : List ℕ) → ReadsItems self items part
+            → ReadsItems result (Origin high low ∷ items) [] }
     {
-        Front {
+        Prefix {
             next: Cell::at(self.next.field(), pair(high, low)),
             sum: self
                 .sum
@@ -258,14 +260,14 @@ impl Front {
 
     /// One word more, by its two frames.
     #[inline(always)]
-    fn with_word(self, high: u8, low: u8) -> Front
+    fn with_word(self, high: u8, low: u8) -> Prefix
         requires high { high < 0o100 }
         requires low { low < 0o100 }
-        ensures { (items : List Item) (part : List ℕ) → Reads self items part → has_origin items ≡ true
-            → Reads result (item.Word high low ∷ items) [] }
+        ensures { (items : List Item) (part : List ℕ) → ReadsItems self items part → has_origin items ≡ true
+            → ReadsItems result (item.Word high low ∷ items) [] }
     {
         let word = pair(high, low);
-        Front {
+        Prefix {
             next: Cell::at(self.next.field(), self.next.address().plus(Word::ONE)),
             sum: self.sum.plus(Word::low(u16::from(high) + u16::from(low))),
             has_origin: self.has_origin,
@@ -284,8 +286,8 @@ impl Front {
 #[inline(always)]
 fn put_last(last: Option<LastWord>, words: &mut [Option<Word>])
     requires { IsTable words.old }
-    ensures { (items : List Item) → IsLast last items → Holds words.old (words_but_last items)
-        → Holds words.new (words_of items) }
+    ensures { (items : List Item) → IsLast last items → HoldsWords words.old (words_but_last items)
+        → HoldsWords words.new (words_of items) }
 {
     if let Some(last) = last {
         words[last.cell.index()] = Some(last.word);
