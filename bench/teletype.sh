@@ -40,9 +40,12 @@ tr '\n' '\r' <keys | cmp - echoed
 awk -v took="$took" 'BEGIN { printf "echo of 100 MB: %.2f s, %.1f MB a second\n", took, 100 / took }'
 
 python3 -c "
-for k in range(60000):
-    if k % 120 == 0: print(f'FIELD {k // 4096 % 8};*{k // 120 % 31:o}00' if k % 3840 == 0 else f'*{k // 120 % 31:o}00')
-    print(f'T{k},\tTAD .+1\t/ ' + 'A COMMENT OF THE USUAL LENGTH THAT SAYS WHAT THE LINE IS FOR, AND SO ON TO THE END OF IT')
+for field in range(8):
+    print(f'FIELD {field}')
+    for page in range(32):
+        print(f'*{128 * page:o}')
+        for k in range(120):
+            print(f'T{3840 * field + 120 * page + k},\tTAD .+1\t/ ' + 'A COMMENT OF THE USUAL LENGTH THAT SAYS WHAT THE LINE IS FOR, AND SO ON ' * 3)
 print('\$')" >large.pa
 assemble_only() { "$program" assemble large.pa --output large.bin; }
 assemble_and_list() { "$program" assemble large.pa --output large.bin --list large.ls --cross; }
