@@ -12,7 +12,7 @@ use Rattle.char_pack.specs.declared.forms.GetForm.{GetForm}
 use Rattle.char_pack.specs.declared.forms.GetForm.TheVariants.{Frames, Text, Tape}
 use Rattle.os8_dir.specs.Entries.{Listed}
 use Rattle.os8_dir.specs.Reading.{directory_of}
-use Rattle.os8_dir.specs.Files.{Held, files_of}
+use Rattle.os8_dir.specs.Files.{FileData, files_of}
 use Rattle.os8_dir.specs.declared.faults.DirFault.{DirFault}
 use Rattle.archive8.specs.Getting.{Gets, GetRefused, IsFile, IsNoFile, IsGiven, IsTapeOf}
 use Rattle.archive8.specs.declared.faults.ArchiveFault.{ArchiveFault}
@@ -83,7 +83,7 @@ tape_is_sound longer none file tape fault is has =
 
 -- an image has one file of a name
 pub one_file : WrittenIsReadBack → (image name words found : List ℕ) → IsFile image name words → IsFile image name found → found ≡ words
-one_file law image name words found a b = ap (λ (h : Held). h.1) (some_eq (b.info, found) (a.info, words) (sym b.there ∙ same ∙ a.there))
+one_file law image name words found a b = ap (λ (h : FileData). h.1) (some_eq (b.info, found) (a.info, words) (sym b.there ∙ same ∙ a.there))
   where
     number : b.number ≡ a.number
     number = some_eq b.number a.number (sym b.named ∙ a.named)

@@ -6,7 +6,7 @@ use Rattle.std.proofs.lemmas.List.{take_all}
 use Rattle.script8.specs.declared.faults.SessionFault.{SessionFault}
 use Rattle.script8.specs.declared.faults.SessionFault.TheVariants.{BadLine, NoJob, TooManyJobs, File, Asm, Tape, BadText, Reader, Writer, Memory, TooManyBreaks}
 use Rattle.os8_dir.specs.Names.{parsed_name}
-use Rattle.os8_dir.specs.Files.{Held, files_of}
+use Rattle.os8_dir.specs.Files.{FileData, files_of}
 use Rattle.volume_image.specs.Image.{IsImage}
 use Rattle.char_pack.specs.declared.forms.GetForm.{GetForm}
 use Rattle.os8_files.specs.Mounted.{Mounted}
@@ -25,18 +25,18 @@ some_eq : {X : Type 0} (x y : X) → Some x ≡ Some y → x ≡ y
 some_eq x y same = cc
 
 -- the words of a file with those of one block more
-pub words_more : (all old : List (List ℕ)) (name k : ℕ) (file other : Held) (items block : List ℕ) → old ≡ all → get (files_of old) name ≡ Some other
+pub words_more : (all old : List (List ℕ)) (name k : ℕ) (file other : FileData) (items block : List ℕ) → old ≡ all → get (files_of old) name ≡ Some other
     → block ≡ take 256 (drop (256 * k) other.1) → get (files_of all) name ≡ Some file → items ≡ take (256 * k) file.1 → items ++ block ≡ take (256 * (k + 1)) file.1
 words_more all old name k file other items block same had read there so_far =
     let one : other ≡ file = some_eq other file (sym had ∙ ap (λ (blocks : List (List ℕ)). get (files_of blocks) name) same ∙ there) in
-    ap (λ l. l ++ block) so_far ∙ block_more k file.1 block (read ∙ ap (λ (f : Held). take 256 (drop (256 * k) f.1)) one)
+    ap (λ l. l ++ block) so_far ∙ block_more k file.1 block (read ∙ ap (λ (f : FileData). take 256 (drop (256 * k) f.1)) one)
 
 -- all words of a file
 pub words_all : (words : List ℕ) (k blocks : ℕ) → blocks ≤ k → k ≤ blocks → 256 * blocks ≡ length words → take (256 * k) words ≡ words
 words_all words k blocks high low whole = take_all (256 * k) words (omega (arith, high, whole))
 
 -- a file that was found
-pub file_is : (image name : List ℕ) (m : Mounted) (number : ℕ) (words : List ℕ) (file : Held) → IsMounted image m → parsed_name name ≡ Some number
+pub file_is : (image name : List ℕ) (m : Mounted) (number : ℕ) (words : List ℕ) (file : FileData) → IsMounted image m → parsed_name name ≡ Some number
     → get (files_of m.blocks) number ≡ Some file → words ≡ file.1 → IsFile image name words
 file_is image name m number words file mounted named there is = record {
   blocks = m.blocks;

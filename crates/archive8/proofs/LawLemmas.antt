@@ -8,7 +8,7 @@ use Rattle.volume_image.specs.Image.{IsImageOf, WrittenIsReadBack}
 use Rattle.os8_dir.specs.Names.{parsed_name}
 use Rattle.os8_dir.specs.Entries.{Listed}
 use Rattle.os8_dir.specs.Reading.{directory_of}
-use Rattle.os8_dir.specs.Files.{Held, Files, files_of}
+use Rattle.os8_dir.specs.Files.{FileData, Files, files_of}
 use Rattle.os8_dir.specs.declared.faults.DirFault.{DirFault}
 use Rattle.os8_files.specs.Failed.{extent_or}
 use Rattle.os8_files.specs.Puts.{blocks_filled, plain_file}
@@ -29,16 +29,16 @@ one_volume law bytes one two is also = law bytes one (Ok (record { blocks = two;
 tied : (a b : ℕ) → eq_by_cmp nat_cmp b a ≡ eqb a b
 tied a b = grind (arith, nat_tests)
 
-get-with : (m : Files) (name : ℕ) (h : Held) (q : ℕ) → get (insert m name h) q ≡ cond (eqb name q) (Some h) (get m q)
+get-with : (m : Files) (name : ℕ) (h : FileData) (q : ℕ) → get (insert m name h) q ≡ cond (eqb name q) (Some h) (get m q)
 get-with m name h q = get-insert nat_cmp_total m name h q ∙ ap (λ b. cond b (Some h) (get m q)) (tied name q)
 
-get-here : (m : Files) (name : ℕ) (h : Held) → get (insert m name h) name ≡ Some h
+get-here : (m : Files) (name : ℕ) (h : FileData) → get (insert m name h) name ≡ Some h
 get-here m name h = elim (eqb_tells name name) [
   | inl p ↦ get-with m name h name ∙ ap (λ b. cond b (Some h) (get m name)) p.0
   | inr p ↦ absurd (p.1 refl)
 ]
 
-get-there : (m : Files) (name : ℕ) (h : Held) (q : ℕ) → name ≢ q → get (insert m name h) q ≡ get m q
+get-there : (m : Files) (name : ℕ) (h : FileData) (q : ℕ) → name ≢ q → get (insert m name h) q ≡ get m q
 get-there m name h q other = elim (eqb_tells name q) [
   | inl p ↦ absurd (other p.1)
   | inr p ↦ get-with m name h q ∙ ap (λ b. cond b (Some h) (get m q)) p.0

@@ -3,7 +3,7 @@ use Rattle.std.proofs.Common.{◌≡◌, ◌∙◌, ◌⊎◌, ℕ, ◌+◌, suc
 use Rattle.std.proofs.Math.Seq.{take-append-add, drop-append-add}
 use Rattle.bin_tape.specs.Items.{Item}
 use Rattle.bin_tape.specs.Tape.{IsTape}
-use Rattle.bin_tape.specs.Fault.{IsFault, Refuses}
+use Rattle.bin_tape.specs.Fault.{IsFault, RefusesFrame}
 use Rattle.bin_tape.specs.Reading.{IsGoing, IsWhole}
 use Rattle.bin_tape.specs.declared.faults.TapeFault.{TapeFault}
 use Rattle.bin_tape.specs.declared.faults.TapeFault.TheVariants.{BadFrame, NoOrigin, CheckSum, NoTrailer, Memory}
@@ -21,7 +21,7 @@ pub going_on : ((frames : List ℕ) (items : List Item) (fault : TapeFault) → 
 going_on no_fault frames more out going (inl whole) = absurd (going_none no_fault frames out going whole.items whole.is_tape)
 going_on no_fault frames more out going (inr on) = on
 
-pub refused_fault : (frames : List ℕ) (fault : TapeFault) → Refuses frames fault → IsFault frames fault
+pub refused_fault : (frames : List ℕ) (fault : TapeFault) → RefusesFrame frames fault → IsFault frames fault
 refused_fault frames (BadFrame at) is = is
 refused_fault frames NoOrigin is = is
 refused_fault frames (CheckSum found computed) is = is

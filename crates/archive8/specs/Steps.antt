@@ -11,7 +11,7 @@ use Rattle.bin_tape.specs.declared.faults.TapeFault.{TapeFault}
 use Rattle.volume_image.specs.Image.{IsImageOf}
 use Rattle.char_pack.specs.Packing.{frames}
 use Rattle.char_pack.specs.Texts.{is_storable}
-use Rattle.os8_dir.specs.Files.{Held, files_of}
+use Rattle.os8_dir.specs.Files.{FileData, files_of}
 use Rattle.os8_files.specs.Mounted.{Mounted}
 use Rattle.os8_files.specs.Service.{blocks_in}
 use Rattle.os8_files.specs.declared.faults.FileFault.{FileFault}
@@ -31,14 +31,14 @@ use Rattle.archive8.specs.Putting.{put_words, IsFit, IsUnfit, IsFull}
 
 -- a file of so many whole blocks is there
 pub record IsWhole (m : Mounted) (name blocks : ℕ) : Type 0 where
-  pub file : Held
+  pub file : FileData
   pub there : get (files_of m.blocks) name ≡ Some file
   pub count : blocks ≡ blocks_in file
   pub whole : 256 * blocks ≡ length file.1
 
 -- the words of a file are read, or a read failed
 abbrev pub ReadsWords : Mounted → ℕ → Result (Vec ℕ) FileFault → Mounted → Type 0
-ReadsWords old name (Ok words) new = (file : Held) × (get (files_of old.blocks) name ≡ Some file) × (words.items ≡ file.1)
+ReadsWords old name (Ok words) new = (file : FileData) × (get (files_of old.blocks) name ≡ Some file) × (words.items ≡ file.1)
 ReadsWords old name (Err file.NotFound) new = get (files_of old.blocks) name ≡ None
 ReadsWords old name (Err file.Device) new = new.failed_reads ≡ old.failed_reads + 1
 ReadsWords old name (Err file.Memory) new = Unit {0}
@@ -46,7 +46,7 @@ ReadsWords old name (Err fault) new = ⊥
 
 -- the same of a volume whose reads don't fail
 abbrev pub FindsWords : Mounted → ℕ → Result (Vec ℕ) SessionFault → Type 0
-FindsWords m name (Ok words) = (file : Held) × (get (files_of m.blocks) name ≡ Some file) × (words.items ≡ file.1)
+FindsWords m name (Ok words) = (file : FileData) × (get (files_of m.blocks) name ≡ Some file) × (words.items ≡ file.1)
 FindsWords m name (Err (File file.NotFound)) = get (files_of m.blocks) name ≡ None
 FindsWords m name (Err fault) = fault ≡ Memory
 

@@ -4,10 +4,10 @@ use Rattle.std.proofs.lemmas.Bool.Decides.{eqb_tells, nat_tests}
 use Rattle.std.proofs.lemmas.Grind.{get_or-set_at}
 use Rattle.std.proofs.lemmas.List.{get_or-replicate, take_all}
 use Rattle.std.proofs.Math.Seq.{take-append_seam}
-use Rattle.bin_tape.specs.Frames.{kept, ignore_count}
+use Rattle.bin_tape.specs.Frames.{heeded, ignore_count}
 use Rattle.bin_tape.specs.Items.{Item, Origin, Word, spelled, has_origin, words_of, words_but_last}
 use Rattle.bin_tape.specs.Tape.{IsTape}
-use Rattle.bin_tape.specs.Fault.{place_after, Refuses, IsFault}
+use Rattle.bin_tape.specs.Fault.{place_after, RefusesFrame, IsFault}
 use Rattle.bin_tape.specs.Prefix.{ReadsItems, KeepsFrames, IsLast}
 use Rattle.bin_tape.specs.Pairs.{last_word}
 use Rattle.bin_tape.specs.Progress.{Progress}
@@ -68,12 +68,12 @@ even_two before a b first second =
 not_odd : (n : ℕ) → n % 2 ≡ 0 → false ≡ nat_eq (n % 2) 1
 not_odd n even = rw even refl
 
-kept_two : (before : List ℕ) (a b : ℕ) → a ≢ 255 → b ≢ 255 → ignore_count before % 2 ≡ 0 → kept (before ++ a ∷ b ∷ []) ≡ kept before ++ a ∷ b ∷ []
+kept_two : (before : List ℕ) (a b : ℕ) → a ≢ 255 → b ≢ 255 → ignore_count before % 2 ≡ 0 → heeded (before ++ a ∷ b ∷ []) ≡ heeded before ++ a ∷ b ∷ []
 kept_two before a b first second even =
-    ap kept (sym (two_frames before a b))
+    ap heeded (sym (two_frames before a b))
     ∙ kept_more (before ++ a ∷ []) b second false (not_odd (ignore_count (before ++ a ∷ [])) (rw (ignore_none before a first) even))
     ∙ ap (λ l. l ++ b ∷ []) (kept_more before a first false (not_odd (ignore_count before) even))
-    ∙ two_frames (kept before) a b
+    ∙ two_frames (heeded before) a b
 
 pub word_more : (whole later : List ℕ) (high low : ℕ) (prefix next : Prefix) (words put : List (Option ℕ)) → high < 64 → low < 64
     → ((items : List Item) (part : List ℕ) → ReadsItems prefix items part → has_origin items ≡ true → ReadsItems next (Word high low ∷ items) [])
@@ -116,7 +116,7 @@ pub begins_run : (whole frames : List ℕ) (reader : Progress) (words : List (Op
     → reader.state ≡ Reading prefix → reader.ignoring ≡ false → prefix.first ≡ None → prefix.has_origin ≡ true
     → HasReadTo whole frames reader words → ReadsTo whole frames prefix words
 begins_run whole frames reader words prefix reading ignoring first origin r =
-    let keeps : KeepsFrames prefix (kept r.before) r.out = subst (λ (s : State). StateIs s r.before r.out) reading r.read.state in
+    let keeps : KeepsFrames prefix (heeded r.before) r.out = subst (λ (s : State). StateIs s r.before r.out) reading r.read.state in
     record {
       before = r.before;
       split = r.split;
@@ -173,9 +173,9 @@ map_of whole prefix later words out split held w = record {
 }
 
 pub map_refused : (whole before later : List ℕ) (frame : ℕ) (fault : TapeFault) → whole ≡ before ++ frame ∷ later
-    → Refuses (before ++ frame ∷ later) fault → IsMapFault whole fault
+    → RefusesFrame (before ++ frame ∷ later) fault → IsMapFault whole fault
 map_refused whole before later frame fault split refused =
-    inr (fault_of whole fault (subst (λ (l : List ℕ). Refuses l fault) (sym split) refused))
+    inr (fault_of whole fault (subst (λ (l : List ℕ). RefusesFrame l fault) (sym split) refused))
 
 -- what a slice of a whole vector leaves of it
 pub whole_written : (count : ℕ) (new old : List (Option ℕ)) → length new ≡ count → take count (new ++ drop (length new) old) ≡ new

@@ -1,11 +1,11 @@
 -- What is open can go on as a tape.
 use Rattle.std.proofs.Common.{◌≡◌, ℕ, ◌+◌, ◌-◌, ◌*◌, ◌/◌, ◌%◌, ◌<◌, ◌≤◌, ◌⊎◌, inl, inr, Bool, true, false, nat_eq, nat_lt, zero-add, append_assoc, append-nil, refl, ap, sym, ◌∙◌, arith, List, [], ◌∷◌, ◌++◌}
 use Rattle.std.proofs.lemmas.Bool.Decides.{nat_tests}
-use Rattle.bin_tape.specs.Frames.{kept, kept_after, ignore_count}
+use Rattle.bin_tape.specs.Frames.{heeded, heeded_after, ignore_count}
 use Rattle.bin_tape.specs.Items.{Item, Origin, Word, spelled, has_origin, IsPrefix, check_sum}
 use Rattle.bin_tape.specs.Tape.{IsPart, IsOpen, IsTape}
 use Rattle.bin_tape.specs.Laws.{GoesOn}
-use Rattle.bin_tape.proofs.FrameLemmas.{kept_after-append}
+use Rattle.bin_tape.proofs.FrameLemmas.{heeded_after-append}
 
 -- ## Frames behind what is open
 
@@ -19,7 +19,7 @@ abbrev woken : Bool → List ℕ → List ℕ
 woken true more = more
 woken false more = 255 ∷ more
 
-kept_others : (n : ℕ) (fs : List ℕ) → n % 2 ≡ 0 → AreOthers fs → kept_after n fs ≡ fs
+kept_others : (n : ℕ) (fs : List ℕ) → n % 2 ≡ 0 → AreOthers fs → heeded_after n fs ≡ fs
 kept_others n [] even others = refl
 kept_others n (f ∷ fs) even others =
     let other : nat_eq f 255 ≡ false = is_other f others.0 in
@@ -29,18 +29,18 @@ kept_others n (f ∷ fs) even others =
     is_other : (f : ℕ) → f < 255 → nat_eq f 255 ≡ false
     is_other f small = grind (arith, nat_tests)
 
-kept_woken : (n : ℕ) (even : Bool) (fs : List ℕ) → nat_eq (n % 2) 0 ≡ even → AreOthers fs → kept_after n (woken even fs) ≡ fs
+kept_woken : (n : ℕ) (even : Bool) (fs : List ℕ) → nat_eq (n % 2) 0 ≡ even → AreOthers fs → heeded_after n (woken even fs) ≡ fs
 kept_woken n true fs e others = kept_others n fs (grind (arith, nat_tests)) others
 kept_woken n false fs e others = kept_others (n + 1) fs (odd n e) others
   where
     odd : (n : ℕ) → nat_eq (n % 2) 0 ≡ false → (n + 1) % 2 ≡ 0
     odd n e = grind (arith, nat_tests)
 
-kept_behind : (frames fs : List ℕ) → AreOthers fs → kept (frames ++ woken (nat_eq (ignore_count frames % 2) 0) fs) ≡ kept frames ++ fs
+kept_behind : (frames fs : List ℕ) → AreOthers fs → heeded (frames ++ woken (nat_eq (ignore_count frames % 2) 0) fs) ≡ heeded frames ++ fs
 kept_behind frames fs others =
-    kept_after-append 0 frames (woken (nat_eq (ignore_count frames % 2) 0) fs)
-    ∙ ap (λ n. kept frames ++ kept_after n (woken (nat_eq (ignore_count frames % 2) 0) fs)) (zero-add (ignore_count frames))
-    ∙ ap (λ l. kept frames ++ l) (kept_woken (ignore_count frames) (nat_eq (ignore_count frames % 2) 0) fs refl others)
+    heeded_after-append 0 frames (woken (nat_eq (ignore_count frames % 2) 0) fs)
+    ∙ ap (λ n. heeded frames ++ heeded_after n (woken (nat_eq (ignore_count frames % 2) 0) fs)) (zero-add (ignore_count frames))
+    ∙ ap (λ l. heeded frames ++ l) (kept_woken (ignore_count frames) (nat_eq (ignore_count frames % 2) 0) fs refl others)
 
 -- ## The rest of a pair
 
@@ -128,7 +128,7 @@ spelled_ending : (items : List Item) (high low : ℕ)
 spelled_ending items high low =
     append_assoc (spelled items ++ 64 ∷ 0 ∷ []) (high ∷ low ∷ []) (128 ∷ []) ∙ append_assoc (spelled items) (64 ∷ 0 ∷ []) (high ∷ low ∷ 128 ∷ [])
 
-tape_of : (frames : List ℕ) (items : List Item) (part : List ℕ) → kept frames ≡ spelled items ++ part → (w : Whole items part)
+tape_of : (frames : List ℕ) (items : List Item) (part : List ℕ) → heeded frames ≡ spelled items ++ part → (w : Whole items part)
     → IsTape (frames ++ woken (nat_eq (ignore_count frames % 2) 0) (w.end ++ ending (w.later ++ items))) (Origin 0 0 ∷ (w.later ++ items))
 tape_of frames items part is w =
     let all = w.later ++ items in
@@ -147,7 +147,7 @@ tape_of frames items part is w =
       sum = joined sum;
     }
 
-pub goes_on : (frames : List ℕ) (items : List Item) (part : List ℕ) → IsOpen (kept frames) items part → GoesOn frames items
+pub goes_on : (frames : List ℕ) (items : List Item) (part : List ℕ) → IsOpen (heeded frames) items part → GoesOn frames items
 goes_on frames items part opened =
     let w = whole items part opened.is_prefix opened.begun in
     record {

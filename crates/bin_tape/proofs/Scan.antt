@@ -1,10 +1,10 @@
 -- Reading frames from the first to the last, as a function: so a reading, and a fault, is one only.
 use Rattle.std.proofs.Common.{◌≡◌, ◌≢◌, ℕ, suc, ◌+◌, ◌-◌, ◌*◌, ◌/◌, ◌%◌, ◌<◌, ◌≤◌, ◌⊎◌, inl, inr, Bool, true, false, nat_eq, nat_lt, if◌then◌else◌, min, ◌∙◌, ap, refl, sym, subst, arith, length, eq-eqb, List, [], ◌∷◌, ◌++◌}
 use Rattle.std.proofs.lemmas.Bool.Decides.{nat_tests}
-use Rattle.bin_tape.specs.Frames.{kept, kept_after, ignore_count}
+use Rattle.bin_tape.specs.Frames.{heeded, heeded_after, ignore_count}
 use Rattle.bin_tape.specs.Items.{Item, Leader, Field, Origin, Word, spelled, frames_of, has_origin, ends_in_word, IsPrefix, check_sum, words_of, words_but_last}
 use Rattle.bin_tape.specs.Tape.{IsOpen, IsTape}
-use Rattle.bin_tape.specs.Fault.{IsRefused, IsOutOfPlace, IsWrongSum, Refuses, IsFault}
+use Rattle.bin_tape.specs.Fault.{IsRefused, IsOutOfPlace, IsWrongSum, RefusesFrame, IsFault}
 use Rattle.bin_tape.specs.Laws.{IsClosed}
 use Rattle.bin_tape.specs.Progress.{Progress}
 use Rattle.bin_tape.specs.Reading.{HasRead, StateIs}
@@ -14,7 +14,7 @@ use Rattle.bin_tape.specs.declared.faults.TapeFault.{TapeFault}
 use Rattle.bin_tape.specs.declared.faults.TapeFault.TheVariants.{BadFrame, NoOrigin, CheckSum, NoTrailer, Memory}
 use Rattle.bin_tape.proofs.FrameLemmas.{other_false}
 
--- what a kept frame comes to
+-- what a heeded frame comes to
 pub data Verdict : Type 0 where
   Goes : List Item → List ℕ → Verdict
   Ends : List Item → Verdict
@@ -57,13 +57,13 @@ outcome place OutOfPlace = Fault (BadFrame (min place 18446744073709551615))
 outcome place Early = Fault NoOrigin
 outcome place (WrongSum found computed) = Fault (CheckSum found computed)
 
--- a kept frame at a place
+-- a heeded frame at a place
 abbrev pub step : ℕ → Outcome → ℕ → Outcome
 step place (Open items part) f = outcome place (verdict items part f)
 step place (Tape items) f = Tape items
 step place (Fault fault) f = Fault fault
 
--- kept frames
+-- heeded frames
 pub run : Outcome → List ℕ → Outcome
 run o [] = o
 run o (f ∷ fs) = run (step 0 o f) fs
@@ -154,21 +154,21 @@ run_not_fault (Open items part) xs h = refl
 run_not_fault (Tape items) xs h = refl
 run_not_fault (Fault fault) xs h = let e : run (Fault fault) xs ≡ Fault fault = run-fault fault xs in sym (ap is_fault e) ∙ h
 
-scan_run : (place n : ℕ) (o : Outcome) (xs : List ℕ) → is_fault (run o (kept_after n xs)) ≡ false → scan place n o xs ≡ run o (kept_after n xs)
+scan_run : (place n : ℕ) (o : Outcome) (xs : List ℕ) → is_fault (run o (heeded_after n xs)) ≡ false → scan place n o xs ≡ run o (heeded_after n xs)
 unfolding scan run
 scan_run place n o [] h = refl
 scan_run place n o (x ∷ xs) h =
     (elim (nat_eq x 255) as (λ b.
-    is_fault (run o (if b then kept_after (n + 1) xs else (if nat_eq (n % 2) 0 then x ∷ kept_after n xs else kept_after n xs))) ≡ false
+    is_fault (run o (if b then heeded_after (n + 1) xs else (if nat_eq (n % 2) 0 then x ∷ heeded_after n xs else heeded_after n xs))) ≡ false
     → (if b then scan (suc place) (n + 1) o xs
     else (if nat_eq (n % 2) 0 then scan (suc place) n (step place o x) xs else scan (suc place) n o xs))
-    ≡ run o (if b then kept_after (n + 1) xs else (if nat_eq (n % 2) 0 then x ∷ kept_after n xs else kept_after n xs))) [
+    ≡ run o (if b then heeded_after (n + 1) xs else (if nat_eq (n % 2) 0 then x ∷ heeded_after n xs else heeded_after n xs))) [
       | true ↦ λ fine. scan_run (suc place) (n + 1) o xs fine
       | false ↦ elim (nat_eq (n % 2) 0) as (λ b.
-          is_fault (run o (if b then x ∷ kept_after n xs else kept_after n xs)) ≡ false
-          → (if b then scan (suc place) n (step place o x) xs else scan (suc place) n o xs) ≡ run o (if b then x ∷ kept_after n xs else kept_after n xs)) [
+          is_fault (run o (if b then x ∷ heeded_after n xs else heeded_after n xs)) ≡ false
+          → (if b then scan (suc place) n (step place o x) xs else scan (suc place) n o xs) ≡ run o (if b then x ∷ heeded_after n xs else heeded_after n xs)) [
             | true ↦ λ fine.
-                ap (λ s. scan (suc place) n s xs) (step_same place o x (run_not_fault (step 0 o x) (kept_after n xs) fine))
+                ap (λ s. scan (suc place) n s xs) (step_same place o x (run_not_fault (step 0 o x) (heeded_after n xs) fine))
                 ∙ scan_run (suc place) n (step 0 o x) xs fine
             | false ↦ λ fine. scan_run (suc place) n o xs fine
           ]
@@ -232,7 +232,7 @@ open_goes kept_frames items (p ∷ []) o =
     ∙ ap (outcome 0) (first_goes items p o.begun.0 o.begun.1)
 open_goes kept_frames items (p ∷ q ∷ rest) o = absurd o.begun
 
-tape_goes : (frames : List ℕ) (items : List Item) → IsTape frames items → run start (kept frames) ≡ Tape items
+tape_goes : (frames : List ℕ) (items : List Item) → IsTape frames items → run start (heeded frames) ≡ Tape items
 unfolding run
 tape_goes frames items t =
     ap (run start) t.kept_frames
@@ -287,22 +287,22 @@ refused_goes items part f place Memory prefix h = absurd h
 
 -- ## Frames come to one thing only
 
-scan_open : (frames : List ℕ) (items : List Item) (part : List ℕ) → IsOpen (kept frames) items part → scan 0 0 start frames ≡ Open items part
+scan_open : (frames : List ℕ) (items : List Item) (part : List ℕ) → IsOpen (heeded frames) items part → scan 0 0 start frames ≡ Open items part
 scan_open frames items part o =
-    let here : run start (kept frames) ≡ Open items part = open_goes (kept frames) items part o
+    let here : run start (heeded frames) ≡ Open items part = open_goes (heeded frames) items part o
     in scan_run 0 0 start frames (ap is_fault here) ∙ here
 
 scan_tape : (frames : List ℕ) (items : List Item) → IsTape frames items → scan 0 0 start frames ≡ Tape items
 scan_tape frames items t =
-    let here : run start (kept frames) ≡ Tape items = tape_goes frames items t
+    let here : run start (heeded frames) ≡ Tape items = tape_goes frames items t
     in scan_run 0 0 start frames (ap is_fault here) ∙ here
 
--- a kept frame, with frames before it that are open, and others behind it
+-- a heeded frame, with frames before it that are open, and others behind it
 scan_kept : (place n : ℕ) (o : Outcome) (f : ℕ) (rest : List ℕ) → f ≢ 255 → n % 2 ≡ 0 → scan place n o (f ∷ rest) ≡ scan (suc place) n (step place o f) rest
 unfolding scan
 scan_kept place n o f rest other even = rw (other_false f 255 other, eq-eqb (n % 2) 0 even) refl
 
-scan_closed : (frames rest : List ℕ) (fault : TapeFault) (r : Refuses frames fault) → scan 0 0 start (r.before ++ r.frame ∷ rest) ≡ Fault fault
+scan_closed : (frames rest : List ℕ) (fault : TapeFault) (r : RefusesFrame frames fault) → scan 0 0 start (r.before ++ r.frame ∷ rest) ≡ Fault fault
 scan_closed frames rest fault r =
     scan-append 0 0 start r.before (r.frame ∷ rest)
     ∙ same_at (0 + length r.before) (length r.before) (0 + ignore_count r.before) (ignore_count r.before) _ (r.frame ∷ rest) (omega arith) (omega arith)
@@ -312,7 +312,7 @@ scan_closed frames rest fault r =
     (refused_goes r.items r.part r.frame (length r.before) fault r.is_open.is_prefix r.refused)
     ∙ scan-fault (suc (length r.before)) (ignore_count r.before) fault rest
 
-scan_refused : (frames : List ℕ) (fault : TapeFault) → Refuses frames fault → scan 0 0 start frames ≡ Fault fault
+scan_refused : (frames : List ℕ) (fault : TapeFault) → RefusesFrame frames fault → scan 0 0 start frames ≡ Fault fault
 scan_refused frames fault r = ap (scan 0 0 start) r.split ∙ scan_closed frames r.after fault r
 
 -- the fault that an outcome tells, where it is no tape
@@ -365,7 +365,7 @@ whole_words reader frames out items read t =
     ]
 
 pub open_words : (reader : Progress) (frames : List ℕ) (out : List (ℕ × ℕ)) (items : List Item) (part : List ℕ)
-    → HasRead reader frames out → IsOpen (kept frames) items part → out ≡ words_but_last items
+    → HasRead reader frames out → IsOpen (heeded frames) items part → out ≡ words_but_last items
 open_words reader frames out items part read o =
     let here : scan 0 0 start frames ≡ Open items part = scan_open frames items part o in
     elim (words_told reader.state frames out read.state) [
@@ -376,7 +376,7 @@ open_words reader frames out items part read o =
       ]
     ]
 
-pub closed_for_good : (frames rest : List ℕ) (fault : TapeFault) (r : Refuses frames fault) → IsClosed (r.before ++ r.frame ∷ rest)
+pub closed_for_good : (frames rest : List ℕ) (fault : TapeFault) (r : RefusesFrame frames fault) → IsClosed (r.before ++ r.frame ∷ rest)
 closed_for_good frames rest fault r = record {
   not_tape = λ items t. no_tape (scan_closed frames rest fault r) (scan_tape (r.before ++ r.frame ∷ rest) items t);
   not_open = λ items part o. no_open (scan_closed frames rest fault r) (scan_open (r.before ++ r.frame ∷ rest) items part o);

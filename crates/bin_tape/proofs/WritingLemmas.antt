@@ -3,7 +3,7 @@ use Rattle.std.proofs.Common.{◌≡◌, ◌≢◌, ℕ, ◌+◌, ◌*◌, ◌/�
 use Rattle.std.proofs.lemmas.List.{take_more, reverse-append, reverse-reverse, length-reverse}
 use Rattle.std.proofs.lemmas.Bool.Decides.{nat_tests, eqb_tells}
 use Rattle.std.specs.Option.{option_or}
-use Rattle.bin_tape.specs.Frames.{kept}
+use Rattle.bin_tape.specs.Frames.{heeded}
 use Rattle.bin_tape.specs.Items.{Item, Leader, Field, Origin, Word, spelled, frames_of, has_origin, IsPrefix, field_after, address_after, cell_after, check_sum, words_of, tape_map}
 use Rattle.bin_tape.specs.Tape.{IsTape}
 use Rattle.bin_tape.specs.Pairs.{ArePairs, last_word, IsTapeOf}
@@ -145,12 +145,12 @@ prefix_items (pair ∷ older) all = (
       (pair.0 % 4096 / 64) (pair.0 % 4096 % 64) (items_of older) (omega (arith, all.0)) (omega arith) (omega arith) (prefix_items older all.2),
 )
 
--- ## Frames that are kept
+-- ## Frames that are heeded
 
-kept_here : (frame : ℕ) (frames : List ℕ) → frame ≢ 255 → kept (frame ∷ frames) ≡ frame ∷ kept frames
+kept_here : (frame : ℕ) (frames : List ℕ) → frame ≢ 255 → heeded (frame ∷ frames) ≡ frame ∷ heeded frames
 kept_here frame frames other = rw (other_false frame 255 other) refl
 
-kept_item : (item : Item) (older : List Item) (frames : List ℕ) → IsPrefix (item ∷ older) → kept (frames_of item ++ frames) ≡ frames_of item ++ kept frames
+kept_item : (item : Item) (older : List Item) (frames : List ℕ) → IsPrefix (item ∷ older) → heeded (frames_of item ++ frames) ≡ frames_of item ++ heeded frames
 kept_item (Leader f) older frames h =
     kept_here f frames (λ is. elim h.0 [ inl e ↦ omega (arith, e, is) | inr e ↦ omega (arith, e, is) ])
 kept_item (Field n) older frames h = kept_here (192 + 8 * n) frames (λ is. omega (arith, h.0, is))
@@ -166,10 +166,10 @@ older_prefix (Origin high low) older h = h.2
 older_prefix (Word high low) older h = h.3
 
 -- no frame of a prefix is ignored
-kept_prefix : (items : List Item) (frames : List ℕ) → IsPrefix items → kept (spelled items ++ frames) ≡ spelled items ++ kept frames
+kept_prefix : (items : List Item) (frames : List ℕ) → IsPrefix items → heeded (spelled items ++ frames) ≡ spelled items ++ heeded frames
 kept_prefix [] frames h = refl
 kept_prefix (item ∷ older) frames h =
-    ap kept (append_assoc (spelled older) (frames_of item) frames)
+    ap heeded (append_assoc (spelled older) (frames_of item) frames)
     ∙ kept_prefix older (frames_of item ++ frames) (older_prefix item older h)
     ∙ ap (λ l. spelled older ++ l) (kept_item item older frames h)
     ∙ simp append_assoc
@@ -181,9 +181,9 @@ tape_is : (items : List Item) (rest : List ℕ) → IsPrefix items → has_origi
 tape_is items rest prefix begun = record {
   high = check_sum items / 64;
   low = check_sum items % 64;
-  rest = kept (replicate 15 128 ++ rest);
+  rest = heeded (replicate 15 128 ++ rest);
   kept_frames =
-      ap kept (append_assoc (spelled (word_item (check_sum items) ∷ items)) (replicate 16 128) rest)
+      ap heeded (append_assoc (spelled (word_item (check_sum items) ∷ items)) (replicate 16 128) rest)
       ∙ kept_prefix (word_item (check_sum items) ∷ items) (replicate 16 128 ++ rest) whole;
   is_prefix = whole;
   sum = two_parts (check_sum items);

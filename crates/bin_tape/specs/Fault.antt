@@ -1,6 +1,6 @@
 -- The one fault of frames that are no BIN tape.
 use Rattle.std.specs.Prelude.{◌≡◌, ◌≢◌, ℕ, ◌+◌, ◌*◌, ◌%◌, ◌<◌, ◌≤◌, ◌⊎◌, true, false, min, length, List, [], ◌∷◌, ◌++◌}
-use Rattle.bin_tape.specs.Frames.{kept, ignore_count}
+use Rattle.bin_tape.specs.Frames.{heeded, ignore_count}
 use Rattle.bin_tape.specs.Items.{Item, Leader, Field, Origin, Word, has_origin, ends_in_word, check_sum}
 use Rattle.bin_tape.specs.Tape.{IsOpen}
 use Rattle.bin_tape.specs.declared.faults.TapeFault.{TapeFault}
@@ -34,8 +34,8 @@ IsRefused items part frame place Memory = ⊥
 abbrev pub place_after : List ℕ → ℕ
 place_after frames = min (length frames) 18446744073709551615
 
--- Among the frames one is refused: what is kept before it is open, and it closes that.
-pub record Refuses (frames : List ℕ) (fault : TapeFault) : Type 0 where
+-- Among the frames one is refused: what is heeded before it is open, and it closes that.
+pub record RefusesFrame (frames : List ℕ) (fault : TapeFault) : Type 0 where
   pub before : List ℕ
   pub frame : ℕ
   pub after : List ℕ
@@ -44,13 +44,13 @@ pub record Refuses (frames : List ℕ) (fault : TapeFault) : Type 0 where
   pub split : frames ≡ before ++ frame ∷ after
   pub not_ignore : frame ≢ 0o377
   pub not_ignored : ignore_count before % 2 ≡ 0
-  pub is_open : IsOpen (kept before) items part
+  pub is_open : IsOpen (heeded before) items part
   pub refused : IsRefused items part frame (place_after before) fault
 
 -- The fault of frames that are no tape: that of the frame which closes what was open, or that nothing did.
 abbrev pub IsFault : List ℕ → TapeFault → Type 0
-IsFault frames NoTrailer = (items : List Item) × (part : List ℕ) × IsOpen (kept frames) items part
-IsFault frames (BadFrame at) = Refuses frames (BadFrame at)
-IsFault frames NoOrigin = Refuses frames NoOrigin
-IsFault frames (CheckSum found computed) = Refuses frames (CheckSum found computed)
+IsFault frames NoTrailer = (items : List Item) × (part : List ℕ) × IsOpen (heeded frames) items part
+IsFault frames (BadFrame at) = RefusesFrame frames (BadFrame at)
+IsFault frames NoOrigin = RefusesFrame frames NoOrigin
+IsFault frames (CheckSum found computed) = RefusesFrame frames (CheckSum found computed)
 IsFault frames Memory = ⊥

@@ -6,14 +6,14 @@ abbrev pub ignore_count : List ℕ → ℕ
 ignore_count [] = 0
 ignore_count (f ∷ fs) = (if nat_eq f 0o377 then 1 else 0) + ignore_count fs
 
--- The kept frames among those that come after so many frames 0377: a frame is kept if it isn't 0377 itself and an
+-- The heeded frames among those that come after so many frames 0377: a frame is heeded if it isn't 0377 itself and an
 -- even number of 0377 stand before it.
-abbrev pub kept_after : ℕ → List ℕ → List ℕ
-kept_after n [] = []
-kept_after n (f ∷ fs) =
-    if nat_eq f 0o377 then kept_after (n + 1) fs
-    else (if nat_eq (n % 2) 0 then f ∷ kept_after n fs else kept_after n fs)
+abbrev pub heeded_after : ℕ → List ℕ → List ℕ
+heeded_after n [] = []
+heeded_after n (f ∷ fs) =
+    if nat_eq f 0o377 then heeded_after (n + 1) fs
+    else (if nat_eq (n % 2) 0 then f ∷ heeded_after n fs else heeded_after n fs)
 
 -- the frames of a tape that aren't ignored
-abbrev pub kept : List ℕ → List ℕ
-kept frames = kept_after 0 frames
+abbrev pub heeded : List ℕ → List ℕ
+heeded frames = heeded_after 0 frames

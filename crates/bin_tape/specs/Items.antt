@@ -1,4 +1,4 @@
--- What the kept frames of a BIN tape say, item by item.
+-- What the heeded frames of a BIN tape say, item by item.
 use Rattle.std.specs.Prelude.{◌≡◌, ℕ, ◌+◌, ◌*◌, ◌%◌, ◌<◌, ◌⊎◌, nat_eq, if◌then◌else◌, Bool, true, false, Option, Some, None, List, [], ◌∷◌, ◌++◌}
 
 -- A leader frame, a field setting, an origin or a word, the last two by the low six bits of their two frames.

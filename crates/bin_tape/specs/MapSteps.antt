@@ -1,6 +1,6 @@
 -- What reading a tape into a map comes to on the way, for private clauses.
 use Rattle.std.specs.Prelude.{◌≡◌, ℕ, ◌<◌, ◌%◌, slice_index_or, true, Option, None, List, [], ◌++◌}
-use Rattle.bin_tape.specs.Frames.{kept, ignore_count}
+use Rattle.bin_tape.specs.Frames.{heeded, ignore_count}
 use Rattle.bin_tape.specs.Items.{Item, spelled, has_origin, words_but_last}
 use Rattle.bin_tape.specs.Prefix.{ReadsItems}
 use Rattle.bin_tape.specs.Pairs.{last_word}
@@ -31,5 +31,5 @@ pub record ReadsTo (frames rest : List ℕ) (prefix : Prefix) (words : List (Opt
   pub items : List Item
   pub reads : ReadsItems prefix items []
   pub origin : has_origin items ≡ true
-  pub kept_is : kept before ≡ spelled items
+  pub kept_is : heeded before ≡ spelled items
   pub holds : HoldsWords words (words_but_last items)

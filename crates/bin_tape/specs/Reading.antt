@@ -1,9 +1,9 @@
 -- What a reader was given and has handed out, and what it answers to one more frame.
 use Rattle.std.specs.Prelude.{◌≡◌, ℕ, ◌%◌, nat_eq, Bool, Result, Ok, Err, option_to_list, List, [], ◌∷◌, ◌++◌, ◌⊎◌}
-use Rattle.bin_tape.specs.Frames.{kept, ignore_count}
+use Rattle.bin_tape.specs.Frames.{heeded, ignore_count}
 use Rattle.bin_tape.specs.Items.{Item, words_of, words_but_last}
 use Rattle.bin_tape.specs.Tape.{IsOpen, IsTape}
-use Rattle.bin_tape.specs.Fault.{Refuses, place_after}
+use Rattle.bin_tape.specs.Fault.{RefusesFrame, place_after}
 use Rattle.bin_tape.specs.Prefix.{KeepsFrames}
 use Rattle.bin_tape.specs.Progress.{Progress}
 use Rattle.bin_tape.specs.Handed.{word_in}
@@ -17,7 +17,7 @@ use Rattle.bin_tape.specs.declared.readers.Tape.TheVariants.{Nothing, Word, End}
 pub record IsGoing (frames : List ℕ) (out : List (ℕ × ℕ)) : Type 0 where
   pub items : List Item
   pub part : List ℕ
-  pub is_open : IsOpen (kept frames) items part
+  pub is_open : IsOpen (heeded frames) items part
   pub words : out ≡ words_but_last items
 
 -- the frames are a tape, and its words were handed out
@@ -32,9 +32,9 @@ pub record Counts (place : ℕ) (ignoring : Bool) (frames : List ℕ) : Type 0 w
   pub ignoring_is : ignoring ≡ nat_eq (ignore_count frames % 2) 1
 
 abbrev pub StateIs : State → List ℕ → List (ℕ × ℕ) → Type 0
-StateIs (Reading prefix) frames out = KeepsFrames prefix (kept frames) out
+StateIs (Reading prefix) frames out = KeepsFrames prefix (heeded frames) out
 StateIs Ended frames out = IsWhole frames out
-StateIs (Failed fault) frames out = Refuses frames fault
+StateIs (Failed fault) frames out = RefusesFrame frames fault
 
 -- The reader was given these frames, and has handed out these words.
 pub record HasRead (reader : Progress) (frames : List ℕ) (out : List (ℕ × ℕ)) : Type 0 where
@@ -52,4 +52,4 @@ abbrev pub Answers : List ℕ → List (ℕ × ℕ) → ℕ → Result Tape Tape
 Answers frames out frame (Ok Nothing) = IsWhole frames out ⊎ IsGoing (frames ++ frame ∷ []) out
 Answers frames out frame (Ok (Word cell word)) = IsGoing (frames ++ frame ∷ []) (out ++ (cell, word) ∷ [])
 Answers frames out frame (Ok End) = IsGoing frames out × IsWhole (frames ++ frame ∷ []) out
-Answers frames out frame (Err fault) = (rest : List ℕ) → Refuses (frames ++ frame ∷ rest) fault
+Answers frames out frame (Err fault) = (rest : List ℕ) → RefusesFrame (frames ++ frame ∷ rest) fault

@@ -1,6 +1,6 @@
 -- When frames are a BIN tape.
 use Rattle.std.specs.Prelude.{◌≡◌, ℕ, ◌+◌, ◌*◌, ◌<◌, ◌≤◌, ◌⊎◌, true, List, [], ◌∷◌, ◌++◌}
-use Rattle.bin_tape.specs.Frames.{kept}
+use Rattle.bin_tape.specs.Frames.{heeded}
 use Rattle.bin_tape.specs.Items.{Item, Word, spelled, has_origin, IsPrefix, check_sum}
 
 -- nothing, or the first frame of an origin or, behind an origin, of a word
@@ -9,7 +9,7 @@ IsPart items [] = Unit {0}
 IsPart items (p ∷ []) = (p < 0o200) × ((0o100 ≤ p) ⊎ (has_origin items ≡ true))
 IsPart items (p ∷ q ∷ rest) = ⊥
 
--- The kept frames may go on as a tape: they are these items, and perhaps the first frame of one more.
+-- The heeded frames may go on as a tape: they are these items, and perhaps the first frame of one more.
 pub record IsOpen (kept_frames : List ℕ) (items : List Item) (part : List ℕ) : Type 0 where
   pub frames : kept_frames ≡ spelled items ++ part
   pub is_prefix : IsPrefix items
@@ -20,6 +20,6 @@ pub record IsTape (frames : List ℕ) (items : List Item) : Type 0 where
   pub high : ℕ
   pub low : ℕ
   pub rest : List ℕ
-  pub kept_frames : kept frames ≡ spelled (Word high low ∷ items) ++ 0o200 ∷ rest
+  pub kept_frames : heeded frames ≡ spelled (Word high low ∷ items) ++ 0o200 ∷ rest
   pub is_prefix : IsPrefix (Word high low ∷ items)
   pub sum : 0o100 * high + low ≡ check_sum items

@@ -1,10 +1,10 @@
 //! Laws of BIN tapes: a tape has one reading, what is no tape has one fault, and what is written is a tape of its words.
 
 ghost use Rattle.std.specs.Prelude.{◌≡◌, ℕ, ◌<◌, length, List, ◌∷◌, ◌++◌};
-ghost use Rattle.bin_tape.specs.Frames.{kept};
+ghost use Rattle.bin_tape.specs.Frames.{heeded};
 ghost use Rattle.bin_tape.specs.Items.{Item, words_of, words_but_last};
 ghost use Rattle.bin_tape.specs.Tape.{IsTape, IsOpen};
-ghost use Rattle.bin_tape.specs.Fault.{IsFault, Refuses};
+ghost use Rattle.bin_tape.specs.Fault.{IsFault, RefusesFrame};
 ghost use Rattle.bin_tape.specs.Laws.{IsClosed, GoesOn};
 ghost use Rattle.bin_tape.specs.Progress.{Progress};
 ghost use Rattle.bin_tape.specs.Reading.{HasRead};
@@ -37,13 +37,13 @@ pub fn one_fault()
 /// The frame that is refused is the first that closes what was open: whatever follows it, the frames are no tape and
 /// can't become one.
 pub fn first_closing()
-    ensures { (frames rest : List ℕ) (fault : TapeFault) (refused : Refuses frames fault)
+    ensures { (frames rest : List ℕ) (fault : TapeFault) (refused : RefusesFrame frames fault)
         → IsClosed (refused.before ++ refused.frame ∷ rest) }
 {}
 
 /// What is open can go on as a tape: some further frames make it one, and leave its items.
 pub fn open_goes_on()
-    ensures { (frames : List ℕ) (items : List Item) (part : List ℕ) → IsOpen (kept frames) items part
+    ensures { (frames : List ℕ) (items : List Item) (part : List ℕ) → IsOpen (heeded frames) items part
         → GoesOn frames items }
 {}
 
@@ -54,7 +54,7 @@ pub fn handed_words()
         → HasRead reader frames out → IsTape frames items → out ≡ words_of items }
     ensures of_prefix { (reader : Progress) (frames : List ℕ) (out : List (ℕ × ℕ)) (items : List Item)
         (part : List ℕ)
-        → HasRead reader frames out → IsOpen (kept frames) items part → out ≡ words_but_last items }
+        → HasRead reader frames out → IsOpen (heeded frames) items part → out ≡ words_but_last items }
 {}
 
 /// What is written for words with their cells is a tape of these words, whatever frames follow it; each cell has the

@@ -12,7 +12,7 @@ ghost use Rattle.bin_tape.specs.Items.{words_of, words_but_last};
 use crate::TapeFault;
 use word12::{Cell, Word};
 
-/// What a reader keeps of the kept frames so far.
+/// What a reader keeps of the heeded frames so far.
 #[derive(Clone, Copy)]
 pub struct Prefix {
     /// The cell of a word that comes next.
@@ -36,7 +36,7 @@ pub struct LastWord {
     sum: Word,
 }
 
-/// What a kept frame comes to.
+/// What a heeded frame comes to.
 pub enum Taken {
     More(Prefix),
     /// The same, and the word before the newest one is no check sum.
@@ -59,7 +59,7 @@ impl Prefix {
         }
     }
 
-    /// Takes a kept frame, which stands at this place.
+    /// Takes a heeded frame, which stands at this place.
     pub fn take(self, frame: u8, place: u64) -> Result<Taken, TapeFault>
         requires { frame ≢ 0o377 }
         ensures { (items : List Item) (part : List ℕ) → ReadsItems self items part

@@ -1,6 +1,6 @@
 ghost use Rattle.std.specs.Prelude.{◌≡◌, ℕ, ◌%◌, ◌≤◌, length, List, [], ◌∷◌, ◌++◌, nat_eq, if◌then◌else◌, ◌≢◌, MatchResult};
 ghost use Rattle.std.specs.Bool.{OnTrue};
-ghost use Rattle.bin_tape.specs.Frames.{kept, ignore_count};
+ghost use Rattle.bin_tape.specs.Frames.{heeded, ignore_count};
 ghost use Rattle.bin_tape.specs.Items.{Item};
 ghost use Rattle.bin_tape.specs.Fault.{IsFault};
 ghost use Rattle.bin_tape.specs.Prefix.{ReadsItems};
@@ -157,12 +157,12 @@ impl TapeReader {
         }
     }
 
-    /// Counts a frame, and answers whether it is kept.
+    /// Counts a frame, and answers whether it is heeded.
     fn count(&mut self, frame: u8) -> bool
         ensures counts { (frames : List ℕ) → Counts self.old.place self.old.ignoring frames
             → Counts self.new.place self.new.ignoring (frames ++ frame ∷ []) }
         ensures kept { (frames : List ℕ) → Counts self.old.place self.old.ignoring frames
-            → kept (frames ++ frame ∷ []) ≡ kept frames ++ (if result then frame ∷ [] else []) }
+            → heeded (frames ++ frame ∷ []) ≡ heeded frames ++ (if result then frame ∷ [] else []) }
         ensures is_kept { OnTrue result ((frame ≢ 0o377) × ((frames : List ℕ)
             → Counts self.old.place self.old.ignoring frames → ignore_count frames % 2 ≡ 0)) }
         ensures same { self.new.state ≡ self.old.state }
@@ -175,7 +175,7 @@ impl TapeReader {
         !self.ignoring
     }
 
-    /// Takes a kept frame behind a prefix.
+    /// Takes a heeded frame behind a prefix.
     fn take(&mut self, prefix: Prefix, frame: u8, place: u64) -> Result<Tape, TapeFault>
         requires { frame ≢ 0o377 }
         ensures comes { (items : List Item) (part : List ℕ) → ReadsItems prefix items part

@@ -6,11 +6,11 @@ use Rattle.bin_tape.specs.Handed.{word_in}
 use Rattle.bin_tape.specs.Reading.{Answers, IsGoing}
 use Rattle.bin_tape.specs.declared.readers.Tape.{Tape}
 use Rattle.bin_tape.specs.declared.readers.Tape.TheVariants.{Nothing, Word, End}
-use Rattle.bin_tape.specs.Fault.{Refuses}
+use Rattle.bin_tape.specs.Fault.{RefusesFrame}
 use Rattle.bin_tape.specs.declared.faults.TapeFault.{TapeFault}
 use Rattle.bin_tape.specs.declared.faults.TapeFault.TheVariants.{BadFrame, NoOrigin, CheckSum, NoTrailer, Memory}
 use Rattle.core_load.specs.Loading.{Loading}
-use Rattle.core_load.specs.Load.{IsFed, IsFine, Feeds, Loads}
+use Rattle.core_load.specs.Load.{IsFed, IsFine, FeedsFrames, LoadsTape}
 
 -- frames that are answered no fault are a tape, or may go on as one
 pub fine : ((frames more : List ℕ) (items : List Item) → IsTape frames items → IsTape (frames ++ more) items)
@@ -33,7 +33,7 @@ handed frames out frame End word answer brings = cc
 
 -- a refused frame is told, whatever follows
 pub told : (old new : Loading) (frames : List ℕ) (frame : ℕ) (fault : TapeFault) → IsFed new (frames ++ frame ∷ [])
-    → ((rest : List ℕ) → Refuses (frames ++ frame ∷ rest) fault) → Feeds frames (frame ∷ []) old new (Err fault)
+    → ((rest : List ℕ) → RefusesFrame (frames ++ frame ∷ rest) fault) → FeedsFrames frames (frame ∷ []) old new (Err fault)
 told old new frames frame (BadFrame at) fed refused = (fed, λ rest. rw append_assoc (refused rest))
 told old new frames frame NoOrigin fed refused = (fed, λ rest. rw append_assoc (refused rest))
 told old new frames frame (CheckSum found computed) fed refused = (fed, λ rest. rw append_assoc (refused rest))
@@ -42,7 +42,7 @@ told old new frames frame Memory fed refused = absurd (refused []).refused
 
 -- a frame that was refused while loading
 pub load_refused : (frames before rest : List ℕ) (frame : ℕ) (core : List ℕ) (old new : Loading) (fault : TapeFault)
-    → frames ≡ before ++ frame ∷ rest → Feeds before (frame ∷ []) old new (Err fault) → Loads frames core core (Err fault)
+    → frames ≡ before ++ frame ∷ rest → FeedsFrames before (frame ∷ []) old new (Err fault) → LoadsTape frames core core (Err fault)
 load_refused frames before rest frame core old new (BadFrame at) split fed = (rw split (rw append_assoc at (fed.1 rest)), refl)
 load_refused frames before rest frame core old new NoOrigin split fed = (rw split (rw append_assoc at (fed.1 rest)), refl)
 load_refused frames before rest frame core old new (CheckSum found computed) split fed = (rw split (rw append_assoc at (fed.1 rest)), refl)

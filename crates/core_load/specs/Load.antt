@@ -1,6 +1,6 @@
 -- What loading a BIN tape does to core.
 use Rattle.std.specs.Prelude.{◌≡◌, ℕ, ◌<◌, unwrap_or, Result, Ok, Err, List, [], ◌∷◌, ◌++◌, ◌⊎◌, length, slice_index}
-use Rattle.bin_tape.specs.Frames.{kept}
+use Rattle.bin_tape.specs.Frames.{heeded}
 use Rattle.bin_tape.specs.Items.{Item, tape_map}
 use Rattle.bin_tape.specs.Tape.{IsTape, IsOpen}
 use Rattle.bin_tape.specs.Fault.{IsFault}
@@ -29,13 +29,13 @@ abbrev pub WantsRoom : List ℕ → Type 0
 WantsRoom frames = (before : List ℕ) × (after : List ℕ) × (words : List (ℕ × ℕ)) × (frames ≡ before ++ after) × HandsOut before words
 
 -- What loading frames over core answers: on a fault no cell is changed.
-abbrev pub Loads : List ℕ → List ℕ → List ℕ → Result (Unit {0}) TapeFault → Type 0
-Loads frames old new (Ok done) = IsLoaded frames old new
-Loads frames old new (Err Memory) = WantsRoom frames × (new ≡ old)
-Loads frames old new (Err (BadFrame at)) = IsFault frames (BadFrame at) × (new ≡ old)
-Loads frames old new (Err NoOrigin) = IsFault frames NoOrigin × (new ≡ old)
-Loads frames old new (Err (CheckSum found computed)) = IsFault frames (CheckSum found computed) × (new ≡ old)
-Loads frames old new (Err NoTrailer) = IsFault frames NoTrailer × (new ≡ old)
+abbrev pub LoadsTape : List ℕ → List ℕ → List ℕ → Result (Unit {0}) TapeFault → Type 0
+LoadsTape frames old new (Ok nothing) = IsLoaded frames old new
+LoadsTape frames old new (Err Memory) = WantsRoom frames × (new ≡ old)
+LoadsTape frames old new (Err (BadFrame at)) = IsFault frames (BadFrame at) × (new ≡ old)
+LoadsTape frames old new (Err NoOrigin) = IsFault frames NoOrigin × (new ≡ old)
+LoadsTape frames old new (Err (CheckSum found computed)) = IsFault frames (CheckSum found computed) × (new ≡ old)
+LoadsTape frames old new (Err NoTrailer) = IsFault frames NoTrailer × (new ≡ old)
 
 -- ## Frame by frame
 
@@ -45,17 +45,17 @@ IsFed loader frames = HasRead loader.reader frames loader.words
 
 -- the frames are a tape, or may go on as one
 abbrev pub IsFine : List ℕ → Type 0
-IsFine frames = ((items : List Item) × IsTape frames items) ⊎ ((items : List Item) × (part : List ℕ) × IsOpen (kept frames) items part)
+IsFine frames = ((items : List Item) × IsTape frames items) ⊎ ((items : List Item) × (part : List ℕ) × IsOpen (heeded frames) items part)
 
 -- What further frames do to a loader that was given some: a fault is told by the first frame that is refused; memory
 -- runs out only where a word is handed out, and then nothing is taken.
-abbrev pub Feeds : List ℕ → List ℕ → Loading → Loading → Result (Unit {0}) TapeFault → Type 0
-Feeds frames more old new (Ok done) = IsFed new (frames ++ more) × IsFine (frames ++ more)
-Feeds frames more old new (Err Memory) = HandsOut (frames ++ more) old.words × (new ≡ old)
-Feeds frames more old new (Err (BadFrame at)) = IsFed new (frames ++ more) × ((rest : List ℕ) → IsFault (frames ++ more ++ rest) (BadFrame at))
-Feeds frames more old new (Err NoOrigin) = IsFed new (frames ++ more) × ((rest : List ℕ) → IsFault (frames ++ more ++ rest) NoOrigin)
-Feeds frames more old new (Err (CheckSum found computed)) = IsFed new (frames ++ more) × ((rest : List ℕ) → IsFault (frames ++ more ++ rest) (CheckSum found computed))
-Feeds frames more old new (Err NoTrailer) = ⊥
+abbrev pub FeedsFrames : List ℕ → List ℕ → Loading → Loading → Result (Unit {0}) TapeFault → Type 0
+FeedsFrames frames more old new (Ok nothing) = IsFed new (frames ++ more) × IsFine (frames ++ more)
+FeedsFrames frames more old new (Err Memory) = HandsOut (frames ++ more) old.words × (new ≡ old)
+FeedsFrames frames more old new (Err (BadFrame at)) = IsFed new (frames ++ more) × ((rest : List ℕ) → IsFault (frames ++ more ++ rest) (BadFrame at))
+FeedsFrames frames more old new (Err NoOrigin) = IsFed new (frames ++ more) × ((rest : List ℕ) → IsFault (frames ++ more ++ rest) NoOrigin)
+FeedsFrames frames more old new (Err (CheckSum found computed)) = IsFed new (frames ++ more) × ((rest : List ℕ) → IsFault (frames ++ more ++ rest) (CheckSum found computed))
+FeedsFrames frames more old new (Err NoTrailer) = ⊥
 
 -- the loader was given a whole tape
 pub record IsComplete (loader : Loading) : Type 0 where

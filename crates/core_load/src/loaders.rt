@@ -3,7 +3,7 @@ ghost use Rattle.bin_tape.specs.Items.{Item};
 ghost use Rattle.bin_tape.specs.Tape.{IsTape};
 ghost use Rattle.bin_tape.specs.Fault.{IsFault};
 ghost use Rattle.bin_tape.specs.Reading.{IsWhole};
-ghost use Rattle.core_load.specs.Load.{Loads, IsOverlaid};
+ghost use Rattle.core_load.specs.Load.{LoadsTape, IsOverlaid};
 ghost use Rattle.core_load.specs.Steps.{laid};
 
 use crate::Core;
@@ -32,7 +32,7 @@ impl Model for Loader {
 }
 
 impl Loader {
-    ghost use Rattle.core_load.specs.Load.{IsFed, Feeds, IsComplete};
+    ghost use Rattle.core_load.specs.Load.{IsFed, FeedsFrames, IsComplete};
 
     /// A loader of no frame.
     pub fn new(alloc: Global) -> Loader
@@ -48,7 +48,7 @@ impl Loader {
     /// nothing is taken of the frame. Another fault is answered for good.
     pub fn push(&mut self, frame: u8) -> Result<(), TapeFault>
         ensures { (frames : List ℕ) → IsFed self.old frames
-            → Feeds frames (frame ∷ []) self.old self.new result }
+            → FeedsFrames frames (frame ∷ []) self.old self.new result }
     {
         longer_tape();
         let before = self.reader;
@@ -91,7 +91,7 @@ impl Loader {
 
 /// Lays the words of a tape over core, the last word of a cell winning. On a fault no cell is changed.
 pub fn load(alloc: Global, frames: &[u8], core: &mut Core) -> Result<(), TapeFault>
-    ensures { Loads frames.now core.old core.new result }
+    ensures { LoadsTape frames.now core.old core.new result }
 {
     let mut loader = Loader::new(alloc);
     for frame in frames {

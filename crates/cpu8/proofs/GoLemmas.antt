@@ -1,7 +1,7 @@
 -- A go, step by step.
 use Rattle.std.proofs.Common.{◌≡◌, ℕ, ◌+◌, ◌<◌, Bool, true, false, if◌then◌else◌, List, [], ◌++◌, Option, Some, None, IsSome, unwrap_or, add-one, append-nil, append_assoc, arith, refl, ap, sym, subst, ◌∙◌, below_more}
 use Rattle.cpu8.specs.State.{State}
-use Rattle.cpu8.specs.Go.{turn, after, answer, reason, ending, IsGo, character_of, printed_by}
+use Rattle.cpu8.specs.Go.{printing_step, after, answer, reason, ending, IsGo, character_of, printed_by}
 use Rattle.cpu8.specs.declared.outcomes.Why.{Why}
 
 pub after-none : (quick : Bool) (s : State) → after quick 0 s ≡ s
@@ -12,7 +12,7 @@ pub printed-none : (quick : Bool) (s : State) → printed_by quick 0 s ≡ []
 unfolding printed_by
 printed-none quick s = refl
 
-pub after-next : (quick : Bool) (k : ℕ) (s : State) → after quick (k + 1) s ≡ (turn quick (after quick k s)).0
+pub after-next : (quick : Bool) (k : ℕ) (s : State) → after quick (k + 1) s ≡ (printing_step quick (after quick k s)).0
 unfolding after
 after-next quick k s = rw add-one refl
 
@@ -80,22 +80,22 @@ go-whole quick breaks s n before =
 pub printed-begun : (quick : Bool) (s : State) (old : List ℕ) → old ≡ old ++ printed_by quick 0 s
 printed-begun quick s old = sym (ap (λ xs. old ++ xs) (printed-none quick s) ∙ append-nil old)
 
-pub state-stepped : (quick : Bool) (k : ℕ) (s before now : State) → before ≡ after quick k s → now ≡ (turn quick before).0
+pub state-stepped : (quick : Bool) (k : ℕ) (s before now : State) → before ≡ after quick k s → now ≡ (printing_step quick before).0
     → now ≡ after quick (k + 1) s
-state-stepped quick k s before now at h = h ∙ (ap (λ x. (turn quick x).0) at ∙ sym (after-next quick k s))
+state-stepped quick k s before now at h = h ∙ (ap (λ x. (printing_step quick x).0) at ∙ sym (after-next quick k s))
 
 pub printed-stepped : (quick : Bool) (k : ℕ) (s before : State) (old items new : List ℕ) → before ≡ after quick k s
-    → items ≡ old ++ printed_by quick k s → new ≡ items ++ character_of (turn quick before).1
+    → items ≡ old ++ printed_by quick k s → new ≡ items ++ character_of (printing_step quick before).1
     → new ≡ old ++ printed_by quick (k + 1) s
 printed-stepped quick k s before old items new at so_far h =
-    h ∙ (ap (λ x. items ++ character_of (turn quick x).1) at
+    h ∙ (ap (λ x. items ++ character_of (printing_step quick x).1) at
     ∙ (ap (λ xs. xs ++ character_of (answer quick k s)) so_far
     ∙ (append_assoc old (printed_by quick k s) (character_of (answer quick k s))
     ∙ sym (ap (λ xs. old ++ xs) (printed-next quick k s)))))
 
 pub reason-stepped : (quick : Bool) (breaks : List Bool) (k : ℕ) (s before now : State) (why : Option Why) → before ≡ after quick k s
-    → now ≡ (turn quick before).0 → why ≡ reason breaks (turn quick before).1 now
+    → now ≡ (printing_step quick before).0 → why ≡ reason breaks (printing_step quick before).1 now
     → reason breaks (answer quick k s) (after quick (k + 1) s) ≡ why
 reason-stepped quick breaks k s before now why at stepped h =
-    sym (h ∙ (ap (λ x. reason breaks (turn quick x).1 now) at
+    sym (h ∙ (ap (λ x. reason breaks (printing_step quick x).1 now) at
     ∙ ap (λ x. reason breaks (answer quick k s) x) (state-stepped quick k s before now at stepped)))

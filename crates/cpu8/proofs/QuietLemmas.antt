@@ -4,14 +4,14 @@ use Rattle.std.proofs.lemmas.Option.{none-some}
 use Rattle.tty8.specs.Teletype.{is_requesting}
 use Rattle.cpu8.specs.State.{State, next_cell, printer_done}
 use Rattle.cpu8.specs.Step.{executed, fetched, step}
-use Rattle.cpu8.specs.Go.{turn, after, answer, break_ahead, reason, ending, IsGo, character_of, printed_by, is_break}
+use Rattle.cpu8.specs.Go.{printing_step, after, answer, break_ahead, reason, ending, IsGo, character_of, printed_by, is_break}
 use Rattle.cpu8.specs.QuietSteps.{is_quiet, Stays, Does, AreQuiet}
 use Rattle.cpu8.specs.declared.outcomes.Stepped.{Stepped}
 use Rattle.cpu8.specs.declared.outcomes.Stepped.TheVariants.{Ran, Stopped, Interrupted, Halted, Unassigned}
 use Rattle.cpu8.specs.declared.outcomes.Why.{Why}
 use Rattle.cpu8.proofs.GoLemmas.{after-none, after-next, printed-next, ending-next, GoesOn, goes-next}
 
--- ## A turn of a quiet machine is its next instruction
+-- ## A step of a quiet machine is its next instruction
 
 quiet-parts : (runs requests ends : Bool) → (runs && (not requests && not ends)) ≡ true → (runs ≡ true) × (requests ≡ false) × (ends ≡ false)
 quiet-parts true false false h = (refl, refl, refl)
@@ -26,9 +26,9 @@ none-granted true true held false h = refl
 none-granted true false true false h = refl
 none-granted true false false false h = refl
 
-pub turn-quiet : (quick : Bool) (s : State) → is_quiet quick s ≡ true → turn quick s ≡ executed s (fetched s)
+pub printing_step-quiet : (quick : Bool) (s : State) → is_quiet quick s ≡ true → printing_step quick s ≡ executed s (fetched s)
 unfolding step
-turn-quiet quick s h =
+printing_step-quiet quick s h =
     let parts = quiet-parts s.running (s.interrupts_on && is_requesting s.teletype) (quick && s.teletype.busy) h in
     let none = none-granted s.interrupts_on s.waiting s.held_off (is_requesting s.teletype) parts.1 in
     ap (λ b. step (if b then printer_done s else s)) parts.2 ∙ rw (parts.0, none) refl
@@ -48,12 +48,12 @@ none-quiet quick breaks s m below = absurd (omega (arith, below))
 pub after-quiet : (quick : Bool) (k : ℕ) (s old new : State) → old ≡ after quick k s → is_quiet quick old ≡ true → Does old (fetched old) new
     → new ≡ after quick (k + 1) s
 after-quiet quick k s old new at h does =
-    does.state ∙ (ap (λ p. p.0) (sym (turn-quiet quick old h)) ∙ (ap (λ x. (turn quick x).0) at ∙ sym (after-next quick k s)))
+    does.state ∙ (ap (λ p. p.0) (sym (printing_step-quiet quick old h)) ∙ (ap (λ x. (printing_step quick x).0) at ∙ sym (after-next quick k s)))
 
 pub quiet-next : (quick : Bool) (breaks : List Bool) (k : ℕ) (s old new : State) → old ≡ after quick k s → is_quiet quick old ≡ true
     → (0 < k → is_break breaks (next_cell old) ≡ false) → Does old (fetched old) new → AreQuiet quick breaks s k → AreQuiet quick breaks s (k + 1)
 quiet-next quick breaks k s old new at h ahead does before = below_more _ _ before (record {
-  answer = ap (λ x. (turn quick x).1) (sym at) ∙ (ap (λ p. p.1) (turn-quiet quick old h) ∙ sym does.answer);
+  answer = ap (λ x. (printing_step quick x).1) (sym at) ∙ (ap (λ p. p.1) (printing_step-quiet quick old h) ∙ sym does.answer);
   ahead = λ more. ap (λ x. is_break breaks (next_cell x)) (sym at) ∙ ahead more;
 })
 
@@ -64,12 +64,12 @@ after-add quick a zero s = let e : a + 0 ≡ a = omega arith in ap (λ k. after 
 after-add quick a (suc b) s =
     let e : a + suc b ≡ a + b + 1 = omega arith in
     let f : b + 1 ≡ suc b = omega arith in
-    ap (λ k. after quick k s) e ∙ (after-next quick (a + b) s ∙ (ap (λ x. (turn quick x).0) (after-add quick a b s)
+    ap (λ k. after quick k s) e ∙ (after-next quick (a + b) s ∙ (ap (λ x. (printing_step quick x).0) (after-add quick a b s)
     ∙ (sym (after-next quick b (after quick a s)) ∙ ap (λ k. after quick k (after quick a s)) f)))
 
 -- a later step answers as it does from the state before the quiet ones
 answer-add : (quick : Bool) (a b : ℕ) (s : State) → answer quick (a + b) s ≡ answer quick b (after quick a s)
-answer-add quick a b s = ap (λ x. (turn quick x).1) (after-add quick a b s)
+answer-add quick a b s = ap (λ x. (printing_step quick x).1) (after-add quick a b s)
 
 fewer-quiet : (quick : Bool) (breaks : List Bool) (s : State) (k : ℕ) → AreQuiet quick breaks s (suc k) → AreQuiet quick breaks s k
 fewer-quiet quick breaks s k quiet m below = quiet m (omega (arith, below))

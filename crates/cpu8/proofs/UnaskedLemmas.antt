@@ -2,10 +2,10 @@
 use Rattle.std.proofs.Common.{◌≡◌, ℕ, ◌+◌, true, false, arith, sym, ap, ◌∙◌, below_more}
 use Rattle.cpu8.specs.State.{State}
 use Rattle.cpu8.specs.Step.{fetched}
-use Rattle.cpu8.specs.Go.{turn, after}
+use Rattle.cpu8.specs.Go.{printing_step, after}
 use Rattle.cpu8.specs.QuietSteps.{is_quiet, Does}
 use Rattle.cpu8.specs.Unasked.{AreUnasked, finds_no_key}
-use Rattle.cpu8.proofs.QuietLemmas.{turn-quiet}
+use Rattle.cpu8.proofs.QuietLemmas.{printing_step-quiet}
 
 pub none-unasked : (s : State) → AreUnasked s 0
 none-unasked s m below = absurd (omega (arith, below))
@@ -13,7 +13,7 @@ none-unasked s m below = absurd (omega (arith, below))
 pub unasked-next : (k : ℕ) (s old new : State) → old ≡ after true k s → is_quiet true old ≡ true → finds_no_key old ≡ false
     → old.interrupts_on ≡ s.interrupts_on → Does old (fetched old) new → AreUnasked s k → AreUnasked s (k + 1)
 unasked-next k s old new at h finds same does before = below_more _ _ before (record {
-  answer = ap (λ x. (turn true x).1) (sym at) ∙ (ap (λ p. p.1) (turn-quiet true old h) ∙ sym does.answer);
+  answer = ap (λ x. (printing_step true x).1) (sym at) ∙ (ap (λ p. p.1) (printing_step-quiet true old h) ∙ sym does.answer);
   finds = ap (λ x. finds_no_key x) (sym at) ∙ finds;
   interrupts = ap (λ x. x.interrupts_on) (sym at) ∙ same;
 })

@@ -12,17 +12,17 @@ abbrev pub is_break : List Bool → ℕ → Bool
 is_break breaks cell = slice_index_or breaks cell false
 
 -- a step, before which a quick printer ends its character where it is busy
-abbrev pub turn : Bool → State → State × Stepped
-turn quick s = step (if quick && s.teletype.busy then printer_done s else s)
+abbrev pub printing_step : Bool → State → State × Stepped
+printing_step quick s = step (if quick && s.teletype.busy then printer_done s else s)
 
 -- the state after so many steps
 unfoldable pub after : Bool → ℕ → State → State
 after quick zero s = s
-after quick (suc k) s = (turn quick (after quick k s)).0
+after quick (suc k) s = (printing_step quick (after quick k s)).0
 
 -- what the step behind the first k did
 abbrev pub answer : Bool → ℕ → State → Stepped
-answer quick k s = (turn quick (after quick k s)).1
+answer quick k s = (printing_step quick (after quick k s)).1
 
 -- whether the next instruction is at a break
 abbrev pub break_ahead : List Bool → State → Option Why

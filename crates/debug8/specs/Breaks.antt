@@ -22,7 +22,7 @@ abbrev pub break_cleared : List Bool → ℕ → List Bool
 break_cleared breaks cell = slice_set breaks cell false
 
 -- Setting a break: it is refused only where the cell has none and 64 others do (this project's profile).
-abbrev pub Sets : List Bool → ℕ → List Bool → Result (Unit {0}) DebugFault → Type 0
-Sets old cell new (Ok done) = (new ≡ break_set old cell) × (count_breaks new ≤ 64)
-Sets old cell new (Err TooManyBreaks) = (new ≡ old) × (is_break old cell ≡ false) × (count_breaks old ≡ 64)
-Sets old cell new (Err Memory) = ⊥
+abbrev pub SetsBreak : List Bool → ℕ → List Bool → Result (Unit {0}) DebugFault → Type 0
+SetsBreak old cell new (Ok nothing) = (new ≡ break_set old cell) × (count_breaks new ≤ 64)
+SetsBreak old cell new (Err TooManyBreaks) = (new ≡ old) × (is_break old cell ≡ false) × (count_breaks old ≡ 64)
+SetsBreak old cell new (Err Memory) = ⊥

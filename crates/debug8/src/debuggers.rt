@@ -1,7 +1,7 @@
 ghost use Rattle.std.specs.Prelude.{◌≡◌, ◌+◌, ◌<◌, ◌≤◌, ◌++◌, [], IfOk, IsOkUnless, slice_index, vec_len, vec_capacity, false};
 ghost use Rattle.cpu8.specs.State.{deposited};
 ghost use Rattle.cpu8.specs.Go.{IsGo, after, printed_by};
-ghost use Rattle.debug8.specs.Breaks.{Sets, break_cleared, no_breaks};
+ghost use Rattle.debug8.specs.Breaks.{SetsBreak, break_cleared, no_breaks};
 ghost use Rattle.debug8.specs.declared.faults.DebugFault.TheVariants.{Memory};
 
 use crate::DebugFault;
@@ -46,7 +46,7 @@ impl Debugger {
     /// Sets a break at a cell. A cell that has one keeps it, and a cell that has none is refused one where there are
     /// 64 already (this project's profile). It takes no memory.
     pub fn set_break(&mut self, cell: Cell) -> Result<(), DebugFault>
-        ensures { Sets self.old cell self.new result }
+        ensures { SetsBreak self.old cell self.new result }
     {
         if self.breaks[cell.index()] {
             return Ok(());

@@ -10,7 +10,7 @@ use Rattle.os8_files.specs.Mounted.{Mounted}
 use Rattle.os8_files.specs.declared.faults.FileFault.TheVariants as file
 use Rattle.pal_asm.specs.declared.faults.AsmFault.TheVariants as asm
 use Rattle.pal_blocks.specs.Progress.{IsAssembling}
-use Rattle.jobs8.specs.Calls.{IsQuiet, TurnsOver, LeavesJobs, WorkCalls, IfFile, WorkTellsRoom}
+use Rattle.jobs8.specs.Calls.{NoCallFailed, TurnsOver, LeavesJobs, WorkCalls, IfFile, WorkTellsRoom}
 use Rattle.jobs8.specs.Steps.{TurnsJob, plain_after, AreNamed, without_holds, ReadsSource, is_assembled}
 use Rattle.jobs8.specs.Steps.{is_memory}
 use Rattle.jobs8.specs.Jobs as plain
@@ -40,7 +40,7 @@ abbrev pub IsEnough : Mounted → Assembly → Type 0
 IsEnough m a = (name : ℕ) → times name (names_of a.holds) ≤ times name m.holds
 
 abbrev pub StepsTo : Mounted → List ℕ → Assembly → ℕ → Answer → Option Job → Mounted → Type 0
-StepsTo old core a left answer after new = (number : ℕ) (l : List (Option plain.Job)) → plain.job_of number l ≡ Some (plain.assembling a.to (names_of a.holds) left) → AreNamed old.holds l → IsQuiet old new
+StepsTo old core a left answer after new = (number : ℕ) (l : List (Option plain.Job)) → plain.job_of number l ≡ Some (plain.assembling a.to (names_of a.holds) left) → AreNamed old.holds l → NoCallFailed old new
     → AssemblingTurn (state_over old core l) number a.to (names_of a.holds) left answer (state_over new core (plain_after (is_assembled answer) (plain.with_job number (plain_job after) l)))
 
 abbrev pub LeavesFor : Assembly → ℕ → Answer → Option Job → Type 0

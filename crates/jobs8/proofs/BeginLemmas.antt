@@ -1,7 +1,7 @@
 -- The beginning of a job that loads.
 use Rattle.std.proofs.Common.{◌≡◌, ◌∙◌, ℕ, ◌+◌, false, inr, Option, unwrap_or, [], refl, ap, arith}
 use Rattle.std.specs.FinMap.{get}
-use Rattle.os8_dir.specs.Files.{Held, files_of}
+use Rattle.os8_dir.specs.Files.{FileData, files_of}
 use Rattle.os8_files.specs.Mounted.{Mounted}
 use Rattle.os8_files.specs.Service.{blocks_in, blocks_of}
 use Rattle.os8_files.specs.Calls as call
@@ -41,7 +41,7 @@ begun_loading old new name hold blocks loader found taken looked is fed = record
         is
         ∙ ap (λ o. unwrap_or o 0) (looked (ap (λ (m : Mounted). m.stopped) taken.others ∙ taken.running))
         ∙ ap (λ (m : Mounted). unwrap_or (blocks_of (get (files_of m.blocks) name)) 0) taken.others
-        ∙ ap (λ (o : Option Held). unwrap_or (blocks_of o) 0) taken.there
+        ∙ ap (λ (o : Option FileData). unwrap_or (blocks_of o) 0) taken.there
 
     never : blocks + 1 ≡ 1 → ⊥
     never one = omega (arith, one, count, taken.some)

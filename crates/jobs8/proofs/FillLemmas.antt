@@ -2,7 +2,7 @@
 use Rattle.std.proofs.Common.{◌≡◌, ◌∙◌, ℕ, ◌-◌, ◌*◌, ◌<◌, List, [], ◌∷◌, ◌++◌, length, replicate, refl, ap, arith}
 use Rattle.std.proofs.lemmas.List.{length-append, length-replicate}
 use Rattle.char_pack.specs.Packing.{frames, packed, packed_blocks, group_count, block_count, block_words}
-use Rattle.bin_tape.specs.Frames.{kept}
+use Rattle.bin_tape.specs.Frames.{heeded}
 use Rattle.bin_tape.specs.Items.{Item, Word, spelled}
 use Rattle.bin_tape.specs.Tape.{IsTape}
 use Rattle.bin_tape.specs.Writing.{tape_of}
@@ -27,7 +27,7 @@ length_blocks bytes = length-append (packed bytes) (replicate (256 * block_count
 some_words : (words : List ℕ) (items : List Item) → IsTape (frames words) items → 0 < length words
 some_words [] items tape = absurd (never (ap (λ (l : List ℕ). length l) tape.kept_frames))
   where
-    never : length (kept []) ≡ length (spelled (Word tape.high tape.low ∷ items) ++ 128 ∷ tape.rest) → ⊥
+    never : length (heeded []) ≡ length (spelled (Word tape.high tape.low ∷ items) ++ 128 ∷ tape.rest) → ⊥
     never is = omega (arith, is, length-append (spelled (Word tape.high tape.low ∷ items)) (128 ∷ tape.rest))
 some_words (word ∷ words) items tape = omega arith
 

@@ -5,7 +5,7 @@ use Rattle.std.proofs.lemmas.List.{take-append-drop, length-take-le, take_all}
 use Rattle.std.proofs.lemmas.Bool.Decides.{eqb_tells, leb_tells}
 use Rattle.bin_tape.specs.Items.{Item}
 use Rattle.bin_tape.specs.Tape.{IsTape}
-use Rattle.bin_tape.specs.Fault.{IsFault, Refuses}
+use Rattle.bin_tape.specs.Fault.{IsFault, RefusesFrame}
 use Rattle.bin_tape.specs.declared.faults.TapeFault.{TapeFault}
 use Rattle.bin_tape.specs.declared.faults.TapeFault.TheVariants.{BadFrame, NoOrigin, CheckSum, NoTrailer, Memory}
 use Rattle.char_pack.specs.Packing.{frames}
@@ -37,7 +37,7 @@ IsEarly (CheckSum found computed) = Unit {0}
 IsEarly NoTrailer = ⊥
 IsEarly Memory = ⊥
 
-refuses_longer : (fs more : List ℕ) (fault : TapeFault) → Refuses fs fault → Refuses (fs ++ more) fault
+refuses_longer : (fs more : List ℕ) (fault : TapeFault) → RefusesFrame fs fault → RefusesFrame (fs ++ more) fault
 refuses_longer fs more fault r = record {
   before = r.before;
   frame = r.frame;

@@ -11,7 +11,7 @@ use Rattle.os8_files.specs.declared.faults.FileFault.{FileFault}
 use Rattle.os8_files.specs.declared.faults.FileFault.TheVariants as file
 use Rattle.os8_files.specs.declared.tokens.Squeezed as tokens
 use Rattle.os8_files.specs.declared.tokens.Squeezed.TheVariants as token
-use Rattle.jobs8.specs.Calls.{IsQuiet, TurnsOver, LeavesJobs, TellsSqueeze, WorkTellsRoom}
+use Rattle.jobs8.specs.Calls.{NoCallFailed, TurnsOver, LeavesJobs, TellsSqueeze, WorkTellsRoom}
 use Rattle.jobs8.specs.Steps.{SqueezeTurns, TurnsJob, plain_after, names_in, left_of, is_assembled}
 use Rattle.jobs8.specs.Jobs as plain
 use Rattle.jobs8.specs.Jobs.{with_job, job_of, squeezing}
@@ -54,7 +54,7 @@ state_moved old new core jobs after name moved =
 
 -- what a call leaves, whatever it answers
 turn_by : (old new : Mounted) (core : List ℕ) (clean : Bool) (left : ℕ) (call : Result tokens.Squeezed FileFault) (answer : Answer) (after : Option Job) → is_assembled answer ≡ false → KeepsHolds old new → Squeezes old call new → new.tentative ≡ None → (new.stopped ≡ false → above_of new.blocks ≤ above_of old.blocks)
-    → ((number : ℕ) (jobs : List (Option plain.Job)) → job_of number jobs ≡ Some (squeezing clean left) → IsQuiet old new → SqueezingTurn (state_over old core jobs) number clean left answer (state_over new core (with_job number (plain_job after) jobs)))
+    → ((number : ℕ) (jobs : List (Option plain.Job)) → job_of number jobs ≡ Some (squeezing clean left) → NoCallFailed old new → SqueezingTurn (state_over old core jobs) number clean left answer (state_over new core (with_job number (plain_job after) jobs)))
     → ((number : ℕ) (jobs : List (Option plain.Job)) → job_of number jobs ≡ Some (squeezing clean left) → LeavesJobs number answer jobs (with_job number (plain_job after) jobs))
     → TurnsOver old answer new → (new.stopped ≡ false → StandsIn new.blocks after) → FitsIn after → ((name : ℕ) → times name (names_in after) ≡ 0) → ((answer ≡ Err fault.Memory → ⊥) → left_of after < left) → TellsSqueeze left old answer new
     → TurnsJob old core (the_job clean left) answer after new core
@@ -129,7 +129,7 @@ moved_last old new core clean left name is keeps moved one =
 
 -- nothing is changed
 same_by : (old new : Mounted) (core : List ℕ) (clean : Bool) (left : ℕ) (call : Result tokens.Squeezed FileFault) (answer : Answer) (after : Option Job) → is_assembled answer ≡ false → KeepsHolds old new → Squeezes old call new → old.tentative ≡ None → new ≡ old
-    → ((number : ℕ) (jobs : List (Option plain.Job)) → job_of number jobs ≡ Some (squeezing clean left) → IsQuiet old new → SqueezingTurn (state_over old core jobs) number clean left answer (state_over new core (with_job number (plain_job after) jobs)))
+    → ((number : ℕ) (jobs : List (Option plain.Job)) → job_of number jobs ≡ Some (squeezing clean left) → NoCallFailed old new → SqueezingTurn (state_over old core jobs) number clean left answer (state_over new core (with_job number (plain_job after) jobs)))
     → ((number : ℕ) (jobs : List (Option plain.Job)) → job_of number jobs ≡ Some (squeezing clean left) → LeavesJobs number answer jobs (with_job number (plain_job after) jobs))
     → TurnsOver old answer new → (new.stopped ≡ false → StandsIn new.blocks after) → FitsIn after → ((name : ℕ) → times name (names_in after) ≡ 0) → ((answer ≡ Err fault.Memory → ⊥) → left_of after < left) → TellsSqueeze left old answer new
     → TurnsJob old core (the_job clean left) answer after new core

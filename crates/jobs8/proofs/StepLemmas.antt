@@ -10,7 +10,7 @@ use Rattle.os8_files.specs.Mounted.{Mounted}
 use Rattle.os8_files.specs.Holds.{without_hold}
 use Rattle.os8_files.specs.declared.faults.FileFault.{FileFault}
 use Rattle.os8_files.specs.declared.faults.FileFault.TheVariants as file
-use Rattle.jobs8.specs.Calls.{IsQuiet, IfFile, TellsFailures, TurnsOver}
+use Rattle.jobs8.specs.Calls.{NoCallFailed, IfFile, TellsFailures, TurnsOver}
 use Rattle.jobs8.specs.Steps.{LeavesHold, TurnsLoading, HasReadOne, LoadsOn}
 use Rattle.jobs8.specs.Steps.{is_memory}
 use Rattle.jobs8.specs.Jobs as plain
@@ -49,7 +49,7 @@ others : (old new : Mounted) (reads failed : ℕ) (holds : List ℕ) → new ≡
 others old new reads failed holds is = is ∙ ap (λ (m : Mounted). record old { reads = m.reads; failed_reads = m.failed_reads; holds = holds }) (sym is)
 
 -- no block call failed
-pub moved_over : (old new : Mounted) (answer : Answer) → (IsQuiet old new → TellsFailures old answer new) → old.stopped ≡ false → new.failed_reads ≡ old.failed_reads → new.failed_writes ≡ old.failed_writes → new.stopped ≡ false → TurnsOver old answer new
+pub moved_over : (old new : Mounted) (answer : Answer) → (NoCallFailed old new → TellsFailures old answer new) → old.stopped ≡ false → new.failed_reads ≡ old.failed_reads → new.failed_writes ≡ old.failed_writes → new.stopped ≡ false → TurnsOver old answer new
 moved_over old new answer tells running reads writes still = record {
   tells = tells quiet;
   reads = omega (arith, reads);
@@ -58,10 +58,10 @@ moved_over old new answer tells running reads writes still = record {
   files = λ more. absurd (omega (arith, more, writes));
 }
   where
-    quiet : IsQuiet old new
+    quiet : NoCallFailed old new
     quiet = record { running = running; reads = reads; writes = writes }
 
-pub quiet_over : (old new : Mounted) (answer : Answer) (reads : ℕ) (holds : List ℕ) → (IsQuiet old new → TellsFailures old answer new) → old.stopped ≡ false → new ≡ record old { reads = reads; holds = holds } → TurnsOver old answer new
+pub quiet_over : (old new : Mounted) (answer : Answer) (reads : ℕ) (holds : List ℕ) → (NoCallFailed old new → TellsFailures old answer new) → old.stopped ≡ false → new ≡ record old { reads = reads; holds = holds } → TurnsOver old answer new
 quiet_over old new answer reads holds tells running is =
     moved_over old new answer tells running (ap (λ (m : Mounted). m.failed_reads) is) (ap (λ (m : Mounted). m.failed_writes) is) (ap (λ (m : Mounted). m.stopped) is ∙ running)
 

@@ -5,7 +5,7 @@ use Rattle.bin_tape.specs.declared.faults.TapeFault.{TapeFault}
 use Rattle.bin_tape.specs.declared.faults.TapeFault.TheVariants.{BadFrame, NoOrigin, CheckSum, NoTrailer, Memory}
 use Rattle.char_pack.specs.Packing.{frames}
 use Rattle.core_load.specs.Loading.{Loading}
-use Rattle.core_load.specs.Load.{Feeds, IsFed, IsFine}
+use Rattle.core_load.specs.Load.{FeedsFrames, IsFed, IsFine}
 use Rattle.jobs8.specs.Reading.{HasTaken}
 use Rattle.jobs8.specs.Steps.{TakesFrames}
 use Rattle.jobs8.proofs.FrameLemmas.{one_frame, split_frames}
@@ -23,7 +23,7 @@ joined before fs i frame inside is =
     ∙ whole before fs i inside
 
 -- one frame more is taken
-pub taken_more : (before fs : List ℕ) (i frame : ℕ) (old new : Loading) → i < length fs → frame ≡ slice_index fs i → Feeds (before ++ take i fs) (frame ∷ []) old new (Ok tt)
+pub taken_more : (before fs : List ℕ) (i frame : ℕ) (old new : Loading) → i < length fs → frame ≡ slice_index fs i → FeedsFrames (before ++ take i fs) (frame ∷ []) old new (Ok tt)
     → HasTaken new (before ++ take (i + 1) fs)
 taken_more before fs i frame old new inside is feeds =
     let same : (before ++ take i fs) ++ frame ∷ [] ≡ before ++ take (i + 1) fs = ap (λ f. (before ++ take i fs) ++ f ∷ []) is ∙ behind before fs i inside in
@@ -31,7 +31,7 @@ taken_more before fs i frame old new inside is feeds =
 
 -- one frame is refused, or memory ran out
 pub refused : (before block : List ℕ) (i frame : ℕ) (old new : Loading) (fault : TapeFault) → i < length (frames block) → i < 384 → frame ≡ slice_index (frames block) i
-    → HasTaken old (before ++ take i (frames block)) → Feeds (before ++ take i (frames block)) (frame ∷ []) old new (Err fault) → TakesFrames before block (Err fault) new i
+    → HasTaken old (before ++ take i (frames block)) → FeedsFrames (before ++ take i (frames block)) (frame ∷ []) old new (Err fault) → TakesFrames before block (Err fault) new i
 refused before block i frame old new (BadFrame at) inside low is taken feeds =
     subst (λ l. IsFault l (BadFrame at)) (joined before (frames block) i frame inside is) (feeds.1 (drop (suc i) (frames block)))
 refused before block i frame old new NoOrigin inside low is taken feeds =

@@ -24,7 +24,7 @@ use Rattle.jobs8.specs.State.{words_in}
 use Rattle.jobs8.specs.Turns.{Answer, Turns}
 
 -- no block call failed between, and no write before
-pub record IsQuiet (old new : Mounted) : Type 0 where
+pub record NoCallFailed (old new : Mounted) : Type 0 where
   pub running : old.stopped ≡ false
   pub reads : new.failed_reads ≡ old.failed_reads
   pub writes : new.failed_writes ≡ old.failed_writes
@@ -60,14 +60,14 @@ pub record StoodStopped (old new : Mounted) : Type 0 where
 abbrev pub TellsFailures : Mounted → Answer → Mounted → Type 0
 TellsFailures old (Err (fault.File file.Device)) new = ReadFailed old new ⊎ WriteFailed old new
 TellsFailures old (Err (fault.File file.Stopped)) new = StoodStopped old new
-TellsFailures old answer new = IsQuiet old new
+TellsFailures old answer new = NoCallFailed old new
 
 -- What a turn leaves of a volume. No failure is forgotten.
 pub record TurnsOver (old : Mounted) (answer : Answer) (new : Mounted) : Type 0 where
   pub tells : TellsFailures old answer new
   pub reads : old.failed_reads ≤ new.failed_reads
   pub writes : old.failed_writes ≤ new.failed_writes
-  pub running : IsQuiet old new → new.stopped ≡ false
+  pub running : NoCallFailed old new → new.stopped ≡ false
   pub files : old.failed_writes < new.failed_writes → Outlives old.blocks new.blocks
 
 -- what the turn of a number leaves of it: where it has no job nothing is done, whatever failed before
@@ -149,7 +149,7 @@ CallsOf (Some it) old new = WorkCalls it.work it.left old new
 -- What a turn of the job of a number comes to, over a volume with core and the jobs of a session.
 pub record TakesTurn (old : Mounted) (core : List ℕ) (jobs : List (Option Job)) (number : ℕ) (answer : Answer) (new : Mounted) (core' : List ℕ) (jobs' : List (Option Job)) : Type 0 where
   pub settled : IsSettled new jobs'
-  pub step : IsQuiet old new → Turns (state_over old core (plain_jobs jobs)) number answer (state_over new core' (plain_jobs jobs'))
+  pub step : NoCallFailed old new → Turns (state_over old core (plain_jobs jobs)) number answer (state_over new core' (plain_jobs jobs'))
   pub volume : NumberTurnsOver (plain.job_of number (plain_jobs jobs)) old answer new
   pub same_core : (why : JobFault) → answer ≡ Err why → core' ≡ core
   pub left : LeavesJobs number answer (plain_jobs jobs) (plain_jobs jobs')

@@ -2,7 +2,7 @@
 use Rattle.std.specs.Prelude.{◌≡◌, ◌⊎◌, ℕ, ◌+◌, ◌*◌, ◌<◌, ◌≤◌, Bool, true, false, Option, Some, None, List, [], ◌∷◌}
 use Rattle.std.specs.FinMap.{get, insert}
 use Rattle.os8_dir.specs.Entries.{contains}
-use Rattle.os8_dir.specs.Files.{Files, Held}
+use Rattle.os8_dir.specs.Files.{Files, FileData}
 use Rattle.os8_dir.specs.Names.{padded}
 use Rattle.os8_files.specs.Service.{used_of, count_of}
 use Rattle.os8_files.specs.declared.faults.FileFault.{FileFault}
@@ -27,7 +27,7 @@ pub record State : Type 0 where
   pub jobs : List (Option Job)
 
 -- the words of the file of a name; none where there is no file
-abbrev pub words_or : Option Held → List ℕ
+abbrev pub words_or : Option FileData → List ℕ
 words_or None = []
 words_or (Some held) = held.1
 
@@ -44,7 +44,7 @@ words_among s names = words_in s.files names
 
 -- there is a file of the name
 abbrev pub IsIn : Files → ℕ → Type 0
-IsIn files name = (held : Held) × (get files name ≡ Some held)
+IsIn files name = (held : FileData) × (get files name ≡ Some held)
 
 abbrev pub IsThere : State → ℕ → Type 0
 IsThere s name = IsIn s.files name
@@ -80,7 +80,7 @@ pub record IsFull (s : State) (after : Files) : Type 0 where
   pub tight : s.tight ≡ true → s.limit < count_of s.files + 2
 
 -- words as a file: its information words are 0
-abbrev pub plain_file : State → List ℕ → Held
+abbrev pub plain_file : State → List ℕ → FileData
 plain_file s words = (padded s.info [], words)
 
 -- the state behind a file put under a name, new or old, where the jobs come to be others

@@ -1,7 +1,7 @@
 -- What the small steps of a turn come to, for private clauses.
 use Rattle.std.specs.Prelude.{◌≡◌, ◌≤◌, ◌<◌, ◌⊎◌, ℕ, ◌+◌, ◌-◌, false, true, Bool, Option, Some, None, Result, Ok, Err, List, [], ◌∷◌, ◌++◌, take, ◌*◌, length, slice_set}
 use Rattle.std.specs.FinMap.{get}
-use Rattle.os8_dir.specs.Files.{files_of, above_of, Files, Held}
+use Rattle.os8_dir.specs.Files.{files_of, above_of, Files, FileData}
 use Rattle.os8_files.specs.Holds.{with_hold, without_hold, times}
 use Rattle.os8_files.specs.Laws.{KeepsHeld, ReadsOne}
 use Rattle.os8_files.specs.Mounted.{Mounted}
@@ -19,7 +19,7 @@ use Rattle.jobs8.specs.Settled.{LoadingFits, state_over, work_of, plain_job, Sta
 use Rattle.jobs8.specs.Sources.{names_of, AreFirst, AssemblyFits, AssemblyStands}
 use Rattle.jobs8.specs.State.{IsIn, words_in, AreIn, IsOneOut}
 use Rattle.jobs8.specs.Turns.{Answer, LoadingTurn, WorkTurn}
-use Rattle.jobs8.specs.Calls.{IsQuiet, TurnsOver, LeavesJobs, WorkCalls, TellsSqueeze, IfFile, WorkTellsRoom}
+use Rattle.jobs8.specs.Calls.{NoCallFailed, TurnsOver, LeavesJobs, WorkCalls, TellsSqueeze, IfFile, WorkTellsRoom}
 use Rattle.char_pack.specs.Packing.{frames}
 use Rattle.bin_tape.specs.Items.{Item}
 use Rattle.bin_tape.specs.Tape.{IsTape}
@@ -65,7 +65,7 @@ is_assembled (Err why) = false
 -- What taking the other frames of a block comes to, behind frames before it: all are taken, or a fault is met, or memory
 -- runs out where so many are taken.
 abbrev pub TakesFrames : List ℕ → List ℕ → Result (Unit {0}) TapeFault → load.Loading → ℕ → Type 0
-TakesFrames before block (Ok done) loader offset = HasTaken loader (before ++ frames block) × (offset ≡ 384)
+TakesFrames before block (Ok nothing) loader offset = HasTaken loader (before ++ frames block) × (offset ≡ 384)
 TakesFrames before block (Err Memory) loader offset = HasTaken loader (before ++ take offset (frames block)) × (offset < 384)
 TakesFrames before block (Err (BadFrame at)) loader offset = IsFault (before ++ frames block) (BadFrame at)
 TakesFrames before block (Err NoOrigin) loader offset = IsFault (before ++ frames block) NoOrigin
@@ -74,13 +74,13 @@ TakesFrames before block (Err NoTrailer) loader offset = ⊥
 
 -- what the end of frames that are a tape, or may go on as one, comes to
 abbrev pub EndsTape : List ℕ → Result (Unit {0}) JobFault → Type 0
-EndsTape given (Ok done) = (items : List Item) × IsTape given items
+EndsTape given (Ok nothing) = (items : List Item) × IsTape given items
 EndsTape given (Err (fault.Tape why)) = (why ≡ NoTrailer) × IsFault given NoTrailer
 EndsTape given (Err why) = ⊥
 
 -- What a turn that reads a block comes to.
 abbrev pub ReadsBlock : List ℕ → Loading → ℕ → Result (Unit {0}) JobFault → Loading → Type 0
-ReadsBlock words old left (Ok done) new = IsLoading words new (left - 1) × (new.hold ≡ old.hold) × IsMetNone words (old.done + 1)
+ReadsBlock words old left (Ok nothing) new = IsLoading words new (left - 1) × (new.hold ≡ old.hold) × IsMetNone words (old.done + 1)
 ReadsBlock words old left (Err fault.Memory) new = IsLoading words new left × (new.hold ≡ old.hold)
 ReadsBlock words old left (Err (fault.Tape why)) new = IsFirstMet words (old.done + 1) why × (new.hold ≡ old.hold)
 ReadsBlock words old left (Err why) new = ⊥
@@ -100,7 +100,7 @@ LoadsOn words old job left (Err (fault.File why)) new job' = ⊥
 LoadsOn words old job left (Err fault.Memory) new job' = HasReadOne old new × ReadsBlock words job left (Err fault.Memory) job'
 LoadsOn words old job left (Err (fault.Tape why)) new job' = HasReadOne old new × ReadsBlock words job left (Err (fault.Tape why)) job'
 LoadsOn words old job left (Err why) new job' = ⊥
-LoadsOn words old job left (Ok done) new job' = HasReadOne old new × ReadsBlock words job left (Ok done) job'
+LoadsOn words old job left (Ok nothing) new job' = HasReadOne old new × ReadsBlock words job left (Ok nothing) job'
 
 -- ## Holds at places
 
@@ -127,7 +127,7 @@ pub record HoldsFirst (files : Files) (names : List ℕ) (places : List (Option 
 
 -- a file is held at a place, which was empty, and its blocks are counted
 pub record HoldsNext (files : Files) (name : ℕ) (old : List (Option ℕ)) (place : ℕ) (before : List ℕ) (count : ℕ) (new : List (Option ℕ)) (after : List ℕ) : Type 0 where
-  pub file : Held
+  pub file : FileData
   pub there : get files name ≡ Some file
   pub whole : 256 * blocks_in file.1 ≡ length file.1
   pub some : 0 < blocks_in file.1
@@ -177,7 +177,7 @@ BeginsAssembly old target from (Err why) new = ⊥
 
 -- What a turn that reads a block of the sources, of these words, comes to.
 abbrev pub ReadsSource : List (List ℕ) → Mounted → ℕ → Result (Unit {0}) JobFault → Mounted → Assembly → Type 0
-ReadsSource sources old left (Ok done) new it = HasReadOne old new × TakesBlock sources left (Ok tt) it.assembling
+ReadsSource sources old left (Ok nothing) new it = HasReadOne old new × TakesBlock sources left (Ok tt) it.assembling
 ReadsSource sources old left (Err fault.Memory) new it = HasReadOne old new × IsAssembling sources it.assembling left
 ReadsSource sources old left (Err (fault.Asm (asm.At code line))) new it = HasReadOne old new × TakesBlock sources left (Err (asm.At code line)) it.assembling
 ReadsSource sources old left (Err (fault.Asm asm.Memory)) new it = ⊥
@@ -237,7 +237,7 @@ pub record LeavesHold (old : Mounted) (hold : ℕ) (after : Option Job) (new : M
 -- end.
 pub record TurnsLoading (old : Mounted) (core : List ℕ) (job : Loading) (left : ℕ) (answer : Answer) (after : Option Job) (new : Mounted) (core' : List ℕ) : Type 0 where
   pub kind : is_assembled answer ≡ false
-  pub step : (number : ℕ) (jobs : List (Option plain.Job)) → plain.job_of number jobs ≡ Some (plain.loading job.hold left) → IsQuiet old new
+  pub step : (number : ℕ) (jobs : List (Option plain.Job)) → plain.job_of number jobs ≡ Some (plain.loading job.hold left) → NoCallFailed old new
       → LoadingTurn (state_over old core jobs) number job.hold left answer (state_over new core' (plain.with_job number (plain_job after) jobs))
   pub jobs : (number : ℕ) (jobs : List (Option plain.Job)) → plain.job_of number jobs ≡ Some (plain.loading job.hold left) → LeavesJobs number answer jobs (plain.with_job number (plain_job after) jobs)
   pub volume : TurnsOver old answer new
@@ -251,7 +251,7 @@ pub record TurnsLoading (old : Mounted) (core : List ℕ) (job : Loading) (left 
 -- held, and one that ends holds nothing. Files that are held keep their words, and no more files have a free block below them,
 -- but where a target was put.
 pub record TurnsJob (old : Mounted) (core : List ℕ) (job : Job) (answer : Answer) (after : Option Job) (new : Mounted) (core' : List ℕ) : Type 0 where
-  pub step : (number : ℕ) (jobs : List (Option plain.Job)) → plain.job_of number jobs ≡ plain_job (Some job) → AreNamed old.holds jobs → IsQuiet old new
+  pub step : (number : ℕ) (jobs : List (Option plain.Job)) → plain.job_of number jobs ≡ plain_job (Some job) → AreNamed old.holds jobs → NoCallFailed old new
       → WorkTurn (state_over old core jobs) number (work_of job.work) job.left answer (state_over new core' (plain_after (is_assembled answer) (plain.with_job number (plain_job after) jobs)))
   pub jobs : (number : ℕ) (jobs : List (Option plain.Job)) → plain.job_of number jobs ≡ plain_job (Some job) → LeavesJobs number answer jobs (plain.with_job number (plain_job after) jobs)
   pub volume : TurnsOver old answer new

@@ -18,7 +18,7 @@ pub record IsListed (frames text : List ℕ) : Type 0 where
 -- What listing a reader's tape comes to: its lines are written and nothing else; on a fault of the tape, of the reader
 -- or of memory nothing is written.
 abbrev pub ListsTape : Option (List ℕ) → Option (List ℕ) → Option (List ℕ) → Option (List ℕ) → Result (Unit {0}) SessionFault → Type 0
-ListsTape r r' w w' (Ok done) = (frames : List ℕ) × (text : List ℕ) × IsRead r r' frames × IsListed frames text × Appends w w' text
+ListsTape r r' w w' (Ok nothing) = (frames : List ℕ) × (text : List ℕ) × IsRead r r' frames × IsListed frames text × Appends w w' text
 ListsTape r r' w w' (Err (Tape fault)) = (frames : List ℕ) × IsRead r r' frames × IsFault frames fault × Keeps w w'
 ListsTape r r' w w' (Err Reader) = Keeps w w'
 ListsTape r r' w w' (Err Memory) = Keeps w w'

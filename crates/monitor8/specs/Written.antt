@@ -11,7 +11,7 @@ use Rattle.monitor8.specs.declared.sources.SourceFault.TheVariants.{NoWord, Sess
 -- What writing the source of a reader's tape comes to: the source is written and nothing else; on a fault of the tape, of the reader
 -- or of memory, and where the tape has no word, nothing is written.
 abbrev pub WritesSource : Option (List ℕ) → Option (List ℕ) → Option (List ℕ) → Option (List ℕ) → Result (Unit {0}) SourceFault → Type 0
-WritesSource r r' w w' (Ok done) = (frames : List ℕ) × (text : List ℕ) × IsRead r r' frames × IsSourceOf frames text × Appends w w' text
+WritesSource r r' w w' (Ok nothing) = (frames : List ℕ) × (text : List ℕ) × IsRead r r' frames × IsSourceOf frames text × Appends w w' text
 WritesSource r r' w w' (Err NoWord) = (frames : List ℕ) × IsRead r r' frames × GivesNoWord frames × Keeps w w'
 WritesSource r r' w w' (Err (Session (Tape fault))) = (frames : List ℕ) × IsRead r r' frames × IsFault frames fault × Keeps w w'
 WritesSource r r' w w' (Err (Session Reader)) = Keeps w w'

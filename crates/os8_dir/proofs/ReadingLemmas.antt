@@ -7,7 +7,7 @@ use Rattle.os8_dir.specs.declared.faults.DirFault.TheVariants.{BadLink, BadCount
 use Rattle.os8_dir.specs.Names.{padded}
 use Rattle.os8_dir.specs.Entries.{Listed, minus, size_of, end_of, names_of, tidy}
 use Rattle.os8_dir.specs.Reading.{word, entry_at, is_new, with_entry, with_entries, with_segment, head_of, MeetsFault, is_device, with_links, block, is_unread, directory_of}
-use Rattle.os8_dir.specs.Steps.{Finds}
+use Rattle.os8_dir.specs.Steps.{FindsFault}
 
 -- one more word
 pub set-padded : (n k : ℕ) (words : List ℕ) → k < n → k < length words → set (padded n (take k words)) k (get_or words k 0) ≡ padded n (take (suc k) words)
@@ -17,7 +17,7 @@ set-padded (suc n) zero (w ∷ ws) low inside = refl
 set-padded (suc n) (suc k) (w ∷ ws) low inside = ap (λ xs. w ∷ xs) (set-padded n k ws (omega arith) (omega arith))
 
 -- a fault that a step found is the fault of the whole
-pub finds-whole : {Y Y' : Type 0} (fault : DirFault) (read : Result Y DirFault) (whole : Result Y' DirFault) → Finds fault read → (read ≡ Err fault → whole ≡ Err fault) → Finds fault whole
+pub finds-whole : {Y Y' : Type 0} (fault : DirFault) (read : Result Y DirFault) (whole : Result Y' DirFault) → FindsFault fault read → (read ≡ Err fault → whole ≡ Err fault) → FindsFault fault whole
 finds-whole (BadLink number) read whole found up = up found
 finds-whole (BadCount number) read whole found up = up found
 finds-whole EntryPastSegment read whole found up = up found
@@ -28,7 +28,7 @@ finds-whole MixedInfo read whole found up = up found
 finds-whole Device read whole found up = absurd found
 finds-whole Memory read whole found up = tt
 
-pub meets-found : {Y Y' : Type 0} (fault : DirFault) (read : Result Y DirFault) (whole : Result Y' DirFault) → Finds fault read → (read ≡ Err fault → whole ≡ Err fault) → MeetsFault fault whole
+pub meets-found : {Y Y' : Type 0} (fault : DirFault) (read : Result Y DirFault) (whole : Result Y' DirFault) → FindsFault fault read → (read ≡ Err fault → whole ≡ Err fault) → MeetsFault fault whole
 meets-found (BadLink number) read whole found up = up found
 meets-found (BadCount number) read whole found up = up found
 meets-found EntryPastSegment read whole found up = up found
@@ -51,7 +51,7 @@ meets-whole Device read whole met up = tt
 meets-whole Memory read whole met up = tt
 
 -- a step that reads no block does not answer that the device failed
-pub finds-device : (X : Type 0) {Y : Type 0} (fault : DirFault) (read : Result Y DirFault) → Finds fault read → is_device {X = X} (Err fault) ≡ false
+pub finds-device : (X : Type 0) {Y : Type 0} (fault : DirFault) (read : Result Y DirFault) → FindsFault fault read → is_device {X = X} (Err fault) ≡ false
 finds-device X (BadLink number) read found = refl
 finds-device X (BadCount number) read found = refl
 finds-device X EntryPastSegment read found = refl

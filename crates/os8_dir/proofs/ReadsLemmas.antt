@@ -6,7 +6,7 @@ use Rattle.os8_dir.specs.declared.faults.DirFault.TheVariants.{BadLink, BadCount
 use Rattle.os8_dir.specs.Entries.{Listed}
 use Rattle.os8_dir.specs.Reading.{word, block, is_unread, with_segment, head_of, IsOfWords, MeetsFault}
 use Rattle.os8_dir.specs.Reads.{counted_by, judged_from, segments_judged, IsJudged, ReadsSegments}
-use Rattle.os8_dir.specs.Steps.{Finds}
+use Rattle.os8_dir.specs.Steps.{FindsFault}
 
 -- a fault of a volume's words is that of the reading
 pub of_words : {Y : Type 0} (fault : DirFault) (read : Result Y DirFault) → IsOfWords fault → MeetsFault fault read → read ≡ Err fault
@@ -20,7 +20,7 @@ of_words MixedInfo read words met = met
 of_words Device read words met = absurd words
 of_words Memory read words met = absurd words
 
-pub words_found : {Y : Type 0} (fault : DirFault) (read : Result Y DirFault) → IsOfWords fault → Finds fault read → read ≡ Err fault
+pub words_found : {Y : Type 0} (fault : DirFault) (read : Result Y DirFault) → IsOfWords fault → FindsFault fault read → read ≡ Err fault
 words_found (BadLink number) read words found = found
 words_found (BadCount number) read words found = found
 words_found EntryPastSegment read words found = found

@@ -8,8 +8,8 @@ use Rattle.os8_dir.specs.Reading.{directory_of}
 use Rattle.os8_dir.specs.Found.{Placed, files_at, above, limit}
 
 -- what a file is: its information words, and the words of all its blocks
-abbrev pub Held : Type 0
-Held = List ℕ × List ℕ
+abbrev pub FileData : Type 0
+FileData = List ℕ × List ℕ
 
 abbrev pub joined : List (List ℕ) → List ℕ
 joined [] = []
@@ -20,21 +20,21 @@ abbrev pub run : List (List ℕ) → ℕ → ℕ → List ℕ
 run blocks place size = joined (take size (drop place blocks))
 
 -- what the blocks hold of a file with so many information words
-abbrev pub held : List (List ℕ) → ℕ → Placed → Held
+abbrev pub held : List (List ℕ) → ℕ → Placed → FileData
 held blocks info f = (take info f.info, run blocks f.place f.size)
 
 -- the same of each of some files, with its name
-abbrev pub held_by : List (List ℕ) → ℕ → List Placed → List (ℕ × Held)
+abbrev pub held_by : List (List ℕ) → ℕ → List Placed → List (ℕ × FileData)
 held_by blocks info [] = []
 held_by blocks info (f ∷ fs) = (f.name, held blocks info f) ∷ held_by blocks info fs
 
 -- the same of a file that may be there
-abbrev pub held_of : List (List ℕ) → ℕ → Option Placed → Option Held
+abbrev pub held_of : List (List ℕ) → ℕ → Option Placed → Option FileData
 held_of blocks info None = None
 held_of blocks info (Some f) = Some (held blocks info f)
 
 abbrev pub Files : Type 0
-Files = FinMap nat_cmp Held
+Files = FinMap nat_cmp FileData
 
 -- the files of a directory over the blocks
 unfoldable pub files_in : List (List ℕ) → Listed → Files

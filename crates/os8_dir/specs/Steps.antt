@@ -38,26 +38,26 @@ last_room (e ∷ []) = room_of e
 last_room (e ∷ f ∷ es) = last_room (f ∷ es)
 
 -- the fault that a step returned is that of the reading, but memory may be refused at any time; no step reads a block
-abbrev pub Finds : {Y : Type 0} → DirFault → Result Y DirFault → Type 0
-Finds (BadLink number) read = read ≡ Err (BadLink number)
-Finds (BadCount number) read = read ≡ Err (BadCount number)
-Finds EntryPastSegment read = read ≡ Err EntryPastSegment
-Finds PastVolume read = read ≡ Err PastVolume
-Finds SameName read = read ≡ Err SameName
-Finds WrongFirstBlock read = read ≡ Err WrongFirstBlock
-Finds MixedInfo read = read ≡ Err MixedInfo
-Finds Device read = ⊥
-Finds Memory read = Unit {0}
+abbrev pub FindsFault : {Y : Type 0} → DirFault → Result Y DirFault → Type 0
+FindsFault (BadLink number) read = read ≡ Err (BadLink number)
+FindsFault (BadCount number) read = read ≡ Err (BadCount number)
+FindsFault EntryPastSegment read = read ≡ Err EntryPastSegment
+FindsFault PastVolume read = read ≡ Err PastVolume
+FindsFault SameName read = read ≡ Err SameName
+FindsFault WrongFirstBlock read = read ≡ Err WrongFirstBlock
+FindsFault MixedInfo read = read ≡ Err MixedInfo
+FindsFault Device read = ⊥
+FindsFault Memory read = Unit {0}
 
 -- what a step returned is what reading gives
 abbrev pub Shows : {X Y : Type 0} → (X → Y) → Result X DirFault → Result Y DirFault → Type 0
 Shows view (Ok x) read = read ≡ Ok (view x)
-Shows view (Err fault) read = Finds fault read
+Shows view (Err fault) read = FindsFault fault read
 
 -- what a step left of a value is what reading gives, where it returned Ok
 abbrev pub Leaves : {X Y : Type 0} → Result X DirFault → Y → Result Y DirFault → Type 0
 Leaves (Ok x) new read = read ≡ Ok new
-Leaves (Err fault) new read = Finds fault read
+Leaves (Err fault) new read = FindsFault fault read
 
 -- the same of a step that reads blocks
 abbrev pub LeavesRead : {X Y : Type 0} → Result X DirFault → Y → Result Y DirFault → Type 0

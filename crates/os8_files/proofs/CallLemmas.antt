@@ -15,7 +15,7 @@ use Rattle.os8_dir.specs.Segments.{HoldsSegments, segment_count, segment_of}
 use Rattle.os8_files.specs.Mounted.{Mounted}
 use Rattle.os8_files.specs.Service.{blocks_of}
 use Rattle.os8_files.specs.Calls.{HasFailed, HasBlock, HasRead, StopsInPart}
-use Rattle.os8_files.specs.WriteSteps.{with_segments, HasDirectory, KeepsHigh, Rewrites}
+use Rattle.os8_files.specs.WriteSteps.{with_segments, HasDirectory, KeepsHigh, RewritesDirectory}
 use Rattle.os8_files.specs.declared.faults.FileFault.{FileFault}
 use Rattle.os8_files.specs.declared.faults.FileFault.TheVariants.{NotFound, NoRoom, DirectoryFull, Busy, BadName, TooLong, TentativeOpen, Device, Stopped, Memory, NothingWritten}
 use Rattle.os8_files.proofs.LookupLemmas.{told, blocks_found, find_within, whole-run, blocks-run}
@@ -103,7 +103,7 @@ read-done finds m new d name k place size words volume running kept is found lon
 pub holds-segments : (old new : List (List ℕ)) (d : Listed) → new ≡ with_segments (segment_count d) d old → segment_count d < length old → HoldsSegments new d
 holds-segments old new d is inside = λ k less. subst (λ (bs : List (List ℕ)). get_or bs (k + 1) [] ≡ segment_of d k) (sym is) (block-segments (segment_count d) d old k inside less)
 
-pub by-rewrite : (old new : Mounted) (d : Listed) (r : Result (Unit {0}) FileFault) (P : Result (Unit {0}) FileFault → Type 0) → Rewrites old d r new → ((done : Unit {0}) → HasDirectory old d new → P (Ok done)) → (HasFailed old new → KeepsHigh old.blocks new.blocks → StopsInPart old.blocks new.blocks d old.writes new.writes → P (Err Device)) → P r
+pub by-rewrite : (old new : Mounted) (d : Listed) (r : Result (Unit {0}) FileFault) (P : Result (Unit {0}) FileFault → Type 0) → RewritesDirectory old d r new → ((done : Unit {0}) → HasDirectory old d new → P (Ok done)) → (HasFailed old new → KeepsHigh old.blocks new.blocks → StopsInPart old.blocks new.blocks d old.writes new.writes → P (Err Device)) → P r
 by-rewrite old new d (Ok done) P is ok failed = ok done is
 by-rewrite old new d (Err NotFound) P is ok failed = absurd is
 by-rewrite old new d (Err (NoRoom n)) P is ok failed = absurd is

@@ -5,7 +5,7 @@ use Rattle.os8_dir.specs.declared.entries.DirEntry.{DirEntry}
 use Rattle.os8_dir.specs.Entries.{Listed, total}
 use Rattle.os8_dir.specs.Reading.{directory_of}
 use Rattle.os8_dir.specs.Found.{IsDirectory, files_at, find, extent_of, limit}
-use Rattle.os8_dir.specs.Files.{Held, files_of, held_of, of_directory}
+use Rattle.os8_dir.specs.Files.{FileData, files_of, held_of, of_directory}
 use Rattle.os8_dir.specs.Changes.{removed, relisted}
 use Rattle.os8_files.specs.Mounted.{Mounted}
 use Rattle.os8_files.specs.Calls.{IsReady, IsFree, HasDeleted}
@@ -20,7 +20,7 @@ pub deleted : FindsFiles → LimitIs → CapacityIs
     → (gone : (name first : ℕ) (es : List DirEntry) → find name (files_at first (removed name es)) ≡ None)
     → (others : (name other first : ℕ) (es : List DirEntry) → name ≢ other → find other (files_at first (removed name es)) ≡ find other (files_at first es))
     → (covered : (name : ℕ) (es : List DirEntry) → total (removed name es) ≡ total es)
-    → (old new : Mounted) (d : Listed) (name : ℕ) (h : Held) → IsReady old → directory_of old.blocks ≡ Ok d → IsDirectory (length old.blocks) d
+    → (old new : Mounted) (d : Listed) (name : ℕ) (h : FileData) → IsReady old → directory_of old.blocks ≡ Ok d → IsDirectory (length old.blocks) d
     → get (files_of old.blocks) name ≡ Some h → IsFree old name → length (removed name d.entries) ≤ limit d
     → HasDirectory old (relisted d (removed name d.entries)) new → HasDeleted old name new
 deleted finds limits covers gone others covered old new d name h ready kept is there free fits done =

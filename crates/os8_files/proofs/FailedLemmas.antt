@@ -10,7 +10,7 @@ use Rattle.os8_dir.specs.declared.faults.DirFault.{DirFault}
 use Rattle.os8_dir.specs.Entries.{Listed, IsTidy}
 use Rattle.os8_dir.specs.Reading.{directory_of, block}
 use Rattle.os8_dir.specs.Found.{Placed, IsDirectory, files_at, find, extent_of}
-use Rattle.os8_dir.specs.Files.{Files, Held, files_of, held_of, run, limit_of}
+use Rattle.os8_dir.specs.Files.{Files, FileData, files_of, held_of, run, limit_of}
 use Rattle.os8_dir.specs.Changes.{removed, moved_down, relisted, lowest_above, gap_below, lowered, placed, new_file}
 use Rattle.os8_files.specs.Mounted.{Mounted, Begun, IsBegun}
 use Rattle.volume_image.specs.Volume.{counted}
@@ -30,11 +30,11 @@ use Rattle.os8_files.proofs.CountLemmas.{differing-same}
 use Rattle.os8_files.proofs.SqueezeLemmas.{LiesAbove, run-directory}
 
 -- What is held of a file that is found.
-abbrev words_or : Option Held → List ℕ
+abbrev words_or : Option FileData → List ℕ
 words_or None = []
 words_or (Some file) = file.1
 
-held-at : (blocks : List (List ℕ)) (info : ℕ) (o : Option Placed) (file : Held) → held_of blocks info o ≡ Some file → (f : Placed) × (o ≡ Some f) × (run blocks f.place f.size ≡ file.1)
+held-at : (blocks : List (List ℕ)) (info : ℕ) (o : Option Placed) (file : FileData) → held_of blocks info o ≡ Some file → (f : Placed) × (o ≡ Some f) × (run blocks f.place f.size ≡ file.1)
 held-at blocks info None file is = cc
 held-at blocks info (Some f) file is = (f, refl, ap words_or is)
 

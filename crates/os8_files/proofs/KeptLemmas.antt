@@ -3,9 +3,9 @@ use Rattle.std.proofs.Common.{◌≡◌, ℕ, Bool, true, false, true≢false, c
 use Rattle.std.specs.FinMap.{get, insert}
 use Rattle.std.proofs.lemmas.Bool.Decides.{nat_tests, eqb_tells}
 use Rattle.os8_dir.specs.Entries.{contains}
-use Rattle.os8_dir.specs.Files.{Files, Held, files_of}
+use Rattle.os8_dir.specs.Files.{Files, FileData, files_of}
 use Rattle.os8_files.specs.Mounted.{Mounted}
-use Rattle.os8_files.specs.Calls.{ReadsBlock, HoldsFile, Deletes, Enters, Writes, Closes, Squeezes}
+use Rattle.os8_files.specs.Calls.{ReadsBlock, HoldsFile, DeletesFile, Enters, WritesBlock, ClosesFile, Squeezes}
 use Rattle.os8_files.specs.Holds.{with_hold, without_hold}
 use Rattle.os8_files.specs.Laws.{KeepsHeld}
 use Rattle.os8_files.specs.declared.faults.FileFault.{FileFault}
@@ -34,7 +34,7 @@ held-other holds name q free held = elim (eqb_tells name q) [
   | inr is ↦ is.0
 ]
 
-pub kept-with : (m : Files) (name : ℕ) (h : Held) (q : ℕ) → eqb name q ≡ false → get (insert m name h) q ≡ get m q
+pub kept-with : (m : Files) (name : ℕ) (h : FileData) (q : ℕ) → eqb name q ≡ false → get (insert m name h) q ≡ get m q
 kept-with m name h q other = get-with m name h q ∙ ap (λ b. cond b (Some h) (get m q)) other
 
 pub reads-keep : (old new : Mounted) (name k : ℕ) (before after : List ℕ) (result : Result (Unit {0}) FileFault) → ReadsBlock old name k before result new after → KeepsHeld old new
@@ -79,7 +79,7 @@ enters-keep old new name wish (Err Device) entered = absurd entered
 enters-keep old new name wish (Err Memory) entered = absurd entered
 enters-keep old new name wish (Err NothingWritten) entered = absurd entered
 
-pub writes-keep : (old new : Mounted) (words : List ℕ) (result : Result (Unit {0}) FileFault) → Writes old words result new → KeepsHeld old new
+pub writes-keep : (old new : Mounted) (words : List ℕ) (result : Result (Unit {0}) FileFault) → WritesBlock old words result new → KeepsHeld old new
 writes-keep old new words (Ok done) written = same-files old new written.files
 writes-keep old new words (Err TooLong) written = blocks-same old new written.4
 writes-keep old new words (Err Device) written = has-failed old new (ap (λ (m : Mounted). m.stopped) written.others)
@@ -93,7 +93,7 @@ writes-keep old new words (Err TentativeOpen) written = absurd written
 writes-keep old new words (Err Memory) written = absurd written
 writes-keep old new words (Err NothingWritten) written = absurd written
 
-pub closes-keep : (old new : Mounted) (name : ℕ) (info : List ℕ) (result : Result (Unit {0}) FileFault) → Closes old name info result new → KeepsHeld old new
+pub closes-keep : (old new : Mounted) (name : ℕ) (info : List ℕ) (result : Result (Unit {0}) FileFault) → ClosesFile old name info result new → KeepsHeld old new
 closes-keep old new name info (Ok done) closed = λ q held running.
     ap (λ m. get m q) closed.files ∙ kept-with (files_of old.blocks) name _ q (held-other old.holds name q closed.free held)
 closes-keep old new name info (Err NothingWritten) closed = same-blocks old new (ap (λ (m : Mounted). m.blocks) closed.3)
@@ -108,7 +108,7 @@ closes-keep old new name info (Err BadName) closed = absurd closed
 closes-keep old new name info (Err TooLong) closed = absurd closed
 closes-keep old new name info (Err TentativeOpen) closed = absurd closed
 
-pub deletes-keep : (old new : Mounted) (name : ℕ) (result : Result (Unit {0}) FileFault) → Deletes old name result new → KeepsHeld old new
+pub deletes-keep : (old new : Mounted) (name : ℕ) (result : Result (Unit {0}) FileFault) → DeletesFile old name result new → KeepsHeld old new
 deletes-keep old new name (Ok done) deleted = λ q held running.
     ap (λ m. get m q) deleted.files ∙ get-without (files_of old.blocks) name q ∙ ap (λ b. cond b None (get (files_of old.blocks) q)) (held-other old.holds name q deleted.free held)
 deletes-keep old new name (Err TentativeOpen) deleted = blocks-same old new deleted.3

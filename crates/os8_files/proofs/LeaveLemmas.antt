@@ -4,7 +4,7 @@ use Rattle.std.specs.Prelude.{◌⊎◌}
 use Rattle.os8_dir.specs.Reading.{directory_of}
 use Rattle.os8_files.specs.Mounted.{Mounted}
 use Rattle.os8_files.specs.Failed.{extent_or}
-use Rattle.os8_files.specs.Calls.{ReadsBlock, HoldsFile, Enters, Writes, Closes, Deletes, Squeezes, Spent}
+use Rattle.os8_files.specs.Calls.{ReadsBlock, HoldsFile, Enters, WritesBlock, ClosesFile, DeletesFile, Squeezes, Spent}
 use Rattle.os8_files.specs.Laws.{KeepsHeld, KeepsHolds, KeepsPlaces, MovesOne, ReadsOne, ReadsLowest, extent_on}
 use Rattle.os8_files.specs.declared.faults.FileFault.{FileFault}
 use Rattle.os8_files.specs.declared.faults.FileFault.TheVariants.{NotFound, NoRoom, DirectoryFull, Busy, BadName, TooLong, TentativeOpen, Device, Stopped, Memory, NothingWritten}
@@ -86,7 +86,7 @@ enters-leave old new name wish (Err Stopped) is = same old new All is.1
 enters-leave old new name wish (Err Memory) is = absurd is
 enters-leave old new name wish (Err NothingWritten) is = absurd is
 
-pub writes-leave : (old new : Mounted) (words : List ℕ) (result : Result (Unit {0}) FileFault) → Writes old words result new → Leaves old new All (new.reads ≡ old.reads)
+pub writes-leave : (old new : Mounted) (words : List ℕ) (result : Result (Unit {0}) FileFault) → WritesBlock old words result new → Leaves old new All (new.reads ≡ old.reads)
 writes-leave old new words (Ok done) is = steady old new All (new.reads ≡ old.reads) (ap (λ (m : Mounted). m.holds) is.others) (ap (λ (m : Mounted). m.stopped) is.others) is.kept.directory (ap (λ (m : Mounted). m.reads) is.others)
 writes-leave old new words (Err NotFound) is = absurd is
 writes-leave old new words (Err (NoRoom n)) is = absurd is
@@ -100,7 +100,7 @@ writes-leave old new words (Err Stopped) is = same old new All is.1
 writes-leave old new words (Err Memory) is = absurd is
 writes-leave old new words (Err NothingWritten) is = absurd is
 
-pub closes-leave : (old new : Mounted) (name : ℕ) (info : List ℕ) (result : Result (Unit {0}) FileFault) → Closes old name info result new → Leaves old new (λ q. name ≢ q) (new.reads ≡ old.reads)
+pub closes-leave : (old new : Mounted) (name : ℕ) (info : List ℕ) (result : Result (Unit {0}) FileFault) → ClosesFile old name info result new → Leaves old new (λ q. name ≢ q) (new.reads ≡ old.reads)
 closes-leave old new name info (Ok done) is = record {
   holds = (ap (λ (m : Mounted). m.holds) is.others);
   running = λ runs. is.running;
@@ -119,7 +119,7 @@ closes-leave old new name info (Err Stopped) is = spent old new (λ q. name ≢ 
 closes-leave old new name info (Err Memory) is = spent old new (λ q. name ≢ q) is.4
 closes-leave old new name info (Err NothingWritten) is = spent old new (λ q. name ≢ q) is.3
 
-pub deletes-leave : (old new : Mounted) (name : ℕ) (result : Result (Unit {0}) FileFault) → Deletes old name result new → Leaves old new (λ q. name ≢ q) (new.reads ≡ old.reads)
+pub deletes-leave : (old new : Mounted) (name : ℕ) (result : Result (Unit {0}) FileFault) → DeletesFile old name result new → Leaves old new (λ q. name ≢ q) (new.reads ≡ old.reads)
 deletes-leave old new name (Ok done) is = record {
   holds = (ap (λ (m : Mounted). m.holds) is.others);
   running = λ runs. is.ready.running;

@@ -11,9 +11,9 @@ use Rattle.os8_dir.specs.Changes.{fitting, placed, new_file}
 use Rattle.os8_files.specs.Mounted.{Mounted, Begun}
 use Rattle.os8_files.specs.Failed.{KeepsDirectory, FoundAgain, StandInFull, IsWrittenInPart, extent_or, listed_or, with_list}
 use Rattle.os8_files.specs.Service.{count_of}
-use Rattle.os8_files.specs.Calls.{IsOf, IsOver, KeepsBlocks, HasWritten, HasEntered, HasFailed, Writes, Enters, Closes, HasClosed, PlaceFailed, RisesBy, info_of, new_held, entries_with, list_with, files_with, rooms_of, Spent, counted_more, differing}
+use Rattle.os8_files.specs.Calls.{IsOf, IsOver, KeepsBlocks, HasWritten, HasEntered, HasFailed, WritesBlock, Enters, ClosesFile, HasClosed, PlaceFailed, RisesBy, info_of, new_held, entries_with, list_with, files_with, rooms_of, Spent, counted_more, differing}
 use Rattle.os8_files.specs.Puts.{HasPut, HasKept, PutFailed, PutsFile, plain_file, blocks_filled, all_written, entries_put, list_put}
-use Rattle.os8_files.specs.Steps.{IsBeginning, HasFilled, Fills}
+use Rattle.os8_files.specs.Steps.{IsBeginning, HasFilled, FillsFile}
 use Rattle.os8_files.specs.declared.faults.FileFault.{FileFault}
 use Rattle.os8_files.specs.declared.faults.FileFault.TheVariants.{NotFound, NoRoom, DirectoryFull, Busy, BadName, TooLong, TentativeOpen, Device, Stopped, Memory, NothingWritten}
 use Rattle.os8_files.proofs.PlaceLemmas.{some-same}
@@ -136,7 +136,7 @@ failed-from old mid new kept is failed =
     ∙ ap (λ r. record old { blocks = new.blocks; writes = new.writes; failed_writes = old.failed_writes + 1; stopped = true; last = listed_or r }) kept.directory
 
 -- a block that was not written
-pub filled_not : (old : Mounted) (begun : Begun) (prefix words all : List ℕ) (written blocks : ℕ) (mid new : Mounted) (why : FileFault) → old.stopped ≡ false → HasFilled old begun prefix written mid → blocks ≤ begun.room → written < blocks → Writes mid words (Err why) new → Fills old all blocks (Err why) new
+pub filled_not : (old : Mounted) (begun : Begun) (prefix words all : List ℕ) (written blocks : ℕ) (mid new : Mounted) (why : FileFault) → old.stopped ≡ false → HasFilled old begun prefix written mid → blocks ≤ begun.room → written < blocks → WritesBlock mid words (Err why) new → FillsFile old all blocks (Err why) new
 filled_not old begun prefix words all written blocks mid new TooLong running done fits short failed = absurd (past (ap (λ (b : Begun). b.room) same) (ap (λ (b : Begun). b.written) same) failed.3)
   where
     same : failed.1 ≡ record { name = begun.name; place = begun.place; room = begun.room; written = written }
@@ -212,7 +212,7 @@ spent-entered : (old m1 : Mounted) (name blocks token : ℕ) → HasEntered old 
 spent-entered old m1 name blocks token e = ap Spent e.others ∙ ap (λ (t : Option Begun). record old { tentative = t }) (sym e.ready.none)
 
 -- a file whose blocks were not all written is given up
-pub filled_failed : (old m1 m2 new : Mounted) (name blocks token : ℕ) (words : List ℕ) (why : FileFault) → blocks ≡ blocks_filled words → HasEntered old name blocks token m1 → Fills m1 words blocks (Err why) m2 → new ≡ Spent m2 → PutsFile old name words (Err why) new
+pub filled_failed : (old m1 m2 new : Mounted) (name blocks token : ℕ) (words : List ℕ) (why : FileFault) → blocks ≡ blocks_filled words → HasEntered old name blocks token m1 → FillsFile m1 words blocks (Err why) m2 → new ≡ Spent m2 → PutsFile old name words (Err why) new
 filled_failed old m1 m2 new name blocks token words Device count e failed is = record {
   ready = e.ready;
   free = e.free;
@@ -406,7 +406,7 @@ closed_not old m1 m2 new name blocks token words begun b count e filled was has 
     low k one few = kept.kept.segments k one (omega (arith, few, part.low))
 
 -- the file that was filled is closed
-pub closed : (old m1 m2 new : Mounted) (name blocks token : ℕ) (words : List ℕ) (begun : Begun) (r : Result (Unit {0}) FileFault) → 0 < blocks → blocks ≡ blocks_filled words → HasEntered old name blocks token m1 → HasFilled m1 begun words blocks m2 → Closes m2 name [] r new → PutsFile old name words r new
+pub closed : (old m1 m2 new : Mounted) (name blocks token : ℕ) (words : List ℕ) (begun : Begun) (r : Result (Unit {0}) FileFault) → 0 < blocks → blocks ≡ blocks_filled words → HasEntered old name blocks token m1 → HasFilled m1 begun words blocks m2 → ClosesFile m2 name [] r new → PutsFile old name words r new
 closed old m1 m2 new name blocks token words begun (Ok done) some count e filled has = closed_done old m1 m2 new name blocks token words begun count e filled has
 closed old m1 m2 new name blocks token words begun (Err NothingWritten) some count e filled has = absurd (written (ap (λ (b : Begun). b.written) (some-same _ _ (sym has.1.was ∙ begun_now m1 begun words blocks m2 filled))) has.2)
   where

@@ -14,7 +14,7 @@ use Rattle.os8_files.specs.Mounted.{Mounted}
 use Rattle.os8_files.specs.Calls.{IsReady, HasFailed, HasMoved, MoveMissed, MoveFailed, RisesBy, StopsInPart, Squeezes, counted_more, differing}
 use Rattle.os8_files.specs.Failed.{with_list, lowest_or, extent_or}
 use Rattle.os8_files.proofs.CountLemmas.{differing-same}
-use Rattle.os8_files.specs.WriteSteps.{HasDirectory, HasBrokenOff, KeepsHigh, Rewrites, Copies, with_run}
+use Rattle.os8_files.specs.WriteSteps.{HasDirectory, HasBrokenOff, KeepsHigh, RewritesDirectory, CopiesBlocks, with_run}
 use Rattle.os8_files.specs.declared.faults.FileFault.{FileFault}
 use Rattle.os8_files.specs.declared.faults.FileFault.TheVariants.{NotFound, NoRoom, DirectoryFull, Busy, BadName, TooLong, TentativeOpen, Device, Stopped, Memory, NothingWritten}
 use Rattle.os8_files.proofs.LookupLemmas.{find_within}
@@ -54,7 +54,7 @@ some-above aboves none blocks d name gap kept is low =
 pub copy-refused : (old new : Mounted) (place size gap : ℕ) (fault : FileFault) → IsReady old → 0 < above_of old.blocks
     → (RisesBy size old.reads new.reads → MoveMissed old new)
     → (HasFailed (record old { reads = new.reads }) new → new.reads ≡ counted_more size old.reads → HasBrokenOff old.blocks (place - gap) size new.blocks old.writes new.writes → MoveFailed old new)
-    → Copies old place size gap (Err fault) new → Squeezes old (Err fault) new
+    → CopiesBlocks old place size gap (Err fault) new → Squeezes old (Err fault) new
 copy-refused old new place size gap NotFound ready some missed failed copies = absurd copies
 copy-refused old new place size gap (NoRoom n) ready some missed failed copies = absurd copies
 copy-refused old new place size gap DirectoryFull ready some missed failed copies = absurd copies
@@ -71,7 +71,7 @@ copy-refused old new place size gap Memory ready some missed failed copies = (re
 copy-refused old new place size gap NothingWritten ready some missed failed copies = absurd copies
 
 -- The directory was not written.
-pub rewrite-refused : (old mid new : Mounted) (d : Listed) (fault : FileFault) → (HasFailed mid new → KeepsHigh mid.blocks new.blocks → StopsInPart mid.blocks new.blocks d mid.writes new.writes → MoveFailed old new) → Rewrites mid d (Err fault) new → Squeezes old (Err fault) new
+pub rewrite-refused : (old mid new : Mounted) (d : Listed) (fault : FileFault) → (HasFailed mid new → KeepsHigh mid.blocks new.blocks → StopsInPart mid.blocks new.blocks d mid.writes new.writes → MoveFailed old new) → RewritesDirectory mid d (Err fault) new → Squeezes old (Err fault) new
 rewrite-refused old mid new d NotFound failed is = absurd is
 rewrite-refused old mid new d (NoRoom n) failed is = absurd is
 rewrite-refused old mid new d DirectoryFull failed is = absurd is

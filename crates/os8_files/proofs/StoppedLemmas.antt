@@ -3,7 +3,7 @@ use Rattle.std.proofs.Common.{◌≡◌, ℕ, true, false, true≢false, List, R
 use Rattle.std.specs.Global.{Vec}
 use Rattle.os8_files.specs.Mounted.{Mounted}
 use Rattle.os8_files.specs.Laws.{IsStopped}
-use Rattle.os8_files.specs.Calls.{ReadsBlock, ListsFiles, HoldsFile, Enters, Writes, Closes, Deletes, Squeezes}
+use Rattle.os8_files.specs.Calls.{ReadsBlock, ListsFiles, HoldsFile, Enters, WritesBlock, ClosesFile, DeletesFile, Squeezes}
 use Rattle.os8_files.specs.declared.faults.FileFault.{FileFault}
 use Rattle.os8_files.specs.declared.faults.FileFault.TheVariants.{NotFound, NoRoom, DirectoryFull, Busy, BadName, TooLong, TentativeOpen, Device, Stopped, Memory, NothingWritten}
 use Rattle.os8_files.specs.declared.tokens.Squeezed.{Squeezed}
@@ -71,7 +71,7 @@ enters-stopped old new name wish (Err Stopped) is = stopped old is.0
 enters-stopped old new name wish (Err Memory) is = absurd is
 enters-stopped old new name wish (Err NothingWritten) is = absurd is
 
-pub writes-stopped : (old new : Mounted) (words : List ℕ) (result : Result (Unit {0}) FileFault) → Writes old words result new → IsStopped old result
+pub writes-stopped : (old new : Mounted) (words : List ℕ) (result : Result (Unit {0}) FileFault) → WritesBlock old words result new → IsStopped old result
 writes-stopped old new words (Ok done) is = running old _ (λ e. cc) is.running
 writes-stopped old new words (Err NotFound) is = absurd is
 writes-stopped old new words (Err (NoRoom n)) is = absurd is
@@ -85,7 +85,7 @@ writes-stopped old new words (Err Stopped) is = stopped old is.0
 writes-stopped old new words (Err Memory) is = absurd is
 writes-stopped old new words (Err NothingWritten) is = absurd is
 
-pub closes-stopped : (old new : Mounted) (name : ℕ) (info : List ℕ) (result : Result (Unit {0}) FileFault) → Closes old name info result new → IsStopped old result
+pub closes-stopped : (old new : Mounted) (name : ℕ) (info : List ℕ) (result : Result (Unit {0}) FileFault) → ClosesFile old name info result new → IsStopped old result
 closes-stopped old new name info (Ok done) is = running old _ (λ e. cc) is.running
 closes-stopped old new name info (Err NotFound) is = absurd is
 closes-stopped old new name info (Err (NoRoom n)) is = absurd is
@@ -99,7 +99,7 @@ closes-stopped old new name info (Err Stopped) is = stopped old is.0
 closes-stopped old new name info (Err Memory) is = running old _ (λ e. cc) is.1.running
 closes-stopped old new name info (Err NothingWritten) is = running old _ (λ e. cc) is.1.running
 
-pub deletes-stopped : (old new : Mounted) (name : ℕ) (result : Result (Unit {0}) FileFault) → Deletes old name result new → IsStopped old result
+pub deletes-stopped : (old new : Mounted) (name : ℕ) (result : Result (Unit {0}) FileFault) → DeletesFile old name result new → IsStopped old result
 deletes-stopped old new name (Ok done) is = running old _ (λ e. cc) is.ready.running
 deletes-stopped old new name (Err NotFound) is = running old _ (λ e. cc) is.0.running
 deletes-stopped old new name (Err (NoRoom n)) is = absurd is

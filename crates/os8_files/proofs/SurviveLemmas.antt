@@ -7,7 +7,7 @@ use Rattle.os8_dir.specs.Files.{files_of}
 use Rattle.os8_dir.specs.Changes.{moved_down}
 use Rattle.os8_files.specs.Mounted.{Mounted}
 use Rattle.os8_files.specs.Failed.{extent_or, with_list, lowest_or, KeepsDirectory, StandInFull, IsWrittenInPart, Survives}
-use Rattle.os8_files.specs.Calls.{Writes, Closes, Deletes, Squeezes}
+use Rattle.os8_files.specs.Calls.{WritesBlock, ClosesFile, DeletesFile, Squeezes}
 use Rattle.os8_files.specs.declared.faults.FileFault.{FileFault}
 use Rattle.os8_files.specs.declared.faults.FileFault.TheVariants.{NotFound, NoRoom, DirectoryFull, Busy, BadName, TooLong, TentativeOpen, Device, Stopped, Memory, NothingWritten}
 use Rattle.os8_files.specs.declared.tokens.Squeezed.{Squeezed}
@@ -19,7 +19,7 @@ none-failed old new same more = absurd (omega (arith, same, more))
 pub same-failed : (old new : Mounted) → new ≡ old → old.failed_writes < new.failed_writes → Survives old.blocks new.blocks
 same-failed old new same more = none-failed old new (ap (λ (m : Mounted). m.failed_writes) same) more
 
-pub writes-survive : (old new : Mounted) (words : List ℕ) (result : Result (Unit {0}) FileFault) → Writes old words result new → old.failed_writes < new.failed_writes → Survives old.blocks new.blocks
+pub writes-survive : (old new : Mounted) (words : List ℕ) (result : Result (Unit {0}) FileFault) → WritesBlock old words result new → old.failed_writes < new.failed_writes → Survives old.blocks new.blocks
 writes-survive old new words (Ok done) is more = none-failed old new (ap (λ (m : Mounted). m.failed_writes) is.others) more
 writes-survive old new words (Err NotFound) is more = absurd is
 writes-survive old new words (Err (NoRoom n)) is more = absurd is
@@ -33,7 +33,7 @@ writes-survive old new words (Err Stopped) is more = none-failed old new (ap (λ
 writes-survive old new words (Err Memory) is more = absurd is
 writes-survive old new words (Err NothingWritten) is more = absurd is
 
-pub deletes-survive : (old new : Mounted) (name : ℕ) (result : Result (Unit {0}) FileFault) → Deletes old name result new → old.failed_writes < new.failed_writes → Survives old.blocks new.blocks
+pub deletes-survive : (old new : Mounted) (name : ℕ) (result : Result (Unit {0}) FileFault) → DeletesFile old name result new → old.failed_writes < new.failed_writes → Survives old.blocks new.blocks
 deletes-survive old new name (Ok done) is more = none-failed old new (ap (λ (m : Mounted). m.failed_writes) is.others) more
 deletes-survive old new name (Err NotFound) is more = none-failed old new (ap (λ (m : Mounted). m.failed_writes) is.2) more
 deletes-survive old new name (Err (NoRoom n)) is more = absurd is
@@ -47,7 +47,7 @@ deletes-survive old new name (Err Stopped) is more = none-failed old new (ap (λ
 deletes-survive old new name (Err Memory) is more = none-failed old new (ap (λ (m : Mounted). m.failed_writes) is.3) more
 deletes-survive old new name (Err NothingWritten) is more = absurd is
 
-pub closes-survive : (old new : Mounted) (name : ℕ) (info : List ℕ) (result : Result (Unit {0}) FileFault) → Closes old name info result new → old.failed_writes < new.failed_writes → Survives old.blocks new.blocks
+pub closes-survive : (old new : Mounted) (name : ℕ) (info : List ℕ) (result : Result (Unit {0}) FileFault) → ClosesFile old name info result new → old.failed_writes < new.failed_writes → Survives old.blocks new.blocks
 closes-survive old new name info (Ok done) is more = none-failed old new (ap (λ (m : Mounted). m.failed_writes) is.others) more
 closes-survive old new name info (Err NotFound) is more = absurd is
 closes-survive old new name info (Err (NoRoom n)) is more = absurd is

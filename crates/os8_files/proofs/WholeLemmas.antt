@@ -8,7 +8,7 @@ use Rattle.os8_dir.specs.declared.faults.DirFault.{DirFault}
 use Rattle.os8_dir.specs.Entries.{Listed, contains, IsTidy}
 use Rattle.os8_dir.specs.Reading.{directory_of}
 use Rattle.os8_dir.specs.Found.{Placed, IsDirectory, files_at, find, count_files}
-use Rattle.os8_dir.specs.Files.{Files, Held, files_of, held_of, run, above_of}
+use Rattle.os8_dir.specs.Files.{Files, FileData, files_of, held_of, run, above_of}
 use Rattle.os8_files.specs.Mounted.{Mounted}
 use Rattle.os8_files.specs.Service.{blocks_in, count_of}
 use Rattle.os8_files.specs.Calls.{ReadsBlock}
@@ -27,11 +27,11 @@ held-files name first (next ∷ others) last through runs =
     let behind = held-files name next others last through.3 runs in
     (through.1 behind.0, behind.1 ∙ through.2 name through.0 behind.0)
 
-abbrev words_or : Option Held → List ℕ
+abbrev words_or : Option FileData → List ℕ
 words_or None = []
 words_or (Some file) = file.1
 
-pub held-block : (name k : ℕ) (first last new : Mounted) (others : List Mounted) (before after : List ℕ) (file : Held) → IsHeldThrough name first others last → get (files_of first.blocks) name ≡ Some file → ReadsBlock last name k before (Ok tt) new after → after ≡ take 256 (drop (256 * k) file.1)
+pub held-block : (name k : ℕ) (first last new : Mounted) (others : List Mounted) (before after : List ℕ) (file : FileData) → IsHeldThrough name first others last → get (files_of first.blocks) name ≡ Some file → ReadsBlock last name k before (Ok tt) new after → after ≡ take 256 (drop (256 * k) file.1)
 held-block name k first last new others before after file through there read =
     let same = held-files name first others last through read.running in
     read.block ∙ ap (λ o. take 256 (drop (256 * k) (words_or o))) (sym read.there ∙ same.1 ∙ there)
@@ -45,7 +45,7 @@ both-keep old mid new one two = record {
 }
 
 -- What is held of a file that is found.
-found-held : (blocks : List (List ℕ)) (info : ℕ) (o : Option Placed) (file : Held) → held_of blocks info o ≡ Some file → (f : Placed) × (o ≡ Some f) × (run blocks f.place f.size ≡ file.1)
+found-held : (blocks : List (List ℕ)) (info : ℕ) (o : Option Placed) (file : FileData) → held_of blocks info o ≡ Some file → (f : Placed) × (o ≡ Some f) × (run blocks f.place f.size ≡ file.1)
 found-held blocks info None file is = cc
 found-held blocks info (Some f) file is = (f, refl, ap words_or is)
 
@@ -53,7 +53,7 @@ none-some : {A : Type 0} (x : A) → None ≡ Some x → ⊥
 none-some x is = cc
 
 -- The words of a file are those of whole blocks, at least one.
-pub record IsWhole (file : Held) : Type 0 where
+pub record IsWhole (file : FileData) : Type 0 where
   pub whole : 256 * blocks_in file ≡ length file.1
   pub some : 0 < blocks_in file
   pub most : blocks_in file ≤ 4095
@@ -65,7 +65,7 @@ abbrev pub NoFiles : Type 0
 NoFiles = (blocks : List (List ℕ)) (fault : DirFault) → directory_of blocks ≡ Err fault → files_of blocks ≡ from_entries []
 
 pub whole-file : FindsFiles → ((blocks : List (List ℕ)) (d : Listed) → directory_of blocks ≡ Ok d → IsDirectory (length blocks) d) → FindsInside → NoFiles
-    → (blocks : List (List ℕ)) (name : ℕ) (file : Held) → IsVolume blocks → get (files_of blocks) name ≡ Some file → IsWhole file
+    → (blocks : List (List ℕ)) (name : ℕ) (file : FileData) → IsVolume blocks → get (files_of blocks) name ≡ Some file → IsWhole file
 whole-file finds sound inside none blocks name file volume there = by (directory_of blocks) refl
   where
     by : (r : Result Listed DirFault) → directory_of blocks ≡ r → IsWhole file

@@ -8,7 +8,7 @@ use Rattle.os8_dir.specs.Names.{padded}
 use Rattle.os8_dir.specs.Entries.{Listed, contains, IsNamed}
 use Rattle.os8_dir.specs.Reading.{directory_of, block}
 use Rattle.os8_dir.specs.Found.{rooms_at, largest, size_or_zero}
-use Rattle.os8_dir.specs.Files.{Held, Files, files_of, run, of_directory, limit_of, above_of, capacity_of}
+use Rattle.os8_dir.specs.Files.{FileData, Files, files_of, run, of_directory, limit_of, above_of, capacity_of}
 use Rattle.os8_dir.specs.Changes.{removed, placed, new_file, moved_down, fitting}
 use Rattle.os8_dir.specs.declared.faults.DirFault.{DirFault}
 use Rattle.os8_files.specs.Mounted.{Mounted, Begun}
@@ -23,7 +23,7 @@ use Rattle.os8_files.specs.declared.faults.FileFault.TheVariants.{NotFound, NoRo
 
 -- there is a file of the name
 abbrev pub IsThere : Mounted → ℕ → Type 0
-IsThere m name = (file : Held) × (get (files_of m.blocks) name ≡ Some file)
+IsThere m name = (file : FileData) × (get (files_of m.blocks) name ≡ Some file)
 
 -- no file is held under the name
 abbrev pub IsFree : Mounted → ℕ → Type 0
@@ -80,7 +80,7 @@ IsLonger m name k = m.stopped ≡ false → HasBlock m name k
 -- block k of a file, which has whole blocks, is read by one read
 pub record HasRead (old : Mounted) (name k : ℕ) (words : List ℕ) (new : Mounted) : Type 0 where
   pub running : old.stopped ≡ false
-  pub file : Held
+  pub file : FileData
   pub there : get (files_of old.blocks) name ≡ Some file
   pub whole : 256 * blocks_in file ≡ length file.1
   pub inside : k < blocks_in file
@@ -89,7 +89,7 @@ pub record HasRead (old : Mounted) (name k : ℕ) (words : List ℕ) (new : Moun
   pub others : new ≡ record old { reads = counted old.reads }
 
 abbrev pub ReadsBlock : Mounted → ℕ → ℕ → List ℕ → Result (Unit {0}) FileFault → Mounted → List ℕ → Type 0
-ReadsBlock old name k before (Ok done) new after = HasRead old name k after new
+ReadsBlock old name k before (Ok nothing) new after = HasRead old name k after new
 ReadsBlock old name k before (Err NotFound) new after = (old.stopped ≡ false) × (get (files_of old.blocks) name ≡ None) × (new ≡ old) × (after ≡ before)
 ReadsBlock old name k before (Err Device) new after = (old.stopped ≡ false) × (new ≡ record old { reads = counted old.reads; failed_reads = old.failed_reads + 1 }) × (after ≡ before)
 ReadsBlock old name k before (Err Stopped) new after = (old.stopped ≡ true) × (new ≡ old) × (after ≡ before)
@@ -105,7 +105,7 @@ ListsFiles m (Err fault) = ⊥
 -- one hold more of a file that is there, which has whole blocks, at least one
 pub record HasTaken (old : Mounted) (name hold : ℕ) (new : Mounted) : Type 0 where
   pub running : old.stopped ≡ false
-  pub file : Held
+  pub file : FileData
   pub there : get (files_of old.blocks) name ≡ Some file
   pub whole : 256 * blocks_in file ≡ length file.1
   pub some : 0 < blocks_in file
@@ -172,7 +172,7 @@ entries_without name blocks = of_directory (λ d. length (removed name d.entries
 -- a file is taken out, and the others stay in their places
 pub record HasDeleted (old : Mounted) (name : ℕ) (new : Mounted) : Type 0 where
   pub ready : IsReady old
-  pub file : Held
+  pub file : FileData
   pub there : get (files_of old.blocks) name ≡ Some file
   pub free : IsFree old name
   pub fits : entries_without name old.blocks ≤ limit_of old.blocks
@@ -197,16 +197,16 @@ pub record DeleteFailed (old : Mounted) (name : ℕ) (new : Mounted) : Type 0 wh
   pub blocks : KeepsBlocks old.blocks new.blocks 0 0
   pub others : HasFailed old new
 
-abbrev pub Deletes : Mounted → ℕ → Result (Unit {0}) FileFault → Mounted → Type 0
-Deletes old name (Ok done) new = HasDeleted old name new
-Deletes old name (Err TentativeOpen) new = (old.stopped ≡ false) × (begun : Begun) × (old.tentative ≡ Some begun) × (new ≡ old)
-Deletes old name (Err NotFound) new = IsReady old × (get (files_of old.blocks) name ≡ None) × (new ≡ old)
-Deletes old name (Err (Busy other)) new = IsReady old × IsThere old name × (other ≡ name) × IsHeld old name × (new ≡ old)
-Deletes old name (Err DirectoryFull) new = IsReady old × IsThere old name × IsFree old name × (limit_of old.blocks < entries_without name old.blocks) × IsOver old.blocks (remove (files_of old.blocks) name) × (new ≡ old)
-Deletes old name (Err Device) new = DeleteFailed old name new
-Deletes old name (Err Stopped) new = HasStopped old new
-Deletes old name (Err Memory) new = IsReady old × IsThere old name × IsFree old name × (new ≡ old)
-Deletes old name (Err fault) new = ⊥
+abbrev pub DeletesFile : Mounted → ℕ → Result (Unit {0}) FileFault → Mounted → Type 0
+DeletesFile old name (Ok nothing) new = HasDeleted old name new
+DeletesFile old name (Err TentativeOpen) new = (old.stopped ≡ false) × (begun : Begun) × (old.tentative ≡ Some begun) × (new ≡ old)
+DeletesFile old name (Err NotFound) new = IsReady old × (get (files_of old.blocks) name ≡ None) × (new ≡ old)
+DeletesFile old name (Err (Busy other)) new = IsReady old × IsThere old name × (other ≡ name) × IsHeld old name × (new ≡ old)
+DeletesFile old name (Err DirectoryFull) new = IsReady old × IsThere old name × IsFree old name × (limit_of old.blocks < entries_without name old.blocks) × IsOver old.blocks (remove (files_of old.blocks) name) × (new ≡ old)
+DeletesFile old name (Err Device) new = DeleteFailed old name new
+DeletesFile old name (Err Stopped) new = HasStopped old new
+DeletesFile old name (Err Memory) new = IsReady old × IsThere old name × IsFree old name × (new ≡ old)
+DeletesFile old name (Err fault) new = ⊥
 
 -- a file is begun in the empty for a wish
 pub record HasEntered (old : Mounted) (name wish tentative : ℕ) (new : Mounted) : Type 0 where
@@ -260,19 +260,19 @@ pub record WriteFailed (old new : Mounted) : Type 0 where
   pub writes : new.writes ≡ counted old.writes
   pub others : HasFailed old new
 
-abbrev pub Writes : Mounted → List ℕ → Result (Unit {0}) FileFault → Mounted → Type 0
-Writes old words (Ok done) new = HasWritten old words new
-Writes old words (Err TooLong) new = (old.stopped ≡ false) × (begun : Begun) × (old.tentative ≡ Some begun) × (begun.room ≤ begun.written) × (new ≡ old)
-Writes old words (Err Device) new = WriteFailed old new
-Writes old words (Err Stopped) new = HasStopped old new
-Writes old words (Err fault) new = ⊥
+abbrev pub WritesBlock : Mounted → List ℕ → Result (Unit {0}) FileFault → Mounted → Type 0
+WritesBlock old words (Ok nothing) new = HasWritten old words new
+WritesBlock old words (Err TooLong) new = (old.stopped ≡ false) × (begun : Begun) × (old.tentative ≡ Some begun) × (begun.room ≤ begun.written) × (new ≡ old)
+WritesBlock old words (Err Device) new = WriteFailed old new
+WritesBlock old words (Err Stopped) new = HasStopped old new
+WritesBlock old words (Err fault) new = ⊥
 
 -- how many entries the directory has with a file that was written
 abbrev pub entries_with : Begun → List ℕ → List (List ℕ) → ℕ
 entries_with begun info blocks = of_directory (λ d. length (placed d.first (new_file d begun.name info begun.place begun.written) d.entries)) (directory_of blocks)
 
 -- what a file that was written is: the first of these words are its information words, and missing ones are 0
-abbrev pub new_held : Mounted → Begun → List ℕ → Held
+abbrev pub new_held : Mounted → Begun → List ℕ → FileData
 new_held m begun info = (padded (info_of m.blocks) info, run m.blocks begun.place begun.written)
 
 -- the file that is being written is gone, and all else is as before
@@ -327,15 +327,15 @@ pub record PlaceFailed (old : Mounted) (begun : Begun) (given : List ℕ) (new :
   pub blocks : KeepsBlocks old.blocks new.blocks 0 0
   pub others : HasFailed old new
 
-abbrev pub Closes : Mounted → ℕ → List ℕ → Result (Unit {0}) FileFault → Mounted → Type 0
-Closes old name info (Ok done) new = HasClosed old name info new
-Closes old name info (Err NothingWritten) new = (begun : Begun) × IsWriting old begun × (begun.written ≡ 0) × (new ≡ Spent old)
-Closes old name info (Err (Busy other)) new = (begun : Begun) × IsWriting old begun × (0 < begun.written) × (other ≡ name) × IsHeld old name × (new ≡ Spent old)
-Closes old name info (Err DirectoryFull) new = (begun : Begun) × IsWriting old begun × (0 < begun.written) × IsFree old name × (limit_of old.blocks < entries_with begun info old.blocks) × IsOver old.blocks (insert (files_of old.blocks) name (new_held old begun info)) × (new ≡ Spent old)
-Closes old name info (Err Device) new = (begun : Begun) × IsWriting old begun × (begun.name ≡ name) × PlaceFailed (Spent old) begun info new
-Closes old name info (Err Stopped) new = (old.stopped ≡ true) × (new ≡ Spent old)
-Closes old name info (Err Memory) new = (begun : Begun) × IsWriting old begun × (0 < begun.written) × IsFree old name × (new ≡ Spent old)
-Closes old name info (Err fault) new = ⊥
+abbrev pub ClosesFile : Mounted → ℕ → List ℕ → Result (Unit {0}) FileFault → Mounted → Type 0
+ClosesFile old name info (Ok nothing) new = HasClosed old name info new
+ClosesFile old name info (Err NothingWritten) new = (begun : Begun) × IsWriting old begun × (begun.written ≡ 0) × (new ≡ Spent old)
+ClosesFile old name info (Err (Busy other)) new = (begun : Begun) × IsWriting old begun × (0 < begun.written) × (other ≡ name) × IsHeld old name × (new ≡ Spent old)
+ClosesFile old name info (Err DirectoryFull) new = (begun : Begun) × IsWriting old begun × (0 < begun.written) × IsFree old name × (limit_of old.blocks < entries_with begun info old.blocks) × IsOver old.blocks (insert (files_of old.blocks) name (new_held old begun info)) × (new ≡ Spent old)
+ClosesFile old name info (Err Device) new = (begun : Begun) × IsWriting old begun × (begun.name ≡ name) × PlaceFailed (Spent old) begun info new
+ClosesFile old name info (Err Stopped) new = (old.stopped ≡ true) × (new ≡ Spent old)
+ClosesFile old name info (Err Memory) new = (begun : Begun) × IsWriting old begun × (0 < begun.written) × IsFree old name × (new ≡ Spent old)
+ClosesFile old name info (Err fault) new = ⊥
 
 -- the lowest file with an empty directly below it lies lower by that empty, with one read for each of its blocks; the files
 -- are the same

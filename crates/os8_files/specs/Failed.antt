@@ -5,7 +5,7 @@ use Rattle.os8_dir.specs.Entries.{Listed}
 use Rattle.os8_dir.specs.Reading.{directory_of, block}
 use Rattle.os8_dir.specs.Found.{Placed, files_at, find, extent_of}
 use Rattle.os8_dir.specs.Segments.{segment_count, segment_of}
-use Rattle.os8_dir.specs.Files.{Held, Files, files_of, run}
+use Rattle.os8_dir.specs.Files.{FileData, Files, files_of, run}
 use Rattle.os8_dir.specs.Changes.{relisted, lowest_above, moved_down}
 use Rattle.os8_dir.specs.declared.entries.DirEntry.{DirEntry}
 use Rattle.os8_dir.specs.declared.faults.DirFault.{DirFault}
@@ -43,7 +43,7 @@ pub record FoundAgainBut (old new : List (List ℕ)) (name size gap : ℕ) : Typ
 
 -- the words of each of these files stand in full in the blocks where this directory has the file, mounted or not
 abbrev pub StandInFull : List (List ℕ) → Result Listed DirFault → Files → Type 0
-StandInFull blocks directory files = (name : ℕ) (file : Held) → get files name ≡ Some file → (place : ℕ) × (size : ℕ) × (extent_or name directory ≡ Some (place, size)) × (run blocks place size ≡ file.1)
+StandInFull blocks directory files = (name : ℕ) (file : FileData) → get files name ≡ Some file → (place : ℕ) × (size : ℕ) × (extent_or name directory ≡ Some (place, size)) × (run blocks place size ≡ file.1)
 
 -- what a directory is read as, with another list of entries
 abbrev pub with_list : (Listed → List DirEntry) → Result Listed DirFault → Result Listed DirFault

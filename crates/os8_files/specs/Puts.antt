@@ -5,7 +5,7 @@ use Rattle.std.specs.FinMap.{get, insert}
 use Rattle.os8_dir.specs.Names.{padded}
 use Rattle.os8_dir.specs.Entries.{Listed}
 use Rattle.os8_dir.specs.Reading.{directory_of}
-use Rattle.os8_dir.specs.Files.{Held, files_of, limit_of, above_of, capacity_of}
+use Rattle.os8_dir.specs.Files.{FileData, files_of, limit_of, above_of, capacity_of}
 use Rattle.os8_dir.specs.Changes.{fitting}
 use Rattle.os8_dir.specs.declared.faults.DirFault.{DirFault}
 use Rattle.os8_files.specs.Mounted.{Mounted, Begun}
@@ -20,7 +20,7 @@ abbrev pub blocks_filled : List ℕ → ℕ
 blocks_filled words = length words / 256
 
 -- what a file of these words is: its information words are 0
-abbrev pub plain_file : Mounted → List ℕ → Held
+abbrev pub plain_file : Mounted → List ℕ → FileData
 plain_file m words = (padded (info_of m.blocks) [], words)
 
 -- the file that is being written when these words are: it lies at the beginning of an empty with so many blocks
@@ -111,7 +111,7 @@ pub record PutFailed (old : Mounted) (name : ℕ) (words : List ℕ) (new : Moun
   pub others : HasFailed old new
 
 abbrev pub PutsFile : Mounted → ℕ → List ℕ → Result (Unit {0}) FileFault → Mounted → Type 0
-PutsFile old name words (Ok done) new = HasPut old name words new
+PutsFile old name words (Ok nothing) new = HasPut old name words new
 PutsFile old name words (Err (Busy other)) new = IsReady old × (other ≡ name) × IsHeld old name × (new ≡ old)
 PutsFile old name words (Err (NoRoom largest)) new =
     IsReady old × IsFree old name × (largest < blocks_filled words) × IsLargest old.blocks largest × (new ≡ old)

@@ -1,14 +1,14 @@
 -- What the file service answers, in terms of the map of the volume's files.
 use Rattle.std.specs.Prelude.{ℕ, ◌+◌, ◌/◌, Option, Some, None, List, [], ◌∷◌, map, length}
 use Rattle.std.specs.FinMap.{entries}
-use Rattle.os8_dir.specs.Files.{Files, Held}
+use Rattle.os8_dir.specs.Files.{Files, FileData}
 
 -- the blocks of a file
-abbrev pub blocks_in : Held → ℕ
+abbrev pub blocks_in : FileData → ℕ
 blocks_in held = length held.1 / 256
 
 -- the blocks of a file that may be there
-abbrev pub blocks_of : Option Held → Option ℕ
+abbrev pub blocks_of : Option FileData → Option ℕ
 blocks_of None = None
 blocks_of (Some held) = Some (blocks_in held)
 
@@ -17,7 +17,7 @@ abbrev pub lengths_of : Files → List (ℕ × ℕ)
 lengths_of files = map (λ file. (file.0, blocks_in file.1)) (entries files)
 
 -- the blocks of some files
-abbrev pub total_of : List (ℕ × Held) → ℕ
+abbrev pub total_of : List (ℕ × FileData) → ℕ
 total_of [] = 0
 total_of (file ∷ files) = blocks_in file.1 + total_of files
 

@@ -52,10 +52,10 @@ pub record FillFailed (old : Mounted) (blocks : ℕ) (new : Mounted) : Type 0 wh
   pub writes : RisesBy blocks old.writes new.writes
   pub others : HasFailed (Spent old) (Spent new)
 
-abbrev pub Fills : Mounted → List ℕ → ℕ → Result (Unit {0}) FileFault → Mounted → Type 0
-Fills old words blocks (Ok done) new = (begun : Begun) × HasFilled old begun words blocks new
-Fills old words blocks (Err Device) new = FillFailed old blocks new
-Fills old words blocks (Err fault) new = ⊥
+abbrev pub FillsFile : Mounted → List ℕ → ℕ → Result (Unit {0}) FileFault → Mounted → Type 0
+FillsFile old words blocks (Ok nothing) new = (begun : Begun) × HasFilled old begun words blocks new
+FillsFile old words blocks (Err Device) new = FillFailed old blocks new
+FillsFile old words blocks (Err fault) new = ⊥
 
 -- ## Calls
 
@@ -67,11 +67,11 @@ pub record IsPlaced (m : Mounted) (begun : Begun) : Type 0 where
   pub lies : IsBegun directory begun
 
 -- what placing that file in the directory answers: where it is done, the file that was being written is closed
-abbrev pub Places : Mounted → ℕ → Begun → List ℕ → Result (Unit {0}) FileFault → Mounted → Type 0
-Places old name begun info (Ok done) new = HasClosed (record old { tentative = Some begun }) name info new
-Places old name begun info (Err NothingWritten) new = (begun.written ≡ 0) × (new ≡ old)
-Places old name begun info (Err (Busy other)) new = (0 < begun.written) × (other ≡ name) × IsHeld old name × (new ≡ old)
-Places old name begun info (Err DirectoryFull) new = (0 < begun.written) × IsFree old name × (limit_of old.blocks < entries_with begun info old.blocks) × IsOver old.blocks (insert (files_of old.blocks) name (new_held old begun info)) × (new ≡ old)
-Places old name begun info (Err Device) new = PlaceFailed old begun info new
-Places old name begun info (Err Memory) new = (0 < begun.written) × IsFree old name × (new ≡ old)
-Places old name begun info (Err fault) new = ⊥
+abbrev pub PlacesFile : Mounted → ℕ → Begun → List ℕ → Result (Unit {0}) FileFault → Mounted → Type 0
+PlacesFile old name begun info (Ok nothing) new = HasClosed (record old { tentative = Some begun }) name info new
+PlacesFile old name begun info (Err NothingWritten) new = (begun.written ≡ 0) × (new ≡ old)
+PlacesFile old name begun info (Err (Busy other)) new = (0 < begun.written) × (other ≡ name) × IsHeld old name × (new ≡ old)
+PlacesFile old name begun info (Err DirectoryFull) new = (0 < begun.written) × IsFree old name × (limit_of old.blocks < entries_with begun info old.blocks) × IsOver old.blocks (insert (files_of old.blocks) name (new_held old begun info)) × (new ≡ old)
+PlacesFile old name begun info (Err Device) new = PlaceFailed old begun info new
+PlacesFile old name begun info (Err Memory) new = (0 < begun.written) × IsFree old name × (new ≡ old)
+PlacesFile old name begun info (Err fault) new = ⊥

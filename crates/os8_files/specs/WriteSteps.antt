@@ -36,10 +36,10 @@ pub record KeepsHigh (old new : List (List ℕ)) : Type 0 where
   pub first : block new 0 ≡ block old 0
   pub size : length new ≡ length old
 
-abbrev pub Rewrites : Mounted → Listed → Result (Unit {0}) FileFault → Mounted → Type 0
-Rewrites old d (Ok done) new = HasDirectory old d new
-Rewrites old d (Err Device) new = HasFailed old new × KeepsHigh old.blocks new.blocks × StopsInPart old.blocks new.blocks d old.writes new.writes
-Rewrites old d (Err fault) new = ⊥
+abbrev pub RewritesDirectory : Mounted → Listed → Result (Unit {0}) FileFault → Mounted → Type 0
+RewritesDirectory old d (Ok nothing) new = HasDirectory old d new
+RewritesDirectory old d (Err Device) new = HasFailed old new × KeepsHigh old.blocks new.blocks × StopsInPart old.blocks new.blocks d old.writes new.writes
+RewritesDirectory old d (Err fault) new = ⊥
 
 -- blocks are written one behind the other from a place on
 abbrev pub with_run : List (List ℕ) → ℕ → List (List ℕ) → List (List ℕ)
@@ -56,8 +56,8 @@ pub record HasBrokenOff (old : List (List ℕ)) (place size : ℕ) (new : List (
   pub writes : after ≡ counted_more (length run) before
 
 -- a run of blocks is copied so many blocks down
-abbrev pub Copies : Mounted → ℕ → ℕ → ℕ → Result (Unit {0}) FileFault → Mounted → Type 0
-Copies old place size gap (Ok done) new = (new.blocks ≡ with_run old.blocks (place - gap) (take size (drop place old.blocks))) × (new ≡ record old { blocks = new.blocks; reads = new.reads; writes = new.writes }) × (new.writes ≡ counted_more size old.writes) × (new.reads ≡ counted_more size old.reads)
-Copies old place size gap (Err Device) new = (HasMissed old new × RisesBy size old.reads new.reads) ⊎ (HasFailed (record old { reads = new.reads }) new × (new.reads ≡ counted_more size old.reads) × HasBrokenOff old.blocks (place - gap) size new.blocks old.writes new.writes)
-Copies old place size gap (Err Memory) new = new ≡ old
-Copies old place size gap (Err fault) new = ⊥
+abbrev pub CopiesBlocks : Mounted → ℕ → ℕ → ℕ → Result (Unit {0}) FileFault → Mounted → Type 0
+CopiesBlocks old place size gap (Ok nothing) new = (new.blocks ≡ with_run old.blocks (place - gap) (take size (drop place old.blocks))) × (new ≡ record old { blocks = new.blocks; reads = new.reads; writes = new.writes }) × (new.writes ≡ counted_more size old.writes) × (new.reads ≡ counted_more size old.reads)
+CopiesBlocks old place size gap (Err Device) new = (HasMissed old new × RisesBy size old.reads new.reads) ⊎ (HasFailed (record old { reads = new.reads }) new × (new.reads ≡ counted_more size old.reads) × HasBrokenOff old.blocks (place - gap) size new.blocks old.writes new.writes)
+CopiesBlocks old place size gap (Err Memory) new = new ≡ old
+CopiesBlocks old place size gap (Err fault) new = ⊥

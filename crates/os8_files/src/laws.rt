@@ -4,10 +4,10 @@ ghost use Rattle.std.specs.FinMap.{get};
 ghost use Rattle.std.specs.Global.{Vec};
 ghost use Rattle.volume_image.specs.Volume.{IsVolume};
 ghost use Rattle.os8_dir.specs.Entries.{contains};
-ghost use Rattle.os8_dir.specs.Files.{Held, files_of, above_of};
+ghost use Rattle.os8_dir.specs.Files.{FileData, files_of, above_of};
 ghost use Rattle.os8_files.specs.Service.{blocks_in, count_of};
 ghost use Rattle.os8_files.specs.Mounted.{Mounted};
-ghost use Rattle.os8_files.specs.Calls.{ReadsBlock, ListsFiles, HoldsFile, Deletes, Enters, Writes, Closes, Squeezes, Spent, HasMissed};
+ghost use Rattle.os8_files.specs.Calls.{ReadsBlock, ListsFiles, HoldsFile, DeletesFile, Enters, WritesBlock, ClosesFile, Squeezes, Spent, HasMissed};
 ghost use Rattle.os8_files.specs.Puts.{PutsFile};
 ghost use Rattle.os8_files.specs.Holds.{with_hold, without_hold, times};
 ghost use Rattle.os8_files.specs.Failed.{KeepsDirectory, Survives};
@@ -31,13 +31,13 @@ pub fn held_files()
     ensures enter { (old new : Mounted) (name wish : ℕ) (result : Result ℕ FileFault)
         → Enters old name wish result new → KeepsHeld old new }
     ensures write { (old new : Mounted) (words : List ℕ) (result : Result (Unit {0}) FileFault)
-        → Writes old words result new → KeepsHeld old new }
+        → WritesBlock old words result new → KeepsHeld old new }
     ensures close { (old new : Mounted) (name : ℕ) (info : List ℕ) (result : Result (Unit {0}) FileFault)
-        → Closes old name info result new → KeepsHeld old new }
+        → ClosesFile old name info result new → KeepsHeld old new }
     ensures put { (old new : Mounted) (name : ℕ) (words : List ℕ) (result : Result (Unit {0}) FileFault)
         → PutsFile old name words result new → KeepsHeld old new }
     ensures delete { (old new : Mounted) (name : ℕ) (result : Result (Unit {0}) FileFault)
-        → Deletes old name result new → KeepsHeld old new }
+        → DeletesFile old name result new → KeepsHeld old new }
     ensures squeeze_turn { (old new : Mounted) (result : Result Squeezed FileFault) → Squeezes old result new
         → KeepsHeld old new }
     ensures release { (old : Mounted) (hold : ℕ)
@@ -48,7 +48,7 @@ pub fn held_files()
 /// Block k of a file that stays held is block k of the same words at each later call, wherever the file lies by then.
 pub fn held_blocks()
     ensures { (name k : ℕ) (first last new : Mounted) (others : List Mounted) (before after : List ℕ)
-        (file : Held) → IsHeldThrough name first others last
+        (file : FileData) → IsHeldThrough name first others last
         → get (files_of first.blocks) name ≡ Some file → ReadsBlock last name k before (Ok tt) new after
         → after ≡ take 256 (drop (256 * k) file.1) }
 {}
@@ -65,14 +65,14 @@ pub fn kept_holds()
     ensures enter { (old new : Mounted) (name wish : ℕ) (result : Result ℕ FileFault)
         → Enters old name wish result new → KeepsHolds old new }
     ensures write { (old new : Mounted) (words : List ℕ) (result : Result (Unit {0}) FileFault)
-        → Writes old words result new → KeepsHolds old new }
+        → WritesBlock old words result new → KeepsHolds old new }
     ensures close { (old new : Mounted) (name : ℕ) (info : List ℕ) (result : Result (Unit {0}) FileFault)
-        → Closes old name info result new → KeepsHolds old new }
+        → ClosesFile old name info result new → KeepsHolds old new }
     ensures put { (old new : Mounted) (name : ℕ) (words : List ℕ) (result : Result (Unit {0}) FileFault)
         → PutsFile old name words result new → KeepsHolds old new }
     ensures give_up { (old : Mounted) → KeepsHolds old (Spent old) }
     ensures delete { (old new : Mounted) (name : ℕ) (result : Result (Unit {0}) FileFault)
-        → Deletes old name result new → KeepsHolds old new }
+        → DeletesFile old name result new → KeepsHolds old new }
     ensures squeeze_turn { (old new : Mounted) (result : Result Squeezed FileFault) → Squeezes old result new
         → KeepsHolds old new }
     ensures both { (old mid new : Mounted) → KeepsHolds old mid → KeepsHolds mid new → KeepsHolds old new }
@@ -109,14 +109,14 @@ pub fn file_places()
     ensures enter { (old new : Mounted) (name wish : ℕ) (result : Result ℕ FileFault)
         → Enters old name wish result new → KeepsPlaces old new }
     ensures write { (old new : Mounted) (words : List ℕ) (result : Result (Unit {0}) FileFault)
-        → Writes old words result new → KeepsPlaces old new }
+        → WritesBlock old words result new → KeepsPlaces old new }
     ensures close { (old new : Mounted) (name : ℕ) (info : List ℕ) (result : Result (Unit {0}) FileFault)
-        → Closes old name info result new → KeepsOtherPlaces name old new }
+        → ClosesFile old name info result new → KeepsOtherPlaces name old new }
     ensures put { (old new : Mounted) (name : ℕ) (words : List ℕ) (result : Result (Unit {0}) FileFault)
         → PutsFile old name words result new → KeepsOtherPlaces name old new }
     ensures give_up { (old : Mounted) → KeepsPlaces old (Spent old) }
     ensures delete { (old new : Mounted) (name : ℕ) (result : Result (Unit {0}) FileFault)
-        → Deletes old name result new → KeepsOtherPlaces name old new }
+        → DeletesFile old name result new → KeepsOtherPlaces name old new }
     ensures squeeze_turn { (old new : Mounted) (result : Result Squeezed FileFault) → Squeezes old result new
         → MovesOne old result new }
 {}
@@ -133,24 +133,24 @@ pub fn block_reads()
     ensures enter { (old new : Mounted) (name wish : ℕ) (result : Result ℕ FileFault)
         → Enters old name wish result new → new.reads ≡ old.reads }
     ensures write { (old new : Mounted) (words : List ℕ) (result : Result (Unit {0}) FileFault)
-        → Writes old words result new → new.reads ≡ old.reads }
+        → WritesBlock old words result new → new.reads ≡ old.reads }
     ensures close { (old new : Mounted) (name : ℕ) (info : List ℕ) (result : Result (Unit {0}) FileFault)
-        → Closes old name info result new → new.reads ≡ old.reads }
+        → ClosesFile old name info result new → new.reads ≡ old.reads }
     ensures put { (old new : Mounted) (name : ℕ) (words : List ℕ) (result : Result (Unit {0}) FileFault)
         → PutsFile old name words result new → new.reads ≡ old.reads }
     ensures delete { (old new : Mounted) (name : ℕ) (result : Result (Unit {0}) FileFault)
-        → Deletes old name result new → new.reads ≡ old.reads }
+        → DeletesFile old name result new → new.reads ≡ old.reads }
     ensures squeeze_turn { (old new : Mounted) (result : Result Squeezed FileFault) → Squeezes old result new
         → (new.reads ≡ old.reads) ⊎ ReadsLowest old new }
 {}
 
 /// A file has 256 words for each of its blocks, and 1 to 4095 blocks.
 pub fn whole_files()
-    ensures whole { (blocks : List (List ℕ)) (name : ℕ) (file : Held) → IsVolume blocks
+    ensures whole { (blocks : List (List ℕ)) (name : ℕ) (file : FileData) → IsVolume blocks
         → get (files_of blocks) name ≡ Some file → 256 * blocks_in file ≡ length file.1 }
-    ensures some { (blocks : List (List ℕ)) (name : ℕ) (file : Held) → IsVolume blocks
+    ensures some { (blocks : List (List ℕ)) (name : ℕ) (file : FileData) → IsVolume blocks
         → get (files_of blocks) name ≡ Some file → 0 < blocks_in file }
-    ensures most { (blocks : List (List ℕ)) (name : ℕ) (file : Held) → IsVolume blocks
+    ensures most { (blocks : List (List ℕ)) (name : ℕ) (file : FileData) → IsVolume blocks
         → get (files_of blocks) name ≡ Some file → blocks_in file ≤ 4095 }
 {
     files_found();
@@ -185,16 +185,16 @@ pub fn failed_reads()
 /// was before earlier writes that kept blocks 1 to 6 and all files.
 pub fn failed_writes()
     ensures write { (old new : Mounted) (words : List ℕ) (result : Result (Unit {0}) FileFault)
-        → Writes old words result new → old.failed_writes < new.failed_writes
+        → WritesBlock old words result new → old.failed_writes < new.failed_writes
         → Survives old.blocks new.blocks }
     ensures close { (old new : Mounted) (name : ℕ) (info : List ℕ) (result : Result (Unit {0}) FileFault)
-        → Closes old name info result new → old.failed_writes < new.failed_writes
+        → ClosesFile old name info result new → old.failed_writes < new.failed_writes
         → Survives old.blocks new.blocks }
     ensures put { (old new : Mounted) (name : ℕ) (words : List ℕ) (result : Result (Unit {0}) FileFault)
         → PutsFile old name words result new → old.failed_writes < new.failed_writes
         → Survives old.blocks new.blocks }
     ensures delete { (old new : Mounted) (name : ℕ) (result : Result (Unit {0}) FileFault)
-        → Deletes old name result new → old.failed_writes < new.failed_writes
+        → DeletesFile old name result new → old.failed_writes < new.failed_writes
         → Survives old.blocks new.blocks }
     ensures squeeze_turn { (old new : Mounted) (result : Result Squeezed FileFault) → Squeezes old result new
         → old.failed_writes < new.failed_writes → Survives old.blocks new.blocks }
@@ -215,13 +215,13 @@ pub fn stopped_calls()
     ensures enter { (old new : Mounted) (name wish : ℕ) (result : Result ℕ FileFault)
         → Enters old name wish result new → IsStopped old result }
     ensures write { (old new : Mounted) (words : List ℕ) (result : Result (Unit {0}) FileFault)
-        → Writes old words result new → IsStopped old result }
+        → WritesBlock old words result new → IsStopped old result }
     ensures close { (old new : Mounted) (name : ℕ) (info : List ℕ) (result : Result (Unit {0}) FileFault)
-        → Closes old name info result new → IsStopped old result }
+        → ClosesFile old name info result new → IsStopped old result }
     ensures put { (old new : Mounted) (name : ℕ) (words : List ℕ) (result : Result (Unit {0}) FileFault)
         → PutsFile old name words result new → IsStopped old result }
     ensures delete { (old new : Mounted) (name : ℕ) (result : Result (Unit {0}) FileFault)
-        → Deletes old name result new → IsStopped old result }
+        → DeletesFile old name result new → IsStopped old result }
     ensures squeeze_turn { (old new : Mounted) (result : Result Squeezed FileFault) → Squeezes old result new
         → IsStopped old result }
 {}

@@ -51,7 +51,7 @@ tag_fault place known = first_of (past place) (defined_otherwise DT place known)
 
 -- the fault, or that there is none
 abbrev pub Judges : Option Code → Result (Unit {0}) Code → Type 0
-Judges fault (Ok done) = fault ≡ None
+Judges fault (Ok nothing) = fault ≡ None
 Judges fault (Err code) = fault ≡ Some code
 
 -- Tags at a place were defined.
@@ -62,7 +62,7 @@ pub record AreDefined (tags : List ℕ) (place : ℕ) (old new : SymbolTable) : 
   pub room : old.room ≤ new.room + length tags
 
 abbrev pub DefinesTags : List ℕ → ℕ → SymbolTable → SymbolTable → Result (Unit {0}) Code → Type 0
-DefinesTags tags place old new (Ok done) = AreDefined tags place old new
+DefinesTags tags place old new (Ok nothing) = AreDefined tags place old new
 DefinesTags tags place old new (Err code) = tags_fault (symbol_value old) place tags ≡ Some code
 
 -- A body was passed at a spot.
@@ -136,7 +136,7 @@ with_body_again known place (Word e) = known
 
 -- a name was set again to the value of an expression, or the fault of its terms refuses it
 abbrev pub SetsValue : ℕ → List Part → ℕ → SymbolTable → SymbolTable → Result (Unit {0}) Code → Type 0
-SetsValue name e place old new (Ok done) =
+SetsValue name e place old new (Ok nothing) =
     (terms_fault (symbol_value old) place e ≡ None) × ((n : ℕ) → symbol_value new n ≡ with_again name (value_of (symbol_value old) place e) (symbol_value old) n)
 SetsValue name e place old new (Err code) = terms_fault (symbol_value old) place e ≡ Some code
 

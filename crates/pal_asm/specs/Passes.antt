@@ -47,13 +47,13 @@ HasFailed assembler fault = assembler.failed ≡ Some fault
 -- What the first pass answers for a statement behind others. Memory is taken for names alone; where it ran out nothing
 -- was taken.
 abbrev pub AnswersFirst : Source → Statement → Result (Unit {0}) AsmFault → Progress → Progress → Type 0
-AnswersFirst older statement (Ok done) old new = IsFirst new (Ok statement ∷ older)
+AnswersFirst older statement (Ok nothing) old new = IsFirst new (Ok statement ∷ older)
 AnswersFirst older statement (Err (At code line)) old new = (first_order (Ok statement ∷ older) ≡ Some (At code line)) × HasFailed new (At code line)
 AnswersFirst older statement (Err Memory) old new = (new ≡ old) × (old.symbols.room < length statement.tags + definitions statement.body)
 
 -- want of memory is answered only for a statement whose tags have no fault behind others
 abbrev pub IsJudged : Source → Statement → Result (Unit {0}) AsmFault → Type 0
-IsJudged older statement (Ok done) = Unit {0}
+IsJudged older statement (Ok nothing) = Unit {0}
 IsJudged older statement (Err (At code line)) = Unit {0}
 IsJudged older statement (Err Memory) = tags_fault (values older) (place_at older) statement.tags ≡ None
 
@@ -78,7 +78,7 @@ pub record IsSecond (assembler : Progress) (whole older : Source) : Type 0 where
 
 -- what the turn to the second pass answers
 abbrev pub TurnsOver : Source → Result (Unit {0}) AsmFault → Progress → Progress → Type 0
-TurnsOver whole (Ok done) old new = IsSecond new whole []
+TurnsOver whole (Ok nothing) old new = IsSecond new whole []
 TurnsOver whole (Err (At code line)) old new = (no_word whole ≡ Some (At code line)) × HasFailed new (At code line)
 TurnsOver whole (Err Memory) old new = ⊥
 

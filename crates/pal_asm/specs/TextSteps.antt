@@ -77,7 +77,7 @@ MakesByte whole seam text b (Err Memory) old new pairs assembler = words_fault (
 
 -- what the end of a text is answered, none of whose statements has a fault
 abbrev pub EndsText : List ℕ → Result (Unit {0}) AsmFault → Type 0
-EndsText text (Ok done) = no_end text ≡ None
+EndsText text (Ok nothing) = no_end text ≡ None
 EndsText text (Err (At code line)) = no_end text ≡ Some (At code line)
 EndsText text (Err Memory) = ⊥
 
@@ -138,5 +138,5 @@ are_several (text ∷ others) = has_next others
 
 -- behind a source that has paused the next of these begins, as the last or not
 abbrev pub BeginsNext : List ℕ → List (List ℕ) → Result (Unit {0}) AsmFault → lex.Progress → Type 0
-BeginsNext text sources (Ok done) lexer = HasRead lexer (length text) text × (lexer.may_pause ≡ are_several sources)
+BeginsNext text sources (Ok nothing) lexer = HasRead lexer (length text) text × (lexer.may_pause ≡ are_several sources)
 BeginsNext text sources (Err fault) lexer = ⊥

@@ -41,25 +41,25 @@ HasPassed pass prefix several here is_last = Stands pass.lexer pass.ended prefix
 
 -- what the statement that may wait comes to
 abbrev pub Settles : Source → Result (Unit {0}) AsmFault → Pass → Pass → Type 0
-Settles source (Ok done) old new = (new ≡ record old { waiting = None; assembler = new.assembler }) × IsFirst new.assembler source
+Settles source (Ok nothing) old new = (new ≡ record old { waiting = None; assembler = new.assembler }) × IsFirst new.assembler source
 Settles source (Err Memory) old new = new ≡ old
 Settles source (Err (At code line)) old new = first_order source ≡ Some (At code line)
 
 -- what a character behind a text of a source comes to
 abbrev pub PassesByte : List ℕ → Bool → List ℕ → ℕ → Result (Unit {0}) AsmFault → Pass → Type 0
-PassesByte prefix several here b (Ok done) pass = HasPassed pass prefix several (b ∷ here) false
+PassesByte prefix several here b (Ok nothing) pass = HasPassed pass prefix several (b ∷ here) false
 PassesByte prefix several here b (Err Memory) pass = HasPassed pass prefix several here false
 PassesByte prefix several here b (Err (At code line)) pass = TellsJoinFault first_order prefix several (b ∷ here) (At code line)
 
 -- What characters of a source come to, behind a text of it: they were taken up to a place, or a fault is told by them.
 abbrev pub PassesTo : List ℕ → Bool → List ℕ → List ℕ → ℕ → Result (Unit {0}) AsmFault → Pass → Type 0
-PassesTo prefix several here bytes offset (Ok done) pass = HasPassed pass prefix several (text_from here (take offset bytes)) false
+PassesTo prefix several here bytes offset (Ok nothing) pass = HasPassed pass prefix several (text_from here (take offset bytes)) false
 PassesTo prefix several here bytes offset (Err Memory) pass = HasPassed pass prefix several (text_from here (take offset bytes)) false
 PassesTo prefix several here bytes offset (Err (At code line)) pass = TellsJoinFault first_order prefix several (text_from here bytes) (At code line)
 
 -- what a block comes to behind frames of the same source
 abbrev pub PassesBlock : List ℕ → Bool → List ℕ → List ℕ → ℕ → Result (Unit {0}) AsmFault → Pass → Type 0
-PassesBlock prefix several given block offset (Ok done) pass =
+PassesBlock prefix several given block offset (Ok nothing) pass =
     HasPassed pass prefix several (text_in (given ++ frames block)) (is_ended (given ++ frames block)) × (pass.waiting ≡ None)
 PassesBlock prefix several given block offset (Err Memory) pass = HasPassed pass prefix several (text_from (text_in given) (take offset (added given block))) (is_ended given)
 PassesBlock prefix several given block offset (Err (At code line)) pass = TellsJoinFault first_order prefix several (text_in (given ++ frames block)) (At code line)
@@ -76,7 +76,7 @@ Behind whole older = (later : Source) × (whole ≡ later ++ older)
 
 -- what a statement of a whole comes to in the second pass, where these stand behind it and it
 abbrev pub MakesStatement : Source → Source → Result (Unit {0}) AsmFault → asm.Progress → List (ℕ × ℕ) → Type 0
-MakesStatement whole source (Ok done) new pairs = IsSecond new whole source × (pairs ≡ pairs_by (values whole) source)
+MakesStatement whole source (Ok nothing) new pairs = IsSecond new whole source × (pairs ≡ pairs_by (values whole) source)
 MakesStatement whole source (Err (At code line)) new pairs = words_fault (values whole) source ≡ Some (At code line)
 MakesStatement whole source (Err Memory) new pairs = ⊥
 
@@ -100,19 +100,19 @@ MakesAnswer (Some s) result old pairs new pairs' = MakesSome (is_pause_body s.bo
 
 -- what a character behind a text of a source comes to in the second pass of a whole
 abbrev pub MakesByte : Source → List ℕ → Bool → List ℕ → ℕ → Result (Unit {0}) AsmFault → Pass → List (ℕ × ℕ) → Type 0
-MakesByte whole prefix several here b (Ok done) pass pairs = HasMade whole pass pairs prefix several (b ∷ here) false
+MakesByte whole prefix several here b (Ok nothing) pass pairs = HasMade whole pass pairs prefix several (b ∷ here) false
 MakesByte whole prefix several here b (Err Memory) pass pairs = HasMade whole pass pairs prefix several here false
 MakesByte whole prefix several here b (Err (At code line)) pass pairs = TellsJoinFault (words_fault (values whole)) prefix several (b ∷ here) (At code line)
 
 -- what characters of a source come to in the second pass of a whole
 abbrev pub MakesTo : Source → List ℕ → Bool → List ℕ → List ℕ → ℕ → Result (Unit {0}) AsmFault → Pass → List (ℕ × ℕ) → Type 0
-MakesTo whole prefix several here bytes offset (Ok done) pass pairs = HasMade whole pass pairs prefix several (text_from here (take offset bytes)) false
+MakesTo whole prefix several here bytes offset (Ok nothing) pass pairs = HasMade whole pass pairs prefix several (text_from here (take offset bytes)) false
 MakesTo whole prefix several here bytes offset (Err Memory) pass pairs = HasMade whole pass pairs prefix several (text_from here (take offset bytes)) false
 MakesTo whole prefix several here bytes offset (Err (At code line)) pass pairs = TellsJoinFault (words_fault (values whole)) prefix several (text_from here bytes) (At code line)
 
 -- what a block comes to in the second pass of a whole
 abbrev pub MakesBlock : Source → List ℕ → Bool → List ℕ → List ℕ → ℕ → Result (Unit {0}) AsmFault → Pass → List (ℕ × ℕ) → Type 0
-MakesBlock whole prefix several given block offset (Ok done) pass pairs =
+MakesBlock whole prefix several given block offset (Ok nothing) pass pairs =
     HasMade whole pass pairs prefix several (text_in (given ++ frames block)) (is_ended (given ++ frames block))
 MakesBlock whole prefix several given block offset (Err Memory) pass pairs =
     HasMade whole pass pairs prefix several (text_from (text_in given) (take offset (added given block))) (is_ended given)
@@ -129,7 +129,7 @@ pub record Begins (lexer : lex.Progress) (ended : Bool) (last : Bool) (prefix : 
 
 -- What comes behind a source that may pause: at its PAUSE the next begins; its `$` ended all; or it has neither.
 abbrev pub EndsSource : lex.Progress → Bool → Result (Unit {0}) AsmFault → lex.Progress → Bool → Type 0
-EndsSource old last (Ok done) new ended =
+EndsSource old last (Ok nothing) new ended =
     ((cut : List ℕ) → HasPaused old cut → IsClear cut → Begins new ended last cut)
     × ((seam : ℕ) (text : List ℕ) → HasRead old seam text → first_fault (statements text) ≡ None → (new ≡ old) × (ended ≡ true) × (is_over text ≡ true))
 EndsSource old last (Err fault) new ended =
@@ -138,7 +138,7 @@ EndsSource old last (Err fault) new ended =
 
 -- What the turn from the first pass to the second comes to, behind a text that is all of the source.
 abbrev pub TurnsPass : List ℕ → Result (Unit {0}) AsmFault → Pass → Type 0
-TurnsPass text (Ok done) new = (no_end text ≡ None) × IsMade (statements text) new [] []
+TurnsPass text (Ok nothing) new = (no_end text ≡ None) × IsMade (statements text) new [] []
 TurnsPass text (Err Memory) new = ⊥
 TurnsPass text (Err (At code line)) new = first_of (no_end text) (no_word (statements text)) ≡ Some (At code line)
 

@@ -12,7 +12,7 @@ use Rattle.pal_blocks.specs.Progress.{IsAssembling}
 
 -- What a turn that reads a block comes to, where so many are left. Want of memory takes no turn.
 abbrev pub TakesBlock : List (List ℕ) → ℕ → Result (Unit {0}) AsmFault → Assembling → Type 0
-TakesBlock sources left (Ok done) new =
+TakesBlock sources left (Ok nothing) new =
     IsAssembling sources new (left - 1) × (known_at (turn_of (assembling_turns (blocks_among sources)) left) sources ≡ None)
 TakesBlock sources left (Err Memory) new = IsAssembling sources new left
 TakesBlock sources left (Err (At code line)) new =

@@ -131,7 +131,7 @@ ReadsOn seam text bytes taken new =
 
 -- What the end of a text is answered.
 abbrev pub Ends : List ℕ → Result (Unit {0}) LexFault → Type 0
-Ends text (Ok done) = (first_fault (statements text) ≡ None) × (is_over text ≡ true)
+Ends text (Ok nothing) = (first_fault (statements text) ≡ None) × (is_over text ≡ true)
 Ends text (Err (IC line)) = IsFault text (IC line)
 Ends text (Err (SY line)) = IsFault text (SY line)
 Ends text (Err (NU line)) = IsFault text (NU line)
@@ -140,7 +140,7 @@ Ends text (Err Memory) = ⊥
 
 -- Behind a text that didn't pause no source begins: nothing changes, but that NE is answered for good.
 abbrev pub EndsSource : Result (Unit {0}) LexFault → Progress → Progress → Type 0
-EndsSource (Ok done) old new = new ≡ old
+EndsSource (Ok nothing) old new = new ≡ old
 EndsSource (Err (IC line)) old new = new ≡ old
 EndsSource (Err (SY line)) old new = new ≡ old
 EndsSource (Err (NU line)) old new = new ≡ old
@@ -155,5 +155,5 @@ pub record BeginsSource (text : List ℕ) (last : Bool) (old new : Progress) : T
 
 -- Where the source before paused, the next one begins.
 abbrev pub BeginsNext : List ℕ → Bool → Result (Unit {0}) LexFault → Progress → Progress → Type 0
-BeginsNext text last (Ok done) old new = BeginsSource text last old new
+BeginsNext text last (Ok nothing) old new = BeginsSource text last old new
 BeginsNext text last (Err fault) old new = ⊥

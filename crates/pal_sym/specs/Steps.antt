@@ -27,7 +27,7 @@ pub record PutsSymbol (name : ℕ) (symbol : Symbol) (old new : Entries) : Type 
 
 -- What putting a name among entries with so much room answers: it takes the room of one, or there was none.
 abbrev pub Inserts : ℕ → Symbol → Entries → ℕ → Entries → ℕ → Result (Unit {0}) AllocError → Type 0
-Inserts name symbol old room new less (Ok done) = PutsSymbol name symbol old new × (room ≤ less + 1)
+Inserts name symbol old room new less (Ok nothing) = PutsSymbol name symbol old new × (room ≤ less + 1)
 Inserts name symbol old room new less (Err refused) = (new ≡ old) × (room ≡ 0) × (less ≡ 0)
 
 -- ## Permanent
@@ -41,5 +41,5 @@ all_words (entry ∷ others) = nat_lt entry.1 0o10000 && all_words others
 
 -- a value that is known is this one, or refused
 abbrev pub IsRefused : SymFault → ℕ → ℕ → Result (Unit {0}) SymFault → Type 0
-IsRefused twice known value (Ok done) = known ≡ value
+IsRefused twice known value (Ok nothing) = known ≡ value
 IsRefused twice known value (Err fault) = (fault ≡ twice) × (known ≢ value)

@@ -42,7 +42,7 @@ pub record StandsFor (name value : ℕ) (old new : SymbolTable) : Type 0 where
 -- What defining a tag answers. The name must stand for nothing, or for this value already. On a fault nothing changes;
 -- memory is taken for a new name alone, and only where no room is left.
 abbrev pub DefinesTag : ℕ → ℕ → SymbolTable → SymbolTable → Result (Unit {0}) SymFault → Type 0
-DefinesTag name value old new (Ok done) =
+DefinesTag name value old new (Ok nothing) =
     ((symbol_value old name ≡ None) ⊎ (symbol_value old name ≡ Some value)) × StandsFor name value old new
     × ((n : ℕ) → is_fixed new n ≡ (if nat_eq name n then true else is_fixed old n))
 DefinesTag name value old new (Err DT) = (new ≡ old) × IsOther (symbol_value old name) value
@@ -52,7 +52,7 @@ DefinesTag name value old new (Err Memory) = (new ≡ old) × (symbol_value old 
 -- What `=` answers. A permanent name and a tag must stand for this value already; another name may stand for any. On a
 -- fault nothing changes; memory is taken for a new name alone, and only where no room is left.
 abbrev pub DefinesValue : ℕ → ℕ → SymbolTable → SymbolTable → Result (Unit {0}) SymFault → Type 0
-DefinesValue name value old new (Ok done) =
+DefinesValue name value old new (Ok nothing) =
     ((is_fixed old name ≡ false) ⊎ (symbol_value old name ≡ Some value)) × StandsFor name value old new
     × ((n : ℕ) → is_fixed new n ≡ is_fixed old n)
 DefinesValue name value old new (Err DT) = ⊥
@@ -80,5 +80,5 @@ pub record HasRoom (names : ℕ) (old new : SymbolTable) : Type 0 where
 
 -- what making room for new names answers
 abbrev pub MakesRoom : ℕ → SymbolTable → SymbolTable → Result (Unit {0}) AllocError → Type 0
-MakesRoom names old new (Ok done) = HasRoom names old new
+MakesRoom names old new (Ok nothing) = HasRoom names old new
 MakesRoom names old new (Err refused) = (new ≡ old) × (old.room < names)

@@ -12,7 +12,7 @@ use Rattle.script8.specs.declared.faults.SessionFault.TheVariants as fault
 use Rattle.script8.specs.declared.replies.Reply.{Reply}
 use Rattle.session8.specs.Refusals.{MayRefuse, MayLack, after_refusal}
 use Rattle.session8.specs.Failing.{MayAnswerStopped}
-use Rattle.session8.specs.Session.{Seen, state_of, IsQuiet, IsSteadied, TellsBlockCalls}
+use Rattle.session8.specs.Session.{Seen, state_of, NoCallFailed, IsSteadied, TellsBlockCalls}
 use Rattle.session8.specs.SessionSteps.{DoesEntry}
 use Rattle.session8.specs.System.{Answer, MayReply, ConsoleMayReply}
 
@@ -46,7 +46,7 @@ pub steady_same : (v v' : Mounted) → v' ≡ v → IsSteady v v'
 steady_same v v' is = steady v v' v.blocks v.reads v.writes is
 
 -- where no block call failed, the entry needed none that did
-steadied : (e : Entry) (old new : Seen) → IsQuiet old new → IsSteadied e old new
+steadied : (e : Entry) (old new : Seen) → NoCallFailed old new → IsSteadied e old new
 steadied (entry.Files it) old new quiet = quiet
 steadied (entry.Jobs it) old new quiet = quiet
 steadied (entry.Console it) old new quiet = tt
@@ -83,7 +83,7 @@ shown it old new reply same done = record {
     still = steady_same old.volume new.volume same
 
 -- a refusal of the file service, where no block call failed
-pub refused : (e : Entry) (old new : Seen) (why : FileFault) → old.volume.stopped ≡ false → (IsQuiet old new → TellsBlockCalls e old (Err (fault.File why)) new) → IsSteady old.volume new.volume → MayRefuse (state_of old) e (fault.File why) → state_of new ≡ after_refusal (state_of old) e → DoesEntry e old (Err (fault.File why)) new
+pub refused : (e : Entry) (old new : Seen) (why : FileFault) → old.volume.stopped ≡ false → (NoCallFailed old new → TellsBlockCalls e old (Err (fault.File why)) new) → IsSteady old.volume new.volume → MayRefuse (state_of old) e (fault.File why) → state_of new ≡ after_refusal (state_of old) e → DoesEntry e old (Err (fault.File why)) new
 refused e old new why running tells still may after = record {
   step = λ quiet. (may, after);
   later = record { reads = omega (arith, still.reads); writes = omega (arith, still.writes) };
@@ -143,7 +143,7 @@ failed e old new has jobs console = record {
   done = tt;
 }
   where
-    loud : IsQuiet old new → ⊥
+    loud : NoCallFailed old new → ⊥
     loud quiet = omega (arith, has.more, quiet.writes)
 
 -- a write had failed before

@@ -26,7 +26,7 @@ use Rattle.script8.specs.declared.replies.LineReply.TheVariants as line
 use Rattle.session8.specs.Files.{name_before, parsed_names}
 use Rattle.session8.specs.Refusals.{MayRefuse, after_refusal, jobs_without}
 use Rattle.session8.specs.Failing.{JobsStopFor}
-use Rattle.session8.specs.Session.{Seen, state_of, IsQuiet, IsReply, TellsBlockCalls}
+use Rattle.session8.specs.Session.{Seen, state_of, NoCallFailed, IsReply, TellsBlockCalls}
 use Rattle.session8.specs.SessionSteps.{DoesEntry}
 use Rattle.session8.specs.State.{State}
 use Rattle.session8.specs.System.{Answer, MayReply, MayAnswer}
@@ -164,7 +164,7 @@ ok_turn turned = Ok turned
 abbrev refused_turn : JobFault → turns.Answer
 refused_turn why = Err why
 
-still : (s : Seen) (v : Mounted) → calls.IsQuiet s.volume v → v.stopped ≡ false → IsSteady s.volume v
+still : (s : Seen) (v : Mounted) → calls.NoCallFailed s.volume v → v.stopped ≡ false → IsSteady s.volume v
 still s v quiet running = record { stopped = running ∙ sym quiet.running; reads = quiet.reads; writes = quiet.writes }
 
 -- an answer to a turn of a number with this job
@@ -200,7 +200,7 @@ state_without s v core js js' number is blocks left same =
 
 -- a turn that is refused ends its job, whatever it tells of the block calls
 turn_ended : (s : Seen) (v : Mounted) (core : List ℕ) (js js' : List (Option kept.Job)) (number : ℕ) (why : JobFault) → why ≢ job.Memory → s.jobs ≡ plain_jobs js → turned_on s js number (Err why) v core js'
-    → s.volume.failed_reads ≤ v.failed_reads → s.volume.failed_writes ≤ v.failed_writes → (s.volume.failed_writes < v.failed_writes → Outlives s.volume.blocks v.blocks) → (calls.IsQuiet s.volume v → v.stopped ≡ false)
+    → s.volume.failed_reads ≤ v.failed_reads → s.volume.failed_writes ≤ v.failed_writes → (s.volume.failed_writes < v.failed_writes → Outlives s.volume.blocks v.blocks) → (calls.NoCallFailed s.volume v → v.stopped ≡ false)
     → (s.volume.stopped ≡ false → TellsBlockCalls (entry.Jobs (order.Turn number)) s (Err (fault_of_job why)) (over_work s v (plain_jobs js') core))
     → (s.volume.stopped ≡ true → JobsStopFor (state_of s) (order.Turn number) (fault_of_job why) × (state_of (over_work s v (plain_jobs js') core) ≡ after_refusal (state_of s) (entry.Jobs (order.Turn number))))
     → DoesTurn s v core js' number (Err (fault_of_job why))
@@ -219,8 +219,8 @@ turn_ended s v core js js' number why other is has reads writes files running te
 }
 
 -- no block call failed, and none before
-turn_quiet : (s : Seen) (v : Mounted) (core : List ℕ) (js js' : List (Option kept.Job)) (number : ℕ) (why : JobFault) → why ≢ job.Memory → s.jobs ≡ plain_jobs js → turned_on s js number (Err why) v core js' → TurnsOver s.volume (Err why) v → calls.IsQuiet s.volume v
-    → (calls.IsQuiet s.volume v → TellsBlockCalls (entry.Jobs (order.Turn number)) s (Err (fault_of_job why)) (over_work s v (plain_jobs js') core)) → DoesTurn s v core js' number (Err (fault_of_job why))
+turn_quiet : (s : Seen) (v : Mounted) (core : List ℕ) (js js' : List (Option kept.Job)) (number : ℕ) (why : JobFault) → why ≢ job.Memory → s.jobs ≡ plain_jobs js → turned_on s js number (Err why) v core js' → TurnsOver s.volume (Err why) v → calls.NoCallFailed s.volume v
+    → (calls.NoCallFailed s.volume v → TellsBlockCalls (entry.Jobs (order.Turn number)) s (Err (fault_of_job why)) (over_work s v (plain_jobs js') core)) → DoesTurn s v core js' number (Err (fault_of_job why))
 turn_quiet s v core js js' number why other is has over quiet tells =
     turn_ended s v core js js' number why other is has over.reads over.writes over.files over.running (λ running. tells quiet) (λ halted. absurd (true≢false (sym halted ∙ quiet.running)))
 
@@ -301,7 +301,7 @@ not_lacking r (job.Tape why) other is same = cc
 -- ## Starts
 
 -- a refusal, behind which the volume is as steady as before
-pub declined : (e : Entry) (s new : Seen) (why : JobFault) → why ≢ job.Memory → s.volume.stopped ≡ false → (IsQuiet s new → TellsBlockCalls e s (Err (fault_of_job why)) new) → IsSteady s.volume new.volume → MayRefuse (state_of s) e (fault_of_job why) → state_of new ≡ after_refusal (state_of s) e → DoesEntry e s (Err (fault_of_job why)) new
+pub declined : (e : Entry) (s new : Seen) (why : JobFault) → why ≢ job.Memory → s.volume.stopped ≡ false → (NoCallFailed s new → TellsBlockCalls e s (Err (fault_of_job why)) new) → IsSteady s.volume new.volume → MayRefuse (state_of s) e (fault_of_job why) → state_of new ≡ after_refusal (state_of s) e → DoesEntry e s (Err (fault_of_job why)) new
 declined e s new why other running tells still may after = record {
   step = λ quiet. refused_step e (state_of s) (state_of new) why other may after;
   later = record { reads = omega (arith, still.reads); writes = omega (arith, still.writes) };

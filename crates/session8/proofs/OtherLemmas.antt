@@ -30,11 +30,11 @@ use Rattle.script8.specs.declared.replies.Reply.TheVariants.{Line, Report}
 use Rattle.script8.specs.declared.replies.Report.TheVariants as report
 use Rattle.script8.specs.declared.replies.LineReply.TheVariants as line
 use Rattle.session8.specs.Files.{HasDeleted, DeleteRefused}
-use Rattle.session8.specs.Refusals.{Named, MayRefuse, FilesMayRefuse, JobsMayRefuse, MayLack, after_refusal, jobs_without}
+use Rattle.session8.specs.Refusals.{NamesFiles, MayRefuse, FilesMayRefuse, JobsMayRefuse, MayLack, after_refusal, jobs_without}
 use Rattle.session8.specs.Same.{lasting_job, lasting_jobs, lasting_work, unsqueezed, IsAlike, IsApart, JobIsApart, speaks_of_room}
 use Rattle.session8.specs.State.{State}
 use Rattle.session8.specs.System.{Answer, MayReply, FilesMayReply, JobsMayReply, ConsoleMayReply, MayAnswer}
-use Rattle.session8.specs.Work.{Works, job_state, with_work, fault_of_job}
+use Rattle.session8.specs.Work.{DoesWork, job_state, with_work, fault_of_job}
 use Rattle.session8.proofs.ReplyLemmas.{stored_alone, deleted_alone, assembled_alone, loaded_alone, squeezed_alone}
 use Rattle.session8.proofs.SameLemmas.{lasting_put, alike}
 
@@ -280,7 +280,7 @@ begins : (one one' : State) (t : Bool) (js : Jobs) (number : ℕ) (it : Job) (af
 begins one one' t js number it after same begun is =
     worked one one' t js after (record (job_state (over one t js)) { jobs = with_job number (Some it) js }) (same_work (job_state one) after one.tight t (with_job number (Some it) one.jobs) (with_job number (Some it) js) (same_put number (Some it) one.jobs js same) begun) is
 
-deleted : (one one' : State) (t : Bool) (js : Jobs) (name : ℕ) → AreAlike one.jobs js → Works (HasDeleted name) one one' → (two' : State) × Works (HasDeleted name) (over one t js) two' × IsAlike one' two'
+deleted : (one one' : State) (t : Bool) (js : Jobs) (name : ℕ) → AreAlike one.jobs js → DoesWork (HasDeleted name) one one' → (two' : State) × DoesWork (HasDeleted name) (over one t js) two' × IsAlike one' two'
 deleted one one' t js name same step = (with_work (over one t js) left, (left, has, refl), worked one one' t js step.0 left (same_work (record (job_state one) { files = remove one.files name }) step.0 step.0.tight t (disturbed one.jobs) (disturbed js) (same_disturbed one.jobs js same) step.1.others) step.2)
   where
     left : jobs.State
@@ -348,8 +348,8 @@ replies one one' t js (entry.Console it) reply same apart step = shown one one' 
 -- ## Refusals of entries
 
 assemble_may : (one : State) (t : Bool) (js : Jobs) (to : List ℕ) (from : List (List ℕ)) (why : SessionFault) → AreAlike one.jobs js → least_free one.jobs ≡ least_free js
-    → Named to from (λ target sources. (fault : JobFault) × (why ≡ fault_of_job fault) × AssembleStarts (job_state one) target sources (Err fault) (job_state one))
-    → Named to from (λ target sources. (fault : JobFault) × (why ≡ fault_of_job fault) × AssembleStarts (job_state (over one t js)) target sources (Err fault) (job_state (over one t js)))
+    → NamesFiles to from (λ target sources. (fault : JobFault) × (why ≡ fault_of_job fault) × AssembleStarts (job_state one) target sources (Err fault) (job_state one))
+    → NamesFiles to from (λ target sources. (fault : JobFault) × (why ≡ fault_of_job fault) × AssembleStarts (job_state (over one t js)) target sources (Err fault) (job_state (over one t js)))
 assemble_may one t js to from why same free may = (may.0, may.1, may.2, may.3, (may.4.0, may.4.1, assemble_refused one t js may.0 may.1 may.4.0 same free may.4.2))
 
 load_may : (one : State) (t : Bool) (js : Jobs) (name : List ℕ) (why : SessionFault) → least_free one.jobs ≡ least_free js

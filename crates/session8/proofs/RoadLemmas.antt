@@ -10,7 +10,7 @@ use Rattle.bin_tape.specs.Tape.{IsTape}
 use Rattle.bin_tape.specs.Fault.{IsFault}
 use Rattle.bin_tape.specs.declared.faults.TapeFault.{TapeFault}
 use Rattle.core_load.specs.Load.{IsLoaded}
-use Rattle.os8_dir.specs.Files.{Files, Held}
+use Rattle.os8_dir.specs.Files.{Files, FileData}
 use Rattle.pal_blocks.specs.Sources.{IsTapeOfSources, assembled_words, meaning_of}
 use Rattle.jobs8.specs.Jobs.{Job, Work, Assembling, Loading, Squeezing, assembling, loading, job_of}
 use Rattle.jobs8.specs.State as jobs
@@ -33,7 +33,7 @@ use Rattle.script8.specs.declared.replies.Reply.TheVariants.{Line, Report}
 use Rattle.script8.specs.declared.replies.Report.TheVariants as report
 use Rattle.script8.specs.declared.replies.LineReply.{LineReply}
 use Rattle.script8.specs.declared.replies.LineReply.TheVariants as line
-use Rattle.session8.specs.Road.{changes_file, is_loaded, NoneTells, OperatesConsole, ConsoleGoesOn, HasMade, IsLaid, Arrives}
+use Rattle.session8.specs.Road.{changes_file, is_loaded, NoneTells, OperatesConsole, ConsoleGoesOn, HasMadeFile, IsLaid, LoadsCore}
 use Rattle.session8.specs.State.{Console, State}
 use Rattle.session8.specs.System.{Answer, MayReply, FilesMayReply, JobsMayReply, Run, MayAnswer}
 use Rattle.session8.specs.Work.{job_state, with_core, with_work, turn_reply, fault_of_job}
@@ -45,13 +45,13 @@ use Rattle.session8.proofs.ReplyLemmas.{stored_alone, deleted_alone, assembled_a
 tied : (a b : ℕ) → eq_by_cmp nat_cmp b a ≡ nat_eq a b
 tied a b = grind (arith, nat_tests)
 
-put_other : (m : Files) (name : ℕ) (h : Held) (q : ℕ) → nat_eq name q ≡ false → get (insert m name h) q ≡ get m q
+put_other : (m : Files) (name : ℕ) (h : FileData) (q : ℕ) → nat_eq name q ≡ false → get (insert m name h) q ≡ get m q
 put_other m name h q other = get-insert nat_cmp_total m name h q ∙ ap (λ b. cond b (Some h) (get m q)) (tied name q ∙ other)
 
 own : (a : ℕ) → nat_eq a a ≡ true
 own a = grind (arith, nat_tests)
 
-put_it : (m : Files) (name : ℕ) (h : Held) → get (insert m name h) name ≡ Some h
+put_it : (m : Files) (name : ℕ) (h : FileData) → get (insert m name h) name ≡ Some h
 put_it m name h = get-insert nat_cmp_total m name h name ∙ ap (λ b. cond b (Some h) (get m name)) (tied name name ∙ own name)
 
 gone_other : (m : Files) (name q : ℕ) → nat_eq name q ≡ false → get (remove m name) q ≡ get m q
@@ -173,7 +173,7 @@ NoFault = (frames : List ℕ) (items : List Item) (fault : TapeFault) → IsTape
 abbrev IsMade : ℕ → List (List ℕ) → State → Type 0
 IsMade name sources s = IsTapeOfSources sources (words_of (job_state s) name)
 
-made : (number name : ℕ) (sources : List (List ℕ)) (old new : State) → HasMade number name sources old new → IsMade name sources new
+made : (number name : ℕ) (sources : List (List ℕ)) (old new : State) → HasMadeFile number name sources old new → IsMade name sources new
 made number name sources old new has = of_turned has.step.0 has.step.1 (subst (λ (o : Option Job). JobTurn (job_state old) number o (Ok has.step.0) has.step.2.0) has.job has.step.2.1)
   where
     after : jobs.State
@@ -190,7 +190,7 @@ made number name sources old new has = of_turned has.step.0 has.step.1 (subst (�
         words = ap (λ (s : State). words_or (get s.files name)) has.step.2.2 ∙ ap (λ (s : jobs.State). words_or (get s.files name)) turn.3.put.others ∙ ap words_or (put_it old.files name _) ∙ ap assembled_words (sym has.words)
 
 arrives : OneReading → NoFault → (old new : State) (loader name left : ℕ) (sources : List (List ℕ)) (answer : Answer) → IsMade name sources old → job_of loader old.jobs ≡ Some (loading name left)
-    → MayAnswer old (entry.Jobs (order.Turn loader)) answer new → Arrives sources old answer new
+    → MayAnswer old (entry.Jobs (order.Turn loader)) answer new → LoadsCore sources old answer new
 arrives one_reading no_fault old new loader name left sources answer tape is step = record {
   no_fault = without;
   core = ended.0;
@@ -249,7 +249,7 @@ arrives one_reading no_fault old new loader name left sources answer tape is ste
     ended = of_answer answer step
 
 pub leads : OneReading → NoFault → (one two three four : State) (maker loader name left : ℕ) (sources : List (List ℕ)) (entries : List Entry) (answers : List Answer) (stopped : Bool) (answer : Answer)
-    → HasMade maker name sources one two → Run two entries answers stopped three → NoneTells (changes_file name) answers → job_of loader three.jobs ≡ Some (loading name left) → MayAnswer three (entry.Jobs (order.Turn loader)) answer four
-    → Arrives sources three answer four
+    → HasMadeFile maker name sources one two → Run two entries answers stopped three → NoneTells (changes_file name) answers → job_of loader three.jobs ≡ Some (loading name left) → MayAnswer three (entry.Jobs (order.Turn loader)) answer four
+    → LoadsCore sources three answer four
 leads one_reading no_fault one two three four maker loader name left sources entries answers stopped answer has run none is step =
     arrives one_reading no_fault three four loader name left sources answer (subst (λ o. IsTapeOfSources sources (words_or o)) (sym (file_kept two three name entries answers stopped run none)) (made maker name sources one two has)) is step

@@ -7,7 +7,7 @@ use Rattle.os8_dir.specs.Entries.{contains}
 use Rattle.os8_dir.specs.Files.{Files, files_of, above_of}
 use Rattle.os8_dir.specs.Names.{parsed_name}
 use Rattle.os8_dir.specs.Reading.{directory_of}
-use Rattle.os8_files.specs.Calls.{Deletes, HasDeleted, IsLargest, IsOver}
+use Rattle.os8_files.specs.Calls.{DeletesFile, HasDeleted, IsLargest, IsOver}
 use Rattle.os8_files.specs.Failed.{listed_or, Survives}
 use Rattle.os8_files.specs.Mounted.{Mounted, Begun}
 use Rattle.os8_files.specs.Puts.{PutsFile, PutFailed, HasPut, HasKept, blocks_filled, plain_file}
@@ -101,7 +101,7 @@ same_state : (s : Seen) (v : Mounted) → v ≡ s.volume → state_of (over s v)
 same_state s v is = ap (λ (w : Mounted). state_of (over s w)) is
 
 -- a file that is not taken out
-pub delete_refused : (s : Seen) (v : Mounted) (bytes : List ℕ) (name : ℕ) (why : FileFault) → parsed_name bytes ≡ Some name → s.volume.tentative ≡ None → HoldAlike s → Deletes s.volume name (Err why) v → DoesEntry (entry.Files (filing.Delete bytes)) s (Err (fault_of_file why)) (over s v)
+pub delete_refused : (s : Seen) (v : Mounted) (bytes : List ℕ) (name : ℕ) (why : FileFault) → parsed_name bytes ≡ Some name → s.volume.tentative ≡ None → HoldAlike s → DeletesFile s.volume name (Err why) v → DoesEntry (entry.Files (filing.Delete bytes)) s (Err (fault_of_file why)) (over s v)
 delete_refused s v bytes name file.NotFound is none alike has = refused _ _ _ _ has.0.running (λ quiet. quiet) (steady_same _ _ has.2) (name, is, has.1) (same_state s v has.2)
 delete_refused s v bytes name (file.Busy other) is none alike has = refused _ _ _ _ has.0.running (λ quiet. quiet) (steady_same _ _ has.4) (name, is, (has.1, has.2, sym (alike name) ∙ has.3)) (same_state s v has.4)
 delete_refused s v bytes name file.DirectoryFull is none alike has = refused _ _ _ _ has.0.running (λ quiet. quiet) (steady_same _ _ has.5) (name, is, (has.1, sym (alike name) ∙ has.2, full s _ has.4)) (same_state s v has.5)
@@ -116,7 +116,7 @@ delete_refused s v bytes name file.NothingWritten is none alike has = absurd has
 
 -- behind a file that is taken out the jobs stand, once they are told
 pub delete_settled : (old new : Mounted) (js js' : List (Option kept.Job)) (name : ℕ) → ((old new : Mounted) (js : List (Option kept.Job)) → IsSettled old js → KeepsHolds old new → new.tentative ≡ None → IsSettled new (settled.disturbed js))
-    → ((old new : Mounted) (name : ℕ) (result : Result (Unit {0}) FileFault) → Deletes old name result new → KeepsHolds old new) → IsSettled old js → js' ≡ settled.disturbed js → HasDeleted old name new → IsSettled new js'
+    → ((old new : Mounted) (name : ℕ) (result : Result (Unit {0}) FileFault) → DeletesFile old name result new → KeepsHolds old new) → IsSettled old js → js' ≡ settled.disturbed js → HasDeleted old name new → IsSettled new js'
 delete_settled old new js js' name told kept settled is has =
     subst (λ l. IsSettled new l) (sym is) (told old new js settled (kept old new name (Ok tt) has) (ap (λ (m : Mounted). m.tentative) has.others ∙ settled.none))
 

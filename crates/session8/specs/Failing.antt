@@ -13,7 +13,7 @@ use Rattle.script8.specs.declared.entries.JobEntry.TheVariants as job
 use Rattle.script8.specs.declared.faults.SessionFault.{SessionFault}
 use Rattle.script8.specs.declared.faults.SessionFault.TheVariants.{BadLine, NoJob, File, BadText}
 use Rattle.session8.specs.Files.{parsed_names}
-use Rattle.session8.specs.Refusals.{IsOfNoForm, Named, after_refusal}
+use Rattle.session8.specs.Refusals.{IsOfNoForm, NamesFiles, after_refusal}
 use Rattle.session8.specs.State.{State}
 use Rattle.session8.specs.System.{Answer, MayAnswer}
 
@@ -37,7 +37,7 @@ abbrev pub JobsStopFor : State → JobEntry → SessionFault → Type 0
 JobsStopFor s (job.Assemble to from) BadLine = IsOfNoForm from
 JobsStopFor s (job.Assemble to from) (File file.BadName) =
     (IsOfNoForm from → ⊥) × ((parsed_name to ≡ None) ⊎ (parsed_names from ≡ None))
-JobsStopFor s (job.Assemble to from) (File file.Stopped) = Named to from (λ target sources. Unit {0})
+JobsStopFor s (job.Assemble to from) (File file.Stopped) = NamesFiles to from (λ target sources. Unit {0})
 JobsStopFor s (job.Load name) (File file.BadName) = parsed_name name ≡ None
 JobsStopFor s (job.Load name) (File file.Stopped) = IsName name
 JobsStopFor s job.Squeeze (File file.Stopped) = Unit {0}

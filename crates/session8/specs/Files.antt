@@ -4,7 +4,7 @@ use Rattle.std.specs.FinMap.{get, remove}
 use Rattle.char_pack.specs.Packing.{block_count}
 use Rattle.char_pack.specs.Texts.{host_text, is_storable, stored}
 use Rattle.os8_dir.specs.Entries.{contains}
-use Rattle.os8_dir.specs.Files.{Held}
+use Rattle.os8_dir.specs.Files.{FileData}
 use Rattle.os8_dir.specs.Names.{parsed_name}
 use Rattle.os8_files.specs.declared.faults.FileFault.{FileFault}
 use Rattle.os8_files.specs.declared.faults.FileFault.TheVariants as file
@@ -35,7 +35,7 @@ HasStored name text old new = (is_storable text ≡ true) × HasPut old name (st
 
 -- a file is taken out
 pub record HasDeleted (name : ℕ) (old new : State) : Type 0 where
-  pub file : Held
+  pub file : FileData
   pub there : get old.files name ≡ Some file
   pub free : IsUnheld old name
   pub others : new

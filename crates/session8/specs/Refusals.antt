@@ -30,8 +30,8 @@ abbrev pub IsOfNoForm : List (List ℕ) → Type 0
 IsOfNoForm from = (length from ≡ 0) ⊎ (8 < length from)
 
 -- a target and its sources are names, of which this holds
-abbrev pub Named : List ℕ → List (List ℕ) → (ℕ → List ℕ → Type 0) → Type 0
-Named to from holds =
+abbrev pub NamesFiles : List ℕ → List (List ℕ) → (ℕ → List ℕ → Type 0) → Type 0
+NamesFiles to from holds =
     (target : ℕ) × (sources : List ℕ) × (parsed_name to ≡ Some target) × (parsed_names from ≡ Some sources)
     × holds target sources
 
@@ -54,7 +54,7 @@ JobsMayRefuse old (job.Assemble to from) BadLine = IsOfNoForm from
 JobsMayRefuse old (job.Assemble to from) (File file.BadName) =
     (IsOfNoForm from → ⊥) × ((parsed_name to ≡ None) ⊎ (parsed_names from ≡ None))
 JobsMayRefuse old (job.Assemble to from) why =
-    Named to from (λ target sources. (fault : JobFault) × (why ≡ fault_of_job fault)
+    NamesFiles to from (λ target sources. (fault : JobFault) × (why ≡ fault_of_job fault)
     × AssembleStarts (job_state old) target sources (Err fault) (job_state old))
 JobsMayRefuse old (job.Load name) (File file.BadName) = parsed_name name ≡ None
 JobsMayRefuse old (job.Load name) why =
@@ -101,7 +101,7 @@ FilesMayLack old files.Direct = Unit {0}
 -- turn of a job that is there.
 abbrev pub JobsMayLack : State → JobEntry → Type 0
 JobsMayLack old (job.Assemble to from) =
-    Named to from (λ target sources.
+    NamesFiles to from (λ target sources.
     AssembleStarts (job_state old) target sources (Err Memory) (job_state old))
 JobsMayLack old (job.Load name) =
     (n : ℕ) × (parsed_name name ≡ Some n) × LoadStarts (job_state old) n (Err Memory) (job_state old)

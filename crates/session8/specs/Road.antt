@@ -56,7 +56,7 @@ ConsoleGoesOn old [] (answer ∷ answers) new = ⊥
 -- ## From sources to core
 
 -- The job of a number answered that it has assembled its sources, which had these words, to the file of a name.
-pub record HasMade (number name : ℕ) (sources : List (List ℕ)) (old new : State) : Type 0 where
+pub record HasMadeFile (number name : ℕ) (sources : List (List ℕ)) (old new : State) : Type 0 where
   pub from : List ℕ
   pub left : ℕ
   pub blocks : ℕ
@@ -72,7 +72,7 @@ pub record IsLaid (sources : List (List ℕ)) (old new : List ℕ) : Type 0 wher
 
 -- A load of what was made from the sources met no fault of a tape. Where it came to its end, the console goes on, up to the next
 -- load, as it does with core overlaid with what the sources put into it.
-pub record Arrives (sources : List (List ℕ)) (old : State) (answer : Answer) (new : State) : Type 0 where
+pub record LoadsCore (sources : List (List ℕ)) (old : State) (answer : Answer) (new : State) : Type 0 where
   pub no_fault : (fault : TapeFault) → answer ≢ Err (Tape fault)
   pub core : List ℕ
   pub laid : is_loaded answer ≡ true → IsLaid sources old.console.machine.core core

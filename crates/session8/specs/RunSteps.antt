@@ -21,7 +21,7 @@ use Rattle.session8.specs.declared.pending.Begun.TheVariants.{Ran, Waiting}
 -- of a prefix of them; where the writer failed, the last line may be unwritten.
 abbrev pub RunsItems : List Item → State → State → Option (List ℕ) → Option (List ℕ)
     → Result (Unit {0}) Ending → Type 0
-RunsItems items old new w w' (Ok done) = WritesAnswers old items new w w' []
+RunsItems items old new w w' (Ok nothing) = WritesAnswers old items new w w' []
 RunsItems items old new w w' (Err Memory) = WritesPrefix old items new w w' []
 RunsItems items old new w w' (Err Writer) = (bytes : List ℕ) × AnswersPrefix old items new bytes
 RunsItems items old new w w' (Err Reader) = ⊥
@@ -29,7 +29,7 @@ RunsItems items old new w w' (Err Reader) = ⊥
 -- What running a turn of the lowest job comes to; the line of a turn that leaves the job is not shown.
 abbrev pub RunsTurn : ℕ → State → State → Option (List ℕ) → Option (List ℕ) → Result (Unit {0}) Ending
     → Type 0
-RunsTurn number old new w w' (Ok done) =
+RunsTurn number old new w w' (Ok nothing) =
     (answer : Answer) × MayAnswer old (Jobs (Turn number)) answer new × (answer ≢ Err fault.Memory)
     × Appends w w' (turn_lines ((number, answer) ∷ []))
 RunsTurn number old new w w' (Err Memory) = (new ≡ old) × Appends w w' []
@@ -80,7 +80,7 @@ RunsPrefix text is_end old new w w' (Err Reader) = ⊥
 -- What running the whole items of bytes comes to that a reader gave and may go on from: these are left.
 abbrev pub RunsGiven : List ℕ → List ℕ → State → State → Option (List ℕ) → Option (List ℕ)
     → Result (Unit {0}) Ending → Type 0
-RunsGiven text rest old new w w' (Ok done) =
+RunsGiven text rest old new w w' (Ok nothing) =
     (prefix : List Item) × LeadsWith text prefix rest × WritesAnswers old prefix new w w' []
 RunsGiven text rest old new w w' (Err Memory) = WritesPrefix old (whole_of text) new w w' []
 RunsGiven text rest old new w w' (Err Writer) = (bytes : List ℕ) × AnswersPrefix old (whole_of text) new bytes
@@ -98,7 +98,7 @@ pub record IsRunTo (old new : State) (r r' w w' : Option (List ℕ)) (count : �
 -- What reading a script and running it comes to, before the line of a fault is written.
 abbrev pub RunsRead : ℕ → State → State → Option (List ℕ) → Option (List ℕ) → Option (List ℕ)
     → Option (List ℕ) → Result (Unit {0}) Ending → Type 0
-RunsRead most old new r r' w w' (Ok done) =
+RunsRead most old new r r' w w' (Ok nothing) =
     (text : List ℕ) × IsReadWithin most r r' text × WritesAnswers old (script_of text) new w w' []
 RunsRead most old new r r' w w' (Err Reader) =
     (text : List ℕ) × IsTaken most r r' text × IsPrefixOf (whole_of text) (script_of text)
@@ -119,7 +119,7 @@ fault_of Memory = fault.Memory
 -- how a run ends: on a fault its line is written last, unless the writer failed
 abbrev pub IsEnded : Result (Unit {0}) Ending → Option (List ℕ) → Option (List ℕ)
     → Result (Unit {0}) SessionFault → Type 0
-IsEnded run w w' (Ok done) = (run ≡ Ok done) × Appends w w' []
+IsEnded run w w' (Ok nothing) = (run ≡ Ok nothing) × Appends w w' []
 IsEnded run w w' (Err why) =
     (why ≡ fault.Writer)
     ⊎ ((ending : Ending) × (run ≡ Err ending) × (why ≡ fault_of ending) × Appends w w' (fault_line why))

@@ -97,7 +97,7 @@ AreDue r text items = (items ≡ whole_of text) ⊎ (IsAtEnd r × (items ≡ scr
 -- may be unwritten.
 abbrev pub RunsText : ℕ → State → State → Option (List ℕ) → Option (List ℕ) → Option (List ℕ)
     → Option (List ℕ) → Result (Unit {0}) SessionFault → Type 0
-RunsText most old new r r' w w' (Ok done) =
+RunsText most old new r r' w w' (Ok nothing) =
     (text : List ℕ) × IsReadWithin most r r' text × WritesAnswers old (script_of text) new w w' []
 RunsText most old new r r' w w' (Err fault.Reader) =
     (text : List ℕ) × IsTaken most r r' text × IsPrefixOf (whole_of text) (script_of text)

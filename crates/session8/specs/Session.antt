@@ -33,8 +33,8 @@ state_of s = record {
 }
 
 -- no block call failed between, and no write before
-abbrev pub IsQuiet : Seen → Seen → Type 0
-IsQuiet old new = calls.IsQuiet old.volume new.volume
+abbrev pub NoCallFailed : Seen → Seen → Type 0
+NoCallFailed old new = calls.NoCallFailed old.volume new.volume
 
 -- failures are never forgotten
 pub record IsLater (old new : Seen) : Type 0 where
@@ -58,7 +58,7 @@ pub record HasFailed (entry : Entry) (old new : Seen) : Type 0 where
 -- What an answer tells of the block calls where no write has failed before: `Device` comes just where one failed.
 abbrev pub TellsBlockCalls : Entry → Seen → Answer → Seen → Type 0
 TellsBlockCalls entry old (Err (File file.Device)) new = HasFailed entry old new
-TellsBlockCalls entry old answer new = IsQuiet old new
+TellsBlockCalls entry old answer new = NoCallFailed old new
 
 -- an answer to an entry is neither the reader's nor the writer's fault
 abbrev pub IsReply : Answer → Type 0
@@ -68,6 +68,6 @@ IsReply answer = Unit {0}
 
 -- an entry of the console needs no block; of another that was replied to, no block call failed
 abbrev pub IsSteadied : Entry → Seen → Seen → Type 0
-IsSteadied (entry.Files it) old new = IsQuiet old new
-IsSteadied (entry.Jobs it) old new = IsQuiet old new
+IsSteadied (entry.Files it) old new = NoCallFailed old new
+IsSteadied (entry.Jobs it) old new = NoCallFailed old new
 IsSteadied (entry.Console it) old new = Unit {0}

@@ -1,6 +1,6 @@
 -- What doing an entry comes to, for private clauses.
 use Rattle.script8.specs.declared.entries.Entry.{Entry}
-use Rattle.session8.specs.Session.{Seen, state_of, IsQuiet, IsLater, IsSame, TellsBlockCalls, IsReply, IsSteadied}
+use Rattle.session8.specs.Session.{Seen, state_of, NoCallFailed, IsLater, IsSame, TellsBlockCalls, IsReply, IsSteadied}
 use Rattle.session8.specs.Interleaving.{EntryReads, EntryPlaces}
 use Rattle.std.specs.Prelude.{◌≡◌, ◌<◌, true, false, OnOk, Err, Bool}
 use Rattle.jobs8.specs.Calls.{Outlives}
@@ -20,11 +20,11 @@ pub record LeavesAlone (entry : Entry) (old new : Seen) : Type 0 where
 -- What doing an entry comes to: a step of the system machine where no block call fails, or where there is a reply, and nothing
 -- for want of memory; and what is refused where one fails, or a write has failed before.
 pub record DoesEntry (entry : Entry) (old : Seen) (answer : Answer) (new : Seen) : Type 0 where
-  pub step : IsQuiet old new → MayAnswer (state_of old) entry answer (state_of new)
+  pub step : NoCallFailed old new → MayAnswer (state_of old) entry answer (state_of new)
   pub later : IsLater old new
   pub files : old.volume.stopped ≡ false → old.volume.failed_writes < new.volume.failed_writes
       → Outlives old.volume.blocks new.volume.blocks
-  pub running : IsQuiet old new → new.volume.stopped ≡ false
+  pub running : NoCallFailed old new → new.volume.stopped ≡ false
   pub memory : answer ≡ Err Memory → IsSame old new
   pub reply : IsReply answer
   pub tells : old.volume.stopped ≡ false → TellsBlockCalls entry old answer new

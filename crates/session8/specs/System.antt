@@ -20,9 +20,9 @@ use Rattle.script8.specs.declared.replies.Report.TheVariants.{Direct}
 use Rattle.script8.specs.declared.replies.LineReply.TheVariants.{Stored, Deleted, Job}
 use Rattle.session8.specs.Console.{ConsoleReplies, is_within_limits}
 use Rattle.session8.specs.Files.{HasStored, HasDeleted, text_blocks}
-use Rattle.session8.specs.Refusals.{Named, MayRefuse, MayLack, after_refusal}
+use Rattle.session8.specs.Refusals.{NamesFiles, MayRefuse, MayLack, after_refusal}
 use Rattle.session8.specs.State.{State}
-use Rattle.session8.specs.Work.{Works, turn_reply}
+use Rattle.session8.specs.Work.{DoesWork, turn_reply}
 
 -- what is answered to an entry
 abbrev pub Answer : Type 0
@@ -31,9 +31,9 @@ Answer = Result Reply SessionFault
 -- What the machine may do and reply to an entry of files.
 abbrev pub FilesMayReply : State → FileEntry → Reply → State → Type 0
 FilesMayReply old (files.Store name text) (Line (Stored other blocks)) new =
-    (parsed_name name ≡ Some other) × (blocks ≡ text_blocks text) × Works (HasStored other text) old new
+    (parsed_name name ≡ Some other) × (blocks ≡ text_blocks text) × DoesWork (HasStored other text) old new
 FilesMayReply old (files.Delete name) (Line (Deleted other)) new =
-    (parsed_name name ≡ Some other) × Works (HasDeleted other) old new
+    (parsed_name name ≡ Some other) × DoesWork (HasDeleted other) old new
 FilesMayReply old files.Direct (Report (Direct lengths free)) new =
     (lengths ≡ lengths_of old.files) × (free + used_of old.files ≡ old.capacity) × (new ≡ old)
 FilesMayReply old entry reply new = ⊥
@@ -41,16 +41,16 @@ FilesMayReply old entry reply new = ⊥
 -- What it may do and reply to an entry of jobs.
 abbrev pub JobsMayReply : State → JobEntry → Reply → State → Type 0
 JobsMayReply old (job.Assemble to from) (Line (Job number)) new =
-    Named to from (λ target sources.
-    Works (λ before after. AssembleStarts before target sources (Ok number) after) old new)
+    NamesFiles to from (λ target sources.
+    DoesWork (λ before after. AssembleStarts before target sources (Ok number) after) old new)
 JobsMayReply old (job.Load name) (Line (Job number)) new =
     (n : ℕ) × (parsed_name name ≡ Some n)
-    × Works (λ before after. LoadStarts before n (Ok number) after) old new
+    × DoesWork (λ before after. LoadStarts before n (Ok number) after) old new
 JobsMayReply old job.Squeeze (Line (Job number)) new =
-    Works (λ before after. SqueezeStarts before (Ok number) after) old new
+    DoesWork (λ before after. SqueezeStarts before (Ok number) after) old new
 JobsMayReply old (job.Turn number) (Line reply) new =
     (turned : Turned) × (reply ≡ turn_reply number turned)
-    × Works (λ before after. Turns before number (Ok turned) after) old new
+    × DoesWork (λ before after. Turns before number (Ok turned) after) old new
 JobsMayReply old entry reply new = ⊥
 
 -- What it may do and reply to an entry of the console.

@@ -40,8 +40,8 @@ with_work s after = record {
 }
 
 -- this was done to the files, core and the jobs, and to nothing else
-abbrev pub Works : (jobs.State → jobs.State → Type 0) → State → State → Type 0
-Works does old new = (after : jobs.State) × does (job_state old) after × (new ≡ with_work old after)
+abbrev pub DoesWork : (jobs.State → jobs.State → Type 0) → State → State → Type 0
+DoesWork does old new = (after : jobs.State) × does (job_state old) after × (new ≡ with_work old after)
 
 -- the reply to a turn
 abbrev pub turn_reply : ℕ → Turned → LineReply

@@ -7,7 +7,7 @@ ghost use Rattle.script8.specs.declared.entries.Entry.{Entry};
 ghost use Rattle.script8.specs.declared.entries.Entry.TheVariants as entry;
 ghost use Rattle.script8.specs.declared.entries.JobEntry.TheVariants as job;
 ghost use Rattle.script8.specs.declared.faults.SessionFault.{SessionFault};
-ghost use Rattle.session8.specs.Road.{changes_file, is_loaded, Arrives, ConsoleGoesOn, HasMade, NoneTells};
+ghost use Rattle.session8.specs.Road.{changes_file, is_loaded, LoadsCore, ConsoleGoesOn, HasMadeFile, NoneTells};
 ghost use Rattle.session8.specs.Same.{IsAlike, IsApart, speaks_of_room};
 ghost use Rattle.session8.specs.State.{State};
 ghost use Rattle.session8.specs.System.{Answer, Run, MayAnswer};
@@ -57,9 +57,9 @@ pub fn road()
         → ConsoleGoesOn old.console entries answers new.console }
     ensures load { (one two three four : State) (maker loader name left : ℕ) (sources : List (List ℕ))
         (entries : List Entry) (answers : List Answer) (stopped : Bool) (answer : Answer)
-        → HasMade maker name sources one two → Run two entries answers stopped three
+        → HasMadeFile maker name sources one two → Run two entries answers stopped three
         → NoneTells (changes_file name) answers → job_of loader three.jobs ≡ Some (loading name left)
-        → MayAnswer three (entry.Jobs (job.Turn loader)) answer four → Arrives sources three answer four }
+        → MayAnswer three (entry.Jobs (job.Turn loader)) answer four → LoadsCore sources three answer four }
 {
     no_fault();
     one_reading();

@@ -9,7 +9,7 @@ ghost use Rattle.session8.specs.System.{MayAnswer, Run};
 ghost use Rattle.session8.specs.SessionSteps.{is_memory, LeavesAlone, DoesEntry};
 ghost use Rattle.session8.specs.Interleaving.{EntryReads, EntryPlaces};
 ghost use Rattle.session8.specs.Room.{EntryTellsRoom};
-ghost use Rattle.session8.specs.Session.{state_of, IsQuiet, IsLater, IsSame, IsReply, IsSteadied, TellsBlockCalls};
+ghost use Rattle.session8.specs.Session.{state_of, NoCallFailed, IsLater, IsSame, IsReply, IsSteadied, TellsBlockCalls};
 ghost use Rattle.core_load.specs.Core.{zeros};
 ghost use Rattle.cpu8.specs.State.{stopped};
 ghost use Rattle.debug8.specs.Breaks.{no_breaks};
@@ -118,13 +118,13 @@ impl<S: BlockStore> Session<S> {
     /// of files or jobs is `Stopped`, but for a bad form, name or text and a turn of no job, and one of the console goes on. No
     /// steps, and more than 1,000,000, are a `BadLine`.
     pub fn enter(&mut self, alloc: Global, entry: Entry) -> Result<Reply, SessionFault>
-        ensures step { IsQuiet self.old self.new
+        ensures step { NoCallFailed self.old self.new
             → MayAnswer (state_of self.old) entry result (state_of self.new) }
         ensures later { IsLater self.old self.new }
         ensures files { self.old.volume.stopped ≡ false
             → self.old.volume.failed_writes < self.new.volume.failed_writes
             → Outlives self.old.volume.blocks self.new.volume.blocks }
-        ensures running { IsQuiet self.old self.new → self.new.volume.stopped ≡ false }
+        ensures running { NoCallFailed self.old self.new → self.new.volume.stopped ≡ false }
         ensures memory { IsErrOf result Memory → IsSame self.old self.new }
         ensures reply { IsReply result }
         ensures done { OnOk result (MayAnswer (state_of self.old) entry result (state_of self.new)
@@ -142,11 +142,11 @@ impl<S: BlockStore> Session<S> {
     /// Does entries in order: a run of the system machine, where no block call fails. Want of memory ends it; where no entry
     /// was done by then, it is answered.
     pub fn run(&mut self, alloc: Global, entries: &[Entry]) -> Result<Ran, SessionFault>
-        ensures run { IsQuiet self.old self.new
+        ensures run { NoCallFailed self.old self.new
             → IfOk result
             (λ ran. Run (state_of self.old) entries.now ran.replies.items ran.stopped (state_of self.new)) }
         ensures later { IsLater self.old self.new }
-        ensures running { IsQuiet self.old self.new → self.new.volume.stopped ≡ false }
+        ensures running { NoCallFailed self.old self.new → self.new.volume.stopped ≡ false }
         ensures stopped { IfOk result (λ ran. ran.stopped ≡ true → 0 < vec_len ran.replies) }
         ensures err { IfErr result (λ fault. (fault ≡ Memory) × IsSame self.old self.new) }
     {

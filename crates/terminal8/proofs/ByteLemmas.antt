@@ -1,7 +1,7 @@
 -- Known bytes that are taken, or written, in parts, some of them ahead, or on paper.
 use Rattle.std.proofs.Common.{◌≡◌, ℕ, Option, Some, None, Ok, Err, List, [], ◌∷◌, ◌++◌, ◌∙◌, ap, sym, refl, subst, append_assoc, append-nil}
 use Rattle.std.specs.Io.KnownBytes.{Consumes, Appends, IsAtEnd, Keeps}
-use Rattle.terminal8.specs.RunSteps.{Strikes, Gives, ReadsByte, Passes, Holds}
+use Rattle.terminal8.specs.RunSteps.{Strikes, GivesByte, ReadsByte, Passes, Holds}
 use Rattle.terminal8.specs.declared.outcomes.TerminalFault.{TerminalFault}
 use Rattle.terminal8.specs.declared.outcomes.TerminalFault.TheVariants.{Reader, Writer}
 
@@ -88,7 +88,7 @@ gives-ahead ahead ahead' r byte is = record { read = []; taken = consumes_none r
 
 -- the next of bytes that were read just now
 pub gives-read : (ahead read ahead' : List ℕ) (r r' : Option (List ℕ)) (o : Option ℕ) → ahead ≡ [] → Consumes r r' read → (read ≡ [] → IsAtEnd r')
-    → Gives read ahead' o → ReadsByte ahead ahead' r r' (Ok o)
+    → GivesByte read ahead' o → ReadsByte ahead ahead' r r' (Ok o)
 gives-read ahead read ahead' r r' (Some byte) none taken end is =
     record { read = read; taken = taken; in_order = ap (λ l. l ++ read) none ∙ is }
 gives-read ahead read ahead' r r' None none taken end is =

@@ -9,7 +9,7 @@ use Rattle.cpu8.specs.declared.outcomes.Stepped.TheVariants.{Stopped, Interrupte
 use Rattle.terminal8.specs.Keys.{fresh, keys_from, keys_of}
 use Rattle.terminal8.specs.KeySteps.{behind}
 use Rattle.terminal8.specs.Terminal.{Terminal, seated, later, last_did, printed_by, shown, has_halted, GoesOn, Ends, IsRun}
-use Rattle.terminal8.specs.Run.{MayFollow, Runs}
+use Rattle.terminal8.specs.Run.{MayFollow, RunsProgram}
 use Rattle.terminal8.specs.Laws.{terminal_of, IsWholeRun}
 use Rattle.terminal8.specs.declared.inputs.Input.TheVariants.{Ending}
 use Rattle.terminal8.specs.declared.keyboards.Form.{Form}
@@ -21,7 +21,7 @@ use Rattle.terminal8.proofs.KeyLemmas.{keys_more}
 -- ## Known bytes
 
 pub whole-run : (form : Form) (n : ℕ) (old new : State) (bytes left : List ℕ) (w w' : Option (List ℕ)) (ended : Ended)
-    → Runs form Ending n old new (Some bytes) (Some left) w w' (Ok ended) → IsWholeRun (terminal_of form old bytes) n new w w' ended
+    → RunsProgram form Ending n old new (Some bytes) (Some left) w w' (Ok ended) → IsWholeRun (terminal_of form old bytes) n new w w' ended
 whole-run form n old new bytes left w w' ended h =
     let m = h.0.made in
     let k = behind (fresh form) m.bytes in

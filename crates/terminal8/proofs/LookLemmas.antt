@@ -6,7 +6,7 @@ use Rattle.terminal8.specs.Keys.{Keyboard, key_of_byte, behind_byte}
 use Rattle.terminal8.specs.KeySteps.{behind}
 use Rattle.terminal8.specs.Asks.{asks_for_key, waits_for_key}
 use Rattle.terminal8.specs.Terminal.{Terminal, seated, looked, is_none_left}
-use Rattle.terminal8.specs.Run.{keys_found, Finds}
+use Rattle.terminal8.specs.Run.{keys_found, FindsKey}
 use Rattle.terminal8.specs.RunSteps.{Strikes, StrikesKeys, IsDry, Looks, Attends, is_ending}
 use Rattle.terminal8.specs.declared.inputs.Input.{Input}
 use Rattle.terminal8.specs.declared.inputs.Input.TheVariants.{Ending, Live}
@@ -48,15 +48,15 @@ found-append : (a b : List (Option ℕ)) → keys_found (a ++ b) ≡ keys_found 
 found-append [] b = refl
 found-append (look ∷ a) b = ap (λ keys. option_to_list look ++ keys) (found-append a b) ∙ sym (append_assoc (option_to_list look) (keys_found a) (keys_found b))
 
-pub finds-none : (input : Input) → Finds input [] []
+pub finds-none : (input : Input) → FindsKey input [] []
 finds-none Ending = refl
 finds-none Live = refl
 
-pub finds-key : (input : Input) (key : ℕ) → Finds input (Some key ∷ []) (key ∷ [])
+pub finds-key : (input : Input) (key : ℕ) → FindsKey input (Some key ∷ []) (key ∷ [])
 finds-key Ending key = refl
 finds-key Live key = refl
 
-pub finds-more : (input : Input) (a b : List (Option ℕ)) (x y : List ℕ) → Finds input a x → Finds input b y → Finds input (a ++ b) (x ++ y)
+pub finds-more : (input : Input) (a b : List (Option ℕ)) (x y : List ℕ) → FindsKey input a x → FindsKey input b y → FindsKey input (a ++ b) (x ++ y)
 finds-more Ending a b x y f g =
     ap (λ l. l ++ b) f ∙ ap (λ l. map (λ (key : ℕ). Some key) x ++ l) g ∙ sym (map-append (λ (key : ℕ). Some key) x y)
 finds-more Live a b x y f g = found-append a b ∙ ap (λ l. l ++ keys_found b) f ∙ ap (λ l. x ++ l) g
@@ -65,7 +65,7 @@ found-each : (keys : List ℕ) → keys_found (map (λ (key : ℕ). Some key) ke
 found-each [] = refl
 found-each (key ∷ keys) = ap (λ ks. key ∷ ks) (found-each keys)
 
-pub finds-found : (input : Input) (looks : List (Option ℕ)) (keys : List ℕ) → Finds input looks keys → keys_found looks ≡ keys
+pub finds-found : (input : Input) (looks : List (Option ℕ)) (keys : List ℕ) → FindsKey input looks keys → keys_found looks ≡ keys
 finds-found Ending looks keys f = ap (λ l. keys_found l) f ∙ found-each keys
 finds-found Live looks keys f = f
 

@@ -5,14 +5,14 @@ use Rattle.std.proofs.lemmas.Bool.{eqb-true}
 use Rattle.cpu8.specs.State.{State, key_struck}
 use Rattle.cpu8.specs.Reference.{advanced}
 use Rattle.cpu8.specs.Step.{executed, step}
-use Rattle.cpu8.specs.Go.{turn, character_of}
+use Rattle.cpu8.specs.Go.{printing_step, character_of}
 use Rattle.cpu8.specs.Laws.{runs_on}
 use Rattle.cpu8.specs.declared.outcomes.Stepped.{Stepped}
 use Rattle.cpu8.specs.declared.outcomes.Stepped.TheVariants.{Ran, Stopped}
 use Rattle.terminal8.specs.Asks.{asks_for_key, word_behind}
 use Rattle.terminal8.specs.Terminal.{Terminal, seated, looked, attended, stepped, next, later, last_did, printed_by, starves, GoesOn}
 use Rattle.terminal8.specs.Laws.{ReadsNext, none_yet, waiting_for, key_read}
-use Rattle.terminal8.proofs.WaitLemmas.{Waits, waits, waits-asks, turn-idle, turn-ksf, turn-jmp}
+use Rattle.terminal8.proofs.WaitLemmas.{Waits, waits, waits-asks, printing_step-idle, printing_step-ksf, printing_step-jmp}
 use Rattle.terminal8.proofs.LookLemmas.{starves-not}
 use Rattle.terminal8.proofs.TerminalLemmas.{later-none, later-next, did-none, did-next, printed-none, printed-next}
 
@@ -95,16 +95,16 @@ none-twice s looks since r =
       between = u;
       first = record {
         next_is =
-            ap (λ (x : Terminal). let y : Terminal = record x { machine = (turn true x.machine).0; since = x.since + 1 } in y) at
-            ∙ ap (λ p. let y : Terminal = record { machine = p.0; looks = looks; since = 1 } in y) (turn-ksf s w);
-        did = ap (λ (x : Terminal). (turn true x.machine).1) at ∙ ap (λ p. p.1) (turn-ksf s w);
+            ap (λ (x : Terminal). let y : Terminal = record x { machine = (printing_step true x.machine).0; since = x.since + 1 } in y) at
+            ∙ ap (λ p. let y : Terminal = record { machine = p.0; looks = looks; since = 1 } in y) (printing_step-ksf s w);
+        did = ap (λ (x : Terminal). (printing_step true x.machine).1) at ∙ ap (λ p. p.1) (printing_step-ksf s w);
         fed = refl;
       };
       second = record {
         next_is =
-            ap (λ (x : Terminal). let y : Terminal = record x { machine = (turn true x.machine).0; since = x.since + 1 } in y) at'
-            ∙ ap (λ p. let y : Terminal = record { machine = p.0; looks = looks; since = 2 } in y) (turn-jmp s w);
-        did = ap (λ (x : Terminal). (turn true x.machine).1) at' ∙ ap (λ p. p.1) (turn-jmp s w);
+            ap (λ (x : Terminal). let y : Terminal = record x { machine = (printing_step true x.machine).0; since = x.since + 1 } in y) at'
+            ∙ ap (λ p. let y : Terminal = record { machine = p.0; looks = looks; since = 2 } in y) (printing_step-jmp s w);
+        did = ap (λ (x : Terminal). (printing_step true x.machine).1) at' ∙ ap (λ p. p.1) (printing_step-jmp s w);
         fed = starves-not (advanced s) looks 1 (asks-not s 1 w r.interrupts);
       };
     }
@@ -117,8 +117,8 @@ ksf-found : (s : State) (key : ℕ) → Waits s → s.interrupts_on ≡ false �
 unfolding step executed
 ksf-found s key w off = rw (w.running, off, w.word) refl
 
-turn-found : (s : State) (key : ℕ) → Waits s → s.interrupts_on ≡ false → turn true (key_struck s key) ≡ (found s key, Ran None)
-turn-found s key w off = turn-idle (key_struck s key) w.idle ∙ ksf-found s key w off
+printing_step-found : (s : State) (key : ℕ) → Waits s → s.interrupts_on ≡ false → printing_step true (key_struck s key) ≡ (found s key, Ran None)
+printing_step-found s key w off = printing_step-idle (key_struck s key) w.idle ∙ ksf-found s key w off
 
 -- and behind its KRB, with PC and AC as they are computed
 abbrev read_from : State → ℕ → ℕ → ℕ → Bool → State
@@ -135,9 +135,9 @@ read-is s key w =
     ∙ ap (λ ac. read_from s key ((s.pc + 3) % 4096) ac false) (or_zero_l key)
     ∙ ap (λ b. read_from s key ((s.pc + 3) % 4096) key b) (sym w.waiting)
 
-turn-krb : (s : State) (key : ℕ) → Waits s → (r : ReadsNext s) → turn true (found s key) ≡ (key_read s key, Ran None)
-turn-krb s key w r =
-    turn-idle (found s key) w.idle ∙ krb-found s key w r ∙ ap (λ (x : State). let p : State × Stepped = (x, Ran None) in p) (read-is s key w)
+printing_step-krb : (s : State) (key : ℕ) → Waits s → (r : ReadsNext s) → printing_step true (found s key) ≡ (key_read s key, Ran None)
+printing_step-krb s key w r =
+    printing_step-idle (found s key) w.idle ∙ krb-found s key w r ∙ ap (λ (x : State). let p : State × Stepped = (x, Ran None) in p) (read-is s key w)
 
 -- a look that finds a key
 key-twice : (s : State) (key : ℕ) (looks : List (Option ℕ)) (since : ℕ) → ReadsNext s
@@ -151,14 +151,14 @@ key-twice s key looks since r =
       between = u;
       first = record {
         next_is =
-            ap (λ (x : Terminal). let y : Terminal = record x { machine = (turn true x.machine).0; since = x.since + 1 } in y) at
-            ∙ ap (λ p. let y : Terminal = record { machine = p.0; looks = looks; since = 1 } in y) (turn-found s key w r.interrupts);
-        did = ap (λ (x : Terminal). (turn true x.machine).1) at ∙ ap (λ p. p.1) (turn-found s key w r.interrupts);
+            ap (λ (x : Terminal). let y : Terminal = record x { machine = (printing_step true x.machine).0; since = x.since + 1 } in y) at
+            ∙ ap (λ p. let y : Terminal = record { machine = p.0; looks = looks; since = 1 } in y) (printing_step-found s key w r.interrupts);
+        did = ap (λ (x : Terminal). (printing_step true x.machine).1) at ∙ ap (λ p. p.1) (printing_step-found s key w r.interrupts);
         fed = refl;
       };
       second = record {
-        next_is = ap (λ p. let y : Terminal = record { machine = p.0; looks = looks; since = 2 } in y) (turn-krb s key w r);
-        did = ap (λ p. p.1) (turn-krb s key w r);
+        next_is = ap (λ p. let y : Terminal = record { machine = p.0; looks = looks; since = 2 } in y) (printing_step-krb s key w r);
+        did = ap (λ p. p.1) (printing_step-krb s key w r);
         fed = starves-not (found s key) looks 1 refl;
       };
     }

@@ -2,7 +2,7 @@
 use Rattle.std.proofs.Common.{◌≡◌, ◌⊎◌, inl, inr, ℕ, zero, suc, ◌+◌, ◌<◌, ◌≤◌, Bool, true, false, true≢false, if◌then◌else◌, List, [], ◌∷◌, ◌++◌, Option, Some, None, Result, Ok, Err, append-nil, append_assoc, unwrap_or, refl, ap, sym, subst, ◌∙◌, arith, below_more}
 use Rattle.std.specs.Io.KnownBytes.{Consumes}
 use Rattle.cpu8.specs.State.{State}
-use Rattle.cpu8.specs.Go.{turn, after, answer, character_of}
+use Rattle.cpu8.specs.Go.{printing_step, after, answer, character_of}
 use Rattle.cpu8.specs.Laws.{runs_on}
 use Rattle.cpu8.specs.declared.outcomes.Stepped.{Stepped}
 use Rattle.cpu8.specs.declared.outcomes.Stepped.TheVariants.{Stopped, Interrupted, Ran, Halted, Unassigned}
@@ -10,7 +10,7 @@ use Rattle.terminal8.specs.Keys.{Keyboard, fresh, keys_from, keys_of}
 use Rattle.terminal8.specs.KeySteps.{behind}
 use Rattle.terminal8.specs.Asks.{asks_for_key}
 use Rattle.terminal8.specs.Terminal.{Terminal, seated, looked, stepped, next, later, last_did, printed_by, shown, starves, has_halted, GoesOn, Ends}
-use Rattle.terminal8.specs.Run.{MayFollow, Finds, FindsNone, HaveEnded, HasMade, IsRunOf, IsCut, Writes, Runs}
+use Rattle.terminal8.specs.Run.{MayFollow, FindsKey, FindsNone, HaveEnded, HasMadeSteps, IsRunOf, IsCut, WritesPrinted, RunsProgram}
 use Rattle.terminal8.specs.RunSteps.{StrikesKeys, IsDry, IsNoneOnly, Passes, Holds, Attends, Misses, Prints, RunsInto, stop_of}
 use Rattle.terminal8.specs.declared.inputs.Input.{Input}
 use Rattle.terminal8.specs.declared.outcomes.TerminalFault.{TerminalFault}
@@ -40,7 +40,7 @@ pub record IsTaken (form : Form) (input : Input) (k : Keyboard) (ahead : List �
   pub bytes : List ℕ
   pub taken : Consumes r r' (bytes ++ ahead)
   pub keyboard : k ≡ behind (fresh form) bytes
-  pub finds : Finds input looks (keys_of form bytes)
+  pub finds : FindsKey input looks (keys_of form bytes)
   pub none_only : (before after : List (Option ℕ)) → before ++ None ∷ after ≡ looks → FindsNone form r before
   pub at_end : over ≡ true → HaveEnded input ahead r'
 
@@ -155,14 +155,14 @@ none-next form input k k' a a' over r r' r'' looks (None ∷ more) keys i s n be
 
 -- bytes were struck that give these keys, which looks found
 taken-more : (form : Form) (input : Input) (k k' : Keyboard) (a a' : List ℕ) (over over' : Bool) (r r' r'' : Option (List ℕ)) (looks found : List (Option ℕ)) (keys : List ℕ)
-    → IsTaken form input k a over r r' looks → StrikesKeys k k' a a' r' r'' keys → Finds input found keys → IsNoneOnly found keys a' r''
+    → IsTaken form input k a over r r' looks → StrikesKeys k k' a a' r' r'' keys → FindsKey input found keys → IsNoneOnly found keys a' r''
     → (over' ≡ true → HaveEnded input a' r'') → IsTaken form input k' a' over' r r'' (looks ++ found)
 taken-more form input k k' a a' over over' r r' r'' looks found keys i s finds none end = record {
   bytes = i.bytes ++ s.bytes;
   taken = taken-all form input k k' a a' over r r' r'' looks keys i s;
   keyboard = s.keyboard ∙ ap (λ k. behind k s.bytes) i.keyboard ∙ sym (behind_more (fresh form) i.bytes s.bytes);
   finds =
-      subst (λ ks. Finds input (looks ++ found) ks) (keys-sum form input k k' a a' over r r' r'' looks keys i s)
+      subst (λ ks. FindsKey input (looks ++ found) ks) (keys-sum form input k k' a a' over r r' r'' looks keys i s)
       (finds-more input looks found (keys_of form i.bytes) keys i.finds finds);
   none_only = none-next form input k k' a a' over r r' r'' looks found keys i s none;
   at_end = end;
@@ -177,14 +177,14 @@ taken-next form input k k' a a' over over' s s' since since' r r' r'' looks star
 -- the step behind that
 step-at : (input : Input) (old s s' new : State) (k k' : Keyboard) (a a' : List ℕ) (over over' : Bool) (since since' : ℕ) (r r' : Option (List ℕ)) (looks : List (Option ℕ)) (steps : ℕ) (starved : Bool)
     → IsAt old looks over steps s since → RunsOn old looks over steps → (at : Attends input k k' a a' over over' s s' since since' r r' starved) → starved ≡ false
-    → new ≡ (turn true s').0 → IsAt old (looks ++ at.found) over' (steps + 1) new (since' + 1)
+    → new ≡ (printing_step true s').0 → IsAt old (looks ++ at.found) over' (steps + 1) new (since' + 1)
 step-at input old s s' new k k' a a' over over' since since' r r' looks steps starved i runs at fed new_is = record {
   at = λ more may.
       let may' = may-join over over' at.found more at.stays at.over may in
       later-next steps (seated old ((looks ++ at.found) ++ more))
       ∙ ap (λ t. next (later steps t)) (joined old looks at.found more)
       ∙ ap (λ t. next t) (i.at (at.found ++ more) may')
-      ∙ ap (λ (x : Terminal). let y : Terminal = record x { machine = (turn true x.machine).0; since = x.since + 1 } in y) (at.attends more may)
+      ∙ ap (λ (x : Terminal). let y : Terminal = record x { machine = (printing_step true x.machine).0; since = x.since + 1 } in y) (at.attends more may)
       ∙ ap (λ (m : State). let y : Terminal = record { machine = m; looks = more; since = since' + 1 } in y) (sym new_is);
   goes_on = λ more may.
       let may' = may-join over over' at.found more at.stays at.over may in
@@ -198,15 +198,15 @@ step-at input old s s' new k k' a a' over over' since since' r r' looks steps st
 -- what it did
 step-did : (input : Input) (old s s' : State) (k k' : Keyboard) (a a' : List ℕ) (over over' : Bool) (since since' : ℕ) (r r' : Option (List ℕ)) (looks : List (Option ℕ)) (steps : ℕ) (starved : Bool)
     → IsAt old looks over steps s since → (at : Attends input k k' a a' over over' s s' since since' r r' starved)
-    → (more : List (Option ℕ)) → MayFollow over' more → (stepped (later steps (seated old ((looks ++ at.found) ++ more)))).1 ≡ (turn true s').1
+    → (more : List (Option ℕ)) → MayFollow over' more → (stepped (later steps (seated old ((looks ++ at.found) ++ more)))).1 ≡ (printing_step true s').1
 step-did input old s s' k k' a a' over over' since since' r r' looks steps starved i at more may =
     let may' = may-join over over' at.found more at.stays at.over may in
     ap (λ t. (stepped (later steps t)).1) (joined old looks at.found more)
     ∙ ap (λ t. (stepped t).1) (i.at (at.found ++ more) may')
-    ∙ ap (λ (x : Terminal). (turn true x.machine).1) (at.attends more may)
+    ∙ ap (λ (x : Terminal). (printing_step true x.machine).1) (at.attends more may)
 
 step-last : (input : Input) (old s s' : State) (k k' : Keyboard) (a a' : List ℕ) (over over' : Bool) (since since' : ℕ) (r r' : Option (List ℕ)) (looks : List (Option ℕ)) (steps : ℕ) (starved : Bool)
-    (did : Stepped) → IsAt old looks over steps s since → (at : Attends input k k' a a' over over' s s' since since' r r' starved) → did ≡ (turn true s').1
+    (did : Stepped) → IsAt old looks over steps s since → (at : Attends input k k' a a' over over' s s' since since' r r' starved) → did ≡ (printing_step true s').1
     → (more : List (Option ℕ)) → MayFollow over' more → last_did (steps + 1) (seated old ((looks ++ at.found) ++ more)) ≡ did
 step-last input old s s' k k' a a' over over' since since' r r' looks steps starved did i at did_is more may =
     did-next steps (seated old ((looks ++ at.found) ++ more))
@@ -217,7 +217,7 @@ step-last input old s s' k k' a a' over over' since since' r r' looks steps star
 step-prints : (input : Input) (old s s' : State) (k k' : Keyboard) (a a' : List ℕ) (over over' : Bool) (since since' : ℕ) (r r' w w' w'' w''' : Option (List ℕ)) (p p' p'' : List ℕ)
     (looks : List (Option ℕ)) (steps : ℕ) (starved : Bool) (did : Stepped)
     → IsAt old looks over steps s since → Prints old looks over w w' p steps → (at : Attends input k k' a a' over over' s s' since since' r r' starved)
-    → Passes w' w'' p p' [] → did ≡ (turn true s').1 → Passes w'' w''' p' p'' (shown (character_of did))
+    → Passes w' w'' p p' [] → did ≡ (printing_step true s').1 → Passes w'' w''' p' p'' (shown (character_of did))
     → Prints old (looks ++ at.found) over' w w''' p'' (steps + 1)
 step-prints input old s s' k k' a a' over over' since since' r r' w w' w'' w''' p p' p'' looks steps starved did i prints at none did_is some more may =
     let t = seated old ((looks ++ at.found) ++ more) in
@@ -286,7 +286,7 @@ limit-keys = refl
 pub running-next : (form : Form) (input : Input) (old s s' new : State) (k k' : Keyboard) (a a' : List ℕ) (over over' : Bool) (since since' : ℕ)
     (r r' r'' w w' w'' w''' : Option (List ℕ)) (p p' p'' : List ℕ) (steps : ℕ) (did : Stepped)
     → IsRunning form input old s k a over since r r' w w' p steps → Attends input k k' a a' over over' s s' since since' r' r'' false
-    → Passes w' w'' p p' [] → new ≡ (turn true s').0 → did ≡ (turn true s').1 → Passes w'' w''' p' p'' (shown (character_of did)) → stop_of did ≡ None
+    → Passes w' w'' p p' [] → new ≡ (printing_step true s').0 → did ≡ (printing_step true s').1 → Passes w'' w''' p' p'' (shown (character_of did)) → stop_of did ≡ None
     → IsRunning form input old new k' a' over' (since' + 1) r r'' w w''' p'' (steps + 1)
 running-next form input old s s' new k k' a a' over over' since since' r r' r'' w w' w'' w''' p p' p'' steps did i at none new_is did_is some goes = record {
   looks = i.looks ++ at.found;
@@ -300,13 +300,13 @@ running-next form input old s s' new k k' a a' over over' since since' r r' r'' 
 
 -- behind a step in which the program asks for no key and that prints nothing
 quiet-at : (old s : State) (looks : List (Option ℕ)) (over : Bool) (steps since : ℕ) → IsAt old looks over steps s since → RunsOn old looks over steps
-    → asks_for_key since s ≡ false → IsAt old looks over (steps + 1) (turn true s).0 (since + 1)
+    → asks_for_key since s ≡ false → IsAt old looks over (steps + 1) (printing_step true s).0 (since + 1)
 quiet-at old s looks over steps since i runs asks = record {
   at = λ more may.
       later-next steps (seated old (looks ++ more))
       ∙ ap (λ t. next t) (i.at more may)
       ∙ ap (λ (b : Bool). let x : Terminal = if b then looked s more else record { machine = s; looks = more; since = since } in
-      let y : Terminal = record x { machine = (turn true x.machine).0; since = x.since + 1 } in y) asks;
+      let y : Terminal = record x { machine = (printing_step true x.machine).0; since = x.since + 1 } in y) asks;
   goes_on = λ more may. below_more _ _ (i.goes_on more may) (record {
     runs = runs more may;
     fed = ap (λ t. starves t) (i.at more may) ∙ starves-not s more since asks;
@@ -314,13 +314,13 @@ quiet-at old s looks over steps since i runs asks = record {
 }
 
 quiet-did : (old s : State) (looks : List (Option ℕ)) (over : Bool) (steps since : ℕ) → IsAt old looks over steps s since → asks_for_key since s ≡ false
-    → (more : List (Option ℕ)) → MayFollow over more → (stepped (later steps (seated old (looks ++ more)))).1 ≡ (turn true s).1
+    → (more : List (Option ℕ)) → MayFollow over more → (stepped (later steps (seated old (looks ++ more)))).1 ≡ (printing_step true s).1
 quiet-did old s looks over steps since i asks more may =
     ap (λ t. (stepped t).1) (i.at more may)
-    ∙ ap (λ (b : Bool). let x : Terminal = if b then looked s more else record { machine = s; looks = more; since = since } in (turn true x.machine).1) asks
+    ∙ ap (λ (b : Bool). let x : Terminal = if b then looked s more else record { machine = s; looks = more; since = since } in (printing_step true x.machine).1) asks
 
 quiet-prints : (old s : State) (looks : List (Option ℕ)) (over : Bool) (steps since : ℕ) (w w' : Option (List ℕ)) (p : List ℕ) → IsAt old looks over steps s since
-    → asks_for_key since s ≡ false → (turn true s).1 ≡ Ran None → Prints old looks over w w' p steps → Prints old looks over w w' p (steps + 1)
+    → asks_for_key since s ≡ false → (printing_step true s).1 ≡ Ran None → Prints old looks over w w' p steps → Prints old looks over w w' p (steps + 1)
 quiet-prints old s looks over steps since w w' p i asks ran prints more may =
     let t = seated old (looks ++ more) in
     subst (λ cs. Passes w w' [] p (shown cs))
@@ -330,8 +330,8 @@ quiet-prints old s looks over steps since w w' p i asks ran prints more may =
     (prints more may)
 
 quiet-next : (form : Form) (input : Input) (old s : State) (k : Keyboard) (a : List ℕ) (over : Bool) (since : ℕ) (r r' w w' : Option (List ℕ)) (p : List ℕ) (steps : ℕ)
-    → IsRunning form input old s k a over since r r' w w' p steps → asks_for_key since s ≡ false → (turn true s).1 ≡ Ran None
-    → IsRunning form input old (turn true s).0 k a over (since + 1) r r' w w' p (steps + 1)
+    → IsRunning form input old s k a over since r r' w w' p steps → asks_for_key since s ≡ false → (printing_step true s).1 ≡ Ran None
+    → IsRunning form input old (printing_step true s).0 k a over (since + 1) r r' w w' p (steps + 1)
 quiet-next form input old s k a over since r r' w w' p steps i asks ran = record {
   looks = i.looks;
   is_at = quiet-at old s i.looks over steps since i.is_at i.runs asks;
@@ -345,7 +345,7 @@ after-zero : (s : State) → after true 0 s ≡ s
 unfolding after
 after-zero s = refl
 
-after-suc : (k : ℕ) (s : State) → (turn true (after true k s)).0 ≡ after true (suc k) s
+after-suc : (k : ℕ) (s : State) → (printing_step true (after true k s)).0 ≡ after true (suc k) s
 unfolding after
 after-suc k s = refl
 
@@ -365,11 +365,11 @@ quiet-more form input old s k a over since r r' w w' p steps (suc count) i answe
     let e : steps + count + 1 ≡ steps + suc count = omega arith in
     let f : since + count + 1 ≡ since + suc count = omega arith in
     let before = quiet-more form input old s k a over since r r' w w' p steps count i (λ m below. answers m (omega (arith, below))) (λ m below. asks m (omega (arith, below))) in
-    let behind_it : IsRunning form input old (turn true (after true count s)).0 k a over (since + count + 1) r r' w w' p (steps + count + 1) =
+    let behind_it : IsRunning form input old (printing_step true (after true count s)).0 k a over (since + count + 1) r r' w w' p (steps + count + 1) =
     quiet-next form input old (after true count s) k a over (since + count) r r' w w' p (steps + count) before (asks count (omega arith)) (answers count (omega arith)) in
     subst (λ x. IsRunning form input old x k a over (since + suc count) r r' w w' p (steps + suc count)) (after-suc count s)
-    (subst (λ (m : ℕ). IsRunning form input old (turn true (after true count s)).0 k a over m r r' w w' p (steps + suc count)) f
-    (subst (λ (m : ℕ). IsRunning form input old (turn true (after true count s)).0 k a over (since + count + 1) r r' w w' p m) e behind_it))
+    (subst (λ (m : ℕ). IsRunning form input old (printing_step true (after true count s)).0 k a over m r r' w w' p (steps + suc count)) f
+    (subst (λ (m : ℕ). IsRunning form input old (printing_step true (after true count s)).0 k a over (since + count + 1) r r' w w' p m) e behind_it))
 
 pub running-more : (form : Form) (input : Input) (old s new : State) (k : Keyboard) (a : List ℕ) (over : Bool) (since : ℕ) (r r' w w' : Option (List ℕ)) (p : List ℕ) (steps count : ℕ)
     → IsRunning form input old s k a over since r r' w w' p steps → new ≡ after true count s
@@ -383,7 +383,7 @@ running-more form input old s new k a over since r r' w w' p steps count i is an
 -- ## The ends of a run
 
 has-made : (form : Form) (input : Input) (old new : State) (k : Keyboard) (a : List ℕ) (over : Bool) (since : ℕ) (r r' : Option (List ℕ)) (looks : List (Option ℕ)) (steps : ℕ)
-    → IsAt old looks over steps new since → IsTaken form input k a over r r' looks → HasMade form input old new r r' looks over steps
+    → IsAt old looks over steps new since → IsTaken form input k a over r r' looks → HasMadeSteps form input old new r r' looks over steps
 has-made form input old new k a over since r r' looks steps i t = record {
   bytes = t.bytes;
   ahead = a;
@@ -490,7 +490,7 @@ starved-run form input n old s s' k k' a a' over over' since since' r r' r'' w w
 pub ended-run : (form : Form) (input : Input) (n : ℕ) (old s s' new : State) (k k' : Keyboard) (a a' : List ℕ) (over over' : Bool) (since since' : ℕ)
     (r r' r'' w w' w'' w''' : Option (List ℕ)) (p p' p'' : List ℕ) (steps : ℕ) (did : Stepped) (y : Why)
     → IsRunning form input old s k a over since r r' w w' p steps → steps < n → Attends input k k' a a' over over' s s' since since' r' r'' false
-    → Passes w' w'' p p' [] → new ≡ (turn true s').0 → did ≡ (turn true s').1 → Passes w'' w''' p' p'' (shown (character_of did)) → stop_of did ≡ Some y
+    → Passes w' w'' p p' [] → new ≡ (printing_step true s').0 → did ≡ (printing_step true s').1 → Passes w'' w''' p' p'' (shown (character_of did)) → stop_of did ≡ Some y
     → RunsInto form input n old new r r'' w w''' p'' (Ok (record { steps = steps + 1; why = y }))
 ended-run form input n old s s' new k k' a a' over over' since since' r r' r'' w w' w'' w''' p p' p'' steps did y i below at none new_is did_is some is = (
   has-run form input n old new k' a' over' (since' + 1) r r'' (i.looks ++ at.found) (steps + 1) y
@@ -508,7 +508,7 @@ ended-run form input n old s s' new k k' a a' over over' since since' r r' r'' w
 pub unwritten-run : (form : Form) (input : Input) (n : ℕ) (old s s' new : State) (k k' : Keyboard) (a a' : List ℕ) (over over' : Bool) (since since' : ℕ)
     (r r' r'' w w' : Option (List ℕ)) (p : List ℕ) (steps : ℕ)
     → IsRunning form input old s k a over since r r' w w' p steps → steps < n → Attends input k k' a a' over over' s s' since since' r' r'' false
-    → new ≡ (turn true s').0 → IsCut form input n old new r r''
+    → new ≡ (printing_step true s').0 → IsCut form input n old new r r''
 unwritten-run form input n old s s' new k k' a a' over over' since since' r r' r'' w w' p steps i below at new_is =
     is-cut form input n old new k' a' over' (since' + 1) r r'' (i.looks ++ at.found) (steps + 1)
     (step-at input old s s' new k k' a a' over over' since since' r' r'' i.looks steps false i.is_at i.runs at refl new_is)
@@ -544,13 +544,13 @@ missed-run form input n old s new k k' a a' over since r r' r'' w w' w'' p p' st
 -- ## Handing on what is on the paper at last
 
 flushed-prints : (old : State) (looks : List (Option ℕ)) (over : Bool) (w w' w'' : Option (List ℕ)) (p p' : List ℕ) (steps : ℕ) → Prints old looks over w w' p steps
-    → Passes w' w'' p p' [] → p' ≡ [] → Writes old looks over w w'' steps
+    → Passes w' w'' p p' [] → p' ≡ [] → WritesPrinted old looks over w w'' steps
 flushed-prints old looks over w w' w'' p p' steps prints held none more may =
     let printed = shown (printed_by steps (seated old (looks ++ more))) in
     passed w w'' p' printed (subst (λ cs. Passes w w'' [] p' cs) (append-nil printed) (passes-more w w' w'' [] p p' printed [] (prints more may) held)) none
 
 pub flushed-run : (form : Form) (input : Input) (n : ℕ) (old new : State) (r r' w w' w'' : Option (List ℕ)) (p p' : List ℕ) (ran : Result Ended TerminalFault)
-    → RunsInto form input n old new r r' w w' p ran → Passes w' w'' p p' [] → p' ≡ [] → Runs form input n old new r r' w w'' ran
+    → RunsInto form input n old new r r' w w' p ran → Passes w' w'' p p' [] → p' ≡ [] → RunsProgram form input n old new r r' w w'' ran
 flushed-run form input n old new r r' w w' w'' p p' (Ok ended) h held none =
     (h.0, flushed-prints old h.0.looks h.0.is_over w w' w'' p p' ended.steps h.1 held none)
 flushed-run form input n old new r r' w w' w'' p p' (Err Reader) h held none =

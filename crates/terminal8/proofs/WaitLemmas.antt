@@ -4,7 +4,7 @@ use Rattle.std.proofs.lemmas.Bool.{and_parts, eqb-true}
 use Rattle.cpu8.specs.State.{State, printer_done, grants_interrupt}
 use Rattle.cpu8.specs.Reference.{advanced, direct_address, jmp_row}
 use Rattle.cpu8.specs.Step.{fetched, executed, step}
-use Rattle.cpu8.specs.Go.{turn}
+use Rattle.cpu8.specs.Go.{printing_step}
 use Rattle.cpu8.specs.declared.outcomes.Stepped.{Stepped}
 use Rattle.cpu8.specs.declared.outcomes.Stepped.TheVariants.{Ran}
 use Rattle.terminal8.specs.Asks.{asks_for_key, waits_for_key, jumps_back, is_direct_jmp, word_behind}
@@ -72,15 +72,15 @@ waits-asks s since h =
 
 -- ## The loop
 
-pub turn-idle : (s : State) → s.teletype.busy ≡ false → turn true s ≡ step s
-turn-idle s idle = rw idle refl
+pub printing_step-idle : (s : State) → s.teletype.busy ≡ false → printing_step true s ≡ step s
+printing_step-idle s idle = rw idle refl
 
 ksf-step : (s : State) → Waits s → step s ≡ (advanced s, Ran None)
 unfolding step executed
 ksf-step s w = rw (w.running, none-waiting s w, w.word, w.clear) refl
 
-pub turn-ksf : (s : State) → Waits s → turn true s ≡ (advanced s, Ran None)
-turn-ksf s w = turn-idle s w.idle ∙ ksf-step s w
+pub printing_step-ksf : (s : State) → Waits s → printing_step true s ≡ (advanced s, Ran None)
+printing_step-ksf s w = printing_step-idle s w.idle ∙ ksf-step s w
 
 by-512 : (w : ℕ) → w / 256 ≡ 10 → w / 512 ≡ 5
 by-512 w h = omega (arith, h)
@@ -109,5 +109,5 @@ jmp-step s w =
     jmp-next s w
     ∙ ap (λ (x : State). let pair : State × Stepped = (x, Ran None) in pair) (jmp-back s (word_behind s) w.jmp w.back ∙ as-before s w)
 
-pub turn-jmp : (s : State) → Waits s → turn true (advanced s) ≡ (s, Ran None)
-turn-jmp s w = turn-idle (advanced s) w.idle ∙ jmp-step s w
+pub printing_step-jmp : (s : State) → Waits s → printing_step true (advanced s) ≡ (s, Ran None)
+printing_step-jmp s w = printing_step-idle (advanced s) w.idle ∙ jmp-step s w

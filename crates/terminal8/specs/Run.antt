@@ -20,9 +20,9 @@ keys_found [] = []
 keys_found (look ∷ looks) = option_to_list look ++ keys_found looks
 
 -- Looks find these keys, in their order. Of keys that end each look finds the next; of live ones some looks find none.
-abbrev pub Finds : Input → List (Option ℕ) → List ℕ → Type 0
-Finds Ending looks keys = looks ≡ map (λ key. Some key) keys
-Finds Live looks keys = keys_found looks ≡ keys
+abbrev pub FindsKey : Input → List (Option ℕ) → List ℕ → Type 0
+FindsKey Ending looks keys = looks ≡ map (λ key. Some key) keys
+FindsKey Live looks keys = keys_found looks ≡ keys
 
 -- the keys have ended: they are such as end, no byte was read ahead, and the reader has no more
 abbrev pub HaveEnded : Input → List ℕ → Option (List ℕ) → Type 0
@@ -44,11 +44,11 @@ MayFollow is_over more = is_over ≡ true → more ≡ []
 
 -- A machine made so many steps, in which these looks were made, whatever later ones would have found. They found the keys of
 -- bytes that the reader gave; bytes behind those that were read ahead are no part of the run.
-pub record HasMade (form : Form) (input : Input) (old new : State) (reader reader' : Option (List ℕ)) (looks : List (Option ℕ)) (is_over : Bool) (steps : ℕ) : Type 0 where
+pub record HasMadeSteps (form : Form) (input : Input) (old new : State) (reader reader' : Option (List ℕ)) (looks : List (Option ℕ)) (is_over : Bool) (steps : ℕ) : Type 0 where
   pub bytes : List ℕ
   pub ahead : List ℕ
   pub taken : Consumes reader reader' (bytes ++ ahead)
-  pub finds : Finds input looks (keys_of form bytes)
+  pub finds : FindsKey input looks (keys_of form bytes)
   pub none_only : (before after : List (Option ℕ)) → before ++ None ∷ after ≡ looks → FindsNone form reader before
   pub at_end : is_over ≡ true → HaveEnded input ahead reader'
   pub machine : (more : List (Option ℕ)) → MayFollow is_over more → (later steps (seated old (looks ++ more))).machine ≡ new
@@ -58,7 +58,7 @@ pub record HasMade (form : Form) (input : Input) (old new : State) (reader reade
 pub record IsRunOf (form : Form) (input : Input) (n : ℕ) (old new : State) (reader reader' : Option (List ℕ)) (ended : Ended) : Type 0 where
   pub looks : List (Option ℕ)
   pub is_over : Bool
-  pub made : HasMade form input old new reader reader' looks is_over ended.steps
+  pub made : HasMadeSteps form input old new reader reader' looks is_over ended.steps
   pub run : (more : List (Option ℕ)) → MayFollow is_over more → IsRun (seated old (looks ++ more)) n ended.steps ended.why
   pub none_left : ended.why ≡ why.Keys → is_over ≡ true
 
@@ -67,19 +67,19 @@ pub record IsCut (form : Form) (input : Input) (n : ℕ) (old new : State) (read
   pub looks : List (Option ℕ)
   pub is_over : Bool
   pub steps : ℕ
-  pub made : HasMade form input old new reader reader' looks is_over steps
+  pub made : HasMadeSteps form input old new reader reader' looks is_over steps
   pub within : steps ≤ n
   pub goes_on : (more : List (Option ℕ)) → MayFollow is_over more → (k : ℕ) → k < steps → GoesOn (seated old (looks ++ more)) k
 
 -- the writer got what so many steps print
-abbrev pub Writes : State → List (Option ℕ) → Bool → Option (List ℕ) → Option (List ℕ) → ℕ → Type 0
-Writes s looks is_over writer writer' steps =
+abbrev pub WritesPrinted : State → List (Option ℕ) → Bool → Option (List ℕ) → Option (List ℕ) → ℕ → Type 0
+WritesPrinted s looks is_over writer writer' steps =
     (more : List (Option ℕ)) → MayFollow is_over more → Appends writer writer' (shown (printed_by steps (seated s (looks ++ more))))
 
 -- What a run of at most n steps comes to. Where the reader fails the writer got what was printed so far.
-abbrev pub Runs : Form → Input → ℕ → State → State → Option (List ℕ) → Option (List ℕ) → Option (List ℕ) → Option (List ℕ) → Result Ended TerminalFault → Type 0
-Runs form input n old new reader reader' writer writer' (Ok ended) =
-    (ran : IsRunOf form input n old new reader reader' ended) × Writes old ran.looks ran.is_over writer writer' ended.steps
-Runs form input n old new reader reader' writer writer' (Err Reader) =
-    (cut : IsCut form input n old new reader reader') × Writes old cut.looks cut.is_over writer writer' cut.steps
-Runs form input n old new reader reader' writer writer' (Err Writer) = IsCut form input n old new reader reader'
+abbrev pub RunsProgram : Form → Input → ℕ → State → State → Option (List ℕ) → Option (List ℕ) → Option (List ℕ) → Option (List ℕ) → Result Ended TerminalFault → Type 0
+RunsProgram form input n old new reader reader' writer writer' (Ok ended) =
+    (ran : IsRunOf form input n old new reader reader' ended) × WritesPrinted old ran.looks ran.is_over writer writer' ended.steps
+RunsProgram form input n old new reader reader' writer writer' (Err Reader) =
+    (cut : IsCut form input n old new reader reader') × WritesPrinted old cut.looks cut.is_over writer writer' cut.steps
+RunsProgram form input n old new reader reader' writer writer' (Err Writer) = IsCut form input n old new reader reader'

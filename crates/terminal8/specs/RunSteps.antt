@@ -7,7 +7,7 @@ use Rattle.cpu8.specs.declared.outcomes.Stepped.TheVariants.{Stopped, Interrupte
 use Rattle.terminal8.specs.Keys.{Keyboard, keys_from}
 use Rattle.terminal8.specs.KeySteps.{behind}
 use Rattle.terminal8.specs.Terminal.{seated, looked, attended, is_none_left, printed_by, shown, starves}
-use Rattle.terminal8.specs.Run.{MayFollow, Finds, HaveEnded, IsCut, IsRunOf}
+use Rattle.terminal8.specs.Run.{MayFollow, FindsKey, HaveEnded, IsCut, IsRunOf}
 use Rattle.terminal8.specs.declared.inputs.Input.{Input}
 use Rattle.terminal8.specs.declared.inputs.Input.TheVariants.{Ending, Live}
 use Rattle.terminal8.specs.declared.keyboards.Form.{Form}
@@ -20,19 +20,19 @@ use Rattle.terminal8.specs.declared.outcomes.Why.TheVariants as why
 -- ## Bytes that are read ahead
 
 -- what a read into a buffer comes to: so many bytes at its prefix, none only at the reader's end
-abbrev pub Reads : List ℕ → Option (List ℕ) → Option (List ℕ) → Result ℕ TerminalFault → Type 0
-Reads buffer reader reader' (Ok count) = (count ≤ length buffer) × Consumes reader reader' (take count buffer) × (count ≡ 0 → IsAtEnd reader')
-Reads buffer reader reader' (Err fault) = (fault ≡ Reader) × Consumes reader reader' []
+abbrev pub ReadsSome : List ℕ → Option (List ℕ) → Option (List ℕ) → Result ℕ TerminalFault → Type 0
+ReadsSome buffer reader reader' (Ok count) = (count ≤ length buffer) × Consumes reader reader' (take count buffer) × (count ≡ 0 → IsAtEnd reader')
+ReadsSome buffer reader reader' (Err fault) = (fault ≡ Reader) × Consumes reader reader' []
 
 -- what filling comes to, where no byte was ahead
-abbrev pub Fills : List ℕ → Option (List ℕ) → Option (List ℕ) → Result Unit TerminalFault → Type 0
-Fills ahead reader reader' (Ok done) = Consumes reader reader' ahead × (ahead ≡ [] → IsAtEnd reader')
-Fills ahead reader reader' (Err fault) = (fault ≡ Reader) × (ahead ≡ []) × Consumes reader reader' []
+abbrev pub FillsBuffer : List ℕ → Option (List ℕ) → Option (List ℕ) → Result Unit TerminalFault → Type 0
+FillsBuffer ahead reader reader' (Ok nothing) = Consumes reader reader' ahead × (ahead ≡ [] → IsAtEnd reader')
+FillsBuffer ahead reader reader' (Err fault) = (fault ≡ Reader) × (ahead ≡ []) × Consumes reader reader' []
 
 -- the next of the bytes ahead is taken, if there is one
-abbrev pub Gives : List ℕ → List ℕ → Option ℕ → Type 0
-Gives old new (Some byte) = old ≡ byte ∷ new
-Gives old new None = (old ≡ []) × (new ≡ [])
+abbrev pub GivesByte : List ℕ → List ℕ → Option ℕ → Type 0
+GivesByte old new (Some byte) = old ≡ byte ∷ new
+GivesByte old new None = (old ≡ []) × (new ≡ [])
 
 -- These bytes were struck, of those ahead and then of the reader's.
 pub record Strikes (ahead ahead' : List ℕ) (reader reader' : Option (List ℕ)) (bytes : List ℕ) : Type 0 where
@@ -95,7 +95,7 @@ pub record Looks (input : Input) (k k' : Keyboard) (ahead ahead' : List ℕ) (is
   pub found : List (Option ℕ)
   pub keys : List ℕ
   pub strikes : StrikesKeys k k' ahead ahead' reader reader' keys
-  pub finds : Finds input found keys
+  pub finds : FindsKey input found keys
   pub none_only : IsNoneOnly found keys ahead' reader'
   pub over : is_over ≡ true → is_over' ≡ true
   pub at_end : (is_over ≡ true → HaveEnded input ahead reader) → is_over' ≡ true → HaveEnded input ahead' reader'
@@ -109,7 +109,7 @@ pub record Attends (input : Input) (k k' : Keyboard) (ahead ahead' : List ℕ) (
   pub found : List (Option ℕ)
   pub keys : List ℕ
   pub strikes : StrikesKeys k k' ahead ahead' reader reader' keys
-  pub finds : Finds input found keys
+  pub finds : FindsKey input found keys
   pub none_only : IsNoneOnly found keys ahead' reader'
   pub stays : is_over ≡ true → found ≡ []
   pub over : is_over ≡ true → is_over' ≡ true

@@ -2,7 +2,7 @@
 -- printer ends its character before each step.
 use Rattle.std.specs.Prelude.{◌≡◌, ℕ, zero, suc, ◌+◌, ◌<◌, ◌≤◌, ◌%◌, Bool, true, false, ◌&&◌, nat_eq, if◌then◌else◌, List, [], ◌∷◌, ◌++◌, Option, Some, None}
 use Rattle.cpu8.specs.State.{State, key_struck}
-use Rattle.cpu8.specs.Go.{turn, character_of}
+use Rattle.cpu8.specs.Go.{printing_step, character_of}
 use Rattle.cpu8.specs.Laws.{runs_on}
 use Rattle.cpu8.specs.declared.outcomes.Stepped.{Stepped}
 use Rattle.cpu8.specs.declared.outcomes.Stepped.TheVariants.{Stopped, Interrupted, Ran, Halted, Unassigned}
@@ -33,7 +33,7 @@ attended t = if asks_for_key t.since t.machine then looked t.machine t.looks els
 
 -- then the machine makes a step
 abbrev pub stepped : Terminal → State × Stepped
-stepped t = turn true (attended t).machine
+stepped t = printing_step true (attended t).machine
 
 -- what stands behind that step
 abbrev pub next : Terminal → Terminal

@@ -16,7 +16,7 @@ pub enum Form {
     Raw,
 }
 
-/// A keyboard on which bytes are struck in turn.
+/// A keyboard on which bytes are struck one after the other.
 #[derive(Clone, Copy, PartialEq, Eq, Debug)]
 pub struct Keyboard {
     form: Form,

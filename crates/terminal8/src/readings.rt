@@ -3,7 +3,7 @@
 ghost use Rattle.std.specs.Prelude.{◌≡◌, ◌<◌, ◌≤◌, [], true, length};
 ghost use Rattle.std.specs.IoError.{error_kind};
 ghost use Rattle.std.specs.declared.io.ErrorKind.TheVariants.{Interrupted};
-ghost use Rattle.terminal8.specs.RunSteps.{Fills, Gives, Holds, Reads, ReadsByte, ReadsKey};
+ghost use Rattle.terminal8.specs.RunSteps.{FillsBuffer, GivesByte, Holds, ReadsSome, ReadsByte, ReadsKey};
 
 use crate::keyboards::Keyboard;
 use crate::outcomes::TerminalFault;
@@ -44,7 +44,7 @@ impl ReadAhead {
     /// Takes the next byte, if there is one.
     #[inline(always)]
     fn take_next(&mut self) -> Option<u8>
-        ensures { Gives self.old self.new result }
+        ensures { GivesByte self.old self.new result }
     {
         if self.next == self.end {
             return None;
@@ -57,7 +57,7 @@ impl ReadAhead {
     /// Reads bytes where none are left, one at least if the reader gives any.
     fn fill<R: Read>(&mut self, reader: &mut R) -> Result<(), TerminalFault>
         requires { self.old ≡ [] }
-        ensures { Fills self.new (R.remaining reader.old) (R.remaining reader.new) result }
+        ensures { FillsBuffer self.new (R.remaining reader.old) (R.remaining reader.new) result }
     {
         self.next = 0;
         self.end = 0;
@@ -69,7 +69,7 @@ impl ReadAhead {
 /// Reads bytes to the prefix of a buffer that has room, and tells how many.
 fn read<R: Read>(bytes: &mut [u8], reader: &mut R) -> Result<usize, TerminalFault>
     requires { 0 < length bytes.old }
-    ensures { Reads bytes.new (R.remaining reader.old) (R.remaining reader.new) result }
+    ensures { ReadsSome bytes.new (R.remaining reader.old) (R.remaining reader.new) result }
 {
     for _ in 0..u64::MAX {
         match reader.read(bytes) {

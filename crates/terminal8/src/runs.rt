@@ -1,11 +1,11 @@
 //! A run at a terminal: the keys come from a reader, and a writer gets what is printed.
 
 ghost use Rattle.std.specs.Prelude.{◌≡◌, ℕ, ◌+◌, ◌<◌, ◌≤◌, [], true, false, None, IfOk, OnOk, IfErr};
-ghost use Rattle.cpu8.specs.Go.{after, answer, turn, character_of};
+ghost use Rattle.cpu8.specs.Go.{after, answer, printing_step, character_of};
 ghost use Rattle.cpu8.specs.declared.outcomes.Stepped.TheVariants.{Ran};
 ghost use Rattle.terminal8.specs.Asks.{asks_for_key};
 ghost use Rattle.terminal8.specs.Terminal.{shown};
-ghost use Rattle.terminal8.specs.Run.{Runs};
+ghost use Rattle.terminal8.specs.Run.{RunsProgram};
 ghost use Rattle.terminal8.specs.RunSteps.{Passes, RunsInto, stop_of};
 ghost use Rattle.terminal8.specs.declared.outcomes.TerminalFault.TheVariants as fault;
 
@@ -34,7 +34,7 @@ pub fn run<R: Read, W: Write>(
     reader: &mut R,
     writer: &mut W,
 ) -> Result<Ended, TerminalFault>
-    ensures { Runs form input n machine.old machine.new (R.remaining reader.old) (R.remaining reader.new)
+    ensures { RunsProgram form input n machine.old machine.new (R.remaining reader.old) (R.remaining reader.new)
         (W.contents writer.old) (W.contents writer.new) result }
 {
     let mut paper = Paper::new();
@@ -48,8 +48,8 @@ pub fn run<R: Read, W: Write>(
     }
 }
 
-/// The same, but what was printed last may still be on the paper. Each turn of the loop is one step, and then, for speed
-/// alone, several at once: without `go_on` each step is a turn.
+/// The same, but what was printed last may still be on the paper. Each round of the loop is one step, and then, for speed
+/// alone, several at once: without `go_on` each step is a round.
 fn run_steps<R: Read, W: Write>(
     machine: &mut Machine,
     n: u64,
@@ -101,8 +101,8 @@ fn step<W: Write>(
     paper: &mut Paper,
     writer: &mut W,
 ) -> Result<Stepped, TerminalFault>
-    ensures state { machine.new ≡ (turn true machine.old).0 }
-    ensures ok { IfOk result (λ did. (did ≡ (turn true machine.old).1)
+    ensures state { machine.new ≡ (printing_step true machine.old).0 }
+    ensures ok { IfOk result (λ did. (did ≡ (printing_step true machine.old).1)
         × Passes (W.contents writer.old) (W.contents writer.new) paper.old paper.new
         (shown (character_of did))) }
     ensures err { IfErr result (λ e. e ≡ fault.Writer) }
@@ -115,8 +115,8 @@ fn step<W: Write>(
 /// A step, before which the printer ends its character.
 #[inline(always)]
 fn take_turn(machine: &mut Machine) -> Stepped
-    ensures state { machine.new ≡ (turn true machine.old).0 }
-    ensures answer { result ≡ (turn true machine.old).1 }
+    ensures state { machine.new ≡ (printing_step true machine.old).0 }
+    ensures answer { result ≡ (printing_step true machine.old).1 }
 {
     if machine.is_busy() {
         machine.done();

@@ -3,7 +3,7 @@
 ghost use Rattle.std.specs.Prelude.{◌≡◌, ◌+◌, ◌≤◌, ◌++◌, [], true, length, vec_len, vec_capacity};
 ghost use Rattle.cpu8.specs.QuietSteps.{AreQuiet, AreUnbroken, IsUnbroken, is_quiet, is_settled};
 ghost use Rattle.cpu8.specs.Unasked.{AreUnasked};
-ghost use Rattle.cpu8.specs.Go.{IsGo, after, break_ahead, character_of, printed_by, reason, turn};
+ghost use Rattle.cpu8.specs.Go.{IsGo, after, break_ahead, character_of, printed_by, reason, printing_step};
 
 use super::Machine;
 use crate::processors::quiet::{FIELD, is_break};
@@ -147,9 +147,9 @@ impl Machine {
     #[inline(always)]
     fn advance(&mut self, quick: bool, breaks: &[bool], printed: &mut Vec<u8>) -> Option<Why>
         requires { vec_len printed.old + 1 ≤ vec_capacity printed.old }
-        ensures state { self.new ≡ (turn quick self.old).0 }
-        ensures reason { result ≡ reason breaks.now (turn quick self.old).1 self.new }
-        ensures printed { printed.new.items ≡ printed.old.items ++ character_of (turn quick self.old).1 }
+        ensures state { self.new ≡ (printing_step quick self.old).0 }
+        ensures reason { result ≡ reason breaks.now (printing_step quick self.old).1 self.new }
+        ensures printed { printed.new.items ≡ printed.old.items ++ character_of (printing_step quick self.old).1 }
         ensures len { vec_len printed.new ≤ vec_len printed.old + 1 }
         ensures capacity { vec_capacity printed.new ≡ vec_capacity printed.old }
     {
@@ -179,8 +179,8 @@ impl Machine {
     /// A step, before which a quick printer ends its character where it is busy.
     #[inline(always)]
     fn take_turn(&mut self, quick: bool) -> Stepped
-        ensures state { self.new ≡ (turn quick self.old).0 }
-        ensures answer { result ≡ (turn quick self.old).1 }
+        ensures state { self.new ≡ (printing_step quick self.old).0 }
+        ensures answer { result ≡ (printing_step quick self.old).1 }
     {
         if quick && self.processor.teletype.is_busy() {
             self.done();

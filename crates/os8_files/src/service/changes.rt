@@ -1,8 +1,8 @@
 //! Changes of the directory.
 ghost use Rattle.std.specs.Prelude.{◌≡◌, ◌≤◌, false, None, length};
 ghost use Rattle.os8_dir.specs.Found.{IsDirectory, limit};
-ghost use Rattle.os8_files.specs.Calls.{Deletes};
-ghost use Rattle.os8_files.specs.WriteSteps.{Rewrites};
+ghost use Rattle.os8_files.specs.Calls.{DeletesFile};
+ghost use Rattle.os8_files.specs.WriteSteps.{RewritesDirectory};
 
 use crate::segments::write_segments;
 use crate::{FileFault, FileService};
@@ -21,7 +21,7 @@ impl<S: BlockStore> FileService<S> {
         requires none { self.old.tentative ≡ None }
         requires sound { IsDirectory (length self.old.blocks) directory }
         requires fits { length directory.entries ≤ limit directory }
-        ensures { Rewrites self.old directory result self.new }
+        ensures { RewritesDirectory self.old directory result self.new }
     {
         read_back();
         match write_segments(&mut self.store, &mut self.segments, &directory) {
@@ -40,7 +40,7 @@ impl<S: BlockStore> FileService<S> {
     /// file is written it is `TentativeOpen`; then come `NotFound`, `Busy` where the file is held, and `DirectoryFull`
     /// where the list without it is too long.
     pub fn delete(&mut self, alloc: Global, name: &Name) -> Result<(), FileFault>
-        ensures { Deletes self.old name.now result self.new }
+        ensures { DeletesFile self.old name.now result self.new }
     {
         if self.stopped {
             return Err(FileFault::Stopped);

@@ -2,7 +2,7 @@
 ghost use Rattle.std.specs.Prelude.{◌≡◌, ◌*◌, ◌<◌, length, None};
 ghost use Rattle.os8_dir.specs.Entries.{IsNamed};
 ghost use Rattle.os8_files.specs.Puts.{PutsFile, blocks_filled};
-ghost use Rattle.os8_files.specs.Steps.{IsBeginning, Fills};
+ghost use Rattle.os8_files.specs.Steps.{IsBeginning, FillsFile};
 
 use crate::{FileFault, FileService, Tentative};
 use os8_dir::Name;
@@ -69,7 +69,7 @@ fn fill<S: BlockStore>(
 ) -> Result<(), FileFault>
     requires whole { 256 * blocks ≡ length words.now }
     requires beginning { IsBeginning files.old tentative.old blocks }
-    ensures call { Fills files.old words.now blocks result files.new }
+    ensures call { FillsFile files.old words.now blocks result files.new }
     ensures token { tentative.new ≡ tentative.old }
 {
     let mut rest = words;

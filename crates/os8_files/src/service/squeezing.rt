@@ -2,7 +2,7 @@
 ghost use Rattle.std.specs.Prelude.{◌≡◌, ◌+◌, ◌<◌, ◌≤◌, false, None, Some, length};
 ghost use Rattle.os8_files.specs.Calls.{Squeezes, IsReady};
 ghost use Rattle.os8_files.specs.Failed.{lowest_or};
-ghost use Rattle.os8_files.specs.WriteSteps.{Copies};
+ghost use Rattle.os8_files.specs.WriteSteps.{CopiesBlocks};
 ghost use Rattle.os8_dir.specs.Reading.{directory_of};
 
 use crate::copying::{blank_run, read_run, write_run};
@@ -84,7 +84,7 @@ impl<S: BlockStore> FileService<S> {
         requires none { self.old.tentative ≡ None }
         requires high { 7 + gap ≤ place }
         requires inside { place + size ≤ length self.old.blocks }
-        ensures { Copies self.old place size gap result self.new }
+        ensures { CopiesBlocks self.old place size gap result self.new }
     {
         directory_blocks();
         let mut run = match blank_run(alloc, size) {

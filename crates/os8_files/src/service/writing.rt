@@ -1,7 +1,7 @@
 //! The writing of a file.
 ghost use Rattle.std.specs.Prelude.{◌≡◌, ◌/◌, ◌<◌, ◌+◌, nat_lt, slice_index};
-ghost use Rattle.os8_files.specs.Calls.{Enters, Writes, Closes, IsOf};
-ghost use Rattle.os8_files.specs.Steps.{IsPlaced, Places};
+ghost use Rattle.os8_files.specs.Calls.{Enters, WritesBlock, ClosesFile, IsOf};
+ghost use Rattle.os8_files.specs.Steps.{IsPlaced, PlacesFile};
 
 use crate::begun::Begun;
 use crate::{FileFault, FileService, Tentative};
@@ -73,7 +73,7 @@ impl<S: BlockStore> FileService<S> {
     /// Writes the next block of the file that is being written. Where its empty has no more blocks it is `TooLong`.
     pub fn write(&mut self, tentative: &mut Tentative, words: &Block) -> Result<(), FileFault>
         requires { IsOf self.old tentative.old }
-        ensures call { Writes self.old words.now result self.new }
+        ensures call { WritesBlock self.old words.now result self.new }
         ensures token { tentative.new ≡ tentative.old }
     {
         if self.stopped {
@@ -128,7 +128,7 @@ impl<S: BlockStore> FileService<S> {
         info: &[Word],
     ) -> Result<(), FileFault>
         requires { IsOf self.old tentative }
-        ensures { Closes self.old tentative info.now result self.new }
+        ensures { ClosesFile self.old tentative info.now result self.new }
     {
         let name = tentative.spend();
         let begun = self.tentative;
@@ -152,7 +152,7 @@ impl<S: BlockStore> FileService<S> {
     ) -> Result<(), FileFault>
         requires begun { IsPlaced self.old begun }
         requires names { begun.name ≡ name }
-        ensures { Places self.old name begun info.now result self.new }
+        ensures { PlacesFile self.old name begun info.now result self.new }
     {
         if begun.written == 0 {
             return Err(FileFault::NothingWritten);

@@ -11,7 +11,7 @@ ghost use Rattle.session8.specs.Reading.{TakesBytes};
 ghost use Rattle.session8.specs.RunSteps.{RunsItems, RunsTurn, RunsNext, RunsPrefix, RunsGiven, RunsRead, IsBegun, IsEnded, fault_of};
 ghost use Rattle.session8.specs.Script.{RunsText, is_working};
 ghost use Rattle.session8.specs.declared.endings.Ending.TheVariants as ending;
-ghost use Rattle.session8.specs.Session.{state_of, IsQuiet, IsLater};
+ghost use Rattle.session8.specs.Session.{state_of, NoCallFailed, IsLater};
 
 use super::{Session, is_memory};
 use crate::endings::Ending;
@@ -37,11 +37,11 @@ impl<S: BlockStore> Session<S> {
         reader: &mut R,
         writer: &mut W,
     ) -> Result<(), SessionFault>
-        ensures told { IsQuiet self.old self.new → RunsText 16777216 (state_of self.old) (state_of self.new)
+        ensures told { NoCallFailed self.old self.new → RunsText 16777216 (state_of self.old) (state_of self.new)
             (R.remaining reader.old) (R.remaining reader.new)
             (W.contents writer.old) (W.contents writer.new) result }
         ensures later { IsLater self.old self.new }
-        ensures running { IsQuiet self.old self.new → self.new.volume.stopped ≡ false }
+        ensures running { NoCallFailed self.old self.new → self.new.volume.stopped ≡ false }
         ensures taken { (count : ℕ) × TakesBytes (R.remaining reader.old) (R.remaining reader.new) count
             × (count ≤ 16777217)
             × (count ≡ 16777217 → (result ≡ Err fault.Reader) ⊎ (result ≡ Err fault.Writer)) }
@@ -59,11 +59,11 @@ impl<S: BlockStore> Session<S> {
         writer: &mut W,
         watcher: &mut K,
     ) -> Result<(), SessionFault>
-        ensures told { IsQuiet self.old self.new → RunsText 16777216 (state_of self.old) (state_of self.new)
+        ensures told { NoCallFailed self.old self.new → RunsText 16777216 (state_of self.old) (state_of self.new)
             (R.remaining reader.old) (R.remaining reader.new)
             (W.contents writer.old) (W.contents writer.new) result }
         ensures later { IsLater self.old self.new }
-        ensures running { IsQuiet self.old self.new → self.new.volume.stopped ≡ false }
+        ensures running { NoCallFailed self.old self.new → self.new.volume.stopped ≡ false }
         ensures taken { (count : ℕ) × TakesBytes (R.remaining reader.old) (R.remaining reader.new) count
             × (count ≤ 16777217)
             × (count ≡ 16777217 → (result ≡ Err fault.Reader) ⊎ (result ≡ Err fault.Writer)) }
@@ -81,11 +81,11 @@ impl<S: BlockStore> Session<S> {
         writer: &mut W,
         watcher: &mut K,
     ) -> Result<(), Ending>
-        ensures told { IsQuiet self.old self.new → RunsRead 16777216 (state_of self.old) (state_of self.new)
+        ensures told { NoCallFailed self.old self.new → RunsRead 16777216 (state_of self.old) (state_of self.new)
             (R.remaining reader.old) (R.remaining reader.new)
             (W.contents writer.old) (W.contents writer.new) result }
         ensures later { IsLater self.old self.new }
-        ensures running { IsQuiet self.old self.new → self.new.volume.stopped ≡ false }
+        ensures running { NoCallFailed self.old self.new → self.new.volume.stopped ≡ false }
         ensures taken { (count : ℕ) × TakesBytes (R.remaining reader.old) (R.remaining reader.new) count
             × (count ≤ 16777217)
             × (count ≡ 16777217 → result ≡ Err ending.Reader) }
@@ -120,13 +120,13 @@ impl<S: BlockStore> Session<S> {
         watcher: &mut K,
     ) -> Result<(), Ending>
         requires { WaitsForLines pending.old.bytes.items pending.old.lines }
-        ensures told { IsQuiet self.old self.new → RunsGiven pending.old.bytes.items pending.new.bytes.items
+        ensures told { NoCallFailed self.old self.new → RunsGiven pending.old.bytes.items pending.new.bytes.items
             (state_of self.old) (state_of self.new) (W.contents writer.old) (W.contents writer.new) result }
         ensures waits { OnOk result ((0 < pending.new.lines)
             × WaitsForLines pending.new.bytes.items pending.new.lines) }
         ensures count { pending.new.count ≡ pending.old.count }
         ensures later { IsLater self.old self.new }
-        ensures running { IsQuiet self.old self.new → self.new.volume.stopped ≡ false }
+        ensures running { NoCallFailed self.old self.new → self.new.volume.stopped ≡ false }
     {
         if pending.lines > 0 {
             return Ok(());
@@ -144,11 +144,11 @@ impl<S: BlockStore> Session<S> {
         writer: &mut W,
         watcher: &mut K,
     ) -> Result<(), Ending>
-        ensures told { IsQuiet self.old self.new
+        ensures told { NoCallFailed self.old self.new
             → RunsItems (script_of text.now) (state_of self.old) (state_of self.new)
             (W.contents writer.old) (W.contents writer.new) result }
         ensures later { IsLater self.old self.new }
-        ensures running { IsQuiet self.old self.new → self.new.volume.stopped ≡ false }
+        ensures running { NoCallFailed self.old self.new → self.new.volume.stopped ≡ false }
     {
         let _rest = self.run_items(alloc, text, true, writer, watcher)?;
         Ok(())
@@ -164,13 +164,13 @@ impl<S: BlockStore> Session<S> {
         writer: &mut W,
         watcher: &mut K,
     ) -> Result<(usize, u32), Ending>
-        ensures told { IsQuiet self.old self.new
+        ensures told { NoCallFailed self.old self.new
             → RunsPrefix text.now is_end (state_of self.old) (state_of self.new)
             (W.contents writer.old) (W.contents writer.new) result }
         ensures rest { IfOk result (λ done. (done.0 ≤ length text.now)
             × HasNoItem (drop done.0 text.now) is_end done.1) }
         ensures later { IsLater self.old self.new }
-        ensures running { IsQuiet self.old self.new → self.new.volume.stopped ≡ false }
+        ensures running { NoCallFailed self.old self.new → self.new.volume.stopped ≡ false }
     {
         let mut done = 0;
         loop {
@@ -191,12 +191,12 @@ impl<S: BlockStore> Session<S> {
         writer: &mut W,
         watcher: &mut K,
     ) -> Result<Begun, Ending>
-        ensures told { IsQuiet self.old self.new
+        ensures told { NoCallFailed self.old self.new
             → RunsNext text.now is_end (state_of self.old) (state_of self.new)
             (W.contents writer.old) (W.contents writer.new) result }
         ensures begun { IfOk result (IsBegun text.now is_end) }
         ensures later { IsLater self.old self.new }
-        ensures running { IsQuiet self.old self.new → self.new.volume.stopped ≡ false }
+        ensures running { NoCallFailed self.old self.new → self.new.volume.stopped ≡ false }
     {
         match next_item(alloc, text, is_end) {
             Ok(Next::End(lines)) => Ok(Begun::Waiting(lines)),
@@ -219,11 +219,11 @@ impl<S: BlockStore> Session<S> {
         writer: &mut W,
         watcher: &mut K,
     ) -> Result<(), Ending>
-        ensures told { IsQuiet self.old self.new
+        ensures told { NoCallFailed self.old self.new
             → RunsItems (item.now ∷ []) (state_of self.old) (state_of self.new)
             (W.contents writer.old) (W.contents writer.new) result }
         ensures later { IsLater self.old self.new }
-        ensures running { IsQuiet self.old self.new → self.new.volume.stopped ≡ false }
+        ensures running { NoCallFailed self.old self.new → self.new.volume.stopped ≡ false }
     {
         match item {
             Item::Do(entry) => self.run_entry(alloc, entry, writer, watcher),
@@ -240,11 +240,11 @@ impl<S: BlockStore> Session<S> {
         writer: &mut W,
         watcher: &mut K,
     ) -> Result<(), Ending>
-        ensures told { IsQuiet self.old self.new
+        ensures told { NoCallFailed self.old self.new
             → RunsItems (Do entry.now ∷ []) (state_of self.old) (state_of self.new)
             (W.contents writer.old) (W.contents writer.new) result }
         ensures later { IsLater self.old self.new }
-        ensures running { IsQuiet self.old self.new → self.new.volume.stopped ≡ false }
+        ensures running { NoCallFailed self.old self.new → self.new.volume.stopped ≡ false }
     {
         let answer = self.step(alloc, entry);
         if is_memory(&answer) {
@@ -260,11 +260,11 @@ impl<S: BlockStore> Session<S> {
         writer: &mut W,
         watcher: &mut K,
     ) -> Result<(), Ending>
-        ensures told { IsQuiet self.old self.new
+        ensures told { NoCallFailed self.old self.new
             → RunsItems (Finish ∷ []) (state_of self.old) (state_of self.new)
             (W.contents writer.old) (W.contents writer.new) result }
         ensures later { IsLater self.old self.new }
-        ensures running { IsQuiet self.old self.new → self.new.volume.stopped ≡ false }
+        ensures running { NoCallFailed self.old self.new → self.new.volume.stopped ≡ false }
     {
         while let Some(number) = self.jobs.lowest() {
             self.run_turn(alloc, number, writer, watcher)?;
@@ -281,12 +281,12 @@ impl<S: BlockStore> Session<S> {
         watcher: &mut K,
     ) -> Result<(), Ending>
         requires { lowest_job self.old.jobs ≡ Some number }
-        ensures told { IsQuiet self.old self.new
+        ensures told { NoCallFailed self.old self.new
             → RunsTurn number (state_of self.old) (state_of self.new)
             (W.contents writer.old) (W.contents writer.new) result }
         ensures fewer { OnOk result (turns_left self.new.jobs < turns_left self.old.jobs) }
         ensures later { IsLater self.old self.new }
-        ensures running { IsQuiet self.old self.new → self.new.volume.stopped ≡ false }
+        ensures running { NoCallFailed self.old self.new → self.new.volume.stopped ≡ false }
     {
         let answer = self.turn(alloc, number);
         if is_memory(&answer) {

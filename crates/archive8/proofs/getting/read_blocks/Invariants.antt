@@ -1,6 +1,6 @@
 use Rattle.std.proofs.Common.{◌≡◌, ◌*◌, Some, false, take}
 use Rattle.std.specs.FinMap.{get}
-use Rattle.os8_dir.specs.Files.{Held, files_of}
+use Rattle.os8_dir.specs.Files.{FileData, files_of}
 use Rattle.archive8.proofs.getting.read_blocks.Given as goal
 
 -- the blocks so far are read
@@ -9,5 +9,5 @@ invariant-loop-k g l = record {
   running : l.files.stopped ≡ false;
   same : l.files.blocks ≡ l.fn.files.blocks;
   reads : l.files.failed_reads ≡ l.fn.files.failed_reads;
-  words : (file : Held) → get (files_of l.fn.files.blocks) l.fn.name ≡ Some file → l.words.items ≡ take (256 * l.k) file.1;
+  words : (file : FileData) → get (files_of l.fn.files.blocks) l.fn.name ≡ Some file → l.words.items ≡ take (256 * l.k) file.1;
 }

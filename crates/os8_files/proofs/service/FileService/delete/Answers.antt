@@ -10,7 +10,7 @@ use Rattle.os8_dir.specs.declared.entries.DirEntry.{DirEntry}
 use Rattle.os8_dir.specs.Entries.{Listed}
 use Rattle.os8_dir.specs.Reading.{directory_of}
 use Rattle.os8_files.specs.WriteSteps.{HasDirectory}
-use Rattle.os8_files.specs.Calls.{IsReady, StopsInPart, Deletes}
+use Rattle.os8_files.specs.Calls.{IsReady, StopsInPart, DeletesFile}
 use Rattle.os8_files.proofs.CallLemmas.{some-of, none-of, held-none, found-some, by-rewrite}
 use Rattle.os8_files.proofs.BoundLemmas.{is-over, removed-made}
 use Rattle.os8_files.proofs.DeleteLemmas.{deleted}
@@ -77,7 +77,7 @@ returns-else-entries-limit g c =
     let list = c.in-Ok.ensures.list in
     let full : length c.in-Ok.directory.entries ≤ limit c.in-Ok.directory = omega (arith, ap (λ (es : List DirEntry). length es) c.entries.ensures.list, c.limit.ensures.value, c.if-entries-limit.false) in
     let fits : length (removed name d.entries) ≤ limit d = subst (λ (x : Listed). length x.entries ≤ limit x) list full in
-    by-rewrite old c.rewrite.new.self c.in-Ok.directory c.rewrite.result (λ r. Deletes old name r c.rewrite.new.self) c.rewrite.ensures
+    by-rewrite old c.rewrite.new.self c.in-Ok.directory c.rewrite.result (λ r. DeletesFile old name r c.rewrite.new.self) c.rewrite.ensures
     (λ done has. deleted c.files_found.ensures c.directory_numbers.ensures.limit c.directory_numbers.ensures.capacity c.file_removed.ensures.gone c.file_removed.ensures.others c.file_removed.ensures.covered
     old c.rewrite.new.self d name _ ready kept (c.sound_directory.ensures old.blocks d kept) (c.files_found.ensures old.blocks d name kept ∙ ap (held_of old.blocks d.info) f.1) (sym c.is_held.ensures ∙ c.if-is_held.false)
     fits (subst (λ (x : Listed). HasDirectory old x c.rewrite.new.self) list has))

@@ -9,7 +9,7 @@ use Rattle.os8_dir.specs.Files.{files_of, limit_of, of_directory}
 use Rattle.os8_dir.specs.Changes.{placed, relisted, new_file}
 use Rattle.os8_files.specs.Mounted.{Mounted, Begun, IsBegun}
 use Rattle.os8_files.specs.Calls.{IsFree, StopsInPart, entries_with, new_held}
-use Rattle.os8_files.specs.Steps.{Places}
+use Rattle.os8_files.specs.Steps.{PlacesFile}
 use Rattle.os8_files.specs.WriteSteps.{HasDirectory}
 use Rattle.os8_files.proofs.CallLemmas.{by-rewrite}
 use Rattle.os8_files.proofs.BoundLemmas.{IsMade, is-over, placed-made}
@@ -85,7 +85,7 @@ returns-else-entries-limit g c =
     let named : length (placed d.first (new_file d b.name info b.place b.written) d.entries) ≤ limit d = subst (λ n. length (placed d.first (new_file d n info b.place b.written) d.entries) ≤ limit d) (sym c.requires.names) less in
     let fits : entries_with b info old.blocks ≤ limit_of old.blocks = omega (arith, named, c.directory_numbers.ensures.limit old.blocks d kept, ap (of_directory (λ (x : Listed). length (placed x.first (new_file x b.name info b.place b.written) x.entries))) kept) in
     let lain = c.rooms.ensures.lie b.place b.room b.place b.written (rooms_at d.first d.entries) lies.room (omega arith) (omega (arith, lies.most)) in
-    by-rewrite old c.rewrite.new.self c.in-Ok.directory c.rewrite.result (λ r. Places old name b info r c.rewrite.new.self) c.rewrite.ensures
+    by-rewrite old c.rewrite.new.self c.in-Ok.directory c.rewrite.result (λ r. PlacesFile old name b info r c.rewrite.new.self) c.rewrite.ensures
     (λ done has. placed-file c.files_found.ensures c.rooms.ensures.lie c.directory_numbers.ensures.limit c.directory_numbers.ensures.capacity c.directory_numbers.ensures.above
     c.file_placed.ensures.there c.file_placed.ensures.others c.file_placed.ensures.covered c.file_placed.ensures.tight
     old c.rewrite.new.self d name b info c.requires.begun.ready c.requires.names kept is lies some free fits (subst (λ (x : Listed). HasDirectory old x c.rewrite.new.self) list has))

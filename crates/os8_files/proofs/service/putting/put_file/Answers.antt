@@ -1,5 +1,5 @@
 use Rattle.std.proofs.Common.{[], subst, ◌∙◌}
-use Rattle.os8_files.specs.Calls.{Closes}
+use Rattle.os8_files.specs.Calls.{ClosesFile}
 use Rattle.os8_files.proofs.PutLemmas.{entered_beginning, entered_not, filled_of, closed, filled_failed}
 use Rattle.os8_files.proofs.service.putting.put_file.Goals as goal
 
@@ -15,7 +15,7 @@ returns-in-Err-clause-call g c = entered_not c.args.files.now c.enter.new.self c
 pub returns-in-Ok-fill-clause-call : goal.returns-in-Ok-fill-clause-call
 returns-in-Ok-fill-clause-call g c =
     closed c.args.files.now c.enter.new.self c.fill.new.files c.close.new.self c.args.name c.args.blocks c.in-Ok.token c.args.words.now _ _ c.requires.some c.requires.count c.in-Ok.ensures c.in-Ok-fill.ensures.call.1
-    (subst (λ n. Closes c.fill.new.files n [] c.close.result c.close.new.self) (c.in-Ok-fill.ensures.token ∙ c.in-Ok.ensures.token) c.close.ensures)
+    (subst (λ n. ClosesFile c.fill.new.files n [] c.close.result c.close.new.self) (c.in-Ok-fill.ensures.token ∙ c.in-Ok.ensures.token) c.close.ensures)
 
 pub returns-in-Err-fill-clause-call : goal.returns-in-Err-fill-clause-call
 returns-in-Err-fill-clause-call g c =

@@ -1,7 +1,7 @@
 use Rattle.std.proofs.Common.{◌≡◌, ◌∙◌, ap, sym, subst, Some}
 use Rattle.std.proofs.lemmas.Result.{err_from_is_err_and}
 use Rattle.jobs8.specs.Jobs.{lowest_job}
-use Rattle.session8.specs.Session.{state_of, IsQuiet, Seen}
+use Rattle.session8.specs.Session.{state_of, NoCallFailed, Seen}
 use Rattle.session8.specs.Script.{Turns}
 use Rattle.session8.proofs.QuietLemmas.{quiet_first, quiet_second, later_trans}
 use Rattle.session8.proofs.ToldLemmas.{turns_more, finish_ended, finish_told}
@@ -33,7 +33,7 @@ returns-in_err-run_turn-clause-told g c quiet =
 
 pub returns-clause-told : goal.returns-clause-told
 returns-clause-told g c quiet =
-    let before = subst (λ (s : Seen). IsQuiet c.args.self.now s) c.tell.ensures.same quiet in
+    let before = subst (λ (s : Seen). NoCallFailed c.args.self.now s) c.tell.ensures.same quiet in
     let t = c.loop-number.invariant.told before in
     finish_told t.0 (state_of c.args.self.now) (state_of c.tell.new.self) (g.W.Write.contents c.args.writer.now) (g.W.Write.contents c.loop-number.writer) _ c.tell.result
     (subst (λ (s : Seen). Turns (state_of c.args.self.now) t.0 (state_of s)) (sym c.tell.ensures.same) t.1)

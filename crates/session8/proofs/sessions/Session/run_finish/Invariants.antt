@@ -1,7 +1,7 @@
 use Rattle.std.proofs.Common.{◌≡◌, false, List, ℕ}
 use Rattle.std.specs.Io.KnownBytes.{Appends}
 use Rattle.jobs8.specs.Jobs.{turns_left}
-use Rattle.session8.specs.Session.{state_of, IsQuiet, IsLater}
+use Rattle.session8.specs.Session.{state_of, NoCallFailed, IsLater}
 use Rattle.session8.specs.System.{Answer}
 use Rattle.session8.specs.Script.{Turns, turn_lines}
 use Rattle.session8.proofs.sessions.Session.run_finish.Given as goal
@@ -9,10 +9,10 @@ use Rattle.session8.proofs.sessions.Session.run_finish.Given as goal
 -- turns of the lowest jobs are taken
 abbrev pub invariant-loop-number : goal.invariant-loop-number
 invariant-loop-number g l = record {
-  told : IsQuiet l.fn.self l.self → (turns : List (ℕ × Answer)) × Turns (state_of l.fn.self) turns (state_of l.self)
+  told : NoCallFailed l.fn.self l.self → (turns : List (ℕ × Answer)) × Turns (state_of l.fn.self) turns (state_of l.self)
       × Appends (g.W.Write.contents l.fn.writer) (g.W.Write.contents l.writer) (turn_lines turns);
   later : IsLater l.fn.self l.self;
-  running : IsQuiet l.fn.self l.self → l.self.volume.stopped ≡ false;
+  running : NoCallFailed l.fn.self l.self → l.self.volume.stopped ≡ false;
 }
 
 abbrev pub decreases-loop-number : goal.decreases-loop-number

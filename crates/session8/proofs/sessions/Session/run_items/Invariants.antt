@@ -1,6 +1,6 @@
 use Rattle.std.proofs.Common.{◌≡◌, ◌-◌, ◌≤◌, [], List, false, length, drop}
 use Rattle.script8.specs.declared.items.Item.{Item}
-use Rattle.session8.specs.Session.{state_of, IsQuiet, IsLater}
+use Rattle.session8.specs.Session.{state_of, NoCallFailed, IsLater}
 use Rattle.session8.specs.RunSteps.{StartsWithItems}
 use Rattle.session8.specs.Script.{WritesAnswers}
 use Rattle.session8.proofs.sessions.Session.run_items.Given as goal
@@ -8,11 +8,11 @@ use Rattle.session8.proofs.sessions.Session.run_items.Given as goal
 -- the items so far are answered
 abbrev pub invariant-loop-lines : goal.invariant-loop-lines
 invariant-loop-lines g l = record {
-  told : IsQuiet l.fn.self l.self → (prefix : List Item) × StartsWithItems l.text l.is_end prefix (drop l.done l.text)
+  told : NoCallFailed l.fn.self l.self → (prefix : List Item) × StartsWithItems l.text l.is_end prefix (drop l.done l.text)
       × WritesAnswers (state_of l.fn.self) prefix (state_of l.self) (g.W.Write.contents l.fn.writer) (g.W.Write.contents l.writer) [];
   within : l.done ≤ length l.text;
   later : IsLater l.fn.self l.self;
-  running : IsQuiet l.fn.self l.self → l.self.volume.stopped ≡ false;
+  running : NoCallFailed l.fn.self l.self → l.self.volume.stopped ≡ false;
 }
 
 abbrev pub decreases-loop-lines : goal.decreases-loop-lines

@@ -3,7 +3,7 @@ use Rattle.std.proofs.KnownBytes.{Appends-nil}
 use Rattle.jobs8.specs.Jobs.{turns_left}
 use Rattle.script8.specs.declared.entries.Entry.TheVariants as entry
 use Rattle.script8.specs.declared.entries.JobEntry.TheVariants as order
-use Rattle.session8.specs.Session.{Seen, state_of, IsQuiet, IsLater}
+use Rattle.session8.specs.Session.{Seen, state_of, NoCallFailed, IsLater}
 use Rattle.session8.specs.System.{MayAnswer}
 use Rattle.session8.proofs.EntryLemmas.{memory_is, no_memory, not_err, on_ok}
 use Rattle.session8.proofs.ToldLemmas.{turn_told, turn_working}
@@ -33,7 +33,7 @@ returns-then-is_working-clause-running g c = c.turn-answer.ensures.does.running
 
 pub returns-clause-told : goal.returns-clause-told
 returns-clause-told g c quiet =
-    let before = subst (λ (s : Seen). IsQuiet c.args.self.now s) c.tell.ensures.same quiet in
+    let before = subst (λ (s : Seen). NoCallFailed c.args.self.now s) c.tell.ensures.same quiet in
     turn_told c.args.number c.turn-answer.result _ _ _ _ c.tell.result
     (subst (λ (s : Seen). MayAnswer (state_of c.args.self.now) (entry.Jobs (order.Turn c.args.number)) c.turn-answer.result (state_of s)) (sym c.tell.ensures.same) (c.turn-answer.ensures.does.step before))
     (no_memory _ (sym c.if-is_memory.ensures)) (sym c.if-is_working.ensures)
@@ -50,4 +50,4 @@ returns-clause-later g c = subst (λ (s : Seen). IsLater c.args.self.now s) (sym
 pub returns-clause-running : goal.returns-clause-running
 returns-clause-running g c quiet =
     subst (λ (s : Seen). s.volume.stopped ≡ false) (sym c.tell.ensures.same)
-    (c.turn-answer.ensures.does.running (subst (λ (s : Seen). IsQuiet c.args.self.now s) c.tell.ensures.same quiet))
+    (c.turn-answer.ensures.does.running (subst (λ (s : Seen). NoCallFailed c.args.self.now s) c.tell.ensures.same quiet))
