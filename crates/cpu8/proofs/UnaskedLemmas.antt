@@ -1,5 +1,5 @@
 -- Steps that ask for no key.
-use Rattle.std.proofs.Common.{◌≡◌, ℕ, ◌+◌, true, false, arith, sym, ap, ◌∙◌, below_more}
+use Rattle.std.proofs.Common.{◌≡◌, ℕ, ◌+◌, Bool, true, false, arith, sym, ap, ◌∙◌, below_more}
 use Rattle.cpu8.specs.State.{State}
 use Rattle.cpu8.specs.Step.{fetched}
 use Rattle.cpu8.specs.Go.{printing_step, after}
@@ -17,3 +17,9 @@ unasked-next k s old new at h finds same does before = below_more _ _ before (re
   finds = ap (λ x. finds_no_key x) (sym at) ∙ finds;
   interrupts = ap (λ x. x.interrupts_on) (sym at) ∙ same;
 })
+
+-- the same where the printer is quick by a parameter
+pub unasked-on : (quick : Bool) → quick ≡ true → (k : ℕ) (s old new : State) → old ≡ after quick k s → is_quiet quick old ≡ true
+    → finds_no_key old ≡ false → old.interrupts_on ≡ s.interrupts_on → Does old (fetched old) new → AreUnasked s k → AreUnasked s (k + 1)
+unasked-on quick on k s old new at h finds same does before =
+    unasked-next k s old new (at ∙ ap (λ q. after q k s) on) (ap (λ q. is_quiet q old) (sym on) ∙ h) finds same does before

@@ -64,22 +64,7 @@ impl Machine {
         if self.processor.finds_transfer(&self.core) {
             return 0;
         }
-        self.run_settled(n)
-    }
-
-    /// The same for a machine that is quiet and settled: on a copy of the processor, as below.
-    #[inline(never)]
-    fn run_settled(&mut self, n: usize) -> usize
-        requires quiet { is_quiet true self.old ≡ true }
-        requires settled { is_settled self.old ≡ true }
-        ensures within { result ≤ n }
-        ensures state { self.new ≡ after true result self.old }
-        ensures unasked { AreUnasked self.old result }
-    {
-        let mut processor = self.processor.settled();
-        let steps = processor.run_unasked(&mut self.core, n);
-        self.processor = processor;
-        steps
+        self.run_without_breaks(n, true, true, &[])
     }
 
     /// Makes up to n steps as long as they are quiet, and no break is ahead; none where breaks tell of some cells alone,
@@ -101,7 +86,7 @@ impl Machine {
             return 0;
         }
         if unbroken[usize::from(self.processor.instruction_field)] {
-            return self.run_without_breaks(n, quick, breaks);
+            return self.run_without_breaks(n, quick, false, breaks);
         }
         if breaks.len() >= CELLS {
             return self.run_with_breaks(n, quick, breaks);
@@ -111,18 +96,19 @@ impl Machine {
 
     /// The steps of a quiet machine in a field without breaks: on a copy of the processor, which so stays in registers of
     /// the machine that this program runs on. That it is settled tells the compiler that these steps leave the fields and
-    /// the states of interrupts alone.
+    /// the states of interrupts alone. A run that asks and one that doesn't go through the same loop, at the same speed.
     #[inline(never)]
-    fn run_without_breaks(&mut self, n: usize, quick: bool, breaks: &[bool]) -> usize
+    fn run_without_breaks(&mut self, n: usize, quick: bool, asks: bool, breaks: &[bool]) -> usize
         requires quiet { is_quiet quick self.old ≡ true }
         requires settled { is_settled self.old ≡ true }
         requires breaks { IsUnbroken breaks.now self.old.instruction_field }
         ensures within { result ≤ n }
         ensures state { self.new ≡ after quick result self.old }
         ensures quiet { AreQuiet quick breaks.now self.old result }
+        ensures unasked { quick ≡ true → asks ≡ true → AreUnasked self.old result }
     {
         let mut processor = self.processor.settled();
-        let steps = processor.run_quietly::<false>(&mut self.core, n, quick, breaks);
+        let steps = processor.run_quietly::<false>(&mut self.core, n, quick, asks, breaks);
         self.processor = processor;
         steps
     }
@@ -138,7 +124,7 @@ impl Machine {
         ensures quiet { AreQuiet quick breaks.now self.old result }
     {
         let mut processor = self.processor.settled();
-        let steps = processor.run_quietly::<true>(&mut self.core, n, quick, breaks);
+        let steps = processor.run_quietly::<true>(&mut self.core, n, quick, false, breaks);
         self.processor = processor;
         steps
     }

@@ -1,7 +1,7 @@
 //! Steps with no look at the Teletype: what a run mostly makes, on a processor of its own that the compiler keeps in
 //! registers. So every function here is inlined, and what is rare is left to the other steps. The larger ones have the
-//! parameters MINDS, whether breaks are minded, and ASKS, whether the loop stops where the program asks for a key, so that
-//! each stands in the program once for each of the three loops, and not once for all, which would not be inlined.
+//! parameter MINDS, whether breaks are minded, so that each stands in the program once for each of the two loops, and not
+//! once for both, which would not be inlined.
 
 ghost use Rattle.std.specs.Prelude.{◌≡◌, ◌<◌, ◌≤◌, ◌/◌, true, false, nat_eq};
 ghost use Rattle.cpu8.specs.State.{next_cell, with_core};
@@ -50,14 +50,15 @@ impl Processor {
         }
     }
 
-    /// Makes up to n steps as long as they are quiet, and no break is ahead. None of them leaves the instruction field, so
-    /// breaks of other fields need not be minded.
+    /// Makes up to n steps as long as they are quiet, no break is ahead and, if it asks, none is a KSF that finds the
+    /// keyboard flag clear. None of them leaves the instruction field, so breaks of other fields need not be minded.
     #[inline(always)]
     pub(crate) fn run_quietly<const MINDS: bool>(
         &mut self,
         core: &mut Core,
         n: usize,
         quick: bool,
+        asks: bool,
         breaks: &[bool],
     ) -> usize
         requires quiet { is_quiet quick self.old ≡ true }
@@ -66,31 +67,15 @@ impl Processor {
         ensures within { result ≤ n }
         ensures state { with_core self.new core.new ≡ after quick result (with_core self.old core.old) }
         ensures quiet { AreQuiet quick breaks.now (with_core self.old core.old) result }
+        ensures unasked { quick ≡ true → asks ≡ true → AreUnasked (with_core self.old core.old) result }
     {
         let _quick = quick;
         for made in 0..n {
-            if !self.step_quietly::<MINDS, false>(core) {
+            if !self.step_quietly::<MINDS>(core, asks) {
                 return made;
             }
             if self.is_at_break::<MINDS>(breaks) {
                 return made + 1;
-            }
-        }
-        n
-    }
-
-    /// Makes up to n steps as long as they are quiet, with a quick printer, and none is a KSF that finds the keyboard flag
-    /// clear.
-    #[inline(always)]
-    pub(crate) fn run_unasked(&mut self, core: &mut Core, n: usize) -> usize
-        requires { is_quiet true self.old ≡ true }
-        ensures within { result ≤ n }
-        ensures state { with_core self.new core.new ≡ after true result (with_core self.old core.old) }
-        ensures unasked { AreUnasked (with_core self.old core.old) result }
-    {
-        for made in 0..n {
-            if !self.step_quietly::<false, true>(core) {
-                return made;
             }
         }
         n
@@ -122,12 +107,12 @@ impl Processor {
         if MINDS { breaks[cell] } else { false }
     }
 
-    /// The next instruction, if it is one that is done here. With ASKS a KSF that finds the keyboard flag clear is none.
+    /// The next instruction, if it is one that is done here. If it asks, a KSF that finds the keyboard flag clear is none.
     #[inline(always)]
-    fn step_quietly<const MINDS: bool, const ASKS: bool>(&mut self, core: &mut Core) -> bool
+    fn step_quietly<const MINDS: bool>(&mut self, core: &mut Core, asks: bool) -> bool
         ensures does { DoesOrNot (with_core self.old core.old) (fetched (with_core self.old core.old))
             result (with_core self.new core.new) }
-        ensures asks { ASKS ≡ true → result ≡ true → finds_no_key (with_core self.old core.old) ≡ false }
+        ensures asks { asks ≡ true → result ≡ true → finds_no_key (with_core self.old core.old) ≡ false }
     {
         let word = core.get(self.next_cell());
         match word.get() / 0o200 {
@@ -156,7 +141,7 @@ impl Processor {
             0o26 => self.refer(core, leading(0o26, word)),
             0o27 => self.refer(core, leading(0o27, word)),
             0o30 => {
-                if ASKS && self.finds_no_key(core) {
+                if asks && self.finds_no_key(core) {
                     return false;
                 }
                 return self.transfer_quietly(core, leading(0o30, word));
@@ -164,7 +149,7 @@ impl Processor {
             0o31 => return self.transfer_quietly(core, leading(0o31, word)),
             0o32 => return self.transfer_quietly(core, leading(0o32, word)),
             0o33 => return self.transfer_quietly(core, leading(0o33, word)),
-            _ => return self.operate_quietly::<MINDS, ASKS>(core, word),
+            _ => return self.operate_quietly::<MINDS>(core, word),
         }
         true
     }
@@ -212,11 +197,7 @@ impl Processor {
 
     /// An operate instruction that goes on. The words of everyday use are each compiled for themselves.
     #[inline(always)]
-    fn operate_quietly<const MINDS: bool, const ASKS: bool>(
-        &mut self,
-        core: &Core,
-        word: Word,
-    ) -> bool
+    fn operate_quietly<const MINDS: bool>(&mut self, core: &Core, word: Word) -> bool
         requires { 7 ≤ word / 0o1000 }
         ensures { DoesOrNot (with_core self.old core.now) word result (with_core self.new core.now) }
     {

@@ -1,4 +1,4 @@
-use Rattle.std.proofs.Common.{true, sym}
+use Rattle.std.proofs.Common.{true, refl, sym}
 use Rattle.cpu8.proofs.GoLemmas.{after-none}
 use Rattle.cpu8.proofs.machines.Machine.run_unasked.Goals as goal
 
@@ -7,3 +7,9 @@ returns-then-not-is_quiet-clause-state c = sym (after-none true c.args.self.now)
 
 pub returns-then-finds_transfer-clause-state : goal.returns-then-finds_transfer-clause-state
 returns-then-finds_transfer-clause-state c = sym (after-none true c.args.self.now)
+
+pub run_without_breaks-requires-clause-breaks : goal.run_without_breaks-requires-clause-breaks
+run_without_breaks-requires-clause-breaks c = λ address below. refl
+
+pub returns-clause-unasked : goal.returns-clause-unasked
+returns-clause-unasked c = c.run_without_breaks.ensures.unasked refl refl

@@ -3,6 +3,7 @@ use Rattle.cpu8.specs.State.{with_core}
 use Rattle.cpu8.proofs.GoLemmas.{after-none}
 use Rattle.cpu8.proofs.QuietLemmas.{none-quiet, after-quiet, quiet-next, stays-quiet, fields-same}
 use Rattle.cpu8.specs.QuietSteps.{AreMinded}
+use Rattle.cpu8.proofs.UnaskedLemmas.{none-unasked, unasked-next, unasked-on}
 use Rattle.cpu8.proofs.processors.Processor.run_quietly.Goals as goal
 
 pub loop-made-init : goal.loop-made-init
@@ -14,6 +15,8 @@ loop-made-init g c =
       λ below. absurd (omega (arith, below)),
       refl,
       c.requires.field,
+      λ quick asks. none-unasked s,
+      refl,
     )
 
 pub is_at_break-requires : goal.is_at_break-requires
@@ -45,4 +48,15 @@ loop-made-preserved g c =
       λ _. sym c.is_at_break.ensures ∙ c.if-is_at_break.false,
       (c.if-not-step_quietly.ensures.does).stays.field c.loop-made.invariant.5 ∙ c.loop-made.invariant.4,
       fields-same old new (c.if-not-step_quietly.ensures.does).stays c.loop-made.invariant.5,
+      λ quick asks. unasked-on c.args.quick quick c.loop-made.made s old new c.loop-made.invariant.0 c.loop-made.invariant.2
+          (c.if-not-step_quietly.ensures.asks asks refl) c.loop-made.invariant.7 c.if-not-step_quietly.ensures.does
+          (c.loop-made.invariant.6 quick asks),
+      (c.if-not-step_quietly.ensures.does).stays.interrupts_on ∙ c.loop-made.invariant.7,
     )
+
+pub returns-then-is_at_break-clause-unasked : goal.returns-then-is_at_break-clause-unasked
+returns-then-is_at_break-clause-unasked g c = λ quick asks.
+    unasked-on c.args.quick quick c.loop-made.made (with_core c.args.self.now c.args.core.now) (with_core c.loop-made.self c.loop-made.core)
+    (with_core c.step_quietly.new.self c.step_quietly.new.core) c.loop-made.invariant.0 c.loop-made.invariant.2
+    (c.if-not-step_quietly.ensures.asks asks refl) c.loop-made.invariant.7 c.if-not-step_quietly.ensures.does
+    (c.loop-made.invariant.6 quick asks)
