@@ -1,0 +1,4 @@
+mod NameLemmas
+mod RowLemmas
+mod StepLemmas
+mod ShownLemmas

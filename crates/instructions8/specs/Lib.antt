@@ -1,0 +1,4 @@
+pub mod Instructions
+pub mod Names
+pub mod Steps
+pub mod Shown
