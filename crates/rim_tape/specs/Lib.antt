@@ -1,0 +1,5 @@
+pub mod Pairs
+pub mod Tape
+pub mod Fault
+pub mod Converted
+pub mod ReadSteps
