@@ -30,6 +30,7 @@ class Fault:
     line: int
     source: int
     place: int
+    name: str = ""
 
 
 def host_lines(text: bytes) -> list[bytes]:
@@ -70,7 +71,13 @@ class HostSources:
         return next((k for k in range(first, stretch.end) if is_live(text, k) and text[k : k + 1] not in (b" ", b"\t")), stretch.end)
 
     def fault(self, code: str, at: int) -> Fault:
-        return Fault(code, self.source.stretches[at].line, *self.position(self.begin(at)))
+        name = self.undefined(at) if code == "UA" else ""
+        return Fault(code, self.source.stretches[at].line, *self.position(self.begin(at)), name)
+
+    def undefined(self, at: int) -> str:
+        """The first name of a statement, from the left, that stands for nothing there."""
+        value = self.source.last_value if self.source.is_word(at) else self.source.value
+        return next(it.name for it in self.source.said[at].body.terms if it.name and value(it.name, at) is None)
 
     def first_pass(self) -> Fault | None:
         source = self.source
@@ -162,7 +169,7 @@ def lines_told(fault: Fault, texts: list[bytes], names: list[str]) -> list[bytes
     lines = re.split(rb"\r\n|\n|\r", text)
     begins = [0] + [it.end() for it in re.finditer(rb"\r\n|\n|\r", text)]
     line, column = lines[number], fault.place - begins[number]
-    head = f"{names[fault.source]}:{number + 1}:{column + 1}: {fault.code}: {WORDS[fault.code]}"
+    head = f"{names[fault.source]}:{number + 1}:{column + 1}: {fault.code}: {WORDS[fault.code]}" + (f" {fault.name}" if fault.name else "")
     mark = bytes(it if it == 9 else 32 for it in line[:column]) + b"^"
     return [head.encode(), shown(line), mark]
 

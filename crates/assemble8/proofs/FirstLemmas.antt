@@ -14,6 +14,7 @@ use Rattle.pal_asm.specs.Words.{word_values}
 use Rattle.pal_asm.specs.Faults.{first_of, at_line, first_order, word_fault, words_fault, no_end, no_word}
 use Rattle.assemble8.specs.Sources.{newest_first}
 use Rattle.assemble8.specs.Places.{shortest, is_settled, start_of, statement_place, place_at_byte}
+use Rattle.assemble8.specs.Unknowns.{unknown_in, about}
 use Rattle.assemble8.specs.Further.{with_line, newest_fault, byte_fault, with_place, word_faults}
 use Rattle.assemble8.specs.Laws.{FirstIsTold}
 use Rattle.assemble8.specs.declared.faults.Place.{Place}
@@ -31,24 +32,24 @@ same_first : (g f : Fault) (more others : List Fault) → g ∷ more ≡ f ∷ o
 unfolding first_or
 same_first g f more others e = ap (λ l. first_or l g) e
 
-told_by : (code : Option Code) (line : ℕ) (at : Place) (f : Fault) (others : List Fault) → with_place at (with_line line code) ≡ f ∷ others
+told_by : (code : Option Code) (line : ℕ) (name : Option ℕ) (at : Place) (f : Fault) (others : List Fault) → with_place at (with_line line name code) ≡ f ∷ others
     → (at_line line code ≡ Some (At f.code f.line)) × (f.place ≡ at)
-told_by None line at f others e = absurd cc
-told_by (Some code) line at f others e =
-    let told : Fault = record { code = code; line = line; place = at } in
+told_by None line name at f others e = absurd cc
+told_by (Some code) line name at f others e =
+    let told : Fault = record { code = code; line = line; place = at; about = about code name } in
     let same = same_first told f [] others e in
     (ap (λ (g : Fault). Some (At g.code g.line)) same, sym (ap (λ (g : Fault). g.place) same))
 
-told_none : (code : Option Code) (line : ℕ) (at : Place) → with_place at (with_line line code) ≡ [] → at_line line code ≡ None
-told_none None line at e = refl
-told_none (Some code) line at e = absurd cc
+told_none : (code : Option Code) (line : ℕ) (name : Option ℕ) (at : Place) → with_place at (with_line line name code) ≡ [] → at_line line code ≡ None
+told_none None line name at e = refl
+told_none (Some code) line name at e = absurd cc
 
 newest_told : (at : Place) (last : Known) (ends : Bool) (s : Result Statement LexFault) (older : Source) (f : Fault) (others : List Fault) → words_fault last older ≡ None
     → with_place at (if ends then newest_fault last (if ends then s ∷ older else older) else None) ≡ f ∷ others
     → (ends ≡ true) × (words_fault last (if ends then s ∷ older else older) ≡ Some (At f.code f.line)) × (f.place ≡ at)
 newest_told at last true (Ok s) older f others none e =
     let code = word_fault (word_values last s.tags older) (place_at older) s.body in
-    let told = told_by code s.line at f others e in
+    let told = told_by code s.line (unknown_in (word_values last s.tags older) s.body) at f others e in
     (refl, ap (λ o. first_of o (at_line s.line code)) none ∙ told.0, told.1)
 newest_told at last true (Err g) older f others none e = absurd cc
 newest_told at last false s older f others none e = absurd cc
@@ -58,7 +59,7 @@ newest_none : (at : Place) (last : Known) (ends : Bool) (s : Result Statement Le
     → words_fault last (if ends then s ∷ older else older) ≡ None
 newest_none at last true (Ok s) older none e =
     let code = word_fault (word_values last s.tags older) (place_at older) s.body in
-    ap (λ o. first_of o (at_line s.line code)) none ∙ told_none code s.line at e
+    ap (λ o. first_of o (at_line s.line code)) none ∙ told_none code s.line (unknown_in (word_values last s.tags older) s.body) at e
 newest_none at last true (Err g) older none e = none
 newest_none at last false s older none e = none
 

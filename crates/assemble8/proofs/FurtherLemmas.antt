@@ -17,6 +17,7 @@ use Rattle.pal_asm.specs.Words.{word_values}
 use Rattle.pal_asm.specs.Faults.{word_fault}
 use Rattle.assemble8.specs.Sources.{texts_of, newest_first, counts_of}
 use Rattle.assemble8.specs.Places.{first_solid, start_of, is_refused, place_in, place_by, place_at_byte}
+use Rattle.assemble8.specs.Unknowns.{unknown_in}
 use Rattle.assemble8.specs.NameSteps.{known, Follows}
 use Rattle.assemble8.specs.JudgeSteps.{known_last, placed}
 use Rattle.assemble8.specs.Further.{with_line, newest_fault, byte_fault, with_place, word_faults, further_faults}
@@ -29,14 +30,14 @@ use Rattle.assemble8.proofs.StartLemmas.{length_taken}
 
 -- ## Lists of them
 
-pub placed_more : (place : ℕ → Place) (l : List Found) (f : Found) → placed place (l ++ f ∷ []) ≡ placed place l ++ record { code = f.code; line = f.line; place = place f.at } ∷ []
+pub placed_more : (place : ℕ → Place) (l : List Found) (f : Found) → placed place (l ++ f ∷ []) ≡ placed place l ++ record { code = f.code; line = f.line; place = place f.at; about = f.about } ∷ []
 placed_more place [] f = refl
-placed_more place (g ∷ others) f = ap (λ l. record { code = g.code; line = g.line; place = place g.at } ∷ l) (placed_more place others f)
+placed_more place (g ∷ others) f = ap (λ l. record { code = g.code; line = g.line; place = place g.at; about = g.about } ∷ l) (placed_more place others f)
 
 placed-take : (place : ℕ → Place) (n : ℕ) (l : List Found) → placed place (take n l) ≡ take n (placed place l)
 placed-take place zero l = refl
 placed-take place (suc n) [] = refl
-placed-take place (suc n) (g ∷ others) = ap (λ l. record { code = g.code; line = g.line; place = place g.at } ∷ l) (placed-take place n others)
+placed-take place (suc n) (g ∷ others) = ap (λ l. record { code = g.code; line = g.line; place = place g.at; about = g.about } ∷ l) (placed-take place n others)
 
 placed-drop : (place : ℕ → Place) (l : List Found) → placed place (drop 1 l) ≡ drop 1 (placed place l)
 placed-drop place [] = refl
@@ -51,14 +52,14 @@ pub judged_none : (last : Known) (text : List ℕ) (b : ℕ) (old new : Progress
 judged_none last text b old new answers = sym (ap (λ (t : Bool). if t then newest_fault last (statements (b ∷ text)) else None) (none_ends b text answers.1))
 
 pub judged_some : (last : Known) (text : List ℕ) (b : ℕ) (s : Statement) (old new : Progress) → old.may_pause ≡ false → Answers 0 text b (Ok (Some s)) old new
-    → with_line s.line (word_fault (word_values last s.tags (statements text)) (place_at (statements text)) s.body) ≡ byte_fault last text b
+    → with_line s.line (unknown_in (word_values last s.tags (statements text)) s.body) (word_fault (word_values last s.tags (statements text)) (place_at (statements text)) s.body) ≡ byte_fault last text b
 judged_some last text b s old new may answers =
     let out = handed text b s old new may answers in
     sym
     (ap (λ (t : Bool). if t then newest_fault last (statements (b ∷ text)) else None) (one_ends b text (Ok (with_tokens (tokens_behind text) s)) out.1)
     ∙ ap (newest_fault last) out.1)
 
-pub judged_more : (place : ℕ → Place) (last : Known) (bytes : List ℕ) (n : ℕ) (fault : Option (Code × ℕ)) (start : Option ℕ) (at : ℕ) (old new : List Found) → n < length bytes
+pub judged_more : (place : ℕ → Place) (last : Known) (bytes : List ℕ) (n : ℕ) (fault : Option (Code × ℕ × Option ℕ)) (start : Option ℕ) (at : ℕ) (old new : List Found) → n < length bytes
     → placed place new ≡ placed place old ++ with_place (place at) fault → at ≡ unwrap_or start n → start ≡ first_solid (stretch (text_of (take n bytes)))
     → fault ≡ byte_fault last (text_of (take n bytes)) (get_or bytes n 0) → placed place old ≡ word_faults place last (text_of (take n bytes))
     → placed place new ≡ word_faults place last (text_of (take (n + 1) bytes))
@@ -70,13 +71,15 @@ judged_more place last bytes n fault start at old new inside puts is begins told
 
 -- ## One word
 
-pub judged_word : (tags : List ℕ) (body : Body) (older : Source) (old middle last : BTreeMap ℕ ℕ) (place : ℕ) → Follows old place older
+pub judged_word : (line : ℕ) (tags : List ℕ) (body : Body) (older : Source) (old middle last : BTreeMap ℕ ℕ) (place : ℕ) → Follows old place older
     → ((n : ℕ) → known middle n ≡ tag_values tags place (known old) n)
-    → word_fault (known_last middle last) place body ≡ word_fault (word_values (known last) tags older) (place_at older) body
-judged_word tags body older old middle last place follows tagged =
+    → with_line line (unknown_in (known_last middle last) body) (word_fault (known_last middle last) place body)
+    ≡ with_line line (unknown_in (word_values (known last) tags older) body) (word_fault (word_values (known last) tags older) (place_at older) body)
+judged_word line tags body older old middle last place follows tagged =
     let names : known_last middle last ≡ word_values (known last) tags older =
     fun_ext (λ n. ap (λ (k : Known). if_none (k n) (known last n)) (tagged_names tags older old middle place follows tagged)) in
-    ap (λ k. word_fault k place body) names ∙ ap (λ p. word_fault (word_values (known last) tags older) p body) follows.at
+    ap (λ k. with_line line (unknown_in k body) (word_fault k place body)) names
+    ∙ ap (λ p. with_line line (unknown_in (word_values (known last) tags older) body) (word_fault (word_values (known last) tags older) p body)) follows.at
 
 -- ## All of them
 

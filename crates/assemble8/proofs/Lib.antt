@@ -7,6 +7,7 @@ pub mod JoinLemmas
 pub mod RowLemmas
 pub mod NameLemmas
 pub mod FurtherLemmas
+pub mod UnknownLemmas
 pub mod ReferenceLemmas
 pub mod LawLemmas
 pub mod StandLemmas

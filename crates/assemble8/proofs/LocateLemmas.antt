@@ -22,7 +22,7 @@ use Rattle.pal_asm.specs.Laws as asm_laws
 use Rattle.pal_asm.specs.Progress as asm
 use Rattle.pal_asm.specs.Passes.{IsFirst, IsSecond, AnswersSecond, TurnsOver}
 use Rattle.assemble8.specs.Places.{shortest, is_refused, is_settled, start_of, statement_place, fault_place}
-use Rattle.assemble8.specs.Steps.{is_memory, step_behind, PassesStatement, PassesByte, Passes, MakesByte, IsSettledAt}
+use Rattle.assemble8.specs.Steps.{is_memory, step_behind, PassesStatement, PassesByte, Passes, MakesByte, IsSettledAt, IsMetAt}
 use Rattle.assemble8.specs.declared.locating.Step.TheVariants as step
 use Rattle.assemble8.specs.declared.locating.Passed.TheVariants as passed
 use Rattle.assemble8.proofs.PauseLemmas.{none_ends, one_ends, ends_parts, over_stays, calm_byte, next_byte, whole_text, none_some}
@@ -54,7 +54,7 @@ first_stays (b ∷ later) text f e =
     ap first_order (one_more b (later ++ text))
     ∙ first_step (ends_statement (later ++ text) b) (newest (later ++ text) b) (statements (later ++ text)) f (first_stays later text f e)
 
-refused_stays : (later text : List ℕ) → is_refused text ≡ true → is_refused (later ++ text) ≡ true
+pub refused_stays : (later text : List ℕ) → is_refused text ≡ true → is_refused (later ++ text) ≡ true
 refused_stays later text now = by_fault (first_order (statements text)) refl
   where
     by_fault : (f : Option AsmFault) → first_order (statements text) ≡ f → is_refused (later ++ text) ≡ true
@@ -80,7 +80,7 @@ or_true : (a : Bool) → (a || true) ≡ true
 or_true true = refl
 or_true false = refl
 
-settled_stays : (last : Known) (later text : List ℕ) → is_settled last text ≡ true → is_settled last (later ++ text) ≡ true
+pub settled_stays : (last : Known) (later text : List ℕ) → is_settled last text ≡ true → is_settled last (later ++ text) ≡ true
 settled_stays last later text now = by_fault (words_fault last (statements text)) refl
   where
     by_fault : (f : Option AsmFault) → words_fault last (statements text) ≡ f → is_settled last (later ++ text) ≡ true
@@ -94,6 +94,13 @@ settled_stays last later text now = by_fault (words_fault last (statements text)
 
 pub goes_on : (bytes : List ℕ) (end : ℕ) → end < length bytes → text_of bytes ≡ text_of (drop (end + 1) bytes) ++ (get_or bytes end 0 ∷ text_of (take end bytes))
 goes_on bytes end inside = whole_text bytes (end + 1) ∙ ap (λ l. text_of (drop (end + 1) bytes) ++ l) (next_byte bytes end (get_or bytes end 0) inside refl)
+
+pub shortest_is : (holds : List ℕ → Bool) → ((later text : List ℕ) → holds text ≡ true → holds (later ++ text) ≡ true) → (bytes : List ℕ) (end : ℕ) → end < length bytes
+    → holds (text_of (take (end + 1) bytes)) ≡ true → holds (text_of (take end bytes)) ≡ false → shortest holds (text_of bytes) ≡ text_of (take (end + 1) bytes)
+shortest_is holds stays bytes end inside now earlier =
+    let next = next_byte bytes end (get_or bytes end 0) inside refl in
+    ap (shortest holds) (goes_on bytes end inside)
+    ∙ shortest_at holds stays (text_of (drop (end + 1) bytes)) (text_of (take end bytes)) (get_or bytes end 0) (ap holds (sym next) ∙ now) earlier ∙ sym next
 
 shortest_of : (holds : List ℕ → Bool) → ((later text : List ℕ) → holds text ≡ true → holds (later ++ text) ≡ true) → (bytes : List ℕ) (end : ℕ) → end < length bytes
     → holds (text_of (take (end + 1) bytes)) ≡ true → holds (text_of (take end bytes)) ≡ false → statement_place (shortest holds (text_of bytes)) ≡ start_of (text_of (take end bytes))
@@ -117,17 +124,17 @@ length_from : (bytes text : List ℕ) → length (text_from text bytes) ≡ leng
 length_from [] text = omega arith
 length_from (b ∷ bytes) text = length_from bytes (b ∷ text) ∙ omega arith
 
-pub refused_whole : (bytes : List ℕ) (end : ℕ) (assembler : asm.Progress) → Passes bytes (passed.Refused end) assembler → is_refused (text_of bytes) ≡ true
-refused_whole bytes end assembler p =
+pub refused_whole : (bytes : List ℕ) (end : ℕ) → IsMetAt bytes (passed.Refused end) → is_refused (text_of bytes) ≡ true
+refused_whole bytes end p =
     ap is_refused (whole_text bytes (end + 1)) ∙ refused_stays (text_of (drop (end + 1) bytes)) (text_of (take (end + 1) bytes)) p.1
 
-pub refused_place : (bytes : List ℕ) (end : ℕ) (assembler : asm.Progress) → Passes bytes (passed.Refused end) assembler → fault_place (text_of bytes) ≡ start_of (text_of (take end bytes))
-refused_place bytes end assembler p =
-    by_refused (text_of bytes) (refused_whole bytes end assembler p)
+pub refused_place : (bytes : List ℕ) (end : ℕ) → IsMetAt bytes (passed.Refused end) → fault_place (text_of bytes) ≡ start_of (text_of (take end bytes))
+refused_place bytes end p =
+    by_refused (text_of bytes) (refused_whole bytes end p)
     ∙ shortest_of is_refused refused_stays bytes end p.0 p.1 p.2
 
-pub open_place : (bytes : List ℕ) (assembler : asm.Progress) → Passes bytes passed.Open assembler → fault_place (text_of bytes) ≡ length bytes
-open_place bytes assembler p = by_open (text_of bytes) p.0 p.1 ∙ length_from bytes [] ∙ omega arith
+pub open_place : (bytes : List ℕ) → IsMetAt bytes passed.Open → fault_place (text_of bytes) ≡ length bytes
+open_place bytes p = by_open (text_of bytes) p.0 p.1 ∙ length_from bytes [] ∙ omega arith
 
 -- a text has no further statement behind its `$`
 pub same_statements : (bytes : List ℕ) (end : ℕ) (assembler : asm.Progress) → EndsSource → Passes bytes (passed.Over end) assembler
@@ -141,10 +148,10 @@ over_whole bytes end assembler p = ap is_over (whole_text bytes (end + 1)) ∙ o
 pub fine_whole : (bytes : List ℕ) (end : ℕ) (assembler : asm.Progress) → EndsSource → Passes bytes (passed.Over end) assembler → is_refused (text_of bytes) ≡ false
 fine_whole bytes end assembler ends p = ap (λ s. is_some (first_order s)) (same_statements bytes end assembler ends p) ∙ ap is_some p.1.no_fault
 
-pub settled_place : (bytes : List ℕ) (end : ℕ) → is_refused (text_of bytes) ≡ false → is_over (text_of bytes) ≡ true → IsSettledAt bytes end
-    → fault_place (text_of bytes) ≡ start_of (text_of (take end bytes))
-settled_place bytes end fine over at =
-    by_settled (text_of bytes) fine over
+pub settled_place : (bytes : List ℕ) (end : ℕ) → IsMetAt bytes (passed.Over end) → fault_place (text_of bytes) ≡ start_of (text_of (take end bytes))
+settled_place bytes end p =
+    let at = p.0 in
+    by_settled (text_of bytes) p.1 p.2
     ∙ shortest_of (is_settled (values (statements (text_of bytes)))) (settled_stays (values (statements (text_of bytes)))) bytes end at.0 at.1 at.2
 
 -- ## No word

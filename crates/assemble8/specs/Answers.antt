@@ -9,12 +9,15 @@ use Rattle.assemble8.specs.declared.faults.SourceFault.{SourceFault}
 use Rattle.assemble8.specs.declared.faults.SourceFault.TheVariants.{At, Memory}
 use Rattle.assemble8.specs.Sources.{newest_first}
 use Rattle.assemble8.specs.Places.{place_of}
+use Rattle.assemble8.specs.Unknowns.{unknown_name, about}
 
 -- the sources have no fault, and these are the frames of their tape
 abbrev pub IsAssembled : List (Bor (List ℕ)) → List ℕ → Type 0
 IsAssembled sources frames = (fault_of (newest_first sources) ≡ None) × (frames ≡ tape_of (pairs_of (newest_first sources)))
 
--- the fault of the sources, with its place; or memory ran out
+-- the fault of the sources, with its place, and the name that it is about, if it is UA; or memory ran out
 abbrev pub IsTold : List (Bor (List ℕ)) → SourceFault → Type 0
-IsTold sources (At fault) = (fault_of (newest_first sources) ≡ Some (asm.At fault.code fault.line)) × (fault.place ≡ place_of sources)
+IsTold sources (At fault) =
+    (fault_of (newest_first sources) ≡ Some (asm.At fault.code fault.line)) × (fault.place ≡ place_of sources)
+    × (fault.about ≡ about fault.code (unknown_name (newest_first sources)))
 IsTold sources Memory = Unit {0}

@@ -10,26 +10,29 @@ use Rattle.pal_asm.specs.Words.{word_values}
 use Rattle.pal_asm.specs.Faults.{word_fault}
 use Rattle.assemble8.specs.Sources.{newest_first}
 use Rattle.assemble8.specs.Places.{is_refused, start_of, place_at_byte}
+use Rattle.assemble8.specs.Unknowns.{unknown_in, about}
 use Rattle.assemble8.specs.declared.faults.Place.{Place}
 use Rattle.assemble8.specs.declared.faults.Fault.{Fault}
 
-abbrev pub with_line : ℕ → Option Code → Option (Code × ℕ)
-with_line line None = None
-with_line line (Some code) = Some (code, line)
+-- a fault with its line and the name that it is about
+abbrev pub with_line : ℕ → Option ℕ → Option Code → Option (Code × ℕ × Option ℕ)
+with_line line name None = None
+with_line line name (Some code) = Some (code, line, about code name)
 
 -- the fault of the newest of statements, if it is a word that has one, where names stand for these values at last
-abbrev pub newest_fault : Known → Source → Option (Code × ℕ)
+abbrev pub newest_fault : Known → Source → Option (Code × ℕ × Option ℕ)
 newest_fault last [] = None
 newest_fault last (Err fault ∷ older) = None
-newest_fault last (Ok s ∷ older) = with_line s.line (word_fault (word_values last s.tags older) (place_at older) s.body)
+newest_fault last (Ok s ∷ older) =
+    with_line s.line (unknown_in (word_values last s.tags older) s.body) (word_fault (word_values last s.tags older) (place_at older) s.body)
 
 -- the fault of the word that a byte behind a text ends
-abbrev pub byte_fault : Known → List ℕ → ℕ → Option (Code × ℕ)
+abbrev pub byte_fault : Known → List ℕ → ℕ → Option (Code × ℕ × Option ℕ)
 byte_fault last older b = if ends_statement older b then newest_fault last (statements (b ∷ older)) else None
 
-abbrev pub with_place : Place → Option (Code × ℕ) → List Fault
+abbrev pub with_place : Place → Option (Code × ℕ × Option ℕ) → List Fault
 with_place at None = []
-with_place at (Some found) = record { code = found.0; line = found.1; place = at } ∷ []
+with_place at (Some found) = record { code = found.0; line = found.1; place = at; about = found.2 } ∷ []
 
 -- the faults of the words of a text, in its order, where these are the places of its bytes
 abbrev pub word_faults : (ℕ → Place) → Known → List ℕ → List Fault

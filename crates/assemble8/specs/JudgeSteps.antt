@@ -4,10 +4,12 @@ use Rattle.std.specs.BTreeMap.{BTreeMap}
 use Rattle.pal_sym.specs.Values.{if_none}
 use Rattle.pal_asm.specs.declared.faults.Code.{Code}
 use Rattle.pal_asm.specs.Expressions.{Known}
+use Rattle.pal_asm.specs.Places.{Source, values_at}
 use Rattle.pal_lex.specs.Statements.{statements}
 use Rattle.pal_lex.specs.Reading.{HasRead}
 use Rattle.pal_lex.specs.Progress.{Progress}
 use Rattle.assemble8.specs.NameSteps.{known, Follows}
+use Rattle.assemble8.specs.Unknowns.{Standing}
 use Rattle.assemble8.specs.Further.{byte_fault}
 use Rattle.assemble8.specs.declared.faults.Place.{Place}
 use Rattle.assemble8.specs.declared.faults.Fault.{Fault}
@@ -17,13 +19,18 @@ use Rattle.assemble8.specs.declared.further.Found.{Found}
 abbrev pub known_last : BTreeMap ℕ ℕ → BTreeMap ℕ ℕ → Known
 known_last now last name = if_none (known now name) (known last name)
 
+-- what names stand for at the body of a statement, by those that are defined there and those that are defined at last
+abbrev pub Stands : BTreeMap ℕ ℕ → Standing → Type 0
+Stands last standing =
+    (now : BTreeMap ℕ ℕ) (tags : List ℕ) (older : Source) → known now ≡ values_at tags older → known_last now last ≡ standing tags older
+
 -- words with faults, where these are the places of the bytes of a join
 abbrev pub placed : (ℕ → Place) → List Found → List Fault
 placed place [] = []
-placed place (found ∷ others) = record { code = found.code; line = found.line; place = place found.at } ∷ placed place others
+placed place (found ∷ others) = record { code = found.code; line = found.line; place = place found.at; about = found.about } ∷ placed place others
 
 -- A byte behind a text was taken, and this is the fault of the word that it ends.
-pub record IsJudged (text : List ℕ) (b : ℕ) (last : Known) (fault : Option (Code × ℕ)) (lexer : Progress) (symbols : BTreeMap ℕ ℕ) (place : ℕ) : Type 0 where
+pub record IsJudged (text : List ℕ) (b : ℕ) (last : Known) (fault : Option (Code × ℕ × Option ℕ)) (lexer : Progress) (symbols : BTreeMap ℕ ℕ) (place : ℕ) : Type 0 where
   pub follows : Follows symbols place (statements (b ∷ text))
   pub read : HasRead lexer 0 (b ∷ text)
   pub told : fault ≡ byte_fault last text b

@@ -1,5 +1,6 @@
 pub mod Sources
 pub mod Places
+pub mod Unknowns
 pub mod Answers
 pub mod Telling
 pub mod Rows

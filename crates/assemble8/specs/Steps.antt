@@ -112,6 +112,13 @@ IsSettledAt bytes end =
     (end < length bytes) × (is_settled (values (statements (text_of bytes))) (text_of (take (end + 1) bytes)) ≡ true)
     × (is_settled (values (statements (text_of bytes))) (text_of (take end bytes)) ≡ false)
 
+-- The byte that ends the statement with the fault of a text, and the pass that meets it there.
+abbrev pub IsMetAt : List ℕ → Passed → Type 0
+IsMetAt bytes (passed.Refused end) =
+    (end < length bytes) × (is_refused (text_of (take (end + 1) bytes)) ≡ true) × (is_refused (text_of (take end bytes)) ≡ false)
+IsMetAt bytes (passed.Over end) = IsSettledAt bytes end × (is_refused (text_of bytes) ≡ false) × (is_over (text_of bytes) ≡ true)
+IsMetAt bytes passed.Open = (is_refused (text_of bytes) ≡ false) × (is_over (text_of bytes) ≡ false)
+
 -- ## Where a statement begins
 
 abbrev pub comment_by : ℕ → Bool → Bool

@@ -4,20 +4,22 @@ ghost use Rattle.pal_lex.specs.Text.{text_of};
 ghost use Rattle.pal_asm.specs.Texts.{IsFaultOf};
 ghost use Rattle.assemble8.specs.Sources.{texts_of, newest_first, counts_of};
 ghost use Rattle.assemble8.specs.Places.{place_of};
+ghost use Rattle.assemble8.specs.Unknowns.{unknown_name, about};
 ghost use Rattle.assemble8.specs.Answers.{IsAssembled, IsTold};
 ghost use Rattle.assemble8.specs.declared.faults.SourceFault.TheVariants.{Memory};
 
 use crate::joins::{Join, join_all};
-use crate::locating::fault_place;
+use crate::locating::{fault_end, fault_place};
 use crate::places::place_of;
+use crate::unknowns::name_told;
 use crate::{Fault, Place, SourceFault};
 use bin_tape::{TapeFault, write_tape};
 use pal_asm::laws::has_words;
-use pal_asm::{AsmFault, assemble};
+use pal_asm::{AsmFault, Code, assemble};
 use std::alloc::Global;
 
 /// The frames of the BIN tape that sources of the host are assembled to as one; or their first fault, with the place of the
-/// statement that has it.
+/// statement that has it, and of UA with the first name of the statement that stands for nothing there.
 ///
 /// A source is taken as its text stands in a file of a volume: LF ends a line, with a CR before it or not. Each source but
 /// the last goes on in the next one at its first PAUSE that stands alone, and no source at all is an empty one (PAL III
@@ -38,7 +40,7 @@ pub fn assemble_sources(alloc: Global, sources: &[&[u8]]) -> Result<Vec<u8>, Sou
     }
 }
 
-/// A fault of a join of sources, with the place of the statement that has it.
+/// A fault of a join of sources, with the place of the statement that has it and the name that it is about.
 pub(crate) fn told(alloc: Global, sources: &[&[u8]], join: &Join, fault: AsmFault) -> SourceFault
     requires text { text_of join.now.text.items ≡ newest_first sources.now }
     requires counts { join.now.counts.items ≡ counts_of (texts_of sources.now) }
@@ -47,21 +49,34 @@ pub(crate) fn told(alloc: Global, sources: &[&[u8]], join: &Join, fault: AsmFaul
 {
     match fault {
         AsmFault::Memory => SourceFault::Memory,
-        AsmFault::At(code, line) => match fault_spot(alloc, sources, join) {
-            Ok(place) => SourceFault::At(Fault { code, line, place }),
+        AsmFault::At(code, line) => match fault_spot(alloc, sources, join, code) {
+            Ok((place, about)) => SourceFault::At(Fault {
+                code,
+                line,
+                place,
+                about,
+            }),
             Err(memory) => memory,
         },
     }
 }
 
-/// The place of the fault of a join of sources. The only fault of the call is `Memory`.
-fn fault_spot(alloc: Global, sources: &[&[u8]], join: &Join) -> Result<Place, SourceFault>
+/// The place of the fault of a join of sources, and the name that it is about, if it is UA. The only fault of the call is
+/// `Memory`.
+fn fault_spot(
+    alloc: Global,
+    sources: &[&[u8]],
+    join: &Join,
+    code: Code,
+) -> Result<(Place, Option<u64>), SourceFault>
     requires text { text_of join.now.text.items ≡ newest_first sources.now }
     requires counts { join.now.counts.items ≡ counts_of (texts_of sources.now) }
-    ensures place { IfOk result (λ place. place ≡ place_of sources.now) }
+    ensures place { IfOk result (λ spot. spot.0 ≡ place_of sources.now) }
+    ensures name { IfOk result (λ spot. spot.1 ≡ about code (unknown_name (newest_first sources.now))) }
     ensures fault { IfErr result (λ fault. fault ≡ Memory) }
 {
-    let at = fault_place(alloc, &join.text)?;
-    let place = place_of(alloc, sources, &join.counts, at)?;
-    Ok(place)
+    let met = fault_end(alloc, &join.text)?;
+    let place = place_of(alloc, sources, &join.counts, fault_place(&join.text, met))?;
+    let about = name_told(alloc, &join.text, met, code)?;
+    Ok((place, about))
 }

@@ -25,6 +25,9 @@ pub struct Fault {
     /// The line over the sources joined, as scripts are told it: 1 and up, or 2^64 - 1 where it would be more.
     pub line: u64,
     pub place: Place,
+    /// Of UA, the first name of the statement, from the left, that stands for nothing where the statement is judged, as the
+    /// number that the sixbit codes of its six characters make; of any other fault none.
+    pub about: Option<u64>,
 }
 
 /// Why sources are not assembled.

@@ -8,7 +8,7 @@ ghost use Rattle.pal_asm.specs.Faults.{first_order};
 ghost use Rattle.assemble8.specs.Places.{place_in, place_by};
 ghost use Rattle.assemble8.specs.NameSteps.{known, Follows};
 ghost use Rattle.assemble8.specs.JudgeSteps.{placed, IsJudged};
-ghost use Rattle.assemble8.specs.Further.{with_line, with_place, word_faults, further_faults};
+ghost use Rattle.assemble8.specs.Further.{with_place, word_faults, further_faults};
 ghost use Rattle.assemble8.specs.declared.faults.Place.{Place};
 ghost use Rattle.assemble8.specs.declared.faults.SourceFault.TheVariants.{Memory};
 
@@ -35,6 +35,8 @@ struct Found {
     line: u64,
     /// The place in the join at which the statement begins.
     at: usize,
+    /// The name that it is about, if it is UA.
+    about: Option<u64>,
 }
 
 /// So many of the faults of sources of the host behind the first, in the order of the sources, where the first is one of a
@@ -93,6 +95,7 @@ fn placed(
             code: first.code,
             line: first.line,
             place,
+            about: first.about,
         })?;
         rest = others;
     }
@@ -143,13 +146,22 @@ fn begun(start: Option<usize>, end: usize) -> usize
 }
 
 /// Puts a fault behind others, if there is one.
-fn keep(found: &mut Vec<Found>, fault: Option<(Code, u64)>, at: usize) -> Result<(), AllocError>
+fn keep(
+    found: &mut Vec<Found>,
+    fault: Option<(Code, u64, Option<u64>)>,
+    at: usize,
+) -> Result<(), AllocError>
     ensures { OnOk result ((place : ℕ → Place) → placed place found.new.items
         ≡ placed place found.old.items ++ with_place (place at) fault) }
 {
     match fault {
-        Some((code, line)) => {
-            found.push(Found { code, line, at })?;
+        Some((code, line, about)) => {
+            found.push(Found {
+                code,
+                line,
+                at,
+                about,
+            })?;
             Ok(())
         }
         None => Ok(()),
@@ -162,7 +174,7 @@ fn judge_byte(
     names: &mut Names,
     last: &BTreeMap<u64, u16>,
     byte: u8,
-) -> Result<Option<(Code, u64)>, SourceFault>
+) -> Result<Option<(Code, u64, Option<u64>)>, SourceFault>
     ensures judges { (text : List ℕ) → HasRead lexer.old 0 text → lexer.old.may_pause ≡ false
         → first_order (statements (byte ∷ text)) ≡ None → first_fault (statements (byte ∷ text)) ≡ None
         → Follows names.old.symbols names.old.place (statements text)
@@ -174,22 +186,12 @@ fn judge_byte(
     match lexer.push(byte) {
         Ok(None) => Ok(None),
         Ok(Some(statement)) => match judge(names, last, &statement) {
-            Ok(code) => Ok(with_line(statement.line, code)),
+            Ok(fault) => Ok(fault),
             Err(refused) => Err(SourceFault::from(refused)),
         },
         Err(fault) => match unless_memory(fault) {
             Ok(()) => Ok(None),
             Err(memory) => Err(memory),
         },
-    }
-}
-
-/// A fault with its line, if there is one.
-fn with_line(line: u64, code: Option<Code>) -> Option<(Code, u64)>
-    ensures { result ≡ with_line line code }
-{
-    match code {
-        Some(code) => Some((code, line)),
-        None => None,
     }
 }

@@ -10,8 +10,11 @@ ghost use Rattle.pal_asm.specs.Words.{word_values};
 ghost use Rattle.pal_asm.specs.Faults.{term_fault, terms_fault, word_fault, out_of_reach, first_order};
 ghost use Rattle.assemble8.specs.NameSteps.{known, Follows};
 ghost use Rattle.assemble8.specs.JudgeSteps.{known_last};
+ghost use Rattle.assemble8.specs.Unknowns.{unknown_in};
+ghost use Rattle.assemble8.specs.Further.{with_line};
 
 use crate::names::{Names, joined, name_value, set_tags, take_body};
+use crate::unknowns::about;
 use pal_asm::Code;
 use pal_lex::{Body, Name, Part, Statement, Term};
 use std::alloc::AllocError;
@@ -20,26 +23,47 @@ use std::collections::BTreeMap;
 /// The addresses of a page.
 const PAGE: u16 = 0o200;
 
-/// Takes the next statement, which has no fault that the first pass meets, and answers its fault, if it is a word that has
-/// one, where names stand for these values at last.
+/// Takes the next statement, which has no fault that the first pass meets, and answers its fault with its line and the name
+/// that it is about, if it is a word that has one, where names stand for these values at last.
 pub(crate) fn judge(
     names: &mut Names,
     last: &BTreeMap<u64, u16>,
     statement: &Statement,
-) -> Result<Option<Code>, AllocError>
+) -> Result<Option<(Code, u64, Option<u64>)>, AllocError>
     ensures follows { (older : Source) (tokens : List Token) → Follows names.old.symbols names.old.place older
         → first_order (Ok (with_tokens tokens statement.now) ∷ older) ≡ None
-        → IfOk result (λ code. Follows names.new.symbols names.new.place
+        → IfOk result (λ fault. Follows names.new.symbols names.new.place
         (Ok (with_tokens tokens statement.now) ∷ older)) }
-    ensures code { (older : Source) → Follows names.old.symbols names.old.place older
-        → IfOk result (λ code. code ≡ word_fault (word_values (known last.now) statement.now.tags older)
-        (place_at older) statement.now.body) }
+    ensures fault { (older : Source) → Follows names.old.symbols names.old.place older
+        → IfOk result (λ fault. fault ≡ with_line statement.now.line
+        (unknown_in (word_values (known last.now) statement.now.tags older) statement.now.body)
+        (word_fault (word_values (known last.now) statement.now.tags older) (place_at older)
+        statement.now.body)) }
 {
     set_tags(&mut names.symbols, statement.tags.names(), names.place)?;
-    let code = word_fault(&names.symbols, last, names.place, &statement.body);
+    let fault = judged(names, last, statement);
     let place = take_body(&mut names.symbols, names.place, &statement.body)?;
     names.place = place;
-    Ok(code)
+    Ok(fault)
+}
+
+/// The fault of a statement whose tags were taken, with its line and the name that it is about, if it is a word that has one.
+fn judged(
+    names: &Names,
+    last: &BTreeMap<u64, u16>,
+    statement: &Statement,
+) -> Option<(Code, u64, Option<u64>)>
+    ensures { result ≡ with_line statement.now.line
+        (unknown_in (known_last names.now.symbols last.now) statement.now.body)
+        (word_fault (known_last names.now.symbols last.now) names.now.place statement.now.body) }
+{
+    match word_fault(&names.symbols, last, names.place, &statement.body) {
+        Some(code) => {
+            let about = about(&names.symbols, last, &statement.body, code);
+            Some((code, statement.line, about))
+        }
+        None => None,
+    }
 }
 
 /// The fault of a body at a place, if it is a word that has one.
@@ -126,7 +150,11 @@ fn term_value(
 }
 
 /// What a name stands for in a word.
-fn word_value(now: &BTreeMap<u64, u16>, last: &BTreeMap<u64, u16>, name: Name) -> Option<u16>
+pub(crate) fn word_value(
+    now: &BTreeMap<u64, u16>,
+    last: &BTreeMap<u64, u16>,
+    name: Name,
+) -> Option<u16>
     ensures { result ≡ known_last now.now last.now name }
 {
     match name_value(now, name) {

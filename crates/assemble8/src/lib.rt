@@ -26,6 +26,7 @@ mod starts;
 mod tables;
 mod telling;
 mod texts;
+mod unknowns;
 mod word_ends;
 
 pub use assembling::assemble_sources;

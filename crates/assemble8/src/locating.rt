@@ -6,7 +6,7 @@ ghost use Rattle.pal_lex.specs.Reading.{HasRead};
 ghost use Rattle.pal_asm.specs.Places.{Source};
 ghost use Rattle.pal_asm.specs.Passes.{IsFirst, IsSecond};
 ghost use Rattle.assemble8.specs.Places.{is_refused, fault_place};
-ghost use Rattle.assemble8.specs.Steps.{step_behind, Passes, PassesByte, PassesStatement, MakesByte, IsSettledAt};
+ghost use Rattle.assemble8.specs.Steps.{step_behind, Passes, PassesByte, PassesStatement, MakesByte, IsSettledAt, IsMetAt};
 ghost use Rattle.assemble8.specs.declared.faults.SourceFault.TheVariants.{Memory};
 
 use crate::SourceFault;
@@ -18,12 +18,12 @@ use pal_lex::laws::dollar_ends_source;
 use pal_lex::{Lexer, Statement};
 use std::alloc::Global;
 
-/// What the first pass comes to, with the place of the byte that shows it.
+/// What a pass comes to, with the place of the byte that shows it.
 #[derive(Clone, Copy)]
-enum Passed {
-    /// A fault of a statement.
+pub(crate) enum Passed {
+    /// A fault of a statement in the first pass.
     Refused(usize),
-    /// The `$`.
+    /// The `$`; in the second pass a word with a fault, or it.
     Over(usize),
     /// The end of the text.
     Open,
@@ -37,26 +37,39 @@ enum Step {
     Refused,
 }
 
-/// The place of the fault of a text: of the statement that has it, of the `$` where there is no word, and behind the text
-/// where there is no `$`. The only fault of the call is `Memory`.
-pub(crate) fn fault_place(alloc: Global, text: &[u8]) -> Result<usize, SourceFault>
-    ensures place { IfOk result (λ place. place ≡ fault_place (text_of text.now)) }
+/// The byte that ends the statement with the fault of a text, and the pass that meets it there. The only fault of the call is
+/// `Memory`.
+pub(crate) fn fault_end(alloc: Global, text: &[u8]) -> Result<Passed, SourceFault>
+    ensures met { IfOk result (λ met. IsMetAt text.now met) }
     ensures fault { IfErr result (λ fault. fault ≡ Memory) }
 {
     dollar_ends_source();
     no_fault_before();
     let mut assembler = Assembler::new(alloc);
     match first_pass(alloc, text, &mut assembler) {
-        Ok(Passed::Refused(end)) => Ok(statement_place(text, end)),
-        Ok(Passed::Open) => Ok(text.len()),
+        Ok(Passed::Refused(end)) => Ok(Passed::Refused(end)),
+        Ok(Passed::Open) => Ok(Passed::Open),
         Ok(Passed::Over(end)) => match assembler.turn_over() {
             Ok(()) => match second_pass(alloc, text, &mut assembler) {
-                Ok(end) => Ok(statement_place(text, end)),
+                Ok(end) => Ok(Passed::Over(end)),
                 Err(fault) => Err(fault),
             },
-            Err(_) => Ok(statement_place(text, end)),
+            Err(_) => Ok(Passed::Over(end)),
         },
         Err(fault) => Err(fault),
+    }
+}
+
+/// The place of the fault of a text: of the statement that has it, of the `$` where there is no word, and behind the text
+/// where there is no `$`.
+pub(crate) fn fault_place(text: &[u8], met: Passed) -> usize
+    requires { IsMetAt text.now met }
+    ensures { result ≡ fault_place (text_of text.now) }
+{
+    match met {
+        Passed::Refused(end) => statement_place(text, end),
+        Passed::Over(end) => statement_place(text, end),
+        Passed::Open => text.len(),
     }
 }
 

@@ -41,11 +41,32 @@ pub(crate) fn no_names(alloc: Global) -> Names
     }
 }
 
+/// A text that was read, with its names.
+#[derive(Drop)]
+pub(crate) struct Reading {
+    pub lexer: Lexer,
+    pub names: Names,
+}
+
 /// The names of a text with no fault that the first pass meets. The only fault is `Memory`.
 pub(crate) fn names_of(alloc: Global, text: &[u8]) -> Result<Names, SourceFault>
     requires fine { first_order (statements (text_of text.now)) ≡ None }
     requires lexical { first_fault (statements (text_of text.now)) ≡ None }
     ensures names { IfOk result (λ names. Follows names.symbols names.place (statements (text_of text.now))) }
+    ensures fault { IfErr result (λ fault. fault ≡ Memory) }
+{
+    let reading = reading_of(alloc, text)?;
+    Ok(reading.names)
+}
+
+/// Reads a text with no fault that the first pass meets. The only fault is `Memory`.
+pub(crate) fn reading_of(alloc: Global, text: &[u8]) -> Result<Reading, SourceFault>
+    requires fine { first_order (statements (text_of text.now)) ≡ None }
+    requires lexical { first_fault (statements (text_of text.now)) ≡ None }
+    ensures names { IfOk result
+        (λ reading. Follows reading.names.symbols reading.names.place (statements (text_of text.now))) }
+    ensures read { IfOk result (λ reading. HasRead reading.lexer 0 (text_of text.now)) }
+    ensures setting { IfOk result (λ reading. reading.lexer.may_pause ≡ false) }
     ensures fault { IfErr result (λ fault. fault ≡ Memory) }
 {
     fault_stays();
@@ -58,7 +79,7 @@ pub(crate) fn names_of(alloc: Global, text: &[u8]) -> Result<Names, SourceFault>
         take_byte(&mut lexer, &mut names, text[taken])?;
         taken += 1;
     }
-    Ok(names)
+    Ok(Reading { lexer, names })
 }
 
 /// Takes the next byte, which ends no statement with a fault that the first pass meets.

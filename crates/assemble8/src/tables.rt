@@ -58,7 +58,7 @@ fn name_text(name: u64) -> [u8; 6]
 }
 
 /// The character of a sixbit code, a blank where there is none.
-fn character_of(code: u8) -> u8
+pub(crate) fn character_of(code: u8) -> u8
     requires { code < 0o100 }
     ensures { result ≡ character_of code }
 {

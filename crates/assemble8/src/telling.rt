@@ -1,16 +1,18 @@
 //! Faults, as a compiler tells them.
-ghost use Rattle.std.specs.Prelude.{◌≡◌, ◌++◌, decimal, IfOk, OnOk};
+ghost use Rattle.std.specs.Prelude.{◌≡◌, ◌<◌, ◌++◌, decimal, IfOk, OnOk};
 ghost use Rattle.assemble8.specs.Places.{bytes_of};
-ghost use Rattle.assemble8.specs.Telling.{letters_of, words_of, headline, with_caret, numbered, fault_text};
+ghost use Rattle.assemble8.specs.Telling.{letters_of, words_of, character, spelling, named, told, headline, with_caret, numbered, fault_text};
 
 use crate::Fault;
 use crate::places::{bytes_of, first_bytes};
 use crate::showing::{put_below, shown_line};
+use crate::tables::character_of;
 use pal_asm::Code;
 use std::alloc::{AllocError, Global};
 
 /// The text of a fault of sources with these names, four lines that LF ends: the fault behind the name of its source and its
-/// place there; the line of the source; a caret below the column; and the fault as scripts are told it.
+/// place there, of UA with the undefined name by the six characters that count; the line of the source; a caret below the
+/// column; and the fault as scripts are told it.
 ///
 /// In the line of the source a byte that is neither printable ASCII nor a tab is shown as `?`, and no CR stands in it (this
 /// project's profile).
@@ -57,10 +59,58 @@ fn put_headline(text: &mut Vec<u8>, name: &str, fault: Fault) -> Result<(), Allo
     text.extend_from_slice(b":")?;
     put_number(text, fault.place.column as u64)?;
     text.extend_from_slice(b": ")?;
+    put_told(text, fault)?;
+    text.extend_from_slice(b"\n")?;
+    Ok(())
+}
+
+/// Puts a fault by its letters and words, and behind them the name that it is about.
+fn put_told(text: &mut Vec<u8>, fault: Fault) -> Result<(), AllocError>
+    ensures { OnOk result (text.new.items ≡ text.old.items ++ told fault) }
+{
     text.extend_from_slice(letters_of(fault.code))?;
     text.extend_from_slice(b": ")?;
     text.extend_from_slice(words_of(fault.code))?;
-    text.extend_from_slice(b"\n")?;
+    put_named(text, fault.about)?;
+    Ok(())
+}
+
+/// Puts the name that a fault is about behind a blank, if there is one.
+fn put_named(text: &mut Vec<u8>, name: Option<u64>) -> Result<(), AllocError>
+    ensures { OnOk result (text.new.items ≡ text.old.items ++ named name) }
+{
+    match name {
+        Some(name) => {
+            text.extend_from_slice(b" ")?;
+            put_spelling(text, name)?;
+            Ok(())
+        }
+        None => Ok(()),
+    }
+}
+
+/// Puts the characters of a name, six at most.
+#[tactic(auto, unfolding(crate::specs::Telling::spelling))]
+fn put_spelling(text: &mut Vec<u8>, name: u64) -> Result<(), AllocError>
+    ensures { OnOk result (text.new.items ≡ text.old.items ++ spelling name) }
+{
+    put_character(text, (name / 0o10000000000 % 0o100) as u8)?;
+    put_character(text, (name / 0o100000000 % 0o100) as u8)?;
+    put_character(text, (name / 0o1000000 % 0o100) as u8)?;
+    put_character(text, (name / 0o10000 % 0o100) as u8)?;
+    put_character(text, (name / 0o100 % 0o100) as u8)?;
+    put_character(text, (name % 0o100) as u8)?;
+    Ok(())
+}
+
+/// Puts the character of a sixbit code, none where there is none.
+fn put_character(text: &mut Vec<u8>, code: u8) -> Result<(), AllocError>
+    requires { code < 0o100 }
+    ensures { OnOk result (text.new.items ≡ text.old.items ++ character code) }
+{
+    if code != 0 {
+        text.push(character_of(code))?;
+    }
     Ok(())
 }
 

@@ -3,7 +3,6 @@ use Rattle.pal_lex.specs.Statements.{statements}
 use Rattle.pal_lex.specs.Reading.{Answers, tokens_behind}
 use Rattle.pal_asm.specs.Faults.{first_order}
 use Rattle.assemble8.specs.NameSteps.{known, Follows}
-use Rattle.assemble8.specs.Further.{with_line}
 use Rattle.assemble8.proofs.LocateLemmas.{handed}
 use Rattle.assemble8.proofs.FurtherLemmas.{judged_none, judged_some}
 use Rattle.assemble8.proofs.further.judge_byte.Goals as goal
@@ -25,6 +24,6 @@ returns-in-Ok-clause-judges c = λ text read may fine lexical follows.
       follows = subst (Follows c.judge.new.names.symbols c.judge.new.names.place) (sym out.1)
           (c.in-Ok.ensures.follows (statements text) (tokens_behind text) follows (ap first_order (sym out.1) ∙ fine));
       read = out.2;
-      told = c.with_line.ensures ∙ ap (with_line c.in-Ok-Some.statement.line) (c.in-Ok.ensures.code (statements text) follows)
+      told = c.in-Ok.ensures.fault (statements text) follows
           ∙ judged_some (known c.args.last.now) text c.args.byte c.in-Ok-Some.statement c.args.lexer.now c.push.new.self may answers;
     }

@@ -13,8 +13,8 @@ returns-clause-follows c = λ older tokens follows fine.
     (λ n. c.in_ok-set_tags.ensures.values n ∙ ap (λ t. tag_values t c.args.names.now.place (known c.args.names.now.symbols) n) c.names.ensures)
     (c.in_ok-set_tags.ensures.entries ∙ ap (λ t. with_tags c.args.names.now.symbols.entries t c.args.names.now.place) c.names.ensures) c.in_ok-place.ensures.values c.in_ok-place.ensures.entries c.in_ok-place.ensures.place
 
-pub returns-clause-code : goal.returns-clause-code
-returns-clause-code c = λ older follows.
-    c.word_fault-code.ensures
-    ∙ judged_word c.args.statement.now.tags c.args.statement.now.body older c.args.names.now.symbols c.set_tags.new.symbols c.args.last.now c.args.names.now.place follows
+pub returns-clause-fault : goal.returns-clause-fault
+returns-clause-fault c = λ older follows.
+    c.judged-fault.ensures
+    ∙ judged_word c.args.statement.now.line c.args.statement.now.tags c.args.statement.now.body older c.args.names.now.symbols c.set_tags.new.symbols c.args.last.now c.args.names.now.place follows
     (λ n. c.in_ok-set_tags.ensures.values n ∙ ap (λ t. tag_values t c.args.names.now.place (known c.args.names.now.symbols) n) c.names.ensures)

@@ -18,4 +18,4 @@ returns-in-Ok-Refused-clause-passed c =
     let text = c.args.text.now in
     let assembler = c.first_pass.new.assembler in
     let passes = subst (λ p. Passes text p assembler) c.in-Ok-Refused.field-0-is c.in-Ok-Refused.ensures.passes in
-    sym (ap (λ (r : Bool). not (r || not (is_over (text_of text)))) (refused_whole text c.in-Ok-Refused.field-0-0 assembler passes))
+    sym (ap (λ (r : Bool). not (r || not (is_over (text_of text)))) (refused_whole text c.in-Ok-Refused.field-0-0 passes))

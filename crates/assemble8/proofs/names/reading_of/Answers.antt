@@ -7,7 +7,7 @@ use Rattle.assemble8.specs.NameSteps.{Follows}
 use Rattle.assemble8.proofs.LocateLemmas.{nothing_read}
 use Rattle.assemble8.proofs.PauseLemmas.{next_byte}
 use Rattle.assemble8.proofs.RowLemmas.{fine_prefix, fine_order}
-use Rattle.assemble8.proofs.names.names_of.Goals as goal
+use Rattle.assemble8.proofs.names.reading_of.Goals as goal
 
 pub loop-taken-init : goal.loop-taken-init
 loop-taken-init c = record {
