@@ -14,13 +14,14 @@ use Rattle.pal_asm.specs.Words.{word_values}
 use Rattle.pal_asm.specs.Faults.{first_of, at_line, first_order, word_fault, words_fault, no_end, no_word}
 use Rattle.assemble8.specs.Sources.{newest_first}
 use Rattle.assemble8.specs.Places.{shortest, is_settled, start_of, statement_place, place_at_byte}
-use Rattle.assemble8.specs.Unknowns.{unknown_in, about}
+use Rattle.assemble8.specs.Unknowns.{unknown_in, newest_unknown, unknown_ended, about}
 use Rattle.assemble8.specs.Further.{with_line, newest_fault, byte_fault, with_place, word_faults}
 use Rattle.assemble8.specs.Laws.{FirstIsTold}
 use Rattle.assemble8.specs.declared.faults.Place.{Place}
 use Rattle.assemble8.specs.declared.faults.Fault.{Fault}
 use Rattle.assemble8.proofs.PauseLemmas.{ends_parts}
 use Rattle.assemble8.proofs.LocateLemmas.{newest, one_more, nothing_read, words_stay, by_settled}
+use Rattle.assemble8.proofs.UnknownLemmas.{by_settled as settled_unknown}
 
 -- ## One word
 
@@ -33,12 +34,12 @@ unfolding first_or
 same_first g f more others e = ap (λ l. first_or l g) e
 
 told_by : (code : Option Code) (line : ℕ) (name : Option ℕ) (at : Place) (f : Fault) (others : List Fault) → with_place at (with_line line name code) ≡ f ∷ others
-    → (at_line line code ≡ Some (At f.code f.line)) × (f.place ≡ at)
+    → (at_line line code ≡ Some (At f.code f.line)) × (f.place ≡ at) × (f.about ≡ about f.code name)
 told_by None line name at f others e = absurd cc
 told_by (Some code) line name at f others e =
     let told : Fault = record { code = code; line = line; place = at; about = about code name } in
     let same = same_first told f [] others e in
-    (ap (λ (g : Fault). Some (At g.code g.line)) same, sym (ap (λ (g : Fault). g.place) same))
+    (ap (λ (g : Fault). Some (At g.code g.line)) same, sym (ap (λ (g : Fault). g.place) same), sym (ap (λ (g : Fault). g.about) same) ∙ ap (λ (g : Fault). about g.code name) same)
 
 told_none : (code : Option Code) (line : ℕ) (name : Option ℕ) (at : Place) → with_place at (with_line line name code) ≡ [] → at_line line code ≡ None
 told_none None line name at e = refl
@@ -47,10 +48,11 @@ told_none (Some code) line name at e = absurd cc
 newest_told : (at : Place) (last : Known) (ends : Bool) (s : Result Statement LexFault) (older : Source) (f : Fault) (others : List Fault) → words_fault last older ≡ None
     → with_place at (if ends then newest_fault last (if ends then s ∷ older else older) else None) ≡ f ∷ others
     → (ends ≡ true) × (words_fault last (if ends then s ∷ older else older) ≡ Some (At f.code f.line)) × (f.place ≡ at)
+    × (f.about ≡ about f.code (newest_unknown (word_values last) (if ends then s ∷ older else older)))
 newest_told at last true (Ok s) older f others none e =
     let code = word_fault (word_values last s.tags older) (place_at older) s.body in
     let told = told_by code s.line (unknown_in (word_values last s.tags older) s.body) at f others e in
-    (refl, ap (λ o. first_of o (at_line s.line code)) none ∙ told.0, told.1)
+    (refl, ap (λ o. first_of o (at_line s.line code)) none ∙ told.0, told.1, told.2)
 newest_told at last true (Err g) older f others none e = absurd cc
 newest_told at last false s older f others none e = absurd cc
 
@@ -83,39 +85,51 @@ none_before place last (b ∷ older) e =
     ∙ newest_none (place (start_of older)) last (ends_statement older b) (newest older b) (statements older) (none_before place last older parts.0)
     (sym (by_newest (place (start_of older)) last b older) ∙ parts.1)
 
-settled_first : (test : Bool) (earlier now : List ℕ) → test ≡ true → statement_place (if test then earlier else now) ≡ statement_place earlier
-settled_first true earlier now e = refl
-settled_first false earlier now e = cc
+earlier_one : (test : Bool) (earlier now : List ℕ) → test ≡ true → (if test then earlier else now) ≡ earlier
+earlier_one true earlier now e = refl
+earlier_one false earlier now e = cc
 
-settled_now : (test : Bool) (earlier now : List ℕ) → test ≡ false → statement_place (if test then earlier else now) ≡ statement_place now
-settled_now true earlier now e = cc
-settled_now false earlier now e = refl
+this_one : (test : Bool) (earlier now : List ℕ) → test ≡ false → (if test then earlier else now) ≡ now
+this_one true earlier now e = cc
+this_one false earlier now e = refl
 
-first_told : (place : ℕ → Place) (last : Known) (text : List ℕ) (f : Fault) (others : List Fault) → word_faults place last text ≡ f ∷ others
-    → (words_fault last (statements text) ≡ Some (At f.code f.line)) × (f.place ≡ place (statement_place (shortest (is_settled last) text)))
+-- a fault is that of the newest word of a text with one, at its place
+abbrev IsFirst : (ℕ → Place) → Known → List ℕ → Fault → Type 0
+IsFirst place last text f =
+    (words_fault last (statements text) ≡ Some (At f.code f.line)) × (f.place ≡ place (statement_place (shortest (is_settled last) text)))
+    × (f.about ≡ about f.code (unknown_ended (word_values last) (shortest (is_settled last) text)))
+
+first_told : (place : ℕ → Place) (last : Known) (text : List ℕ) (f : Fault) (others : List Fault) → word_faults place last text ≡ f ∷ others → IsFirst place last text f
 first_told place last [] f others e = absurd cc
 first_told place last (b ∷ older) f others e = by_earlier (word_faults place last older) refl (first_told place last older) e
   where
     by_earlier : (earlier : List Fault) → word_faults place last older ≡ earlier
-        → ((g : Fault) (more : List Fault) → word_faults place last older ≡ g ∷ more
-        → (words_fault last (statements older) ≡ Some (At g.code g.line)) × (g.place ≡ place (statement_place (shortest (is_settled last) older))))
-        → earlier ++ with_place (place (start_of older)) (byte_fault last older b) ≡ f ∷ others
-        → (words_fault last (statements (b ∷ older)) ≡ Some (At f.code f.line)) × (f.place ≡ place (statement_place (shortest (is_settled last) (b ∷ older))))
+        → ((g : Fault) (more : List Fault) → word_faults place last older ≡ g ∷ more → IsFirst place last older g)
+        → earlier ++ with_place (place (start_of older)) (byte_fault last older b) ≡ f ∷ others → IsFirst place last (b ∷ older) f
     by_earlier (g ∷ more) is before e =
         let same = same_first g f (more ++ with_place (place (start_of older)) (byte_fault last older b)) others e in
         let told = before g more is in
-        let settled : is_settled last older ≡ true = ap (λ (o : Option AsmFault). is_some o || is_over older) told.0 in (
+        let settled : is_settled last older ≡ true = ap (λ (o : Option AsmFault). is_some o || is_over older) told.0 in
+        let shorter = sym (earlier_one (is_settled last older) (shortest (is_settled last) older) (b ∷ older) settled) in (
           words_stay last (b ∷ []) older (At g.code g.line) told.0 ∙ ap (λ (h : Fault). Some (At h.code h.line)) same,
-          sym (ap (λ (h : Fault). h.place) same) ∙ told.1 ∙ ap place (sym (settled_first (is_settled last older) (shortest (is_settled last) older) (b ∷ older) settled)),
+          sym (ap (λ (h : Fault). h.place) same) ∙ told.1 ∙ ap (λ t. place (statement_place t)) shorter,
+          sym (ap (λ (h : Fault). h.about) same) ∙ told.2
+              ∙ ap (λ (h : Fault). about h.code (unknown_ended (word_values last) (shortest (is_settled last) older))) same
+              ∙ ap (λ t. about f.code (unknown_ended (word_values last) t)) shorter,
         )
     by_earlier [] is before e =
         let none = none_before place last older is in
         let told = newest_told (place (start_of older)) last (ends_statement older b) (newest older b) (statements older) f others none
         (sym (by_newest (place (start_of older)) last b older) ∙ e) in
         let going = (ends_parts older b told.0).2 in
-        let unsettled : is_settled last older ≡ false = ap (λ (o : Option AsmFault). is_some o || is_over older) none ∙ going in (
+        let unsettled : is_settled last older ≡ false = ap (λ (o : Option AsmFault). is_some o || is_over older) none ∙ going in
+        let shorter = sym (this_one (is_settled last older) (shortest (is_settled last) older) (b ∷ older) unsettled) in
+        let ended : unknown_ended (word_values last) (b ∷ older)
+        ≡ newest_unknown (word_values last) (if ends_statement older b then newest older b ∷ statements older else statements older)
+        = ap (λ (t : Bool). if t then newest_unknown (word_values last) (statements (b ∷ older)) else None) told.0 ∙ ap (newest_unknown (word_values last)) (one_more b older) in (
           ap (words_fault last) (one_more b older) ∙ told.1,
-          told.2 ∙ ap place (sym (settled_now (is_settled last older) (shortest (is_settled last) older) (b ∷ older) unsettled)),
+          told.2 ∙ ap (λ t. place (statement_place t)) shorter,
+          told.3 ∙ ap (about f.code) (sym ended) ∙ ap (λ t. about f.code (unknown_ended (word_values last) t)) shorter,
         )
 
 no_order : (o : Option AsmFault) → is_some o ≡ false → o ≡ None
@@ -133,4 +147,5 @@ first_is_told sources f others fine over e =
       ap (λ o. first_of o (first_of (no_end text) rest)) (no_order (first_order (statements text)) fine) ∙ ap (λ o. first_of o rest) ended
           ∙ ap (λ o. first_of o (no_word (statements text))) told.0,
       told.1 ∙ ap (place_at_byte sources) (sym (by_settled text fine over)),
+      told.2 ∙ ap (about f.code) (sym (settled_unknown text fine over)),
     )

@@ -100,7 +100,7 @@ by_refused text now = rw now refl
 by_open : (text : List ℕ) → is_refused text ≡ false → is_over text ≡ false → unknown_name text ≡ None
 by_open text fine going = rw (fine, going) refl
 
-by_settled : (text : List ℕ) → is_refused text ≡ false → is_over text ≡ true
+pub by_settled : (text : List ℕ) → is_refused text ≡ false → is_over text ≡ true
     → unknown_name text ≡ unknown_ended (word_values (values (statements text))) (shortest (is_settled (values (statements text))) text)
 by_settled text fine over = rw (fine, over) refl
 

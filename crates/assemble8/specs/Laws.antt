@@ -14,6 +14,7 @@ use Rattle.pal_asm.specs.Words.{pairs_of}
 use Rattle.pal_asm.specs.Faults.{fault_of}
 use Rattle.assemble8.specs.Sources.{newest_first}
 use Rattle.assemble8.specs.Places.{is_refused, place_at_byte, place_of}
+use Rattle.assemble8.specs.Unknowns.{unknown_name, about}
 use Rattle.assemble8.specs.Rows.{Row, ends_word}
 use Rattle.assemble8.specs.Symbols.{Entries, symbols_of}
 use Rattle.assemble8.specs.Listings.{rows_of}
@@ -107,9 +108,11 @@ SymbolsHaveLastValues =
 
 -- ## Further faults
 
--- The first of the words with a fault, where the first pass meets none, is the fault that is told, at its place.
+-- The first of the words with a fault, where the first pass meets none, is the fault that is told, at its place and with the
+-- name that it is about.
 abbrev pub FirstIsTold : Type 0
 FirstIsTold =
     (sources : List (Bor (List ℕ))) (fault : Fault) (others : List Fault) → is_refused (newest_first sources) ≡ false → is_over (newest_first sources) ≡ true
     → word_faults (place_at_byte sources) (values (statements (newest_first sources))) (newest_first sources) ≡ fault ∷ others
     → (fault_of (newest_first sources) ≡ Some (At fault.code fault.line)) × (fault.place ≡ place_of sources)
+    × (fault.about ≡ about fault.code (unknown_name (newest_first sources)))
