@@ -1,0 +1,24 @@
+use Rattle.std.proofs.Common.{ℕ, List, [], length, ◌<◌, append-nil, ap, sym, subst, ◌∙◌}
+use Rattle.bin_tape.specs.Pairs.{ArePairs, IsTapeOf}
+use Rattle.bin_tape.specs.Writing.{tape_of}
+use Rattle.core_image.proofs.ReadLemmas.{image_has_word}
+use Rattle.core_image.proofs.converting.bin_tape.Goals as goal
+
+pub write_tape-requires : goal.write_tape-requires
+write_tape-requires c =
+    subst (λ (given : List (ℕ × ℕ)). 0 < length given) (sym c.deref.ensures.value) (image_has_word _ _ _ _ c.in_ok-image.ensures)
+
+pub returns-in-Ok : goal.returns-in-Ok
+returns-in-Ok c =
+    let pairs = c.in_ok-image.image.pairs.items in
+    record {
+      pairs = pairs;
+      status = c.in_ok-image.image.status;
+      is_image = c.in_ok-image.ensures;
+      is_bin =
+          subst (λ (frames : List ℕ). IsTapeOf frames pairs)
+          (append-nil (tape_of pairs) ∙ sym (c.in-Ok.ensures.tape ∙ ap tape_of c.deref.ensures.value))
+          (c.written_tape.ensures pairs []
+          (subst (λ (given : List (ℕ × ℕ)). ArePairs given) c.deref.ensures.value c.in-Ok.ensures.pairs)
+          (image_has_word _ _ _ _ c.in_ok-image.ensures));
+    }

@@ -1,0 +1,5 @@
+pub mod Segments
+pub mod Image
+pub mod Fault
+pub mod Converted
+pub mod ReadSteps
