@@ -46,17 +46,16 @@ pub(crate) fn fault_end(alloc: Global, text: &[u8]) -> Result<Passed, SourceFaul
     dollar_ends_source();
     no_fault_before();
     let mut assembler = Assembler::new(alloc);
-    match first_pass(alloc, text, &mut assembler) {
-        Ok(Passed::Refused(end)) => Ok(Passed::Refused(end)),
-        Ok(Passed::Open) => Ok(Passed::Open),
-        Ok(Passed::Over(end)) => match assembler.turn_over() {
-            Ok(()) => match second_pass(alloc, text, &mut assembler) {
-                Ok(end) => Ok(Passed::Over(end)),
-                Err(fault) => Err(fault),
-            },
+    match first_pass(alloc, text, &mut assembler)? {
+        Passed::Refused(end) => Ok(Passed::Refused(end)),
+        Passed::Open => Ok(Passed::Open),
+        Passed::Over(end) => match assembler.turn_over() {
+            Ok(()) => {
+                let end = second_pass(alloc, text, &mut assembler)?;
+                Ok(Passed::Over(end))
+            }
             Err(_) => Ok(Passed::Over(end)),
         },
-        Err(fault) => Err(fault),
     }
 }
 
@@ -81,11 +80,10 @@ pub(crate) fn is_passed(alloc: Global, text: &[u8]) -> Result<bool, SourceFault>
 {
     dollar_ends_source();
     let mut assembler = Assembler::new(alloc);
-    match first_pass(alloc, text, &mut assembler) {
-        Ok(Passed::Over(_)) => Ok(true),
-        Ok(Passed::Refused(_)) => Ok(false),
-        Ok(Passed::Open) => Ok(false),
-        Err(fault) => Err(fault),
+    match first_pass(alloc, text, &mut assembler)? {
+        Passed::Over(_) => Ok(true),
+        Passed::Refused(_) => Ok(false),
+        Passed::Open => Ok(false),
     }
 }
 
@@ -98,11 +96,10 @@ fn first_pass(alloc: Global, text: &[u8], assembler: &mut Assembler) -> Result<P
     let mut lexer = Lexer::without_tokens(alloc);
     let mut taken = 0;
     while taken < text.len() {
-        match pass(&mut lexer, assembler, text[taken]) {
-            Ok(Step::GoesOn) => {}
-            Ok(Step::Over) => return Ok(Passed::Over(taken)),
-            Ok(Step::Refused) => return Ok(Passed::Refused(taken)),
-            Err(fault) => return Err(fault),
+        match pass(&mut lexer, assembler, text[taken])? {
+            Step::GoesOn => {}
+            Step::Over => return Ok(Passed::Over(taken)),
+            Step::Refused => return Ok(Passed::Refused(taken)),
         }
         taken += 1;
     }
@@ -166,11 +163,10 @@ fn second_pass(alloc: Global, text: &[u8], assembler: &mut Assembler) -> Result<
     let mut lexer = Lexer::without_tokens(alloc);
     let mut taken = 0;
     while taken < text.len() {
-        match make(&mut lexer, assembler, text[taken]) {
-            Ok(true) => taken += 1,
-            Ok(false) => return Ok(taken),
-            Err(fault) => return Err(fault),
+        if !make(&mut lexer, assembler, text[taken])? {
+            return Ok(taken);
         }
+        taken += 1;
     }
     Ok(taken)
 }

@@ -101,14 +101,14 @@ fn unknown_at(
 {
     match lexer.push(byte) {
         Ok(None) => Ok(None),
-        Ok(Some(statement)) => match unknown_behind(names, last, &statement) {
-            Ok(name) => Ok(name),
-            Err(refused) => Err(SourceFault::from(refused)),
-        },
-        Err(fault) => match unless_memory(fault) {
-            Ok(()) => Ok(None),
-            Err(memory) => Err(memory),
-        },
+        Ok(Some(statement)) => {
+            let name = unknown_behind(names, last, &statement)?;
+            Ok(name)
+        }
+        Err(fault) => {
+            unless_memory(fault)?;
+            Ok(None)
+        }
     }
 }
 

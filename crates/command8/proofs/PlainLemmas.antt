@@ -13,17 +13,19 @@ use Rattle.char_pack.specs.declared.forms.PutForm.{PutForm}
 use Rattle.char_pack.specs.declared.forms.PutForm.TheVariants as put_as
 use Rattle.command8.specs.declared.kinds.AssembleForm.{AssembleForm}
 use Rattle.command8.specs.declared.kinds.TeletypeForm.{TeletypeForm}
+use Rattle.command8.specs.declared.kinds.RimForm.{RimForm}
+use Rattle.command8.specs.declared.kinds.RimForm.TheVariants.{Lines, Bin}
 use Rattle.command8.specs.declared.kinds.RunForm.{RunForm}
 use Rattle.command8.specs.declared.kinds.Saving.{Saving}
 use Rattle.command8.specs.declared.kinds.Saving.TheVariants.{AtEnd, Never, Always}
 use Rattle.command8.specs.declared.kinds.Task.{Task}
-use Rattle.command8.specs.declared.kinds.Task.TheVariants.{Tape, Source, Run, Create, Get, Put, Check, Assemble, Teletype}
+use Rattle.command8.specs.declared.kinds.Task.TheVariants.{Tape, Rim, Source, Run, Create, Get, Put, Check, Assemble, Teletype}
 use Rattle.command8.specs.declared.kinds.Task.TheVariants as task
 use Rattle.command8.specs.declared.verbs.Verb.{Verb}
 use Rattle.command8.specs.declared.verbs.Verb.TheVariants as verb
 use Rattle.command8.specs.Octal.{octal_from, octal_of}
 use Rattle.command8.specs.TaskSteps.{verb_of, word}
-use Rattle.command8.specs.Tasks.{Asks, AsksFor, IsAssembleOf, IsCheckOf, IsCreateOf, IsGetOf, IsListOf, IsPlain, IsPutOf, IsRunOf, IsSource, IsTakenAs, IsTape, IsTeletypeOf, assemble_app, check_app, create_app, flag_rule, get_app, get_form, is_set, leaves, list_app, number_of, option_rule, pdp8, pdp8_top, put_app, put_form, run_app, saving_of, source_app, tape_app, teletype_app}
+use Rattle.command8.specs.Tasks.{Asks, AsksFor, IsAssembleOf, IsCheckOf, IsCreateOf, IsGetOf, IsListOf, IsPlain, IsPutOf, IsRimOf, IsRunOf, IsSource, IsTakenAs, IsTape, IsTeletypeOf, assemble_app, check_app, create_app, flag_rule, get_app, get_form, is_set, leaves, list_app, number_of, option_rule, pdp8, pdp8_top, put_app, put_form, rim_app, rim_form, run_app, saving_of, source_app, tape_app, teletype_app}
 use Rattle.command8.proofs.EnterLemmas.{Finds, asks_no_more, enter_met, enter_takes}
 use Rattle.command8.proofs.LeafLemmas.{below, blocks_built, files_built, image_built, name_built, tape_built}
 use Rattle.command8.proofs.NumberLemmas.{none_some}
@@ -35,6 +37,7 @@ use Rattle.command8.proofs.WalkLemmas.{some_eq}
 
 word_read : (which : Verb) → verb_of (word which) ≡ Some which
 word_read verb.Tape = refl
+word_read verb.Rim = refl
 word_read verb.Source = refl
 word_read verb.Assemble = refl
 word_read verb.Teletype = refl
@@ -47,6 +50,7 @@ word_read verb.Check = refl
 
 abbrev of : Task → Verb
 of Tape = verb.Tape
+of (Rim form) = verb.Rim
 of Source = verb.Source
 of (Assemble form) = verb.Assemble
 of (Teletype form) = verb.Teletype
@@ -59,6 +63,7 @@ of (Check image) = verb.Check
 
 asked_word : (name : Text) (rows : List Row) (task : Task) → AsksFor name rows task → name ≡ word (of task)
 asked_word name rows Tape asks = asks
+asked_word name rows (Rim form) asks = asks.0
 asked_word name rows Source asks = asks
 asked_word name rows (Assemble form) asks = asks.0
 asked_word name rows (Teletype form) asks = asks.0
@@ -72,6 +77,7 @@ asked_word name rows (Check image) asks = asks.0
 -- a task of a subcommand
 data Seen : Verb → Task → Type 0 where
   a_tape : Seen verb.Tape Tape
+  a_rim : (form : RimForm) → Seen verb.Rim (Rim form)
   a_source : Seen verb.Source Source
   a_assemble : (form : AssembleForm) → Seen verb.Assemble (Assemble form)
   a_teletype : (form : TeletypeForm) → Seen verb.Teletype (Teletype form)
@@ -84,6 +90,7 @@ data Seen : Verb → Task → Type 0 where
 
 seen : (task : Task) → Seen (of task) task
 seen Tape = a_tape
+seen (Rim form) = a_rim form
 seen Source = a_source
 seen (Assemble form) = a_assemble form
 seen (Teletype form) = a_teletype form
@@ -104,6 +111,7 @@ seen_as which rows task asks =
 
 abbrev leaf_of : Verb → App
 leaf_of verb.Tape = tape_app
+leaf_of verb.Rim = rim_app
 leaf_of verb.Source = source_app
 leaf_of verb.Assemble = assemble_app
 leaf_of verb.Teletype = teletype_app
@@ -122,6 +130,7 @@ record IsIn (list : List Shape) (which : Verb) : Type 0 where
 
 is_in : (which : Verb) → IsIn leaves which
 is_in verb.Tape = record { no_help = refl; name = refl; found = refl }
+is_in verb.Rim = record { no_help = refl; name = refl; found = refl }
 is_in verb.Source = record { no_help = refl; name = refl; found = refl }
 is_in verb.Assemble = record { no_help = refl; name = refl; found = refl }
 is_in verb.Teletype = record { no_help = refl; name = refl; found = refl }
@@ -203,6 +212,29 @@ plain_source name = entered_as verb.Source [] IsSource (record { pass = tt; sett
   where
     asked : (task : Task) → Seen verb.Source task → AsksFor (word verb.Source) (found_by verb.Source []) task → IsSource task
     asked task a_source asks = tt
+
+-- ## A RIM tape
+
+abbrev bin_use : Use
+bin_use = by_flag (filled (flag_rule (codes "bin"))) (codes "bin")
+
+asks_rim : (form : RimForm) (rows : List Row) → rim_form rows ≡ form → (task : Task) → Seen verb.Rim task → AsksFor (word verb.Rim) rows task → IsRimOf form task
+asks_rim form rows is task (a_rim own) asks = asks.1 ∙ is
+
+pub plain_rim : (name : Text) → IsTakenAs (name ∷ codes "rim" ∷ []) (IsRimOf Lines)
+plain_rim name =
+    entered_as verb.Rim [] (IsRimOf Lines) (record { pass = tt; settles = refl; defaults = refl; valid = refl }) name
+    (asks_rim Lines (found_by verb.Rim []) refl)
+
+pub plain_rim_bin : (name : Text) → IsTakenAs (name ∷ codes "rim" ∷ codes "--bin" ∷ []) (IsRimOf Bin)
+plain_rim_bin name =
+    entered_as verb.Rim (bin_use ∷ []) (IsRimOf Bin) (record {
+      pass = (record { read = refl; found = refl; takes_value = refl }, refl, tt);
+      settles = refl;
+      defaults = refl;
+      valid = refl;
+    }) name
+    (asks_rim Bin (found_by verb.Rim (bin_use ∷ [])) refl)
 
 -- ## An image
 

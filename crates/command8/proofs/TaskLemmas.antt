@@ -19,7 +19,7 @@ use Rattle.command8.specs.declared.kinds.Task.{Task}
 use Rattle.command8.specs.declared.kinds.TaskFault.{TaskFault}
 use Rattle.command8.specs.declared.kinds.TaskFault.TheVariants.{Words, Memory, LookAndKeep, InputTwice, CrossAlone, Start, Switches}
 use Rattle.command8.specs.declared.verbs.Verb.TheVariants as verb
-use Rattle.command8.specs.Tasks.{Answers, Asks, AsksBoth, AsksCrossAlone, AsksNoStart, AsksNoSwitches, IsPastClap, NamesInputTwice, assemble_app, check_app, create_app, get_app, list_app, pdp8, put_app, run_app, source_app, tape_app, teletype_app}
+use Rattle.command8.specs.Tasks.{Answers, Asks, AsksBoth, AsksCrossAlone, AsksNoStart, AsksNoSwitches, IsPastClap, NamesInputTwice, assemble_app, check_app, create_app, get_app, list_app, pdp8, put_app, rim_app, run_app, source_app, tape_app, teletype_app}
 use Rattle.command8.specs.TaskSteps.{GivesMet, HasMet, IsFaultOf, IsRefused, IsWhole}
 use Rattle.command8.proofs.LeafLemmas.{Faultless, IsLeaf, IsPart, a_flag, a_help, a_word, an_option, below, has_blocks, has_sources, has_steps, has_word, image_built, name_built, tape_built}
 use Rattle.command8.proofs.WalkLemmas.{IsNoHelp, TakesSome, level_stops}
@@ -67,6 +67,9 @@ Whole s = (words : List Text) → Faultless s words → IsWhole s.name (rows_aft
 
 tape_whole : Whole (below tape_app.top)
 tape_whole words none = (verb.Tape, refl, tt)
+
+rim_whole : Whole (below rim_app.top)
+rim_whole words none = (verb.Rim, refl, tt)
 
 source_whole : Whole (below source_app.top)
 source_whole words none = (verb.Source, refl, tt)
@@ -138,7 +141,7 @@ entered_whole : (stop : Option (Text × List Text)) → IsNoHelp stop → is_som
 entered_whole None past met none = absurd (true≢false (sym met))
 entered_whole (Some p) past met none =
     chosen p.0 p.1 (built pdp8).subs
-    (inr tape_whole, (inr source_whole, (inr assemble_whole, (inr teletype_whole, (inr run_whole, (inr create_whole, (inr list_whole, (inr get_whole, (inr put_whole, (inr check_whole, (inl (no_help p.0 past), tt)))))))))))
+    (inr tape_whole, (inr rim_whole, (inr source_whole, (inr assemble_whole, (inr teletype_whole, (inr run_whole, (inr create_whole, (inr list_whole, (inr get_whole, (inr put_whole, (inr check_whole, (inl (no_help p.0 past), tt))))))))))))
     met none
 
 -- words with no fault ask for a subcommand that has what it needs

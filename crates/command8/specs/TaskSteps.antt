@@ -69,6 +69,7 @@ IsNoSwitches values (Switches text) = (first_of (codes "switches") values ≡ So
 
 abbrev pub word : Verb → Text
 word verb.Tape = codes "tape"
+word verb.Rim = codes "rim"
 word verb.Source = codes "source"
 word verb.Assemble = codes "assemble"
 word verb.Teletype = codes "teletype"
@@ -81,8 +82,8 @@ word verb.Check = codes "check"
 
 abbrev pub verbs : List Verb
 verbs =
-    verb.Tape ∷ verb.Source ∷ verb.Assemble ∷ verb.Teletype ∷ verb.Run ∷ verb.Create ∷ verb.List ∷ verb.Get
-    ∷ verb.Put ∷ verb.Check ∷ []
+    verb.Tape ∷ verb.Rim ∷ verb.Source ∷ verb.Assemble ∷ verb.Teletype ∷ verb.Run ∷ verb.Create ∷ verb.List
+    ∷ verb.Get ∷ verb.Put ∷ verb.Check ∷ []
 
 -- the subcommand of this name
 abbrev pub verb_of : Text → Option Verb
@@ -108,6 +109,7 @@ HasSteps values = (text : Text) → one_of (codes "steps") values ≡ Some text 
 -- the subcommand has the values that it needs
 abbrev pub Needs : Verb → List Row → Type 0
 Needs verb.Tape values = ⊤
+Needs verb.Rim values = ⊤
 Needs verb.Source values = ⊤
 Needs verb.Assemble values = HasSources values
 Needs verb.Teletype values = Has (codes "TAPE") values × HasSteps values

@@ -17,11 +17,13 @@ use Rattle.char_pack.specs.declared.forms.PutForm.TheVariants as put_as
 use Rattle.command8.specs.Octal.{octal_of}
 use Rattle.command8.specs.declared.kinds.AssembleForm.{AssembleForm}
 use Rattle.command8.specs.declared.kinds.TeletypeForm.{TeletypeForm}
+use Rattle.command8.specs.declared.kinds.RimForm.{RimForm}
+use Rattle.command8.specs.declared.kinds.RimForm.TheVariants.{Lines, Bin}
 use Rattle.command8.specs.declared.kinds.RunForm.{RunForm}
 use Rattle.command8.specs.declared.kinds.Saving.{Saving}
 use Rattle.command8.specs.declared.kinds.Saving.TheVariants.{AtEnd, Never, Always}
 use Rattle.command8.specs.declared.kinds.Task.{Task}
-use Rattle.command8.specs.declared.kinds.Task.TheVariants.{Tape, Source, Run, Create, Get, Put, Check, Assemble, Teletype}
+use Rattle.command8.specs.declared.kinds.Task.TheVariants.{Tape, Rim, Source, Run, Create, Get, Put, Check, Assemble, Teletype}
 use Rattle.command8.specs.declared.kinds.Task.TheVariants as task
 use Rattle.command8.specs.declared.kinds.TaskFault.{TaskFault}
 use Rattle.command8.specs.declared.kinds.TaskFault.TheVariants.{Words, Memory, LookAndKeep, InputTwice, CrossAlone, Start, Switches}
@@ -74,6 +76,9 @@ steps_rule = record (option_rule (codes "steps")) { parser = Some (Unsigned 1 mo
 abbrev pub tape_app : App
 tape_app = new_app (codes "tape")
 
+abbrev pub rim_app : App
+rim_app = subcommand (codes "rim") (flag_rule (codes "bin") ∷ [])
+
 abbrev pub source_app : App
 source_app = new_app (codes "source")
 
@@ -116,8 +121,8 @@ check_app = subcommand (codes "check") (image_rule ∷ [])
 -- the subcommands
 abbrev pub leaves : List Shape
 leaves =
-    tape_app.top ∷ source_app.top ∷ assemble_app.top ∷ teletype_app.top ∷ run_app.top ∷ create_app.top
-    ∷ list_app.top ∷ get_app.top ∷ put_app.top ∷ check_app.top ∷ []
+    tape_app.top ∷ rim_app.top ∷ source_app.top ∷ assemble_app.top ∷ teletype_app.top ∷ run_app.top
+    ∷ create_app.top ∷ list_app.top ∷ get_app.top ∷ put_app.top ∷ check_app.top ∷ []
 
 -- the program without its subcommands: it must get one, and has a version to show
 abbrev pub bare_app : App
@@ -146,6 +151,10 @@ number_of text = digits_value 10 (without_leading_plus text)
 -- an option without a value was given
 abbrev pub is_set : Text → List Row → Bool
 is_set id values = option_map_or (λ text. bytes_eq text (codes "true")) (first_of id values) false
+
+-- what is asked of a RIM tape: the BIN tape of its words, else their lines
+abbrev pub rim_form : List Row → RimForm
+rim_form values = if is_set (codes "bin") values then Bin else Lines
 
 -- what is asked of a file: its tape, else its text, else its frames
 abbrev pub get_form : List Row → GetForm
@@ -208,6 +217,7 @@ is_limit steps = option_map_or (λ count. nat_le 1 count) steps true
 -- the subcommand of this name, with the values that were found for it, asks for the task
 abbrev pub AsksFor : Text → List Row → Task → Type 0
 AsksFor name values Tape = name ≡ codes "tape"
+AsksFor name values (Rim form) = (name ≡ codes "rim") × (form ≡ rim_form values)
 AsksFor name values Source = name ≡ codes "source"
 AsksFor name values (Run image form) = (name ≡ codes "run") × (first_of (codes "IMAGE") values ≡ Some image.bytes.items)
     × IsRunForm values form
@@ -260,6 +270,7 @@ AsksNoSwitches text (Some met) = (met.0 ≡ codes "teletype")
 -- there are cross references; a limit of instructions is 1 up
 abbrev pub HasFitBlocks : Task → Type 0
 HasFitBlocks Tape = ⊤
+HasFitBlocks (Rim form) = ⊤
 HasFitBlocks Source = ⊤
 HasFitBlocks (Run image form) = ⊤
 HasFitBlocks (Create image blocks) = (8 ≤ blocks) × (blocks ≤ 4095)
@@ -308,6 +319,10 @@ IsPlain (byte ∷ rest) = byte ≢ 45
 abbrev pub IsTape : Task → Type 0
 IsTape Tape = ⊤
 IsTape task = ⊥
+
+abbrev pub IsRimOf : RimForm → Task → Type 0
+IsRimOf kind (Rim form) = form ≡ kind
+IsRimOf kind task = ⊥
 
 abbrev pub IsSource : Task → Type 0
 IsSource Source = ⊤

@@ -20,6 +20,16 @@ pub enum Saving {
     Always,
 }
 
+/// What is written of a RIM tape (Small Computer Handbook).
+#[derive(Clone, Copy, PartialEq, Eq, Debug)]
+pub enum RimForm {
+    /// A line for each memory word that it loads.
+    Lines,
+
+    /// The BIN tape of the same words.
+    Bin,
+}
+
 /// How a script is run.
 #[derive(Clone, Copy, PartialEq, Eq, Debug)]
 pub struct RunForm {
@@ -72,6 +82,9 @@ pub struct TeletypeForm {
 pub enum Task {
     /// List the BIN tape on standard input.
     Tape,
+
+    /// Write what the RIM tape on standard input loads.
+    Rim(RimForm),
 
     /// Write the PAL III source of the BIN tape on standard input.
     Source,

@@ -1,17 +1,20 @@
 //! What plain command lines ask for.
 ghost use Rattle.std.specs.Prelude.{◌≡◌, ◌∷◌, [], ℕ, List, codes, false, true, None, Some};
 ghost use Rattle.clap.specs.Words.{IsUnsignedIn};
+ghost use Rattle.command8.specs.declared.kinds.RimForm.TheVariants.{Lines, Bin};
 ghost use Rattle.command8.specs.declared.kinds.Saving.TheVariants.{AtEnd, Never, Always};
 ghost use Rattle.char_pack.specs.declared.forms.GetForm.TheVariants as get_as;
 ghost use Rattle.char_pack.specs.declared.forms.PutForm.TheVariants as put_as;
 ghost use Rattle.command8.specs.Octal.{octal_of};
 ghost use Rattle.command8.specs.Tasks.{IsAssembleOf, IsCheckOf, IsCreateOf, IsGetOf, IsListOf, IsPlain};
-ghost use Rattle.command8.specs.Tasks.{IsPutOf, IsRunOf, IsSource, IsTakenAs, IsTape, IsTeletypeOf, number_of};
+ghost use Rattle.command8.specs.Tasks.{IsPutOf, IsRimOf, IsRunOf, IsSource, IsTakenAs, IsTape, IsTeletypeOf, number_of};
 
 /// A law: plain command lines are taken, and ask for what they say; a run that is both to look and to keep asks for no task (this
 /// project's profile). A word that names a file or gives a number is plain where it begins with no hyphen.
 pub fn plain_words()
     ensures tape { (name : List ℕ) → IsTakenAs (name ∷ codes "tape" ∷ []) IsTape }
+    ensures rim { (name : List ℕ) → IsTakenAs (name ∷ codes "rim" ∷ []) (IsRimOf Lines) }
+    ensures rim_bin { (name : List ℕ) → IsTakenAs (name ∷ codes "rim" ∷ codes "--bin" ∷ []) (IsRimOf Bin) }
     ensures source { (name : List ℕ) → IsTakenAs (name ∷ codes "source" ∷ []) IsSource }
     ensures run { (name image : List ℕ) → IsPlain image
         → IsTakenAs (name ∷ codes "run" ∷ image ∷ []) (IsRunOf image AtEnd false) }

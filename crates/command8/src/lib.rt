@@ -15,7 +15,7 @@ mod teletypes;
 mod verbs;
 mod volumes;
 
-pub use kinds::{AssembleForm, RunForm, Saving, Task, TaskFault, TeletypeForm};
+pub use kinds::{AssembleForm, RimForm, RunForm, Saving, Task, TaskFault, TeletypeForm};
 pub use laws::plain_words;
 pub use runs::SCRIPT_LINES;
 pub use tasks::task;

@@ -8,7 +8,7 @@ use crate::assembling::{assemble, assemble_asked};
 use crate::file_commands::{check, check_asked, get, get_asked, list, list_asked, put, put_asked};
 use crate::parts::{Draft, with_leaf};
 use crate::runs::{run, run_asked};
-use crate::tapes::{source, tape};
+use crate::tapes::{rim, rim_asked, source, tape};
 use crate::teletypes::{teletype, teletype_asked};
 use crate::verbs::{Verb, verb_of};
 use crate::volumes::{create, create_asked};
@@ -17,8 +17,8 @@ use clap::error::ErrorKind;
 use clap::{ArgMatches, Command};
 use std::alloc::Global;
 
-/// What the words of a command line ask for, the program's own name first: `tape`, `source`, `assemble FILE..` of 1 to 8 files, one of
-/// them at most `-`, else `InputTwice`, with `--output`, `--list` and `--cross`, which without a listing is `CrossAlone`, `teletype TAPE`
+/// What the words of a command line ask for, the program's own name first: `tape`, `rim` with `--bin`, `source`, `assemble FILE..` of 1
+/// to 8 files, one of them at most `-`, else `InputTwice`, with `--output`, `--list` and `--cross`, which without a listing is `CrossAlone`, `teletype TAPE`
 /// or `teletype TAPE NAME` with `--start` and a cell of five octal digits, else `Start`, `--switches` and a word of four, else `Switches`,
 /// `--steps` and a number from 1 up, `--raw` and `--live`, `run IMAGE` with `--strict` and with `--look` or `--keep`, which together are
 /// `LookAndKeep`, `create IMAGE BLOCKS` with 8 to 4095 blocks of 512 bytes, `list IMAGE`, `get IMAGE NAME` with `--text` or `--tape`,
@@ -41,6 +41,7 @@ fn command_line<'a>(alloc: Global) -> Draft<'a>
     ensures { IsDraft result pdp8 }
 {
     let line = with_leaf(bare_command_line(alloc), Ok(tape(alloc)));
+    let line = with_leaf(line, rim(alloc));
     let line = with_leaf(line, Ok(source(alloc)));
     let line = with_leaf(line, assemble(alloc));
     let line = with_leaf(line, teletype(alloc));
@@ -124,6 +125,7 @@ fn asked_by(alloc: Global, verb: Verb, found: &ArgMatches<'_>) -> Result<Task, T
 {
     match verb {
         Verb::Tape => Ok(Task::Tape),
+        Verb::Rim => rim_asked(found),
         Verb::Source => Ok(Task::Source),
         Verb::Assemble => assemble_asked(alloc, found),
         Verb::Teletype => teletype_asked(alloc, found),

@@ -8,6 +8,7 @@ ghost use Rattle.command8.specs.TaskSteps as spec;
 #[derive(Clone, Copy)]
 pub enum Verb {
     Tape,
+    Rim,
     Source,
     Assemble,
     Teletype,
@@ -20,8 +21,9 @@ pub enum Verb {
 }
 
 /// The subcommands.
-const VERBS: [Verb; 10] = [
+const VERBS: [Verb; 11] = [
     Verb::Tape,
+    Verb::Rim,
     Verb::Source,
     Verb::Assemble,
     Verb::Teletype,
@@ -39,6 +41,7 @@ fn word_of(verb: Verb) -> &'static str
 {
     match verb {
         Verb::Tape => "tape",
+        Verb::Rim => "rim",
         Verb::Source => "source",
         Verb::Assemble => "assemble",
         Verb::Teletype => "teletype",

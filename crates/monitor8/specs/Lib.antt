@@ -4,4 +4,5 @@ pub mod Program
 pub mod Starts
 pub mod LineEnds
 pub mod Written
+pub mod Rims
 pub mod ListSteps

@@ -1,6 +1,8 @@
 -- The lines that the program prints beside those of a session (this project's profile).
 use Rattle.std.specs.Prelude.{ℕ, ◌/◌, ◌%◌, codes, decimal, List, [], ◌∷◌, ◌++◌}
 use Rattle.word12.specs.Octal.{octal_digit, octal4}
+use Rattle.rim_tape.specs.declared.faults.RimFault.{RimFault}
+use Rattle.rim_tape.specs.declared.faults.RimFault.TheVariants as rim
 use Rattle.volume_image.specs.declared.faults.ImageFault.{ImageFault}
 use Rattle.volume_image.specs.declared.faults.ImageFault.TheVariants as image
 use Rattle.os8_dir.specs.declared.faults.DirFault.{DirFault}
@@ -26,6 +28,15 @@ directory_text directory.MixedInfo = codes "? DIRECTORY 7 MIXED INFO"
 directory_text directory.Device = codes "? DIRECTORY 8 DEVICE"
 directory_text directory.Memory = codes "? 10 MEMORY"
 
+-- the three octal digits of a frame
+abbrev pub frame_text : ℕ → List ℕ
+frame_text frame = octal_digit (frame / 0o100) ∷ octal_digit (frame / 8) ∷ octal_digit frame ∷ []
+
+abbrev pub rim_text : RimFault → List ℕ
+rim_text (rim.BadFrame place frame) = codes "? RIM 1 BAD FRAME " ++ decimal place ++ codes " " ++ frame_text frame
+rim_text rim.NoTrailer = codes "? RIM 2 NO TRAILER"
+rim_text rim.Memory = codes "? 10 MEMORY"
+
 -- the field and the address of a cell
 abbrev pub cell_text : ℕ → List ℕ
 cell_text cell = octal_digit (cell / 0o10000) ∷ octal4 (cell % 0o10000)
@@ -45,6 +56,7 @@ program_text (line.Halted cell ac l) = halted_text cell ac l
 program_text (line.Unassigned cell word) = codes "UNASSIGNED " ++ cell_text cell ++ codes " " ++ octal4 word
 program_text (line.KeysEnd cell) = codes "KEYS END " ++ cell_text cell
 program_text (line.Limit cell) = codes "LIMIT " ++ cell_text cell
+program_text (line.Rim fault) = rim_text fault
 program_text (line.Image fault) = image_text fault
 program_text (line.Directory fault) = directory_text fault
 

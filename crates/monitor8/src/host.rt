@@ -1,7 +1,11 @@
 //! The program over the files and the streams of a host. What it does with bytes is in the functions that it calls; here
 //! files are read and written, and exit statuses are given.
 
-use crate::{ProgramLine, SourceFault, Task, TaskFault, put_program, source_text, tape_text, task};
+use crate::{
+    ProgramLine, RimTextFault, SourceFault, Task, TaskFault, put_program, rim_text, source_text,
+    tape_text, task,
+};
+use command8::RimForm;
 use host8::Unwritten;
 use script8::{SessionFault, put_reply};
 use session8::read_all;
@@ -71,7 +75,7 @@ impl From<AllocError> for Ended {
     }
 }
 
-/// Does what the words of the command line ask for: `pdp8 tape`, `pdp8 source`, `pdp8 assemble FILE..`, `pdp8 teletype TAPE`,
+/// Does what the words of the command line ask for: `pdp8 tape`, `pdp8 rim`, `pdp8 source`, `pdp8 assemble FILE..`, `pdp8 teletype TAPE`,
 /// `pdp8 run IMAGE`, `pdp8 create IMAGE BLOCKS`, `pdp8 list IMAGE`, `pdp8 get IMAGE NAME`, `pdp8 put IMAGE NAME` or `pdp8 check IMAGE`.
 /// The exit status is 0, 1 after a fault, and 2 for words that are refused. The line of a fault is on standard output, and for
 /// commands whose standard output is data on standard error (this project's profile).
@@ -95,8 +99,13 @@ where
 /// Whether what a task puts on standard output is data, so that no fault is told there.
 fn gives_data(task: &Task) -> bool {
     match task {
-        Task::Source | Task::Assemble(_) | Task::Teletype(_) | Task::Get(..) => true,
+        Task::Rim(RimForm::Bin)
+        | Task::Source
+        | Task::Assemble(_)
+        | Task::Teletype(_)
+        | Task::Get(..) => true,
         Task::Tape
+        | Task::Rim(RimForm::Lines)
         | Task::Run(..)
         | Task::Create(..)
         | Task::List(_)
@@ -114,6 +123,7 @@ where
 {
     match task {
         Task::Tape => list_tape(rt),
+        Task::Rim(form) => write_rim(rt, form),
         Task::Source => write_source(rt),
         Task::Assemble(form) => assemble_files(rt, &form),
         Task::Teletype(form) => run_teletype(rt, &form),
@@ -250,6 +260,15 @@ fn is_tape_fault(fault: &SessionFault) -> bool {
     match fault {
         SessionFault::Tape(_) => true,
         _ => false,
+    }
+}
+
+/// Writes the words of the RIM tape on standard input.
+fn write_rim<R: Input + Print + AllocGlobal>(rt: &R, form: RimForm) -> Result<(), Ended> {
+    match rim_text(rt.alloc(), &mut rt.reader(), &mut io::writer(rt), form) {
+        Ok(()) => Ok(()),
+        Err(RimTextFault::Rim(fault)) => Err(Ended::Line(ProgramLine::Rim(fault))),
+        Err(RimTextFault::Session(fault)) => Err(Ended::Fault(fault)),
     }
 }
 

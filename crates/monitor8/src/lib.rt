@@ -6,6 +6,7 @@ mod host;
 mod line_ends;
 mod listings;
 mod programs;
+mod rims;
 mod sources;
 mod starts;
 
@@ -14,6 +15,7 @@ pub use host::program;
 pub use line_ends::with_line_feeds;
 pub use listings::tape_text;
 pub use programs::{ProgramLine, put_program};
+pub use rims::{RimTextFault, rim_text};
 pub use script8::SessionFault;
 pub use session8::{Ran, Session, laws};
 pub use sources::{SourceFault, source_text};

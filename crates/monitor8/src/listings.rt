@@ -45,7 +45,7 @@ fn text_of(alloc: Global, frames: &[u8]) -> Result<Vec<u8>, SessionFault>
 }
 
 /// The lines of the cells that have a word, by rising cell.
-fn listing(alloc: Global, map: &TapeMap) -> Result<Vec<u8>, AllocError>
+pub(crate) fn listing(alloc: Global, map: &TapeMap) -> Result<Vec<u8>, AllocError>
     ensures { IfOk result (λ text. (frames : List ℕ) → (of : IsMapOf frames map.now)
         → text.items ≡ lines_below of.items 0o100000) }
 {

@@ -1,9 +1,11 @@
 ghost use Rattle.std.specs.Prelude.{◌≡◌, ◌+◌, ◌≤◌, ◌++◌, OnOk, OnErr, IsOk, IsOkUnless, vec_len, vec_capacity};
 ghost use Rattle.arrayvec.specs.ArrayVec.{array_vec_len};
-ghost use Rattle.monitor8.specs.Program.{program_line, program_text, image_text, directory_text, halted_text, cell_text};
+ghost use Rattle.monitor8.specs.Program.{program_line, program_text, image_text, directory_text, halted_text, cell_text, frame_text};
+ghost use Rattle.monitor8.specs.Program as spec;
 ghost use Rattle.script8.specs.declared.faults.SessionFault.TheVariants.{Memory};
 
 use os8_dir::DirFault;
+use rim_tape::RimFault;
 use script8::SessionFault;
 use script8::text_lines::{TextLine, put, put_number};
 use volume_image::ImageFault;
@@ -41,6 +43,9 @@ pub enum ProgramLine {
 
     /// A machine at a terminal made as many steps as it was to make, up to this cell.
     Limit(Cell),
+
+    /// The frames are no RIM tape.
+    Rim(RimFault),
 
     /// The bytes of the image file are no image of a volume.
     Image(ImageFault),
@@ -94,6 +99,7 @@ fn put_line(text: &mut TextLine, line: ProgramLine)
             put(text, b"LIMIT ");
             put_cell(text, cell);
         }
+        ProgramLine::Rim(fault) => put_rim(text, fault),
         ProgramLine::Image(fault) => put_image(text, fault),
         ProgramLine::Directory(fault) => put_directory(text, fault),
     }
@@ -121,6 +127,38 @@ fn put_cell(text: &mut TextLine, cell: Cell)
 {
     put(text, &[b'0' + cell.field()]);
     put(text, &cell.address().octal4());
+}
+
+/// Puts the text of a fault of a RIM tape into an empty line.
+fn put_rim(text: &mut TextLine, fault: RimFault)
+    requires { array_vec_len text.old ≡ 0 }
+    ensures text { text.new.items ≡ text.old.items ++ spec.rim_text fault }
+    ensures short { array_vec_len text.new ≤ 60 }
+{
+    match fault {
+        RimFault::BadFrame { place, frame } => {
+            put(text, b"? RIM 1 BAD FRAME ");
+            put_number(text, place as u64);
+            put(text, b" ");
+            put_frame(text, frame);
+        }
+        RimFault::NoTrailer => put(text, b"? RIM 2 NO TRAILER"),
+        RimFault::Memory => put(text, b"? 10 MEMORY"),
+    }
+}
+
+/// Puts a frame as three octal digits.
+fn put_frame(text: &mut TextLine, frame: u8)
+    requires { array_vec_len text.old ≤ 40 }
+    ensures text { text.new.items ≡ text.old.items ++ frame_text frame }
+    ensures short { array_vec_len text.new ≡ array_vec_len text.old + 3 }
+{
+    let digits = [
+        b'0' + frame / 0o100 % 8,
+        b'0' + frame / 8 % 8,
+        b'0' + frame % 8,
+    ];
+    put(text, &digits);
 }
 
 /// Puts the text of a fault of an image into an empty line.

@@ -10,23 +10,23 @@ loop-taken-init c =
     first_begins c.args.text.now c.without_tokens-lexer.result c.args.assembler.now c.without_tokens-lexer.ensures.read c.requires
     (ap (λ (s : Setting). s.may_pause) c.without_tokens-lexer.ensures.setting)
 
-pub returns-in-Ok-Over-clause-passes : goal.returns-in-Ok-Over-clause-passes
-returns-in-Ok-Over-clause-passes c =
+pub returns-in-Over-clause-passes : goal.returns-in-Over-clause-passes
+returns-in-Over-clause-passes c =
     let text = c.args.text.now in
     let taken = c.loop-taken.taken in
     let stands = c.loop-taken.invariant in
     first_over text taken (get_or text taken 0) c.loop-taken.lexer c.pass.new.lexer c.loop-taken.assembler c.pass.new.assembler c.loop-taken-test.true refl stands
-    (subst (λ s. PassesByte (text_of (take taken text)) (get_or text taken 0) s c.pass.new.lexer c.pass.new.assembler) c.in-Ok-Over.field-0-is
-    (c.in-Ok-Over.ensures.passes (text_of (take taken text)) stands.read stands.may stands.going stands.first))
+    (subst (λ s. PassesByte (text_of (take taken text)) (get_or text taken 0) s c.pass.new.lexer c.pass.new.assembler) c.in-Over.is
+    (c.in_ok-pass.ensures.passes (text_of (take taken text)) stands.read stands.may stands.going stands.first))
 
-pub returns-in-Ok-Refused-clause-passes : goal.returns-in-Ok-Refused-clause-passes
-returns-in-Ok-Refused-clause-passes c =
+pub returns-in-Refused-clause-passes : goal.returns-in-Refused-clause-passes
+returns-in-Refused-clause-passes c =
     let text = c.args.text.now in
     let taken = c.loop-taken.taken in
     let stands = c.loop-taken.invariant in
     first_refused text taken (get_or text taken 0) c.loop-taken.lexer c.pass.new.lexer c.loop-taken.assembler c.pass.new.assembler c.loop-taken-test.true refl stands
-    (subst (λ s. PassesByte (text_of (take taken text)) (get_or text taken 0) s c.pass.new.lexer c.pass.new.assembler) c.in-Ok-Refused.field-0-is
-    (c.in-Ok-Refused.ensures.passes (text_of (take taken text)) stands.read stands.may stands.going stands.first))
+    (subst (λ s. PassesByte (text_of (take taken text)) (get_or text taken 0) s c.pass.new.lexer c.pass.new.assembler) c.in-Refused.is
+    (c.in_ok-pass.ensures.passes (text_of (take taken text)) stands.read stands.may stands.going stands.first))
 
 pub loop-taken-preserved : goal.loop-taken-preserved
 loop-taken-preserved c =
@@ -34,5 +34,5 @@ loop-taken-preserved c =
     let taken = c.loop-taken.taken in
     let stands = c.loop-taken.invariant in
     first_on text taken (get_or text taken 0) c.pass.new.lexer c.pass.new.assembler c.loop-taken-test.true refl (c.pass.ensures.setting ∙ stands.may)
-    (subst (λ s. PassesByte (text_of (take taken text)) (get_or text taken 0) s c.pass.new.lexer c.pass.new.assembler) c.in-Ok-GoesOn.field-0-is
-    (c.in-Ok-GoesOn.ensures.passes (text_of (take taken text)) stands.read stands.may stands.going stands.first))
+    (subst (λ s. PassesByte (text_of (take taken text)) (get_or text taken 0) s c.pass.new.lexer c.pass.new.assembler) c.in-GoesOn.is
+    (c.in_ok-pass.ensures.passes (text_of (take taken text)) stands.read stands.may stands.going stands.first))

@@ -21,12 +21,12 @@ loop-taken-preserved c =
     let stands = c.loop-taken.invariant in
     second_on text taken byte c.make.new.lexer c.make.new.assembler c.loop-taken-test.true refl (c.make.ensures.setting ∙ stands.may)
     (in_whole text taken byte true c.make.new.lexer c.make.new.assembler c.loop-taken-test.true refl
-    (subst (λ goes. MakesByte (statements (later ++ byte ∷ here)) here byte goes c.make.new.lexer c.make.new.assembler) c.in-Ok-true.field-0-test
-    (c.in-Ok-true.ensures.makes here later stands.read stands.may stands.going
+    (subst (λ goes. MakesByte (statements (later ++ byte ∷ here)) here byte goes c.make.new.lexer c.make.new.assembler) c.if-not-branch.false
+    (c.in_ok-make.ensures.makes here later stands.read stands.may stands.going
     (as_whole text taken byte (statements here) c.loop-taken.assembler c.loop-taken-test.true refl stands.second))))
 
-pub returns-in-Ok-false-clause-settled : goal.returns-in-Ok-false-clause-settled
-returns-in-Ok-false-clause-settled c =
+pub returns-then-not-branch-clause-settled : goal.returns-then-not-branch-clause-settled
+returns-then-not-branch-clause-settled c =
     let text = c.args.text.now in
     let taken = c.loop-taken.taken in
     let byte = get_or text taken 0 in
@@ -35,6 +35,6 @@ returns-in-Ok-false-clause-settled c =
     let stands = c.loop-taken.invariant in
     second_settled text taken byte c.loop-taken.lexer c.make.new.lexer c.loop-taken.assembler c.make.new.assembler c.loop-taken-test.true refl stands
     (in_whole text taken byte false c.make.new.lexer c.make.new.assembler c.loop-taken-test.true refl
-    (subst (λ goes. MakesByte (statements (later ++ byte ∷ here)) here byte goes c.make.new.lexer c.make.new.assembler) c.in-Ok-false.field-0-test
-    (c.in-Ok-false.ensures.makes here later stands.read stands.may stands.going
+    (subst (λ goes. MakesByte (statements (later ++ byte ∷ here)) here byte goes c.make.new.lexer c.make.new.assembler) c.if-not-branch.true
+    (c.in_ok-make.ensures.makes here later stands.read stands.may stands.going
     (as_whole text taken byte (statements here) c.loop-taken.assembler c.loop-taken-test.true refl stands.second))))
