@@ -185,13 +185,13 @@ fn judge_byte(
 {
     match lexer.push(byte) {
         Ok(None) => Ok(None),
-        Ok(Some(statement)) => match judge(names, last, &statement) {
-            Ok(fault) => Ok(fault),
-            Err(refused) => Err(SourceFault::from(refused)),
-        },
-        Err(fault) => match unless_memory(fault) {
-            Ok(()) => Ok(None),
-            Err(memory) => Err(memory),
-        },
+        Ok(Some(statement)) => {
+            let judged = judge(names, last, &statement)?;
+            Ok(judged)
+        }
+        Err(fault) => {
+            unless_memory(fault)?;
+            Ok(None)
+        }
     }
 }

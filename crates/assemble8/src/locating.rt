@@ -117,15 +117,16 @@ fn pass(lexer: &mut Lexer, assembler: &mut Assembler, byte: u8) -> Result<Step, 
     lexical_fault_is_told();
     match lexer.push(byte) {
         Ok(None) => Ok(Step::GoesOn),
-        Ok(Some(statement)) => match pass_statement(assembler, &statement) {
-            Ok(false) => Ok(Step::Refused),
-            Ok(true) => Ok(step_behind(byte)),
-            Err(fault) => Err(fault),
-        },
-        Err(fault) => match unless_memory(fault) {
-            Ok(()) => Ok(Step::Refused),
-            Err(memory) => Err(memory),
-        },
+        Ok(Some(statement)) => {
+            if pass_statement(assembler, &statement)? {
+                return Ok(step_behind(byte));
+            }
+            Ok(Step::Refused)
+        }
+        Err(fault) => {
+            unless_memory(fault)?;
+            Ok(Step::Refused)
+        }
     }
 }
 

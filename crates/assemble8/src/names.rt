@@ -94,14 +94,14 @@ fn take_byte(lexer: &mut Lexer, names: &mut Names, byte: u8) -> Result<(), Sourc
 {
     match lexer.push(byte) {
         Ok(None) => Ok(()),
-        Ok(Some(statement)) => match take(names, &statement) {
-            Ok(()) => Ok(()),
-            Err(refused) => Err(SourceFault::from(refused)),
-        },
-        Err(fault) => match unless_memory(fault) {
-            Ok(()) => Ok(()),
-            Err(memory) => Err(memory),
-        },
+        Ok(Some(statement)) => {
+            take(names, &statement)?;
+            Ok(())
+        }
+        Err(fault) => {
+            unless_memory(fault)?;
+            Ok(())
+        }
     }
 }
 

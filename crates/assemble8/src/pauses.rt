@@ -89,10 +89,10 @@ fn meet(lexer: &mut Lexer, byte: u8) -> Result<Met, SourceFault>
     match lexer.push(byte) {
         Ok(None) => Ok(Met::Nothing),
         Ok(Some(statement)) => Ok(ended(&statement)),
-        Err(fault) => match unless_memory(fault) {
-            Ok(()) => Ok(Met::End),
-            Err(memory) => Err(memory),
-        },
+        Err(fault) => {
+            unless_memory(fault)?;
+            Ok(Met::End)
+        }
     }
 }
 

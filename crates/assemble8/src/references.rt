@@ -63,14 +63,14 @@ fn take_byte(
 {
     match lexer.push(byte) {
         Ok(None) => Ok(()),
-        Ok(Some(statement)) => match put_statement(found, &statement, spot) {
-            Ok(()) => Ok(()),
-            Err(refused) => Err(SourceFault::from(refused)),
-        },
-        Err(fault) => match unless_memory(fault) {
-            Ok(()) => Ok(()),
-            Err(memory) => Err(memory),
-        },
+        Ok(Some(statement)) => {
+            put_statement(found, &statement, spot)?;
+            Ok(())
+        }
+        Err(fault) => {
+            unless_memory(fault)?;
+            Ok(())
+        }
     }
 }
 

@@ -52,10 +52,10 @@ fn ends_word(lexer: &mut Lexer, byte: u8) -> Result<bool, SourceFault>
     match lexer.push(byte) {
         Ok(None) => Ok(false),
         Ok(Some(statement)) => Ok(is_word(&statement.body)),
-        Err(fault) => match unless_memory(fault) {
-            Ok(()) => Ok(false),
-            Err(memory) => Err(memory),
-        },
+        Err(fault) => {
+            unless_memory(fault)?;
+            Ok(false)
+        }
     }
 }
 

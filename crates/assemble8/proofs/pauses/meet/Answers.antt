@@ -15,6 +15,6 @@ returns-in-Ok-Some-clause-meets c = λ text read may fine.
     (met_statement text c.args.byte c.in-Ok-Some.statement c.args.lexer.now c.push.new.self c.pause_is_bad.ensures fine
     (subst (λ a. Answers 0 text c.args.byte (Ok a) c.args.lexer.now c.push.new.self) c.in-Ok-Some.field-0-is (c.in-Ok-Some.ensures.answers 0 text read)))
 
-pub returns-in-Ok-clause-meets : goal.returns-in-Ok-clause-meets
-returns-in-Ok-clause-meets c = λ text read may fine.
-    met_fault text c.args.byte c.in-Err.fault c.args.lexer.now c.push.new.self fine may c.in-Ok.ensures.other (c.in-Err.ensures.answers 0 text read)
+pub returns-in_ok-unless_memory-in-Err-clause-meets : goal.returns-in_ok-unless_memory-in-Err-clause-meets
+returns-in_ok-unless_memory-in-Err-clause-meets c = λ text read may fine.
+    met_fault text c.args.byte c.in-Err.fault c.args.lexer.now c.push.new.self fine may c.in_ok-unless_memory-in-Err.ensures.other (c.in-Err.ensures.answers 0 text read)
