@@ -20,7 +20,7 @@ use Rattle.pal_asm.specs.Faults.{first_of, at_line, lexical, statement_fault, fi
 use Rattle.pal_asm.specs.Laws.{LexicalFaultIsTold, NoLexicalFault, NoFaultBefore}
 use Rattle.pal_asm.specs.Laws as asm_laws
 use Rattle.pal_asm.specs.Progress as asm
-use Rattle.pal_asm.specs.Passes.{IsFirst, IsSecond, AnswersSecond, TurnsOver}
+use Rattle.pal_asm.specs.Passes.{IsFirst, IsSecond, AnswersSecond, BeginsSecond}
 use Rattle.assemble8.specs.Places.{shortest, is_refused, is_settled, start_of, statement_place, fault_place}
 use Rattle.assemble8.specs.Steps.{is_memory, step_behind, PassesStatement, PassesByte, Passes, MakesByte, IsSettledAt, IsMetAt}
 use Rattle.assemble8.specs.declared.locating.Step.TheVariants as step
@@ -415,6 +415,6 @@ second_ends bytes taken lexer assembler all over s = by_absurd (sym over ∙ ap 
 
 -- ## The turn
 
-pub turned : (whole : Source) (f : AsmFault) (old new : asm.Progress) → TurnsOver whole (Err f) old new → no_word whole ≡ Some f
+pub turned : (whole : Source) (f : AsmFault) (old new : asm.Progress) → BeginsSecond whole (Err f) old new → no_word whole ≡ Some f
 turned whole (At code line) old new turns = turns.0
 turned whole Memory old new turns = absurd turns

@@ -49,7 +49,7 @@ pub(crate) fn fault_end(alloc: Global, text: &[u8]) -> Result<Passed, SourceFaul
     match first_pass(alloc, text, &mut assembler)? {
         Passed::Refused(end) => Ok(Passed::Refused(end)),
         Passed::Open => Ok(Passed::Open),
-        Passed::Over(end) => match assembler.turn_over() {
+        Passed::Over(end) => match assembler.begin_second() {
             Ok(()) => {
                 let end = second_pass(alloc, text, &mut assembler)?;
                 Ok(Passed::Over(end))

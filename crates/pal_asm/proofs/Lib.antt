@@ -1,7 +1,10 @@
 pub mod AgainLemmas
+pub mod ByteLemmas
 pub mod LengthLemmas
+pub mod MakingLemmas
 pub mod NameLemmas
 pub mod PassLemmas
+pub mod PassingLemmas
 pub mod SecondLemmas
 pub mod SourceLemmas
 pub mod TextLemmas

@@ -1,168 +1,219 @@
--- A source behind others, a byte at a time.
-use Rattle.std.proofs.Common.{◌≡◌, ℕ, ◌≤◌, ◌<◌, nat_lt, Bool, true, false, ◌&&◌, None, Result, Ok, Err, IfOk, IfErr, length, get_or, List, [], ◌∷◌, ◌++◌, refl, ap, sym, subst, ◌∙◌, arith}
+-- Sources, one behind the other, in the two passes.
+use Rattle.std.proofs.Common.{◌≡◌, ◌∙◌, inl, inr, ℕ, ◌≤◌, ◌<◌, nat_eq, nat_lt, Bool, true, false, true≢false, not, if◌then◌else◌, Option, Some, None, Result, Ok, Err, IfErr, length, take, drop, get_or, List, [], ◌∷◌, ◌++◌, refl, ap, sym, subst, arith, append_assoc}
 use Rattle.std.proofs.lemmas.Bool.Decides.{nat_tests}
 use Rattle.std.specs.Borrow.{Bor}
-use Rattle.pal_lex.specs.Text.{text_from, text_of, up_to_end}
+use Rattle.pal_lex.specs.Text.{text_from, text_of, is_over, line_after}
 use Rattle.pal_lex.specs.Statements.{statements, first_fault}
-use Rattle.pal_lex.specs.Joins.{pauses, IsClear, join_of}
-use Rattle.pal_lex.specs.Laws.{has_next, PauseJoins, JoinGoesOn, ByteGoesOn, EndsJoin}
-use Rattle.pal_lex.specs.Reading.{HasRead, HasPaused}
+use Rattle.pal_lex.specs.Joins.{join_of}
+use Rattle.pal_lex.specs.Laws.{has_next, JoinGoesOn, EndsJoin}
+use Rattle.pal_lex.specs.Reading.{HasRead, with_tokens}
 use Rattle.pal_lex.specs.Progress as lex
+use Rattle.pal_lex.specs.declared.faults.LexFault.{LexFault}
+use Rattle.pal_lex.specs.declared.phrases.Statement.{Statement}
 use Rattle.pal_asm.specs.declared.faults.AsmFault.{AsmFault}
 use Rattle.pal_asm.specs.declared.faults.AsmFault.TheVariants.{At, Memory}
+use Rattle.pal_asm.specs.declared.faults.Code.TheVariants.{NE}
+use Rattle.pal_asm.specs.declared.passing.Pass.{Pass}
 use Rattle.pal_asm.specs.Places.{Source, values}
 use Rattle.pal_asm.specs.Faults.{first_of, first_order, no_end, words_fault}
-use Rattle.pal_asm.specs.Progress.{Progress}
-use Rattle.pal_asm.specs.Passes.{IsFirst}
-use Rattle.pal_asm.specs.Texts.{texts, Behind, RanOut}
-use Rattle.pal_asm.specs.TextSteps.{are_several, PausesAt, ends_source, PassesByte, HasMade, MakesByte, EndsText, JoinsAt, ReadsAll, PassesSource, MakesSource, IsFirstOf, IsFirstFault, IsWordsFault}
+use Rattle.pal_asm.specs.Laws.{StatementsStay}
+use Rattle.pal_asm.specs.Passes.{IsFirst, IsSecond}
+use Rattle.pal_asm.specs.Passing.{Counts, Stands, IsBehind, IsMade, PassesTo, MakesTo, HasPassed, HasMade, IsWithin, EndsSource, TurnsPass}
+use Rattle.pal_asm.specs.Progress as asm
+use Rattle.pal_asm.specs.Texts.{texts, Behind, RanOut, IsFaultOf}
+use Rattle.pal_asm.specs.TextSteps.{are_several, GoesOn, BeginsPass, BeginsAgain, PassesSource, MakesSource, AreWordsOf, IsWordsFault}
 use Rattle.pal_asm.proofs.NameLemmas.{behind_one, first_one}
-use Rattle.pal_asm.proofs.TextLemmas.{behind_others, no_lex_fault, first_stays, words_stay}
+use Rattle.pal_asm.proofs.WholeLemmas.{some_none}
+use Rattle.pal_asm.proofs.TextLemmas.{nothing_read, one_more, met_second}
+use Rattle.pal_asm.proofs.ByteLemmas.{from_behind, the_rest, all_taken}
+use Rattle.pal_asm.proofs.PassingLemmas.{stands_map, fine_there}
 
--- ## Where a source stands
+-- ## Where a source leads
 
--- the first pass stands behind some bytes of a source
-pub record Stands (before text rest : List ℕ) (lexer : lex.Progress) (assembler : Progress) : Type 0 where
-  pub here : List ℕ
-  pub whole : text_from here rest ≡ text
-  pub read : HasRead lexer (length before) (here ++ before)
-  pub first : IsFirst assembler (statements (here ++ before))
+-- What comes behind a source: the next counts behind this text; or all was read that does; or its `$` is missing.
+abbrev pub Reaches : List ℕ → List ℕ → List (List ℕ) → Result Bool AsmFault → lex.Progress → Bool → (Source → Type 0) → Type 0
+Reaches before text others (Ok true) lexer ended Fits =
+    (cut : List ℕ) × ((join_of (text ∷ others) ++ before ≡ join_of others ++ cut) × (ended ≡ false) × Counts lexer cut (are_several others) [] Fits)
+Reaches before text others (Ok false) lexer ended Fits =
+    (seam : ℕ) × (HasRead lexer seam (join_of (text ∷ others) ++ before) × Fits (statements (join_of (text ∷ others) ++ before)))
+Reaches before text others (Err fault) lexer ended Fits =
+    (no_end (join_of (text ∷ others) ++ before) ≡ Some fault) × Fits (statements (join_of (text ∷ others) ++ before))
 
--- the second pass does
-pub record StandsAgain (whole : Source) (before text rest : List ℕ) (lexer : lex.Progress) (pairs : List (ℕ × ℕ)) (assembler : Progress) : Type 0 where
-  pub here : List ℕ
-  pub split : text_from here rest ≡ text
-  pub read : HasRead lexer (length before) (here ++ before)
-  pub made : HasMade whole (statements (here ++ before)) pairs assembler
+clash : {C : Type 0} (b : Bool) → b ≡ false → b ≡ true → C
+clash true e f = absurd (true≢false e)
+clash false e f = absurd (true≢false (sym f))
 
-first_of_bytes : (rest : List ℕ) → 1 ≤ length rest → rest ≡ get_or rest 0 0 ∷ behind_one rest
-first_of_bytes [] long = absurd (omega arith)
-first_of_bytes (b ∷ rest) long = first_one (b ∷ rest) b long refl
+same_may : (b : Bool) → (if not b then false else true) ≡ b
+same_may true = refl
+same_may false = refl
 
-pub with_byte : (here rest text : List ℕ) → 1 ≤ length rest → text_from here rest ≡ text → text_from (get_or rest 0 0 ∷ here) (behind_one rest) ≡ text
-with_byte here rest text long whole = sym (ap (text_from here) (first_of_bytes rest long)) ∙ whole
+pub reaches : EndsJoin → (before text : List ℕ) (others : List (List ℕ)) (r : Result Bool AsmFault) (old new : lex.Progress) (was ended : Bool) (Fits : Source → Type 0)
+    → Stands old was before (has_next others) text false Fits → GoesOn others old r new ended → Reaches before text others r new ended Fits
+reaches law before text [] (Ok true) old new was ended Fits stands goes = absurd goes
+reaches law before text [] (Ok false) old new was ended Fits stands goes = elim stands [
+  | inl counts ↦ (length before, (subst (λ (l : lex.Progress). HasRead l (length before) (text ++ before)) (sym goes) counts.1.read, counts.1.at))
+  | inr paused ↦ absurd (true≢false (sym paused.1.follows))
+]
+reaches law before text [] (Err f) old new was ended Fits stands goes = absurd goes
+reaches law before text (next ∷ others) (Ok true) old new was ended Fits stands goes = elim stands [
+  | inl counts ↦ clash ended goes.1 (goes.0.1 (length before) (text ++ before) counts.1.read counts.1.fine).1
+  | inr paused ↦
+      let p = paused.1 in
+      let begins = goes.0.0 p.cut p.paused p.clear in (
+        p.cut,
+        (
+          p.joins [] next others,
+          goes.1,
+          record { read = begins.read; may_pause = begins.may_pause ∙ same_may (has_next others); clear = p.clear; fine = fine_there old p.cut p.paused; at = p.at },
+        ),
+      )
+]
+reaches law before text (next ∷ others) (Ok false) old new was ended Fits stands goes = elim stands [
+  | inl counts ↦
+      let over = goes.0.1 (length before) (text ++ before) counts.1.read counts.1.fine in
+      let joined = ap (λ t. t ++ before) (law before text (next ∷ others) counts.1.clear counts.1.fine) in (
+        length before,
+        (
+          subst (λ t. HasRead new (length before) t) (sym joined) (subst (λ (l : lex.Progress). HasRead l (length before) (text ++ before)) (sym over.0) counts.1.read),
+          subst (λ t. Fits (statements t)) (sym joined) counts.1.at,
+        ),
+      )
+  | inr paused ↦ clash ended (goes.0.0 paused.1.cut paused.1.paused paused.1.clear).counts goes.1
+]
+reaches law before text (next ∷ others) (Err f) old new was ended Fits stands goes = elim stands [
+  | inl counts ↦
+      let joined = ap (λ t. t ++ before) (law before text (next ∷ others) counts.1.clear counts.1.fine) in
+      (ap no_end joined ∙ goes.1 (length before) (text ++ before) counts.1.read counts.1.fine, subst (λ t. Fits (statements t)) (sym joined) counts.1.at)
+  | inr paused ↦ absurd (goes.0 paused.1.cut paused.1.paused)
+]
 
--- a source is what was read of it, and what stands behind
-later_of : (here rest text : List ℕ) → text_from here rest ≡ text → text ≡ text_of rest ++ here
-later_of here rest text whole = sym whole ∙ behind_others rest [] here
+-- ## Want of memory
 
--- ## The join
+-- bytes whose statements are those before the newest
+before_newest : (text : List ℕ) (newest : Result Statement LexFault) (older : Source) → statements text ≡ newest ∷ older → (prefix : List ℕ) × (statements prefix ≡ older)
+before_newest [] newest older is = absurd (nothing (sym nothing_read ∙ is))
+  where
+    nothing : [] ≡ newest ∷ older → ⊥
+    nothing e = cc
+before_newest (b ∷ text) newest older is = elim (one_more b text) [
+  | inl same ↦ before_newest text newest older (sym same ∙ is)
+  | inr added ↦ (text, tail (statements text) older added.0 newest (sym added.1 ∙ is))
+]
+  where
+    tail : (a b : Source) (x y : Result Statement LexFault) → x ∷ a ≡ y ∷ b → a ≡ b
+    tail a b x y e = cc
 
-and_false : (a b : Bool) → a ≡ true → (a && b) ≡ false → b ≡ false
-and_false true b e n = n
-and_false false b e n = absurd cc
+-- the statements that a pass stands behind are the first of the join
+pub stands_behind : JoinGoesOn → StatementsStay → (lexer : lex.Progress) (ended : Bool) (before text here later : List ℕ) (others : List (List ℕ)) (Fits : Source → Type 0) → text ≡ later ++ here
+    → Stands lexer ended before (has_next others) here false Fits
+    → (prefix : List ℕ) × (Behind (statements (join_of (text ∷ others) ++ before)) (statements prefix) × Fits (statements prefix))
+stands_behind joins stay lexer ended before text here later [] Fits is stands = elim stands [
+  | inl counts ↦
+      let more = joins before here later [] counts.1.clear counts.1.fine in
+      (here ++ before, ((more.0, ap (λ t. statements (join_of (t ∷ []) ++ before)) is ∙ more.1), counts.1.at))
+  | inr paused ↦ absurd (true≢false (sym paused.1.follows))
+]
+stands_behind joins stay lexer ended before text here later (next ∷ others) Fits is stands = elim stands [
+  | inl counts ↦
+      let more = joins before here later (next ∷ others) counts.1.clear counts.1.fine in
+      (here ++ before, ((more.0, ap (λ t. statements (join_of (t ∷ next ∷ others) ++ before)) is ∙ more.1), counts.1.at))
+  | inr paused ↦
+      let p = paused.1 in
+      let more = stay (join_of (next ∷ others)) p.cut in
+      (p.cut, ((more.0, ap statements (ap (λ t. join_of (t ∷ next ∷ others) ++ before) is ∙ p.joins later next others) ∙ more.1), p.at))
+]
 
-true_false : {A : Type 0} (b : Bool) → b ≡ true → b ≡ false → A
-true_false true e n = absurd cc
-true_false false e n = absurd cc
+ran_out_by : (whole : Source) (waiting : Option Statement) (assembler : asm.Progress) (prefix : List ℕ) → Behind whole (statements prefix) → IsBehind waiting assembler (statements prefix) → RanOut whole
+ran_out_by whole None assembler prefix behind is = record { prefix = prefix; behind = behind; no_fault = is.no_fault }
+ran_out_by whole (Some s) assembler prefix behind is =
+    let shorter = before_newest prefix (Ok (with_tokens is.1.0 s)) is.0 is.1.1.0 in
+    record {
+      prefix = shorter.0;
+      behind = (
+        behind.0 ++ Ok (with_tokens is.1.0 s) ∷ [],
+        behind.1 ∙ ap (λ l. behind.0 ++ l) (is.1.1.0 ∙ ap (λ l. Ok (with_tokens is.1.0 s) ∷ l) (sym shorter.1)) ∙ sym (append_assoc behind.0 (Ok (with_tokens is.1.0 s) ∷ []) (statements shorter.0)),
+      );
+      no_fault = ap first_order shorter.1 ∙ is.1.1.2.no_fault;
+    }
 
-join_at : (before text here rest : List ℕ) (b : ℕ) (others : List (List ℕ)) (old new : lex.Progress) → PauseJoins → IsClear before → first_fault (statements (here ++ before)) ≡ None
-    → text_from (b ∷ here) rest ≡ text → old.may_pause ≡ has_next others → PausesAt (here ++ before) b old new
-    → (at : JoinsAt before text others new) × (statements at.cut ≡ statements (here ++ before))
-join_at before text here rest b [] old new law clear none whole may at = true_false old.may_pause at.may_pause may
-join_at before text here rest b (next ∷ others) old new law clear none whole may at = (
-  record {
-    cut = up_to_end (here ++ before);
-    joins = ap (λ t. join_of (t ∷ next ∷ others) ++ before) (later_of (b ∷ here) rest text whole) ∙ law before here (text_of rest) b next others clear none at.pauses;
-    follows = refl;
-    clear = at.clear;
-    paused = at.paused;
-  },
-  at.same,
-)
-
-pub byte_goes : (before text here rest : List ℕ) (b : ℕ) (others : List (List ℕ)) (old : lex.Progress) → ByteGoesOn → IsClear before → first_fault (statements (here ++ before)) ≡ None
-    → text_from (b ∷ here) rest ≡ text → old.may_pause ≡ has_next others → ends_source old (here ++ before) b ≡ false
-    → Behind (statements (join_of (text ∷ others) ++ before)) (statements (b ∷ here ++ before))
-byte_goes before text here rest b others old law clear none whole may quiet =
-    let goes = law before here (text_of rest) b others clear none (ap (λ (t : Bool). t && pauses (here ++ before) b) (sym may) ∙ quiet) in
-    (goes.0, ap (λ t. statements (join_of (t ∷ others) ++ before)) (later_of (b ∷ here) rest text whole) ∙ goes.1)
-
--- the statements of the whole go on behind what was read
-so_far : (before text here rest : List ℕ) (others : List (List ℕ)) → JoinGoesOn → IsClear before → first_fault (statements (here ++ before)) ≡ None
-    → text_from here rest ≡ text → Behind (statements (join_of (text ∷ others) ++ before)) (statements (here ++ before))
-so_far before text here rest others law clear none whole =
-    let goes = law before here (text_of rest) others clear none in
-    (goes.0, ap (λ t. statements (join_of (t ∷ others) ++ before)) (later_of here rest text whole) ∙ goes.1)
-
-pub all_read : (before text here : List ℕ) (others : List (List ℕ)) (lexer : lex.Progress) → EndsJoin → IsClear before → first_fault (statements (here ++ before)) ≡ None
-    → here ≡ text → HasRead lexer (length before) (here ++ before) → ReadsAll before text others lexer
-all_read before text here others lexer law clear none whole read = record {
-  joins = subst (λ t. join_of (t ∷ others) ≡ t) whole (law before here others clear none);
-  read = subst (λ t. HasRead lexer (length before) (t ++ before)) whole read;
-}
+-- what characters are so far, and those behind them
+later_of : (bytes : List ℕ) (i : ℕ) → (later : List ℕ) × (text_of bytes ≡ later ++ text_from [] (take i bytes))
+later_of bytes i =
+    let rest = from_behind (drop i bytes) (text_from [] (take i bytes)) in
+    (rest.0, the_rest [] bytes i ∙ rest.1)
 
 -- ## The first pass
 
-pub first_paused : (before text rest : List ℕ) (others : List (List ℕ)) (old new : lex.Progress) (assembler after : Progress) → PauseJoins → IsClear before → 1 ≤ length rest
-    → (s : Stands before text rest old assembler) → old.may_pause ≡ has_next others → PassesByte (length before) (s.here ++ before) (get_or rest 0 0) (Ok false) old new after
-    → PassesSource before text others (Ok false) new after
-first_paused before text rest others old new assembler after law clear long s may passes =
-    let none = no_lex_fault (statements (s.here ++ before)) s.first.no_fault in
-    let at = join_at before text s.here (behind_one rest) (get_or rest 0 0) others old new law clear none (with_byte s.here rest text long s.whole) may passes.0 in
-    (at.0, subst (λ t. IsFirst after t) (sym at.1) passes.1)
+waits : (pass : Pass) (source : Source) → pass.waiting ≡ None → IsBehind pass.waiting pass.assembler source → IsFirst pass.assembler source
+waits pass source none is = subst (λ w. IsBehind w pass.assembler source) none is
 
-pub first_failed : (before text rest : List ℕ) (others : List (List ℕ)) (f : AsmFault) (old new : lex.Progress) (assembler after : Progress) → JoinGoesOn → ByteGoesOn → IsClear before → 1 ≤ length rest
-    → (s : Stands before text rest old assembler) → old.may_pause ≡ has_next others → PassesByte (length before) (s.here ++ before) (get_or rest 0 0) (Err f) old new after
-    → PassesSource before text others (Err f) new after
-first_failed before text rest others (At code line) old new assembler after joins law clear long s may passes =
-    let none = no_lex_fault (statements (s.here ++ before)) s.first.no_fault in
-    let goes = byte_goes before text s.here (behind_one rest) (get_or rest 0 0) others old law clear none (with_byte s.here rest text long s.whole) may passes.1 in
-    ap first_order goes.1 ∙ first_stays goes.0 (statements (get_or rest 0 0 ∷ s.here ++ before)) (At code line) passes.0
-first_failed before text rest others Memory old new assembler after joins law clear long s may passes = record {
-  prefix = s.here ++ before;
-  behind = so_far before text s.here rest others joins clear (no_lex_fault (statements (s.here ++ before)) s.first.no_fault) s.whole;
-  no_fault = s.first.no_fault;
-}
+no_memory : {C : Type 0} (text : List ℕ) → no_end text ≡ Some Memory → C
+no_memory text e = by_test (is_over text) e
+  where
+    by_test : {C : Type 0} (b : Bool) → (if b then None else Some (At NE (line_after text))) ≡ Some Memory → C
+    by_test true e = absurd cc
+    by_test false e = absurd cc
 
-no_more : (rest : List ℕ) → length rest < 1 → rest ≡ []
-no_more [] short = refl
-no_more (b ∷ rest) short = absurd (omega (arith, short))
+-- the source was taken, and what comes behind it
+pub passes_on : EndsJoin → (before bytes : List ℕ) (others : List (List ℕ)) (offset : ℕ) (r : Result Bool AsmFault) (pass new : Pass) → length bytes ≤ offset → pass.waiting ≡ None
+    → PassesTo before (has_next others) [] bytes offset (Ok tt) pass → GoesOn others pass.lexer r new.lexer new.ended → new.assembler ≡ pass.assembler → new.waiting ≡ pass.waiting
+    → PassesSource before (text_of bytes) others r new
+passes_on law before bytes others offset r pass new long none passes goes same waiting = by_result r (reaches law before (text_of bytes) others r pass.lexer new.lexer pass.ended new.ended (λ s. IsBehind new.waiting new.assembler s) stands goes)
+  where
+    stands : Stands pass.lexer pass.ended before (has_next others) (text_of bytes) false (λ s. IsBehind new.waiting new.assembler s)
+    stands =
+        stands_map pass.lexer pass.ended before (has_next others) (text_of bytes) false (λ s. IsBehind pass.waiting pass.assembler s) (λ s. IsBehind new.waiting new.assembler s)
+        (λ s is. subst (λ w. IsBehind w new.assembler s) (sym waiting) (subst (λ (a : asm.Progress). IsBehind pass.waiting a s) (sym same) is))
+        (subst (λ t. HasPassed pass before (has_next others) t false) (all_taken [] bytes offset long) passes)
 
-pub first_read : (before text rest : List ℕ) (others : List (List ℕ)) (lexer : lex.Progress) (assembler : Progress) → EndsJoin → IsClear before → length rest < 1
-    → Stands before text rest lexer assembler → PassesSource before text others (Ok true) lexer assembler
-first_read before text rest others lexer assembler law clear short s =
-    let none = no_lex_fault (statements (s.here ++ before)) s.first.no_fault in
-    let is : s.here ≡ text = ap (text_from s.here) (sym (no_more rest short)) ∙ s.whole in
-    (all_read before text s.here others lexer law clear none is s.read, subst (λ t. IsFirst assembler (statements (t ++ before))) is s.first)
+    by_result : (q : Result Bool AsmFault) → Reaches before (text_of bytes) others q new.lexer new.ended (λ s. IsBehind new.waiting new.assembler s) → PassesSource before (text_of bytes) others q new
+    by_result (Ok true) to = (to.0, (to.1.0, (to.1.1, to.1.2, waiting ∙ none)))
+    by_result (Ok false) to = (to.0, (to.1.0, waits new (statements (join_of (text_of bytes ∷ others) ++ before)) (waiting ∙ none) to.1.1, waiting ∙ none))
+    by_result (Err (At code line)) to = ap (λ o. first_of o (no_end (join_of (text_of bytes ∷ others) ++ before))) (waits new (statements (join_of (text_of bytes ∷ others) ++ before)) (waiting ∙ none) to.1).no_fault ∙ to.0
+    by_result (Err Memory) to = no_memory (join_of (text_of bytes ∷ others) ++ before) to.0
+
+-- a fault was met in the source
+pub passes_not : JoinGoesOn → StatementsStay → (before bytes : List ℕ) (others : List (List ℕ)) (offset : ℕ) (f : AsmFault) (new : Pass)
+    → PassesTo before (has_next others) [] bytes offset (Err f) new → PassesSource before (text_of bytes) others (Err f) new
+passes_not joins stay before bytes others offset (At code line) new tells = ap (λ o. first_of o (no_end (join_of (text_of bytes ∷ others) ++ before))) (tells [] others refl)
+passes_not joins stay before bytes others offset Memory new has =
+    let later = later_of bytes offset in
+    let at = stands_behind joins stay new.lexer new.ended before (text_of bytes) (text_from [] (take offset bytes)) later.0 others (λ s. IsBehind new.waiting new.assembler s) later.1 has in
+    ran_out_by _ new.waiting new.assembler at.0 at.1.0 at.1.1
 
 -- ## The second pass
 
-pub second_paused : (before text rest : List ℕ) (others : List (List ℕ)) (whole : Source) (old new : lex.Progress) (pairs after : List (ℕ × ℕ)) (assembler moved : Progress) → PauseJoins
-    → IsClear before → 1 ≤ length rest → (s : StandsAgain whole before text rest old pairs assembler) → old.may_pause ≡ has_next others
-    → MakesByte whole (length before) (s.here ++ before) (get_or rest 0 0) (Ok false) old new after moved → MakesSource whole before text others (Ok false) new after moved
-second_paused before text rest others whole old new pairs after assembler moved law clear long s may makes =
-    let none = no_lex_fault (statements (s.here ++ before)) s.made.2 in
-    let at = join_at before text s.here (behind_one rest) (get_or rest 0 0) others old new law clear none (with_byte s.here rest text long s.split) may makes.0 in
-    (at.0, subst (λ t. HasMade whole t after moved) (sym at.1) makes.1)
+pub is_within : (whole before bytes : List ℕ) (others : List (List ℕ)) → whole ≡ join_of (text_of bytes ∷ others) ++ before → IsWithin (statements whole) before (has_next others) (text_from [] bytes)
+is_within whole before bytes others is = ([], (others, (refl, ap statements is)))
 
--- the statements of the whole go on behind a byte, unless this ends the source
-pub split_byte : (before text rest : List ℕ) (others : List (List ℕ)) (old : lex.Progress) (pairs : List (ℕ × ℕ)) (assembler : Progress) → ByteGoesOn → IsClear before → 1 ≤ length rest
-    → (s : StandsAgain (statements (join_of (text ∷ others) ++ before)) before text rest old pairs assembler) → old.may_pause ≡ has_next others
-    → ends_source old (s.here ++ before) (get_or rest 0 0) ≡ false → Behind (statements (join_of (text ∷ others) ++ before)) (statements (get_or rest 0 0 ∷ s.here ++ before))
-split_byte before text rest others old pairs assembler law clear long s may quiet =
-    byte_goes before text s.here (behind_one rest) (get_or rest 0 0) others old law clear (no_lex_fault (statements (s.here ++ before)) s.made.2) (with_byte s.here rest text long s.split) may quiet
+pub makes_on : EndsJoin → (whole before bytes : List ℕ) (others : List (List ℕ)) (offset : ℕ) (r : Result Bool AsmFault) (pass new : Pass) (pairs : List (ℕ × ℕ)) → length bytes ≤ offset
+    → whole ≡ join_of (text_of bytes ∷ others) ++ before → no_end whole ≡ None
+    → MakesTo (statements whole) before (has_next others) [] bytes offset (Ok tt) pass pairs → GoesOn others pass.lexer r new.lexer new.ended → new.assembler ≡ pass.assembler → new.waiting ≡ pass.waiting
+    → MakesSource (statements whole) before (text_of bytes) others r new pairs
+makes_on law whole before bytes others offset r pass new pairs long is ends makes goes same waiting = by_result r (reaches law before (text_of bytes) others r pass.lexer new.lexer pass.ended new.ended (λ s. IsMade (statements whole) new pairs s) stands goes)
+  where
+    stands : Stands pass.lexer pass.ended before (has_next others) (text_of bytes) false (λ s. IsMade (statements whole) new pairs s)
+    stands =
+        stands_map pass.lexer pass.ended before (has_next others) (text_of bytes) false (λ s. IsMade (statements whole) pass pairs s) (λ s. IsMade (statements whole) new pairs s)
+        (λ s made. (waiting ∙ made.0, subst (λ (a : asm.Progress). IsSecond a (statements whole) s) (sym same) made.1, made.2))
+        (subst (λ t. HasMade (statements whole) pass pairs before (has_next others) t false) (all_taken [] bytes offset long) makes)
 
-pub second_failed : (before text rest : List ℕ) (others : List (List ℕ)) (f : AsmFault) (old new : lex.Progress) (pairs after : List (ℕ × ℕ)) (assembler moved : Progress) → JoinGoesOn → ByteGoesOn
-    → IsClear before → 1 ≤ length rest → (s : StandsAgain (statements (join_of (text ∷ others) ++ before)) before text rest old pairs assembler) → old.may_pause ≡ has_next others
-    → MakesByte (statements (join_of (text ∷ others) ++ before)) (length before) (s.here ++ before) (get_or rest 0 0) (Err f) old new after moved
-    → MakesSource (statements (join_of (text ∷ others) ++ before)) before text others (Err f) new after moved
-second_failed before text rest others (At code line) old new pairs after assembler moved joins law clear long s may makes =
-    let whole = statements (join_of (text ∷ others) ++ before) in
-    let goes = split_byte before text rest others old pairs assembler law clear long s may makes.1 in
-    ap (words_fault (values whole)) goes.1 ∙ words_stay (values whole) goes.0 (statements (get_or rest 0 0 ∷ s.here ++ before)) (At code line) makes.0
-second_failed before text rest others Memory old new pairs after assembler moved joins law clear long s may makes = record {
-  prefix = s.here ++ before;
-  behind = so_far before text s.here rest others joins clear (no_lex_fault (statements (s.here ++ before)) s.made.2) s.split;
-  no_fault = makes;
-}
+    never : {C : Type 0} (f : AsmFault) → no_end (join_of (text_of bytes ∷ others) ++ before) ≡ Some f → C
+    never f e = some_none (sym e ∙ ap no_end (sym is) ∙ ends)
 
-pub second_read : (before text rest : List ℕ) (others : List (List ℕ)) (whole : Source) (lexer : lex.Progress) (pairs : List (ℕ × ℕ)) (assembler : Progress) → EndsJoin → IsClear before
-    → length rest < 1 → StandsAgain whole before text rest lexer pairs assembler → MakesSource whole before text others (Ok true) lexer pairs assembler
-second_read before text rest others whole lexer pairs assembler law clear short s =
-    let none = no_lex_fault (statements (s.here ++ before)) s.made.2 in
-    let is : s.here ≡ text = ap (text_from s.here) (sym (no_more rest short)) ∙ s.split in
-    (all_read before text s.here others lexer law clear none is s.read, subst (λ t. HasMade whole (statements (t ++ before)) pairs assembler) is s.made)
+    by_result : (q : Result Bool AsmFault) → Reaches before (text_of bytes) others q new.lexer new.ended (λ s. IsMade (statements whole) new pairs s) → MakesSource (statements whole) before (text_of bytes) others q new pairs
+    by_result (Ok true) to = (to.0, (to.1.0, (to.1.1, to.1.2)))
+    by_result (Ok false) to = to.1.1
+    by_result (Err (At code line)) to = never (At code line) to.0
+    by_result (Err Memory) to = never Memory to.0
+
+pub makes_not : JoinGoesOn → StatementsStay → (whole before bytes : List ℕ) (others : List (List ℕ)) (offset : ℕ) (f : AsmFault) (new : Pass) (pairs : List (ℕ × ℕ))
+    → whole ≡ join_of (text_of bytes ∷ others) ++ before → MakesTo (statements whole) before (has_next others) [] bytes offset (Err f) new pairs → MakesSource (statements whole) before (text_of bytes) others (Err f) new pairs
+makes_not joins stay whole before bytes others offset (At code line) new pairs is tells = ap (λ t. words_fault (values (statements whole)) (statements t)) is ∙ tells [] others refl
+makes_not joins stay whole before bytes others offset Memory new pairs is has =
+    let later = later_of bytes offset in
+    let at = stands_behind joins stay new.lexer new.ended before (text_of bytes) (text_from [] (take offset bytes)) later.0 others (λ s. IsMade (statements whole) new pairs s) later.1 has in
+    record { prefix = at.0; behind = (at.1.0.0, ap statements is ∙ at.1.0.1); no_fault = at.1.1.1.words }
 
 -- ## Several sources
 
@@ -175,105 +226,80 @@ pub split_is : (sources : List (Bor (List ℕ))) (none : Bor (List ℕ)) → 1 �
 split_is [] none long = absurd (omega (arith, long))
 split_is (a ∷ others) none long = ap texts (first_one (a ∷ others) a long refl)
 
-may_go : (sources : List (Bor (List ℕ))) (none : Bor (List ℕ)) (may : Bool) → 1 ≤ length sources → may ≡ are_several (texts sources) → may ≡ has_next (texts (behind_one sources))
-may_go sources none may long e = e ∙ ap are_several (split_is sources none long)
-
--- what the first pass answers for the first of sources
-pub first_at : (sources : List (Bor (List ℕ))) (none : Bor (List ℕ)) (before : List ℕ) (result : Result Bool AsmFault) (old new : lex.Progress) (assembler after : Progress) → 1 ≤ length sources
-    → IsClear before → HasRead old (length before) before → IsFirst assembler (statements before) → old.may_pause ≡ are_several (texts sources)
-    → ((before : List ℕ) (others : List (List ℕ)) → IsClear before → HasRead old (length before) before → IsFirst assembler (statements before) → old.may_pause ≡ has_next others
-    → PassesSource before (text_of (get_or sources 0 none).now) others result new after)
-    → PassesSource before (text_of (get_or sources 0 none).now) (texts (behind_one sources)) result new after
-first_at sources none before result old new assembler after long clear read first may passes =
-    passes before (texts (behind_one sources)) clear read first (may_go sources none old.may_pause long may)
-
 pub joined_is : (sources : List (Bor (List ℕ))) (none : Bor (List ℕ)) (before whole : List ℕ) → 1 ≤ length sources → whole ≡ join_of (texts sources) ++ before
     → whole ≡ join_of (text_of (get_or sources 0 none).now ∷ texts (behind_one sources)) ++ before
 joined_is sources none before whole long e = e ∙ ap (λ l. join_of l ++ before) (split_is sources none long)
 
--- The first pass goes on with further sources.
-pub record GoesOn (whole : List ℕ) (others : List (List ℕ)) (lexer : lex.Progress) (assembler : Progress) : Type 0 where
-  pub cut : List ℕ
-  pub clear : IsClear cut
-  pub paused : HasPaused lexer cut
-  pub first : IsFirst assembler (statements cut)
-  pub joins : whole ≡ join_of others ++ cut
+-- what the first pass answers for the first of sources
+pub first_at : (sources : List (Bor (List ℕ))) (none : Bor (List ℕ)) (before : List ℕ) (r : Result Bool AsmFault) (pass new : Pass) → 1 ≤ length sources → BeginsPass before (texts sources) pass
+    → ((at : List ℕ) → BeginsPass at (text_of (get_or sources 0 none).now ∷ texts (behind_one sources)) pass → PassesSource at (text_of (get_or sources 0 none).now) (texts (behind_one sources)) r new)
+    → PassesSource before (text_of (get_or sources 0 none).now) (texts (behind_one sources)) r new
+first_at sources none before r pass new long begins passes = passes before (subst (λ l. BeginsPass before l pass) (split_is sources none long) begins)
 
--- The first pass has read all that counts.
-pub record HasAll (whole : List ℕ) (lexer : lex.Progress) (assembler : Progress) : Type 0 where
-  pub seam : ℕ
-  pub read : HasRead lexer seam whole
-  pub first : IsFirst assembler (statements whole)
+-- what the second pass answers
+pub second_at : (whole before : List ℕ) (sources : List (Bor (List ℕ))) (none : Bor (List ℕ)) (r : Result Bool AsmFault) (pass new : Pass) (pairs made : List (ℕ × ℕ)) → 1 ≤ length sources → no_end whole ≡ None
+    → whole ≡ join_of (texts sources) ++ before → BeginsAgain (statements whole) before (texts sources) pass pairs
+    → ((all at : List ℕ) → all ≡ join_of (text_of (get_or sources 0 none).now ∷ texts (behind_one sources)) ++ at → no_end all ≡ None
+    → BeginsAgain (statements all) at (text_of (get_or sources 0 none).now ∷ texts (behind_one sources)) pass pairs
+    → MakesSource (statements all) at (text_of (get_or sources 0 none).now) (texts (behind_one sources)) r new made)
+    → MakesSource (statements whole) before (text_of (get_or sources 0 none).now) (texts (behind_one sources)) r new made
+second_at whole before sources none r pass new pairs made long ends is begins makes =
+    makes whole before (joined_is sources none before whole long is) ends (subst (λ l. BeginsAgain (statements whole) before l pass pairs) (split_is sources none long) begins)
 
-goes_by : (before text whole : List ℕ) (others : List (List ℕ)) (goes : Bool) (lexer : lex.Progress) (assembler : Progress) → goes ≡ false → whole ≡ join_of (text ∷ others) ++ before
-    → PassesSource before text others (Ok goes) lexer assembler → GoesOn whole others lexer assembler
-goes_by before text whole others true lexer assembler e is passes = absurd cc
-goes_by before text whole others false lexer assembler e is passes = record {
-  cut = passes.0.cut;
-  clear = passes.0.clear;
-  paused = passes.0.paused;
-  first = passes.1;
-  joins = is ∙ passes.0.joins;
-}
+no_more : {A : Type 0} (rest : List A) → length rest < 1 → rest ≡ []
+no_more [] short = refl
+no_more (x ∷ rest) short = absurd (omega (arith, short))
 
-all_by : (before text whole : List ℕ) (others : List (List ℕ)) (goes : Bool) (lexer : lex.Progress) (assembler : Progress) → goes ≡ true → whole ≡ join_of (text ∷ others) ++ before
-    → PassesSource before text others (Ok goes) lexer assembler → HasAll whole lexer assembler
-all_by before text whole others true lexer assembler e is passes =
-    let same = is ∙ ap (λ t. t ++ before) passes.0.joins in
-    record {
-      seam = length before;
-      read = subst (HasRead lexer (length before)) (sym same) passes.0.read;
-      first = subst (λ t. IsFirst assembler (statements t)) (sym same) passes.1;
-    }
-all_by before text whole others false lexer assembler e is passes = absurd cc
+-- no source is left
+pub all_joined : (rest : List (Bor (List ℕ))) (before whole : List ℕ) → length rest < 1 → whole ≡ join_of (texts rest) ++ before → whole ≡ before
+all_joined rest before whole short is = is ∙ ap (λ (l : List (Bor (List ℕ))). join_of (texts l) ++ before) (no_more rest short)
 
-pub first_goes : (sources : List (Bor (List ℕ))) (none : Bor (List ℕ)) (before whole : List ℕ) (goes : Bool) (old new : lex.Progress) (assembler after : Progress) → 1 ≤ length sources
-    → IsClear before → HasRead old (length before) before → IsFirst assembler (statements before) → whole ≡ join_of (texts sources) ++ before → old.may_pause ≡ are_several (texts sources)
-    → goes ≡ false
-    → ((before : List ℕ) (others : List (List ℕ)) → IsClear before → HasRead old (length before) before → IsFirst assembler (statements before) → old.may_pause ≡ has_next others
-    → PassesSource before (text_of (get_or sources 0 none).now) others (Ok goes) new after)
-    → GoesOn whole (texts (behind_one sources)) new after
-first_goes sources none before whole goes old new assembler after long clear read first is may test passes =
-    goes_by before _ whole _ goes new after test (joined_is sources none before whole long is) (first_at sources none before (Ok goes) old new assembler after long clear read first may passes)
+-- the words of the whole
+pub words_made : (whole text : List ℕ) (pass : Pass) (pairs : List (ℕ × ℕ)) → whole ≡ text → IsMade (statements whole) pass pairs (statements text) → AreWordsOf whole pairs
+words_made whole text pass pairs is made =
+    let at = subst (λ t. IsMade (statements whole) pass pairs (statements t)) (sym is) made in
+    (at.1.words, at.2)
 
-pub first_all : (sources : List (Bor (List ℕ))) (none : Bor (List ℕ)) (before whole : List ℕ) (goes : Bool) (old new : lex.Progress) (assembler after : Progress) → 1 ≤ length sources
-    → IsClear before → HasRead old (length before) before → IsFirst assembler (statements before) → whole ≡ join_of (texts sources) ++ before → old.may_pause ≡ are_several (texts sources)
-    → goes ≡ true
-    → ((before : List ℕ) (others : List (List ℕ)) → IsClear before → HasRead old (length before) before → IsFirst assembler (statements before) → old.may_pause ≡ has_next others
-    → PassesSource before (text_of (get_or sources 0 none).now) others (Ok goes) new after)
-    → HasAll whole new after
-first_all sources none before whole goes old new assembler after long clear read first is may test passes =
-    all_by before _ whole _ goes new after test (joined_is sources none before whole long is) (first_at sources none before (Ok goes) old new assembler after long clear read first may passes)
+pub words_refused : (whole before text : List ℕ) (others : List (List ℕ)) (f : AsmFault) (pass : Pass) (pairs : List (ℕ × ℕ)) → MakesSource (statements whole) before text others (Err f) pass pairs → IsWordsFault whole f
+words_refused whole before text others (At code line) pass pairs told = told
+words_refused whole before text others Memory pass pairs ran = ran
 
-pub ended_well : (text : List ℕ) (result : Result (Unit {0}) AsmFault) (assembler : Progress) → EndsText text result → IsFirst assembler (statements text) → IfOk result (λ _. IsFirstOf text assembler)
-ended_well text (Ok done) assembler ends first = (first, ends)
-ended_well text (Err f) assembler ends first = tt
+pub second_refused : (whole before : List ℕ) (sources : List (Bor (List ℕ))) (none : Bor (List ℕ)) (f : AsmFault) (pass new : Pass) (pairs made : List (ℕ × ℕ)) → 1 ≤ length sources → no_end whole ≡ None
+    → whole ≡ join_of (texts sources) ++ before → BeginsAgain (statements whole) before (texts sources) pass pairs
+    → ((all at : List ℕ) → all ≡ join_of (text_of (get_or sources 0 none).now ∷ texts (behind_one sources)) ++ at → no_end all ≡ None
+    → BeginsAgain (statements all) at (text_of (get_or sources 0 none).now ∷ texts (behind_one sources)) pass pairs
+    → MakesSource (statements all) at (text_of (get_or sources 0 none).now) (texts (behind_one sources)) (Err f) new made)
+    → IsWordsFault whole f
+second_refused whole before sources none f pass new pairs made long ends is begins makes =
+    words_refused whole before (text_of (get_or sources 0 none).now) (texts (behind_one sources)) f new made (second_at whole before sources none (Err f) pass new pairs made long ends is begins makes)
 
-pub ended_badly : (text : List ℕ) (result : Result (Unit {0}) AsmFault) (assembler : Progress) → EndsText text result → IsFirst assembler (statements text) → IfErr result (λ f. IsFirstFault text f)
-ended_badly text (Ok done) assembler ends first = tt
-ended_badly text (Err (At code line)) assembler ends first = ap (λ o. first_of o (no_end text)) first.no_fault ∙ ends
-ended_badly text (Err Memory) assembler ends first = absurd ends
+-- the second pass begins with a lexer of no byte
+pub again_begins : (whole : List ℕ) (several : Bool) (lexer : lex.Progress) (pass : Pass) → HasRead lexer 0 [] → lexer.may_pause ≡ several → TurnsPass whole (Ok tt) pass → (pass.lexer ≡ lexer) × (pass.ended ≡ false)
+    → (pass.ended ≡ false) × Counts pass.lexer [] several [] (λ source. IsMade (statements whole) pass [] source)
+again_begins whole several lexer pass read may turns is = (
+  is.1,
+  record {
+    read = subst (λ (l : lex.Progress). HasRead l 0 []) (sym is.0) read;
+    may_pause = ap (λ (l : lex.Progress). l.may_pause) is.0 ∙ may;
+    clear = (refl, refl);
+    fine = ap first_fault nothing_read;
+    at = subst (λ s. IsMade (statements whole) pass [] s) (sym nothing_read) turns.1;
+  },
+)
 
-pub failed_first : (before text whole : List ℕ) (others : List (List ℕ)) (f : AsmFault) (lexer : lex.Progress) (assembler : Progress) → whole ≡ join_of (text ∷ others) ++ before
-    → PassesSource before text others (Err f) lexer assembler → IsFirstFault whole f
-failed_first before text whole others (At code line) lexer assembler is told =
-    ap (λ o. first_of o (no_end whole)) (ap (λ t. first_order (statements t)) is ∙ told)
-failed_first before text whole others Memory lexer assembler is told = subst (λ t. RanOut (statements t)) (sym is) told
+pub second_fault : {A : Type 0} (text : List ℕ) (r : Result A AsmFault) (pass : Pass) → IfErr r (λ f. IsWordsFault text f) → TurnsPass text (Ok tt) pass → IfErr r (λ f. IsFaultOf text f)
+second_fault text (Ok value) pass told turns = tt
+second_fault text (Err f) pass told turns = met_second text f pass.assembler told turns.0 turns.1.1
 
-pub failed_second : (before text whole : List ℕ) (others : List (List ℕ)) (f : AsmFault) (lexer : lex.Progress) (pairs : List (ℕ × ℕ)) (assembler : Progress)
-    → MakesSource (statements whole) before text others (Err f) lexer pairs assembler → IsWordsFault whole f
-failed_second before text whole others (At code line) lexer pairs assembler told = told
-failed_second before text whole others Memory lexer pairs assembler told = told
+-- ## From one source to the next
 
--- what the second pass answers for the first of sources
-pub second_at : (sources : List (Bor (List ℕ))) (none : Bor (List ℕ)) (before whole : List ℕ) (result : Result Bool AsmFault) (old new : lex.Progress) (pairs made : List (ℕ × ℕ)) (assembler after : Progress)
-    → 1 ≤ length sources → IsClear before → HasRead old (length before) before → HasMade (statements whole) (statements before) pairs assembler → whole ≡ join_of (texts sources) ++ before
-    → old.may_pause ≡ are_several (texts sources)
-    → ((before : List ℕ) (others : List (List ℕ)) → IsClear before → HasRead old (length before) before
-    → HasMade (statements (join_of (text_of (get_or sources 0 none).now ∷ others) ++ before)) (statements before) pairs assembler → old.may_pause ≡ has_next others
-    → MakesSource (statements (join_of (text_of (get_or sources 0 none).now ∷ others) ++ before)) before (text_of (get_or sources 0 none).now) others result new made after)
-    → MakesSource (statements whole) before (text_of (get_or sources 0 none).now) (texts (behind_one sources)) result new made after
-second_at sources none before whole result old new pairs made assembler after long clear read has is may makes =
-    let joined = joined_is sources none before whole long is in
-    subst (λ t. MakesSource (statements t) before (text_of (get_or sources 0 none).now) (texts (behind_one sources)) result new made after) (sym joined)
-    (makes before (texts (behind_one sources)) clear read (subst (λ t. HasMade (statements t) (statements before) pairs assembler) joined has) (may_go sources none old.may_pause long may))
+pub goes_to : (others : List (Bor (List ℕ))) (old new : lex.Progress) (last ended : Bool) → nat_eq (length others) 0 ≡ false → last ≡ not (are_several (texts others)) → EndsSource old last (Ok tt) new ended
+    → GoesOn (texts others) old (Ok (not ended)) new ended
+goes_to [] old new last ended some is ends = absurd (true≢false some)
+goes_to (next ∷ others) old new last true some is ends = (subst (λ l. EndsSource old l (Ok tt) new true) is ends, refl)
+goes_to (next ∷ others) old new last false some is ends = (subst (λ l. EndsSource old l (Ok tt) new false) is ends, refl)
+
+pub goes_not : (others : List (Bor (List ℕ))) (old new : lex.Progress) (last ended : Bool) (f : AsmFault) → nat_eq (length others) 0 ≡ false → last ≡ not (are_several (texts others)) → EndsSource old last (Err f) new ended
+    → GoesOn (texts others) old (Err f) new ended
+goes_not [] old new last ended f some is ends = absurd (true≢false some)
+goes_not (next ∷ others) old new last ended f some is ends = subst (λ l. EndsSource old l (Err f) new ended) is ends

@@ -4,6 +4,7 @@ pub mod Words
 pub mod Faults
 pub mod Progress
 pub mod Passes
+pub mod Passing
 pub mod Texts
 pub mod Laws
 pub mod PassSteps

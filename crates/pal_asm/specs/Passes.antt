@@ -77,10 +77,10 @@ pub record IsSecond (assembler : Progress) (whole older : Source) : Type 0 where
   pub goes_on : assembler.failed ≡ None
 
 -- what the turn to the second pass answers
-abbrev pub TurnsOver : Source → Result (Unit {0}) AsmFault → Progress → Progress → Type 0
-TurnsOver whole (Ok nothing) old new = IsSecond new whole []
-TurnsOver whole (Err (At code line)) old new = (no_word whole ≡ Some (At code line)) × HasFailed new (At code line)
-TurnsOver whole (Err Memory) old new = ⊥
+abbrev pub BeginsSecond : Source → Result (Unit {0}) AsmFault → Progress → Progress → Type 0
+BeginsSecond whole (Ok nothing) old new = IsSecond new whole []
+BeginsSecond whole (Err (At code line)) old new = (no_word whole ≡ Some (At code line)) × HasFailed new (At code line)
+BeginsSecond whole (Err Memory) old new = ⊥
 
 -- what is handed out for a statement, behind what was handed out for those before it
 abbrev pub with_handed : List (ℕ × ℕ) → Option (ℕ × ℕ) → List (ℕ × ℕ)
@@ -96,12 +96,12 @@ AnswersSecond whole older statement (Err (At code line)) old new =
 AnswersSecond whole older statement (Err Memory) old new = ⊥
 
 -- the passes have turned, and go on
-abbrev pub HasTurned : Progress → Type 0
-HasTurned assembler = (assembler.failed ≡ None) × (assembler.has_turned ≡ true)
+abbrev pub HasBegunSecond : Progress → Type 0
+HasBegunSecond assembler = (assembler.failed ≡ None) × (assembler.has_turned ≡ true)
 
 -- the first pass goes on
-abbrev pub HasNotTurned : Progress → Type 0
-HasNotTurned assembler = (assembler.failed ≡ None) × (assembler.has_turned ≡ false)
+abbrev pub HasNotBegunSecond : Progress → Type 0
+HasNotBegunSecond assembler = (assembler.failed ≡ None) × (assembler.has_turned ≡ false)
 
 -- the same fault for good
 abbrev pub StaysFailed : {A : Type 0} → Result A AsmFault → Progress → Progress → Type 0

@@ -6,7 +6,7 @@ ghost use Rattle.pal_asm.specs.declared.faults.AsmFault.TheVariants.{At};
 ghost use Rattle.pal_asm.specs.Places.{Source};
 ghost use Rattle.pal_asm.specs.Faults.{past};
 ghost use Rattle.pal_asm.specs.PassSteps.{Moves, MakesBody, spot_by, spot_fault, with_tags_again, with_body_again, SetsValue};
-ghost use Rattle.pal_asm.specs.Passes.{IsFirst, IsSecond, AnswersFirst, IsJudged, AnswersSecond, TurnsOver, HasTurned, HasNotTurned, StaysFailed};
+ghost use Rattle.pal_asm.specs.Passes.{IsFirst, IsSecond, AnswersFirst, IsJudged, AnswersSecond, BeginsSecond, HasBegunSecond, HasNotBegunSecond, StaysFailed};
 
 use crate::again::{made, set_tags};
 use crate::names::{definitions, judge_tags, pass};
@@ -86,7 +86,7 @@ impl Assembler {
         ensures judged { (older : Source) → IsFirst self.old older → IsJudged older statement.now result }
         ensures paused { (older : Source) → is_pause_body statement.now.body ≡ true → IsFirst self.old older
             → (result ≡ Ok tt) × (self.new ≡ self.old) }
-        ensures turned { HasTurned self.old → (result ≡ Ok tt) × (self.new ≡ self.old) }
+        ensures turned { HasBegunSecond self.old → (result ≡ Ok tt) × (self.new ≡ self.old) }
         ensures failed { StaysFailed result self.old self.new }
     {
         if let Some(fault) = self.failed {
@@ -118,9 +118,9 @@ impl Assembler {
 
     /// Turns from the first pass to the second, where `$` ended the last statement; a source with no word is answered NW
     /// with the line of that `$` (this project's profile of PAL III). It takes no memory, and a second turn changes nothing.
-    pub fn turn_over(&mut self) -> Result<(), AsmFault>
-        ensures turns { (whole : Source) → IsFirst self.old whole → TurnsOver whole result self.old self.new }
-        ensures turned { HasTurned self.old → (result ≡ Ok tt) × (self.new ≡ self.old) }
+    pub fn begin_second(&mut self) -> Result<(), AsmFault>
+        ensures turns { (whole : Source) → IsFirst self.old whole → BeginsSecond whole result self.old self.new }
+        ensures turned { HasBegunSecond self.old → (result ≡ Ok tt) × (self.new ≡ self.old) }
         ensures failed { StaysFailed result self.old self.new }
     {
         if let Some(fault) = self.failed {
@@ -148,7 +148,7 @@ impl Assembler {
             → AnswersSecond whole older (with_tokens tokens statement.now) result self.old self.new }
         ensures paused { (whole older : Source) → is_pause_body statement.now.body ≡ true
             → IsSecond self.old whole older → (result ≡ Ok None) × (self.new ≡ self.old) }
-        ensures unturned { HasNotTurned self.old → (result ≡ Ok None) × (self.new ≡ self.old) }
+        ensures unturned { HasNotBegunSecond self.old → (result ≡ Ok None) × (self.new ≡ self.old) }
         ensures failed { StaysFailed result self.old self.new }
     {
         if let Some(fault) = self.failed {

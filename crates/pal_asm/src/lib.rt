@@ -11,11 +11,15 @@ mod assemblers;
 mod expressions;
 mod faults;
 pub mod laws;
+mod making;
 mod names;
+mod passing;
 mod spots;
 mod texts;
 mod words;
 
 pub use assemblers::Assembler;
 pub use faults::{AsmFault, Code};
+pub use making::make_text;
+pub use passing::{Pass, end_source, pass_text, settle, turn_pass};
 pub use texts::{assemble, assemble_all};

@@ -1,23 +1,22 @@
 //! Whole sources, one or several, in each pass from their first byte on.
 
-ghost use Rattle.std.specs.Prelude.{◌≡◌, ℕ, ◌≤◌, IfOk, IfErr, true, false, None, Ok, length, List, ◌++◌, ◌∷◌, []};
+ghost use Rattle.std.specs.Prelude.{◌≡◌, ℕ, IfOk, IfErr, None, List, ◌++◌, ◌∷◌, []};
 ghost use Rattle.pal_lex.specs.Text.{text_of};
 ghost use Rattle.pal_lex.specs.Statements.{statements};
-ghost use Rattle.pal_lex.specs.Joins.{IsClear, join_of};
-ghost use Rattle.pal_lex.specs.Laws.{PauseIsBad, has_next};
-ghost use Rattle.pal_lex.specs.Reading.{HasRead, HasPaused, is_pause_body, with_tokens};
-ghost use Rattle.pal_lex.specs.Progress.{setting};
-ghost use Rattle.pal_lex.specs.declared.pieces.Token.{Token};
-ghost use Rattle.pal_asm.specs.Places.{Source};
-ghost use Rattle.pal_asm.specs.Faults.{first_order};
-ghost use Rattle.pal_asm.specs.Passes.{with_handed, IsFirst, IsSecond};
-ghost use Rattle.pal_asm.specs.Texts.{texts, Behind, ArePairsOf, IsFaultOf};
-ghost use Rattle.pal_asm.specs.TextSteps.{are_several, ends_source, HasMade, ReadsTo, PassesStatement, PassesByte, MakesStatement, MakesByte, EndsText, PassesSource, MakesSource, BeginsNext, IsFirstOf, IsFirstFault, AreWordsOf, IsWordsFault};
+ghost use Rattle.pal_lex.specs.Joins.{join_of};
+ghost use Rattle.pal_lex.specs.Reading.{HasRead};
+ghost use Rattle.pal_asm.specs.Faults.{no_end};
+ghost use Rattle.pal_asm.specs.Passing.{IsMade};
+ghost use Rattle.pal_asm.specs.Texts.{texts, ArePairsOf, IsFaultOf};
+ghost use Rattle.pal_asm.specs.TextSteps.{are_several, HasPassedAll, BeginsPass, BeginsAgain, PassesSource, MakesSource, GoesOn, IsFirstFault, AreWordsOf, IsWordsFault};
 
+use crate::laws::statements_stay;
+use crate::making::make_text;
+use crate::passing::{Pass, end_source, pass_text, turn_pass};
 use crate::{AsmFault, Assembler};
-use pal_lex::laws::{byte_goes_on, join_goes_on, pause_is_bad, pause_joins, source_ends_join};
-use pal_lex::{Body, Lexer, Statement};
-use std::alloc::{AllocError, Global};
+use pal_lex::Lexer;
+use pal_lex::laws::{join_goes_on, source_ends_join};
+use std::alloc::Global;
 use word12::{Cell, Word};
 
 /// The words of a source, each with its cell, in the order of the source; or its first fault with its line, 1 and up (PAL
@@ -39,11 +38,12 @@ pub fn assemble_all(alloc: Global, sources: &[&[u8]]) -> Result<Vec<(Cell, Word)
     ensures pairs { IfOk result (λ pairs. ArePairsOf (join_of (texts sources.now)) pairs.items) }
     ensures fault { IfErr result (λ fault. IsFaultOf (join_of (texts sources.now)) fault) }
 {
-    let mut assembler = Assembler::new(alloc);
-    first_pass(alloc, sources, &mut assembler)?;
-    match assembler.turn_over() {
-        Ok(()) => second_pass(alloc, sources, &mut assembler),
-        Err(no_word) => Err(no_word),
+    let mut pass = begin(alloc, sources);
+    first_pass(&mut pass, sources)?;
+    let lexer = lexer_of(alloc, sources);
+    match turn_pass(&mut pass, lexer) {
+        Ok(()) => second_pass(alloc, sources, &mut pass),
+        Err(fault) => Err(fault),
     }
 }
 
@@ -65,228 +65,103 @@ fn lexer_of(alloc: Global, sources: &[&[u8]]) -> Lexer
     Lexer::without_tokens(alloc)
 }
 
-/// Begins the next source, behind one that has paused.
-fn begin(lexer: &mut Lexer, sources: &[&[u8]]) -> Result<(), AsmFault>
-    ensures { (text : List ℕ) → HasPaused lexer.old text
-        → BeginsNext text (texts sources.now) result lexer.new }
+/// A first pass over sources, of which it has read nothing.
+fn begin(alloc: Global, sources: &[&[u8]]) -> Pass
+    ensures { BeginsPass [] (texts sources.now) result }
 {
-    lexer.next_source(!are_several(sources))?;
-    Ok(())
+    Pass {
+        lexer: lexer_of(alloc, sources),
+        assembler: Assembler::new(alloc),
+        waiting: None,
+        ended: false,
+    }
 }
 
-/// Takes bytes that end no statement, and answers those behind them.
-fn read_on<'a>(lexer: &mut Lexer, bytes: &'a [u8]) -> &'a [u8]
-    ensures read { (seam : ℕ) (before here : List ℕ) → HasRead lexer.old seam (here ++ before)
-        → ReadsTo seam before here bytes.now result.now lexer.new }
-    ensures range { length result.now ≤ length bytes.now }
-    ensures setting { setting lexer.new ≡ setting lexer.old }
+/// Goes on with the first of these sources behind one that was read, and answers whether it counts. It takes no memory.
+fn go_on(pass: &mut Pass, others: &[&[u8]]) -> Result<bool, AsmFault>
+    ensures goes { GoesOn (texts others.now) pass.old.lexer result pass.new.lexer pass.new.ended }
+    ensures same { (pass.new.assembler ≡ pass.old.assembler) × (pass.new.waiting ≡ pass.old.waiting) }
 {
-    bytes.split_at(lexer.read_on(bytes)).1
-}
-
-/// Whether a statement is PAUSE.
-fn is_pause(statement: &Statement) -> bool
-    ensures { result ≡ is_pause_body statement.now.body }
-{
-    matches!(statement.body, Body::Pause)
-}
-
-/// Whether a source has its `$`.
-fn ended(lexer: &Lexer) -> Result<(), AsmFault>
-    ensures { (seam : ℕ) (text : List ℕ) → HasRead lexer.now seam text → first_order (statements text) ≡ None
-        → EndsText text result }
-{
-    lexer.end()?;
-    Ok(())
-}
-
-/// Takes a statement more in the first pass, and answers whether the source goes on.
-fn first_statement(assembler: &mut Assembler, statement: &Statement) -> Result<bool, AsmFault>
-    ensures { (older : Source) (tokens : List Token) → IsFirst assembler.old older
-        → PassesStatement (is_pause_body statement.now.body) older (with_tokens tokens statement.now)
-        result assembler.old assembler.new }
-{
-    if is_pause(statement) {
+    if others.is_empty() {
         return Ok(false);
     }
-    assembler.first(statement)?;
-    Ok(true)
-}
-
-/// Takes a byte more in the first pass, and answers whether the source goes on.
-fn first_byte(lexer: &mut Lexer, assembler: &mut Assembler, byte: u8) -> Result<bool, AsmFault>
-    ensures passed { (seam : ℕ) (text : List ℕ) → PauseIsBad → HasRead lexer.old seam text
-        → IsFirst assembler.old (statements text)
-        → PassesByte seam text byte result lexer.old lexer.new assembler.new }
-    ensures setting { setting lexer.new ≡ setting lexer.old }
-{
-    match lexer.push(byte) {
-        Ok(answer) => match answer {
-            Some(statement) => first_statement(assembler, &statement),
-            None => Ok(true),
-        },
-        Err(fault) => Err(AsmFault::from(fault)),
+    match end_source(pass, !are_several(others)) {
+        Ok(()) => Ok(!pass.ended),
+        Err(fault) => Err(fault),
     }
 }
 
-/// Takes a source in the first pass up to its PAUSE, and answers whether it has none.
-fn first_source(
-    lexer: &mut Lexer,
-    assembler: &mut Assembler,
-    source: &[u8],
-) -> Result<bool, AsmFault>
-    ensures { (before : List ℕ) (others : List (List ℕ)) → IsClear before
-        → HasRead lexer.old (length before) before → IsFirst assembler.old (statements before)
-        → lexer.old.may_pause ≡ has_next others
-        → PassesSource before (text_of source.now) others result lexer.new assembler.new }
+/// Takes a source in the first pass, and answers whether it goes on with the next of the others.
+fn first_source(pass: &mut Pass, source: &[u8], others: &[&[u8]]) -> Result<bool, AsmFault>
+    ensures { (before : List ℕ) → BeginsPass before (text_of source.now ∷ texts others.now) pass.old
+        → PassesSource before (text_of source.now) (texts others.now) result pass.new }
 {
-    pause_is_bad();
     join_goes_on();
-    byte_goes_on();
-    pause_joins();
     source_ends_join();
-    let mut rest = read_on(lexer, source);
-    while let [byte, others @ ..] = rest {
-        match first_byte(lexer, assembler, *byte) {
-            Ok(true) => rest = read_on(lexer, others),
-            Ok(false) => return Ok(false),
-            Err(fault) => return Err(fault),
-        }
+    statements_stay();
+    let mut offset = 0;
+    match pass_text(pass, source, &mut offset) {
+        Ok(()) => go_on(pass, others),
+        Err(fault) => Err(fault),
     }
-    Ok(true)
 }
 
 /// Takes all sources in the first pass.
-fn first_pass(alloc: Global, sources: &[&[u8]], assembler: &mut Assembler) -> Result<(), AsmFault>
-    requires { IsFirst assembler.old [] }
-    ensures passed { IfOk result (λ _. IsFirstOf (join_of (texts sources.now)) assembler.new) }
+fn first_pass(pass: &mut Pass, sources: &[&[u8]]) -> Result<(), AsmFault>
+    requires { BeginsPass [] (texts sources.now) pass.old }
+    ensures passed { IfOk result (λ _. HasPassedAll (join_of (texts sources.now)) pass.new) }
     ensures fault { IfErr result (λ fault. IsFirstFault (join_of (texts sources.now)) fault) }
 {
-    let mut lexer = lexer_of(alloc, sources);
     let mut rest = sources;
     while let [source, others @ ..] = rest {
-        match first_source(&mut lexer, assembler, source) {
-            Ok(true) => return ended(&lexer),
-            Ok(false) => match begin(&mut lexer, others) {
-                Ok(()) => rest = others,
-                Err(fault) => return Err(fault),
-            },
+        match first_source(pass, source, others) {
+            Ok(true) => rest = others,
+            Ok(false) => return Ok(()),
             Err(fault) => return Err(fault),
         }
     }
-    ended(&lexer)
+    Ok(())
 }
 
-/// Puts a pair behind others, if there is one.
-fn keep(pairs: &mut Vec<(Cell, Word)>, pair: Option<(Cell, Word)>) -> Result<(), AllocError>
-    ensures { IfOk result (λ _. pairs.new.items ≡ with_handed pairs.old.items pair) }
-{
-    match pair {
-        Some(pair) => {
-            pairs.push(pair)?;
-            Ok(())
-        }
-        None => Ok(()),
-    }
-}
-
-/// Takes a statement more in the second pass, and answers whether the source goes on.
-fn second_statement(
-    assembler: &mut Assembler,
-    pairs: &mut Vec<(Cell, Word)>,
-    statement: &Statement,
-) -> Result<bool, AsmFault>
-    ensures { (whole older : Source) (tokens : List Token)
-        → (is_pause_body statement.now.body ≡ false
-        → Behind whole (Ok (with_tokens tokens statement.now) ∷ older))
-        → HasMade whole older pairs.old.items assembler.old
-        → MakesStatement (is_pause_body statement.now.body) whole older (with_tokens tokens statement.now)
-        result pairs.new.items assembler.new }
-{
-    if is_pause(statement) {
-        return Ok(false);
-    }
-    match assembler.second(statement) {
-        Ok(pair) => match keep(pairs, pair) {
-            Ok(()) => Ok(true),
-            Err(refused) => Err(AsmFault::from(refused)),
-        },
-        Err(word) => Err(word),
-    }
-}
-
-/// Takes a byte more in the second pass, and answers whether the source goes on.
-fn second_byte(
-    lexer: &mut Lexer,
-    assembler: &mut Assembler,
-    pairs: &mut Vec<(Cell, Word)>,
-    byte: u8,
-) -> Result<bool, AsmFault>
-    ensures made { (whole : Source) (seam : ℕ) (text : List ℕ) → PauseIsBad
-        → (ends_source lexer.old text byte ≡ false → Behind whole (statements (byte ∷ text)))
-        → HasRead lexer.old seam text → HasMade whole (statements text) pairs.old.items assembler.old
-        → MakesByte whole seam text byte result lexer.old lexer.new pairs.new.items assembler.new }
-    ensures setting { setting lexer.new ≡ setting lexer.old }
-{
-    match lexer.push(byte) {
-        Ok(answer) => match answer {
-            Some(statement) => second_statement(assembler, pairs, &statement),
-            None => Ok(true),
-        },
-        Err(fault) => Err(AsmFault::from(fault)),
-    }
-}
-
-/// Takes a source in the second pass up to its PAUSE, and answers whether it has none.
+/// Takes a source in the second pass, and answers whether it goes on with the next of the others.
 fn second_source(
-    lexer: &mut Lexer,
-    assembler: &mut Assembler,
+    pass: &mut Pass,
     pairs: &mut Vec<(Cell, Word)>,
     source: &[u8],
+    others: &[&[u8]],
 ) -> Result<bool, AsmFault>
-    ensures { (before : List ℕ) (others : List (List ℕ)) → IsClear before
-        → HasRead lexer.old (length before) before
-        → HasMade (statements (join_of (text_of source.now ∷ others)
-        ++ before)) (statements before) pairs.old.items assembler.old → lexer.old.may_pause ≡ has_next others
-        → MakesSource (statements (join_of (text_of source.now ∷ others)
-        ++ before)) before (text_of source.now) others result lexer.new pairs.new.items assembler.new }
+    ensures { (whole before : List ℕ) → whole ≡ join_of (text_of source.now ∷ texts others.now) ++ before
+        → no_end whole ≡ None
+        → BeginsAgain (statements whole) before (text_of source.now ∷ texts others.now) pass.old pairs.old.items
+        → MakesSource (statements whole) before (text_of source.now) (texts others.now) result pass.new pairs.new.items }
 {
-    pause_is_bad();
     join_goes_on();
-    byte_goes_on();
-    pause_joins();
     source_ends_join();
-    let mut rest = read_on(lexer, source);
-    while let [byte, others @ ..] = rest {
-        match second_byte(lexer, assembler, pairs, *byte) {
-            Ok(true) => rest = read_on(lexer, others),
-            Ok(false) => return Ok(false),
-            Err(fault) => return Err(fault),
-        }
+    statements_stay();
+    let mut offset = 0;
+    match make_text(pass, pairs, source, &mut offset) {
+        Ok(()) => go_on(pass, others),
+        Err(fault) => Err(fault),
     }
-    Ok(true)
 }
 
 /// Takes all sources in the second pass.
 fn second_pass(
     alloc: Global,
     sources: &[&[u8]],
-    assembler: &mut Assembler,
+    pass: &mut Pass,
 ) -> Result<Vec<(Cell, Word)>, AsmFault>
-    requires { IsSecond assembler.old (statements (join_of (texts sources.now))) [] }
+    requires ends { no_end (join_of (texts sources.now)) ≡ None }
+    requires begins { BeginsAgain (statements (join_of (texts sources.now))) [] (texts sources.now) pass.old [] }
     ensures pairs { IfOk result (λ pairs. AreWordsOf (join_of (texts sources.now)) pairs.items) }
     ensures fault { IfErr result (λ fault. IsWordsFault (join_of (texts sources.now)) fault) }
 {
-    let mut lexer = lexer_of(alloc, sources);
     let mut pairs = Vec::new(alloc);
     let mut rest = sources;
     while let [source, others @ ..] = rest {
-        match second_source(&mut lexer, assembler, &mut pairs, source) {
-            Ok(true) => return Ok(pairs),
-            Ok(false) => match begin(&mut lexer, others) {
-                Ok(()) => rest = others,
-                Err(fault) => return Err(fault),
-            },
+        match second_source(pass, &mut pairs, source, others) {
+            Ok(true) => rest = others,
+            Ok(false) => return Ok(pairs),
             Err(fault) => return Err(fault),
         }
     }

@@ -15,13 +15,15 @@ use Rattle.pal_asm.specs.Faults.{first_of, first_order, no_end, no_word, words_f
 use Rattle.pal_asm.specs.Laws.{HasWords}
 use Rattle.pal_asm.specs.declared.faults.AsmFault.{AsmFault}
 use Rattle.pal_asm.specs.declared.faults.AsmFault.TheVariants.{At, Memory}
-use Rattle.pal_blocks.specs.declared.passing.Pass.{Pass}
+use Rattle.pal_asm.specs.declared.passing.Pass.{Pass}
 use Rattle.pal_blocks.specs.declared.assembling.Assembling.{Assembling}
 use Rattle.pal_blocks.specs.Blocks.{blocks_in, blocks_among, first_blocks, AreFiles, assembling_turns, turn_of}
 use Rattle.pal_blocks.specs.Sources.{newest_first, IsTapeOfSources}
 use Rattle.pal_blocks.specs.Schedule.{statements_in, joined_blocks, from_turn, known_at}
-use Rattle.pal_blocks.specs.Passing.{text_in, added, IsOver, IsMade}
-use Rattle.pal_blocks.specs.Steps.{TellsJoinFault, IsWithin, HasMade, MakesBlock, EndsSource, HoldsTape}
+use Rattle.pal_blocks.specs.Passing.{text_in, added, IsOver}
+use Rattle.pal_asm.specs.Passing.{IsMade}
+use Rattle.pal_asm.specs.Passing.{TellsJoinFault, IsWithin, HasMade, EndsSource}
+use Rattle.pal_blocks.specs.Steps.{MakesBlock, HoldsTape}
 use Rattle.pal_blocks.specs.Progress.{due_of, block_of, Place, GoesOn, IsInPass, IsSecondPass, IsAtEnd, IsAssembling}
 use Rattle.pal_blocks.specs.Turns.{TakesBlock, MakesTarget}
 use Rattle.pal_blocks.proofs.BeginLemmas.{as_many}

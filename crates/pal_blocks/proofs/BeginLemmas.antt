@@ -12,7 +12,7 @@ use Rattle.pal_asm.specs.declared.faults.AsmFault.{AsmFault}
 use Rattle.pal_blocks.specs.Blocks.{blocks_among, blocks_of_each, first_blocks, first_among, AreFiles, assembling_turns, turn_of}
 use Rattle.pal_blocks.specs.Sources.{newest_first}
 use Rattle.pal_blocks.specs.Schedule.{joined_blocks, from_turn, known_again, known_at}
-use Rattle.pal_blocks.specs.Passing.{IsBehind, Counts}
+use Rattle.pal_asm.specs.Passing.{IsBehind, Counts}
 use Rattle.pal_blocks.specs.Progress.{Place, GoesOn, text_taken, IsAssembling}
 use Rattle.pal_blocks.specs.declared.assembling.Assembling.{Assembling}
 

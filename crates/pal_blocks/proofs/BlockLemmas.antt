@@ -1,25 +1,33 @@
 -- A pass in a source, a block at a time.
-use Rattle.std.proofs.Common.{◌≡◌, ◌∙◌, inl, inr, ℕ, ◌≤◌, Bool, true, false, true≢false, if◌then◌else◌, Some, None, List, [], ◌++◌, length, take, drop, Result, Ok, Err, refl, ap, sym, subst, arith}
+use Rattle.std.proofs.Common.{◌≡◌, ◌∙◌, inl, inr, ℕ, ◌≤◌, Bool, true, false, true≢false, if◌then◌else◌, None, List, [], ◌∷◌, ◌++◌, length, take, drop, Result, Ok, Err, refl, ap, sym, subst, arith, append_assoc}
 use Rattle.char_pack.specs.Packing.{frames}
 use Rattle.char_pack.specs.Texts.{characters, is_ended}
 use Rattle.pal_lex.specs.Text.{text_from}
-use Rattle.pal_lex.specs.Laws.{JoinGoesOn}
 use Rattle.pal_lex.specs.Progress as lex
-use Rattle.pal_lex.specs.Reading.{with_tokens, is_pause_body}
-use Rattle.pal_lex.specs.declared.pieces.Token.{Token}
-use Rattle.pal_lex.specs.declared.phrases.Statement.{Statement}
-use Rattle.pal_asm.specs.Places.{Source}
-use Rattle.pal_asm.specs.Faults.{first_order}
-use Rattle.pal_asm.specs.Laws.{StatementsStay}
-use Rattle.pal_asm.specs.Passes.{IsFirst, AnswersFirst}
-use Rattle.pal_asm.specs.Progress as asm
+use Rattle.pal_lex.specs.Joins.{join_of}
+use Rattle.pal_asm.specs.Places.{Source, values}
+use Rattle.pal_asm.specs.Faults.{first_order, words_fault}
 use Rattle.pal_asm.specs.declared.faults.AsmFault.{AsmFault}
 use Rattle.pal_asm.specs.declared.faults.AsmFault.TheVariants.{At, Memory}
-use Rattle.pal_blocks.specs.declared.passing.Pass.{Pass}
-use Rattle.pal_blocks.specs.Passing.{text_in, added, Counts, Paused, Stands, IsBehind}
-use Rattle.pal_blocks.specs.Steps.{TellsJoinFault, HasPassed, Settles, PassesTo, PassesBlock}
-use Rattle.pal_blocks.proofs.TextLemmas.{JoinedCharacters, JoinedEnd, block_text, the_rest, all_taken}
-use Rattle.pal_blocks.proofs.PassLemmas.{paused_more, settled_by, not_settled, settle_tells}
+use Rattle.pal_asm.specs.declared.passing.Pass.{Pass}
+use Rattle.pal_blocks.specs.Passing.{text_in, added}
+use Rattle.pal_asm.specs.Passing.{Counts, Paused, Stands, IsBehind, TellsJoinFault, HasPassed, SettlesIn, PassesTo, HasMade, IsWithin, MakesTo}
+use Rattle.pal_blocks.specs.Steps.{PassesBlock, MakesBlock}
+use Rattle.pal_blocks.proofs.TextLemmas.{JoinedCharacters, JoinedEnd, block_text, from_behind, the_rest, all_taken}
+
+-- behind PAUSE anything may come
+pub paused_more : (lexer : lex.Progress) (prefix : List ℕ) (several : Bool) (here bytes : List ℕ) (Fits : Source → Type 0) → Paused lexer prefix several here Fits → Paused lexer prefix several (text_from here bytes) Fits
+paused_more lexer prefix several here bytes Fits p =
+    let rest = from_behind bytes here in
+    record {
+      cut = p.cut;
+      paused = p.paused;
+      clear = p.clear;
+      follows = p.follows;
+      joins = λ later next others.
+          ap (λ t. join_of (t ∷ next ∷ others) ++ prefix) (ap (λ t. later ++ t) rest.1 ∙ sym (append_assoc later rest.0 here)) ∙ p.joins (later ++ rest.0) next others;
+      at = p.at;
+    }
 
 -- the characters that a block adds where no control Z has come
 pub all_added : (given block text : List ℕ) → is_ended given ≡ false → text ≡ characters (frames block) → added given block ≡ text
@@ -86,41 +94,18 @@ skips_block chars ends lexer ended prefix several given block offset Fits done s
 
 -- ## The first pass
 
--- the assembler has taken a statement that waited
-pub statement_settled : (s : Statement) (old new : asm.Progress) (pass : Pass) (source : Source) → pass.waiting ≡ Some s
-    → ((older : Source) (tokens : List Token) → is_pause_body s.body ≡ false → IsFirst pass.assembler older → AnswersFirst older (with_tokens tokens s) (Ok tt) pass.assembler new)
-    → IsBehind pass.waiting pass.assembler source → IsFirst new source
-statement_settled s old new pass source is answers behind =
-    let b : IsBehind (Some s) pass.assembler source = subst (λ w. IsBehind w pass.assembler source) is behind in
-    subst (λ q. IsFirst new q) (sym b.1.1.0) (answers b.0 b.1.0 b.1.1.1 b.1.1.2)
-
--- the assembler has refused it
-pub statement_refused : (s : Statement) (new : asm.Progress) (pass : Pass) (source : Source) (f : AsmFault) → pass.waiting ≡ Some s
-    → ((older : Source) (tokens : List Token) → is_pause_body s.body ≡ false → IsFirst pass.assembler older → AnswersFirst older (with_tokens tokens s) (Err f) pass.assembler new)
-    → IsBehind pass.waiting pass.assembler source → Settles source (Err f) pass (record { lexer = pass.lexer; assembler = new; waiting = pass.waiting; ended = pass.ended })
-statement_refused s new pass source f is answers behind =
-    by_fault f (answers b.0 b.1.0 b.1.1.1 b.1.1.2)
-  where
-    b : IsBehind (Some s) pass.assembler source
-    b = subst (λ w. IsBehind w pass.assembler source) is behind
-
-    by_fault : (g : AsmFault) → AnswersFirst b.0 (with_tokens b.1.0 s) (Err g) pass.assembler new
-        → Settles source (Err g) pass (record { lexer = pass.lexer; assembler = new; waiting = pass.waiting; ended = pass.ended })
-    by_fault (At code line) told = ap first_order b.1.1.0 ∙ told.0
-    by_fault Memory told = ap (λ (a : asm.Progress). record { lexer = pass.lexer; assembler = a; waiting = pass.waiting; ended = pass.ended }) told.0
-
 -- a block behind the end of what is read of a source
-pub block_skipped : JoinedCharacters → JoinedEnd → JoinGoesOn → StatementsStay → (pass new : Pass) (prefix : List ℕ) (several : Bool) (given block : List ℕ) (offset : ℕ) (r : Result (Unit {0}) AsmFault) → pass.ended ≡ true
-    → ((source : Source) → IsBehind pass.waiting pass.assembler source → Settles source r pass new) → (r ≡ Ok tt → new.waiting ≡ None)
+pub block_skipped : JoinedCharacters → JoinedEnd → (pass new : Pass) (prefix : List ℕ) (several : Bool) (given block : List ℕ) (offset : ℕ) (r : Result (Unit {0}) AsmFault) → pass.ended ≡ true
+    → ((prefix here : List ℕ) (several is_last : Bool) → HasPassed pass prefix several here is_last → SettlesIn prefix several here is_last r new) → (r ≡ Ok tt → new.waiting ≡ None)
     → HasPassed pass prefix several (text_from (text_in given) (take offset (added given block))) (is_ended given) → PassesBlock prefix several given block offset r new
-block_skipped chars ends goes stay pass new prefix several given block offset (Ok tt) done settles none has = (
-  settled_by pass new prefix several (text_in (given ++ frames block)) (is_ended (given ++ frames block)) settles
+block_skipped chars ends pass new prefix several given block offset (Ok tt) done settles none has = (
+  settles prefix (text_in (given ++ frames block)) several (is_ended (given ++ frames block))
       (skips_block chars ends pass.lexer pass.ended prefix several given block offset (λ s. IsBehind pass.waiting pass.assembler s) done has),
   none refl,
 )
-block_skipped chars ends goes stay pass new prefix several given block offset (Err Memory) done settles none has = not_settled pass new prefix several _ (is_ended given) settles has
-block_skipped chars ends goes stay pass new prefix several given block offset (Err (At code line)) done settles none has =
-    settle_tells goes stay pass new prefix several (text_in (given ++ frames block)) (is_ended (given ++ frames block)) (At code line) settles
+block_skipped chars ends pass new prefix several given block offset (Err Memory) done settles none has = settles prefix _ several (is_ended given) has
+block_skipped chars ends pass new prefix several given block offset (Err (At code line)) done settles none has =
+    settles prefix (text_in (given ++ frames block)) several (is_ended (given ++ frames block))
     (skips_block chars ends pass.lexer pass.ended prefix several given block offset (λ s. IsBehind pass.waiting pass.assembler s) done has)
 
 -- characters of a block were refused, or memory ran out
@@ -131,3 +116,19 @@ block_refused chars prefix several given block text offset new (At code line) no
 block_refused chars prefix several given block text offset new Memory not is has =
     subst (λ b. HasPassed new prefix several (text_from (text_in given) (take offset (added given block))) b) (sym not)
     (subst (λ l. HasPassed new prefix several (text_from (text_in given) (take offset l)) false) (sym (all_added given block text not is)) has)
+
+-- ## The second pass
+
+pub block_not_made : JoinedCharacters → (whole : Source) (prefix : List ℕ) (several : Bool) (given block text : List ℕ) (offset : ℕ) (new : Pass) (pairs : List (ℕ × ℕ)) (f : AsmFault) → is_ended given ≡ false → text ≡ characters (frames block)
+    → MakesTo whole prefix several (text_in given) text offset (Err f) new pairs → MakesBlock whole prefix several given block offset (Err f) new pairs
+block_not_made chars whole prefix several given block text offset new pairs (At code line) not is tells =
+    subst (λ t. TellsJoinFault (words_fault (values whole)) prefix several t (At code line)) (sym (block_text chars given block ∙ ap (text_from (text_in given)) (all_added given block text not is))) tells
+block_not_made chars whole prefix several given block text offset new pairs Memory not is has =
+    subst (λ b. HasMade whole new pairs prefix several (text_from (text_in given) (take offset (added given block))) b) (sym not)
+    (subst (λ l. HasMade whole new pairs prefix several (text_from (text_in given) (take offset l)) false) (sym (all_added given block text not is)) has)
+
+-- the characters of a block are in the whole where the block is
+pub within_block : JoinedCharacters → (whole : Source) (prefix : List ℕ) (several : Bool) (given block text : List ℕ) → is_ended given ≡ false → text ≡ characters (frames block)
+    → IsWithin whole prefix several (text_in (given ++ frames block)) → IsWithin whole prefix several (text_from (text_in given) text)
+within_block chars whole prefix several given block text not is within =
+    subst (λ t. IsWithin whole prefix several t) (block_text chars given block ∙ ap (text_from (text_in given)) (all_added given block text not is)) within

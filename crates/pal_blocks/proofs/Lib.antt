@@ -1,9 +1,6 @@
 pub mod BeginLemmas
 pub mod TextLemmas
-pub mod PassLemmas
 pub mod BlockLemmas
-pub mod MakeLemmas
-pub mod BetweenLemmas
 pub mod PlaceLemmas
 pub mod TurnLemmas
 pub mod AgainLemmas

@@ -5,10 +5,10 @@ use Rattle.std.proofs.lemmas.List.{take-append-drop, take_all, length-take-le}
 use Rattle.char_pack.specs.Packing.{frames}
 use Rattle.char_pack.specs.Texts.{characters, is_ended, text}
 use Rattle.pal_lex.specs.Text.{text_of, is_over, line_after}
-use Rattle.pal_lex.specs.Statements.{statements}
+use Rattle.pal_lex.specs.Statements.{statements, first_fault}
 use Rattle.pal_lex.specs.Joins.{before_pause, continued, join_of}
 use Rattle.pal_lex.specs.Laws.{has_next, EndsJoin}
-use Rattle.pal_lex.specs.Reading.{HasRead}
+use Rattle.pal_lex.specs.Reading.{HasRead, HasPaused}
 use Rattle.pal_lex.specs.Progress as lex
 use Rattle.pal_asm.specs.Places.{Source}
 use Rattle.pal_asm.specs.Faults.{no_end}
@@ -18,11 +18,16 @@ use Rattle.pal_asm.specs.declared.faults.Code.TheVariants.{NE}
 use Rattle.pal_blocks.specs.Blocks.{blocks_in, blocks_among, blocks_of_each, first_blocks, first_among, AreFiles}
 use Rattle.pal_blocks.specs.Sources.{texts_of, newest_first}
 use Rattle.pal_blocks.specs.Schedule.{statements_in, joined_blocks, if_paused}
-use Rattle.pal_blocks.specs.Passing.{text_in, Counts, Paused, Stands, IsOver}
-use Rattle.pal_blocks.specs.Steps.{TellsJoinFault, IsWithin, EndsSource}
+use Rattle.pal_blocks.specs.Passing.{text_in, IsOver}
+use Rattle.pal_asm.specs.Passing.{Counts, Paused, Stands}
+use Rattle.pal_asm.specs.Passing.{TellsJoinFault, IsWithin, EndsSource}
 use Rattle.pal_blocks.specs.Progress.{GoesOn, IsJoined}
-use Rattle.pal_blocks.proofs.TextLemmas.{JoinedCharacters, from_behind, from_both, frames-append}
-use Rattle.pal_blocks.proofs.BetweenLemmas.{fine_there}
+use Rattle.pal_blocks.proofs.TextLemmas.{JoinedCharacters, frames-append}
+use Rattle.pal_blocks.proofs.TextLemmas.{from_behind, from_both}
+
+fine_there : (lexer : lex.Progress) (text : List ℕ) → HasPaused lexer text → first_fault (statements text) ≡ None
+unfolding HasPaused
+fine_there lexer text paused = paused.no_fault
 
 -- ## Files among others
 

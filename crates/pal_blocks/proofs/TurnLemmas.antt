@@ -19,14 +19,16 @@ use Rattle.pal_asm.specs.Laws.{NoWordIsTold}
 use Rattle.pal_asm.specs.Passes.{IsFirst}
 use Rattle.pal_asm.specs.declared.faults.AsmFault.{AsmFault}
 use Rattle.pal_asm.specs.declared.faults.AsmFault.TheVariants.{At, Memory}
-use Rattle.pal_blocks.specs.declared.passing.Pass.{Pass}
+use Rattle.pal_asm.specs.declared.passing.Pass.{Pass}
 use Rattle.pal_blocks.specs.declared.assembling.Assembling.{Assembling}
 use Rattle.pal_blocks.specs.Blocks.{blocks_in, blocks_among, blocks_of_each, first_blocks, first_among, block_at, AreFiles, assembling_turns, turn_of}
 use Rattle.pal_blocks.specs.Sources.{texts_of, newest_first}
 use Rattle.pal_blocks.specs.Schedule.{statements_in, joined_blocks, from_turn, known_again, known_at}
 use Rattle.pal_blocks.specs.Schedule.{if_paused}
-use Rattle.pal_blocks.specs.Passing.{text_in, added, Counts, IsMade, IsOver, IsBehind}
-use Rattle.pal_blocks.specs.Steps.{TellsJoinFault, HasPassed, Settles, PassesBlock, EndsSource, TurnsPass}
+use Rattle.pal_blocks.specs.Passing.{text_in, added, IsOver}
+use Rattle.pal_asm.specs.Passing.{Counts, IsMade, IsBehind}
+use Rattle.pal_asm.specs.Passing.{TellsJoinFault, HasPassed, Settles, EndsSource, TurnsPass}
+use Rattle.pal_blocks.specs.Steps.{PassesBlock}
 use Rattle.pal_blocks.specs.Progress.{due_of, block_of, Place, text_taken, IsInPass, IsFirstPass, IsSecondPass, IsAssembling}
 use Rattle.pal_blocks.specs.Turns.{TakesBlock}
 use Rattle.pal_blocks.proofs.BeginLemmas.{lt_true, lt_false, not_yet, nothing_read, no_text, as_many, has_others, nothing_more}

@@ -8,13 +8,14 @@ use Rattle.pal_lex.specs.Laws.{has_next}
 use Rattle.pal_asm.specs.Places.{Source}
 use Rattle.pal_asm.specs.Words.{pairs_of}
 use Rattle.pal_asm.specs.Faults.{no_end, fault_of}
-use Rattle.pal_blocks.specs.declared.passing.Pass.{Pass}
+use Rattle.pal_asm.specs.declared.passing.Pass.{Pass}
 use Rattle.pal_blocks.specs.declared.assembling.Assembling.{Assembling}
 use Rattle.pal_blocks.specs.declared.assembling.Due.{Due}
 use Rattle.pal_blocks.specs.Blocks.{blocks_in, blocks_among, blocks_of_each, first_blocks, first_among, block_at, AreFiles, assembling_turns, turn_of}
 use Rattle.pal_blocks.specs.Sources.{newest_first}
 use Rattle.pal_blocks.specs.Schedule.{joined_blocks, known_at}
-use Rattle.pal_blocks.specs.Passing.{text_in, added, Stands, IsOver, IsBehind, IsMade}
+use Rattle.pal_blocks.specs.Passing.{text_in, added, IsOver}
+use Rattle.pal_asm.specs.Passing.{Stands, IsBehind, IsMade}
 
 -- the block that comes next
 abbrev pub due_of : Assembling → Due

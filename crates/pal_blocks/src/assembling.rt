@@ -7,13 +7,13 @@ ghost use Rattle.pal_blocks.specs.Turns.{TakesBlock, MakesTarget, MakesNone};
 ghost use Rattle.pal_blocks.specs.Steps.{HoldsTape};
 
 use crate::making::make_block;
-use crate::passing::{Pass, end_source, pass_block, turn_pass};
+use crate::passing::pass_block;
 use bin_tape::laws::written_tape;
 use bin_tape::{TapeFault, write_tape};
 use char_pack::laws::joined_text;
 use char_pack::{PackFault, pack_blocks};
 use pal_asm::laws::{has_words, no_lexical_fault, no_word_is_told};
-use pal_asm::{AsmFault, Assembler};
+use pal_asm::{AsmFault, Assembler, Pass, end_source, turn_pass};
 use pal_lex::Lexer;
 use pal_lex::laws::source_ends_join;
 use std::alloc::Global;

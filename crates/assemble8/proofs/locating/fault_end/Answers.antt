@@ -9,7 +9,7 @@ use Rattle.assemble8.proofs.locating.fault_end.Goals as goal
 pub second_pass-requires-clause-second : goal.second_pass-requires-clause-second
 second_pass-requires-clause-second c =
     let passes = subst (λ p. Passes c.args.text.now p c.first_pass.new.assembler) c.in-Over.is c.in_ok-end.ensures.passes in
-    subst (λ s. IsSecond c.turn_over.new.self s []) (sym (same_statements c.args.text.now c.in-Over.end c.first_pass.new.assembler c.dollar_ends_source.ensures passes))
+    subst (λ s. IsSecond c.begin_second.new.self s []) (sym (same_statements c.args.text.now c.in-Over.end c.first_pass.new.assembler c.dollar_ends_source.ensures passes))
     (c.in-Ok.ensures.turns (statements (text_of (take (c.in-Over.end + 1) c.args.text.now))) passes.1)
 
 pub second_pass-requires-clause-over : goal.second_pass-requires-clause-over
@@ -32,5 +32,5 @@ returns-clause-met c =
     let passes = subst (λ p. Passes text p assembler) c.in-Over.is c.in_ok-end.ensures.passes in
     let ends = c.dollar_ends_source.ensures in
     let whole = statements (text_of (take (end + 1) text)) in
-    let none = turned whole c.in-Err.field-0 assembler c.turn_over.new.self (c.in-Err.ensures.turns whole passes.1) in
+    let none = turned whole c.in-Err.field-0 assembler c.begin_second.new.self (c.in-Err.ensures.turns whole passes.1) in
     (wordless text end assembler c.in-Err.field-0 ends passes none, fine_whole text end assembler ends passes, over_whole text end assembler passes)

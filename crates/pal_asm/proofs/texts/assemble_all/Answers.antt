@@ -1,11 +1,23 @@
 use Rattle.pal_lex.specs.Joins.{join_of}
-use Rattle.pal_lex.specs.Statements.{statements}
 use Rattle.pal_asm.specs.Texts.{texts}
+use Rattle.pal_asm.specs.TextSteps.{are_several}
 use Rattle.pal_asm.proofs.TextLemmas.{turned}
+use Rattle.pal_asm.proofs.SourceLemmas.{again_begins, second_fault}
 use Rattle.pal_asm.proofs.texts.assemble_all.Goals as goal
+
+pub second_pass-requires-clause-begins : goal.second_pass-requires-clause-begins
+second_pass-requires-clause-begins c =
+    let all = c.in_ok-first_pass.ensures.passed in
+    again_begins (join_of (texts c.args.sources.now)) (are_several (texts c.args.sources.now)) c.lexer_of-lexer.result c.turn_pass.new.pass c.lexer_of-lexer.ensures.read c.lexer_of-lexer.ensures.several
+    (c.in-Ok.ensures.turns all.0 (join_of (texts c.args.sources.now)) all.1.0 all.1.1) c.in-Ok.ensures.lexer
+
+pub returns-in-Ok-clause-fault : goal.returns-in-Ok-clause-fault
+returns-in-Ok-clause-fault c =
+    let all = c.in_ok-first_pass.ensures.passed in
+    second_fault (join_of (texts c.args.sources.now)) c.second_pass.result c.turn_pass.new.pass c.second_pass.ensures.fault
+    (c.in-Ok.ensures.turns all.0 (join_of (texts c.args.sources.now)) all.1.0 all.1.1)
 
 pub returns-clause-fault : goal.returns-clause-fault
 returns-clause-fault c =
-    let text = join_of (texts c.args.sources.now) in
-    turned text c.in-Err.no_word c.first_pass.new.assembler c.turn_over.new.self
-    (c.in-Err.ensures.turns (statements text) c.in_ok-first_pass.ensures.passed.0) c.in_ok-first_pass.ensures.passed
+    let all = c.in_ok-first_pass.ensures.passed in
+    turned (join_of (texts c.args.sources.now)) c.in-Err.fault c.turn_pass.new.pass (c.in-Err.ensures.turns all.0 (join_of (texts c.args.sources.now)) all.1.0 all.1.1) all.1.1.no_fault

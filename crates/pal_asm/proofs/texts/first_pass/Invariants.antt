@@ -1,20 +1,14 @@
 use Rattle.std.proofs.Common.{◌≡◌, ℕ, List, ◌++◌, length}
-use Rattle.pal_lex.specs.Statements.{statements}
-use Rattle.pal_lex.specs.Joins.{IsClear, join_of}
-use Rattle.pal_lex.specs.Reading.{HasRead}
-use Rattle.pal_asm.specs.Passes.{IsFirst}
+use Rattle.pal_lex.specs.Joins.{join_of}
 use Rattle.pal_asm.specs.Texts.{texts}
-use Rattle.pal_asm.specs.TextSteps.{are_several}
+use Rattle.pal_asm.specs.TextSteps.{BeginsPass}
 use Rattle.pal_asm.proofs.texts.first_pass.Given as goal
 
 abbrev pub invariant-loop-rest : goal.invariant-loop-rest
 invariant-loop-rest l = record {
   before : List ℕ;
-  clear : IsClear before;
-  read : HasRead l.lexer (length before) before;
-  first : IsFirst l.assembler (statements before);
+  begins : BeginsPass before (texts l.rest) l.pass;
   whole : join_of (texts l.fn.sources) ≡ join_of (texts l.rest) ++ before;
-  may : l.lexer.may_pause ≡ are_several (texts l.rest);
 }
 
 abbrev pub decreases-loop-rest : goal.decreases-loop-rest

@@ -1,8 +1,7 @@
 use Rattle.std.proofs.Common.{◌∙◌, true, false, arith}
-use Rattle.pal_blocks.specs.Passing.{IsMade}
+use Rattle.pal_asm.specs.Passing.{IsMade}
 use Rattle.pal_blocks.proofs.BeginLemmas.{lt_true, lt_false}
-use Rattle.pal_blocks.proofs.BlockLemmas.{begins_block, ends_block, skips_block}
-use Rattle.pal_blocks.proofs.MakeLemmas.{block_not_made, within_block}
+use Rattle.pal_blocks.proofs.BlockLemmas.{begins_block, ends_block, skips_block, block_not_made, within_block}
 use Rattle.pal_blocks.proofs.making.make_block.Goals as goal
 
 pub returns-then-pass-clause-makes : goal.returns-then-pass-clause-makes

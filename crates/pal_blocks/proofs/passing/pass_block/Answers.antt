@@ -1,13 +1,13 @@
 use Rattle.std.proofs.Common.{◌≡◌, ◌∙◌, None, OnOk, true, false, subst, arith}
-use Rattle.pal_blocks.specs.Passing.{IsBehind}
+use Rattle.pal_asm.specs.Passing.{IsBehind}
 use Rattle.pal_blocks.proofs.BeginLemmas.{lt_true, lt_false}
 use Rattle.pal_blocks.proofs.BlockLemmas.{begins_block, ends_block, block_skipped, block_refused}
 use Rattle.pal_blocks.proofs.passing.pass_block.Goals as goal
 
 pub returns-then-pass-clause-passes : goal.returns-then-pass-clause-passes
 returns-then-pass-clause-passes c = λ prefix given several has.
-    block_skipped c.joined_text.ensures.characters c.joined_text.ensures.ended c.join_goes_on.ensures c.statements_stay.ensures c.args.pass.now c.settle.new.pass prefix several given c.args.block.now c.args.offset.now c.settle.result
-    c.if-pass.true c.settle.ensures.settles (λ e. subst (λ r. OnOk r (c.settle.new.pass.waiting ≡ None)) e c.settle.ensures.none) has
+    block_skipped c.joined_text.ensures.characters c.joined_text.ensures.ended c.args.pass.now c.settle.new.pass prefix several given c.args.block.now c.args.offset.now c.settle.result
+    c.if-pass.true c.settle.ensures.stands (λ e. subst (λ r. OnOk r (c.settle.new.pass.waiting ≡ None)) e c.settle.ensures.none) has
 
 pub returns-then-count-lt-BLOCK_FRAMES-clause-passes : goal.returns-then-count-lt-BLOCK_FRAMES-clause-passes
 returns-then-count-lt-BLOCK_FRAMES-clause-passes c = λ prefix given several has.
