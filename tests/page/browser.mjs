@@ -1,0 +1,190 @@
+// Headless Chromium, driven through its DevTools protocol over a pipe, and a static server. No package is needed.
+import { spawn } from 'node:child_process';
+import { createServer } from 'node:http';
+import { existsSync, mkdtempSync, readFileSync, readdirSync, rmSync, statSync, writeFileSync } from 'node:fs';
+import { tmpdir } from 'node:os';
+import { extname, join, normalize } from 'node:path';
+
+const TYPES = { '.html': 'text/html', '.css': 'text/css', '.js': 'text/javascript', '.wasm': 'application/wasm' };
+export const pause = milliseconds => new Promise(go => setTimeout(go, milliseconds));
+
+// A plain server of a folder, which notes what it was asked for. `headers` are given with each answer.
+export function serve(folder, headers = {}) {
+    const asked = [];
+    const server = createServer((request, response) => {
+        const path = normalize(decodeURIComponent(new URL(request.url, 'http://x').pathname));
+        const file = join(folder, path === '/' ? 'index.html' : path);
+        asked.push(`${request.method} ${path}`);
+        if (!existsSync(file) || !statSync(file).isFile()) {
+            response.writeHead(404).end();
+            return;
+        }
+        response.writeHead(200, { 'content-type': TYPES[extname(file)] ?? 'application/octet-stream', 'cache-control': 'no-store', ...headers });
+        response.end(readFileSync(file));
+    });
+    return new Promise(go => server.listen(0, '127.0.0.1', () => go({ asked, url: `http://127.0.0.1:${server.address().port}/`, end: () => server.close() })));
+}
+
+export function chromium() {
+    return ['/usr/lib/chromium/chromium', '/usr/bin/chromium', '/usr/bin/google-chrome'].find(it => existsSync(it)) ?? null;
+}
+
+export class Browser {
+    #last = 0;
+    #waiting = new Map();
+    #session = null;
+    asked = [];
+    errors = [];
+
+    static async open(...words) {
+        const it = new Browser();
+        it.folder = mkdtempSync(join(tmpdir(), 'page-'));
+        it.process = spawn(chromium(), ['--headless=new', '--remote-debugging-pipe', '--no-sandbox', '--disable-gpu', '--no-first-run',
+            '--disable-background-networking', '--disable-component-update', '--disable-sync', '--disable-dev-shm-usage',
+            '--host-resolver-rules=MAP * ~NOTFOUND , EXCLUDE 127.0.0.1', `--user-data-dir=${it.folder}/profile`, ...words, 'about:blank'],
+        { stdio: ['ignore', 'ignore', 'ignore', 'pipe', 'pipe'] });
+        let text = '';
+        it.process.stdio[4].setEncoding('utf8').on('data', part => {
+            text += part;
+            const messages = text.split('\0');
+            text = messages.pop();
+            messages.forEach(message => it.#take(JSON.parse(message)));
+        });
+        it.downloads = mkdtempSync(join(tmpdir(), 'home-'));
+        const { targetInfos } = await it.call('Target.getTargets');
+        const { targetId } = targetInfos.find(({ type }) => type === 'page');
+        ({ sessionId: it.session } = await it.call('Target.attachToTarget', { targetId, flatten: true }));
+        await it.call('Browser.setDownloadBehavior', { behavior: 'allow', downloadPath: it.downloads });
+        for (const domain of ['Page', 'Runtime', 'Network', 'DOM']) await it.call(`${domain}.enable`, {}, true);
+        return it;
+    }
+
+    set session(id) { this.#session = id; }
+
+    #take(message) {
+        if (message.id) {
+            const { go, fail } = this.#waiting.get(message.id);
+            this.#waiting.delete(message.id);
+            return message.error ? fail(new Error(`${message.error.message} ${message.error.data ?? ''}`)) : go(message.result);
+        }
+        if (message.method === 'Network.requestWillBeSent') this.asked.push(message.params.request.url);
+        if (message.method === 'Runtime.exceptionThrown') this.errors.push(message.params.exceptionDetails.exception?.description ?? message.params.exceptionDetails.text);
+        if (message.method === 'Page.javascriptDialogOpening') this.call('Page.handleJavaScriptDialog', { accept: true }, true);
+    }
+
+    call(method, params = {}, isOfPage = this.#session !== null && !/^(Target|Browser)\./.test(method)) {
+        const id = ++this.#last;
+        this.process.stdio[3].write(`${JSON.stringify({ id, method, params, ...(isOfPage ? { sessionId: this.#session } : {}) })}\0`);
+        return new Promise((go, fail) => this.#waiting.set(id, { go, fail }));
+    }
+
+    async look(expression) {
+        const { result, exceptionDetails } = await this.call('Runtime.evaluate', { expression, awaitPromise: true, returnByValue: true, userGesture: true });
+        if (exceptionDetails) throw new Error(`${expression}: ${exceptionDetails.exception?.description ?? exceptionDetails.text}`);
+        return result.value;
+    }
+
+    // Waits until an expression holds, and gives its value.
+    async until(expression, milliseconds = Number(process.env.PATIENCE ?? 20000)) {
+        const end = Date.now() + milliseconds;
+        for (;;) {
+            const value = await this.look(expression);
+            if (value) return value;
+            if (Date.now() > end) throw new Error(`not within ${milliseconds} ms: ${expression}`);
+            await pause(20);
+        }
+    }
+
+    async go(url) {
+        await this.call('Page.navigate', { url });
+        await this.until('document.readyState === "complete" && (document.getElementById("ready") || !document.getElementById("trouble")?.hidden) !== null && !!(document.getElementById("ready") || document.getElementById("trouble")?.hidden === false)');
+    }
+
+    text(id) { return this.look(`document.getElementById(${JSON.stringify(id)}).textContent`); }
+
+    // The middle of an element, brought into view.
+    async #middle(selector) {
+        const at = await this.until(`(() => { const it = document.querySelector(${JSON.stringify(selector)}); if (!it) return null;
+            it.scrollIntoView({ block: 'center', inline: 'center' }); const box = it.getBoundingClientRect();
+            return box.width ? { x: box.x + box.width / 2, y: box.y + box.height / 2 } : null; })()`);
+        return at;
+    }
+
+    async click(selector) {
+        const { x, y } = await this.#middle(selector);
+        for (const type of ['mouseMoved', 'mousePressed', 'mouseReleased'])
+            await this.call('Input.dispatchMouseEvent', { type, x, y, button: type === 'mouseMoved' ? 'none' : 'left', clickCount: 1 });
+    }
+
+    // Types into the element that has the focus.
+    type(text) { return this.call('Input.insertText', { text }); }
+
+    async key(key, code = key, modifiers = 0) {
+        const known = { Enter: 13, Tab: 9, Backspace: 8, ArrowRight: 39, ArrowLeft: 37, Escape: 27, ' ': 32 }[key];
+        const windowsVirtualKeyCode = known ?? (/^[a-z0-9]$/i.test(key) ? key.toUpperCase().charCodeAt(0) : 0);
+        const text = key === 'Enter' ? '\r' : key.length === 1 && !(modifiers & 2) ? key : undefined;
+        await this.call('Input.dispatchKeyEvent', { type: 'keyDown', key, code, modifiers, windowsVirtualKeyCode, text });
+        await this.call('Input.dispatchKeyEvent', { type: 'keyUp', key, code, modifiers, windowsVirtualKeyCode });
+    }
+
+    async keys(text) { for (const it of text) await this.key(it === '\n' ? 'Enter' : it); }
+
+    // Puts a text in the place of an input's.
+    async fill(selector, text) {
+        await this.click(selector);
+        await this.look(`document.querySelector(${JSON.stringify(selector)}).select()`);
+        if (text === '') return this.key('Backspace');
+        await this.type(text);
+    }
+
+    choose(selector, value) {
+        return this.look(`(() => { const it = document.querySelector(${JSON.stringify(selector)}); it.value = ${JSON.stringify(value)};
+            it.dispatchEvent(new Event('change', { bubbles: true })); return it.value; })()`);
+    }
+
+    async give(selector, ...files) {
+        const { result } = await this.call('Runtime.evaluate', { expression: `document.querySelector(${JSON.stringify(selector)})` });
+        await this.call('DOM.setFileInputFiles', { files, objectId: result.objectId });
+    }
+
+    // Drops a file of the host at the middle of an element, as by a mouse.
+    async drop(selector, file) {
+        const { x, y } = await this.#middle(selector), data = { items: [], files: [file], dragOperationsMask: 1 };
+        for (const type of ['dragEnter', 'dragOver', 'drop']) await this.call('Input.dispatchDragEvent', { type, x, y, data });
+    }
+
+    // The file that a click takes home.
+    async home(selector) {
+        for (const it of readdirSync(this.downloads)) rmSync(join(this.downloads, it));
+        await this.click(selector);
+        for (let k = 0; k < 400; k++) {
+            const [name] = readdirSync(this.downloads).filter(it => !it.endsWith('.crdownload') && !it.startsWith('.'));
+            if (name) {
+                await pause(50);
+                return { name, bytes: readFileSync(join(this.downloads, name)) };
+            }
+            await pause(25);
+        }
+        throw new Error(`${selector} took nothing home`);
+    }
+
+    size(width, height, scale = 1) {
+        return this.call('Emulation.setDeviceMetricsOverride', { width, height, deviceScaleFactor: scale, mobile: false });
+    }
+
+    scheme(value) { return this.call('Emulation.setEmulatedMedia', { features: [{ name: 'prefers-color-scheme', value }] }); }
+
+    async picture(file) {
+        const { data } = await this.call('Page.captureScreenshot', { format: 'png' });
+        writeFileSync(file, Buffer.from(data, 'base64'));
+    }
+
+    async end() {
+        const ended = new Promise(go => this.process.once('exit', go));
+        this.call('Browser.close').catch(() => {});
+        await Promise.race([ended, pause(3000)]);
+        this.process.kill('SIGKILL');
+        await ended;
+        for (const it of [this.folder, this.downloads]) rmSync(it, { recursive: true, force: true, maxRetries: 5 });
+    }
+}

@@ -1,0 +1,274 @@
+// The Files pane: each thing that it shows is a reply of `check`, `get`, `tape` or `source`, and each change `create`, `put` or a script.
+import { $, made, tell, takeHome, bytesOfFile, keepInput } from './dom.js';
+import { textOf } from './program.js';
+
+const COLOURS = ['directory', 'file', 'file-2', 'empty', 'outside', 'fault'];
+
+export class Files {
+    constructor(page) {
+        this.page = page;
+        this.shown = null;
+        keepInput(page.store, 'new-name');
+        keepInput(page.store, 'new-blocks');
+        $('image').addEventListener('change', event => this.#opened(event.target));
+        $('create').addEventListener('click', () => this.create());
+        $('volume').addEventListener('change', event => this.open(event.target.value));
+        $('take-image').addEventListener('click', () => takeHome(this.name, page.store.files.get(this.name)));
+        $('drop-image').addEventListener('click', () => this.#remove());
+        $('squeeze').addEventListener('click', () => this.#change('SQUEEZE', 'FINISH'));
+        $('put').addEventListener('change', event => this.#put(event.target));
+        $('blocks').addEventListener('mousemove', event => this.#point(event));
+        $('blocks').addEventListener('mouseleave', () => { $('block-told').textContent = ''; });
+        new ResizeObserver(() => this.blocks && this.#draw()).observe($('blocks'));
+        matchMedia('(prefers-color-scheme: dark)').addEventListener('change', () => this.blocks && this.#draw());
+        this.#drops();
+        page.store.addEventListener('file', ({ detail }) => detail === this.name && this.#again());
+    }
+
+    // The name of the volume that is open.
+    get name() { return $('volume').value; }
+
+    get volumes() { return [...this.page.store.files.keys()].filter(it => !it.startsWith('.') && !it.includes('/')).sort(); }
+
+    async begin() {
+        this.#list();
+        const last = this.page.store.notes.get('volume');
+        await this.open(this.volumes.includes(last) ? last : this.volumes[0] ?? '');
+    }
+
+    #list() {
+        const own = this.name;
+        $('volume').replaceChildren(made('option', { value: '' }, 'none is open'), ...this.volumes.map(it => made('option', { value: it }, it)));
+        $('volume').value = this.volumes.includes(own) ? own : '';
+    }
+
+    #drops() {
+        const zone = $('drop');
+        document.addEventListener('dragover', event => { event.preventDefault(); zone.classList.add('over'); });
+        document.addEventListener('dragleave', event => event.relatedTarget === null && zone.classList.remove('over'));
+        document.addEventListener('drop', event => {
+            event.preventDefault();
+            zone.classList.remove('over');
+            const file = event.dataTransfer.files[0];
+            if (file && this.page.tabs) this.page.tabs.show('files');
+            if (file) this.take(file);
+        });
+    }
+
+    async #opened(input) {
+        const file = input.files[0];
+        if (file) await this.take(file);
+        input.value = '';
+    }
+
+    // Takes a file of the host as an image into the page. One that `check` refuses and that can't be an image of a volume is not kept.
+    async take(file) {
+        const { programs, store } = this.page, bytes = await bytesOfFile(file);
+        store.put('.asked', bytes);
+        const { status, out, said } = await programs.ask(['check', '.asked']);
+        store.remove('.asked');
+        const line = textOf(out).trim();
+        if (status !== 0 && !line.startsWith('? DIRECTORY')) {
+            tell('files-status', `${file.name}: ${line}\n${said}`, true);
+            return;
+        }
+        const name = this.#free(file.name);
+        store.put(name, bytes);
+        await this.open(name);
+    }
+
+    // A name for a file that no other has: a volume that is in the page is not written over.
+    #free(wanted) {
+        const plain = wanted.replace(/[/\\\s]/g, '_').replace(/^[.-]+/, '') || 'IMAGE';
+        let name = plain;
+        for (let k = 2; this.page.store.files.has(name); k++) name = `${plain}-${k}`;
+        return name;
+    }
+
+    async create() {
+        const { programs, store } = this.page, name = this.#free($('new-name').value), blocks = $('new-blocks').value.trim();
+        const { status, out, said } = await programs.ask(['create', name, blocks]);
+        if (status !== 0) {
+            tell('files-status', textOf(out) + said, true);
+            return;
+        }
+        await this.open(name);
+        tell('files-status', textOf(out));
+    }
+
+    async open(name) {
+        this.#list();
+        $('volume').value = name;
+        this.page.store.note('volume', name);
+        tell('files-status', '');
+        this.#show(null, '');
+        await this.#again();
+    }
+
+    #remove() {
+        const name = this.name;
+        if (!confirm(`Remove ${name} from the page? What was not taken home is lost.`)) return;
+        this.page.store.remove(name);
+        this.open(this.volumes[0] ?? '');
+    }
+
+    // Reads the volume anew and shows it.
+    async #again() {
+        this.#list();
+        const name = this.name;
+        $('volume-view').hidden = name === '';
+        this.entries = [];
+        if (name === '') return this.page.store.dispatchEvent(new Event('volume'));
+        const { status, out, said } = await this.page.programs.ask(['check', name]);
+        if (name !== this.name) return;
+        const lines = textOf(out).trim().split('\n').map(it => it.split(' '));
+        $('volume-name').textContent = name;
+        this.refusal = status === 0 ? null : lines.map(it => it.join(' ')).join('\n');
+        if (this.refusal) tell('files-status', `${this.refusal}\n${said}`, true);
+        this.#lay(lines);
+        this.#draw();
+        this.#rows();
+        for (const id of ['squeeze', 'put']) $(id).disabled = this.refusal !== null;
+        $('put-row').hidden = this.refusal !== null;
+        this.page.store.dispatchEvent(new Event('volume'));
+    }
+
+    // What each block is, by the lines of `check`. Blocks 0 to 6 are the boot block and those of the directory.
+    #lay(lines) {
+        const count = Number(lines.find(it => it[0] === 'BLOCKS')?.[1] ?? 0);
+        this.blocks = Array.from({ length: count }, (_, block) => ({ kind: block === 0 ? 'outside' : 'directory', of: block === 0 ? 'boot block' : 'directory' }));
+        let turn = 0;
+        const lay = (first, length, kind, of) => { for (let k = 0; k < length; k++) this.blocks[first + k] = { kind, of }; };
+        for (const [word, ...rest] of lines) {
+            const [first, length] = rest.slice(-2).map(Number);
+            if (word === 'OUTSIDE') lay(first, length, 'outside', 'not covered by the directory');
+            if (word === 'EMPTY') lay(first, length, 'empty', 'empty');
+            if (word !== 'FILE') continue;
+            const name = rest.slice(0, -2).join(' ');
+            this.entries.push({ name, first, length });
+            lay(first, length, turn++ % 2 ? 'file-2' : 'file', name);
+        }
+        if (!this.refusal) return;
+        const told = this.refusal.match(/^\? DIRECTORY [12] .* (\d+)$/);
+        const bytes = this.page.store.files.get(this.name).length;
+        this.blocks = Array.from({ length: Math.max(7, Math.floor(bytes / 512)) }, (_, block) => ({ kind: 'outside', of: 'of a volume that is refused' }));
+        if (told) this.blocks[Number(told[1])] = { kind: 'fault', of: this.refusal };
+        else for (let block = 1; block < 7; block++) this.blocks[block] = { kind: 'fault', of: this.refusal };
+    }
+
+    #draw() {
+        const canvas = $('blocks'), style = getComputedStyle(canvas), width = Math.max(200, canvas.clientWidth);
+        const count = this.blocks.length, across = Math.max(32, Math.min(Math.floor(width / 6), Math.ceil(Math.sqrt(count * 6))));
+        const side = Math.floor(width / across), down = Math.ceil(count / across), scale = devicePixelRatio || 1;
+        this.across = width / across;
+        canvas.width = width * scale;
+        canvas.height = down * side * scale;
+        canvas.style.height = `${down * side}px`;
+        this.side = side;
+        const colours = Object.fromEntries(COLOURS.map(it => [it, colourOf(style, `--${it}`)]));
+        const brush = canvas.getContext('2d');
+        brush.scale(scale, scale);
+        this.blocks.forEach(({ kind }, block) => {
+            const x = block % across * this.across, y = Math.floor(block / across) * side;
+            brush.fillStyle = colours[kind];
+            brush.fillRect(x, y, this.across - (side > 4 ? 1 : 0), side - (side > 4 ? 1 : 0));
+        });
+        const free = this.blocks.filter(it => it.kind === 'empty').length;
+        canvas.setAttribute('aria-label', this.refusal ? `Volume of ${count} blocks, refused: ${this.refusal}`
+            : `Volume of ${count} blocks: ${this.entries.length} files, ${free} blocks empty`);
+    }
+
+    #point(event) {
+        const column = Math.floor(event.offsetX / this.across), row = Math.floor(event.offsetY / this.side);
+        const block = row * Math.round($('blocks').clientWidth / this.across) + column, it = this.blocks[block];
+        $('block-told').textContent = it ? `block ${block}: ${it.of}` : '';
+    }
+
+    #rows() {
+        const rows = [...this.entries].sort((a, b) => a.name < b.name ? -1 : 1).map(it => this.#row(it));
+        $('directory').tBodies[0].replaceChildren(...rows);
+        $('directory').hidden = this.refusal !== null;
+    }
+
+    #row({ name, first, length }) {
+        const button = (text, what, label) => made('button', { onclick: what, 'aria-label': `${name} ${label}` }, text);
+        const row = made('tr', { 'data-name': name }, made('td', {}, name), made('td', { class: 'n' }, String(length)), made('td', { class: 'n' }, String(first)),
+            made('td', {}, button('text', () => this.show(name, 'text'), 'as a text'), ' ', button('listing', () => this.show(name, 'tape'), 'as the listing of a tape'),
+                ' ', button('source', () => this.show(name, 'source'), 'as the source of a tape')),
+            made('td', {}, button('text', () => this.#home(name, '--text'), 'home as a text'), ' ', button('tape', () => this.#home(name, '--tape'), 'home as a tape'),
+                ' ', button('frames', () => this.#home(name), 'home as frames')),
+            made('td', {}, button('delete', () => this.#change(`DELETE ${name}`), 'delete')));
+        row.classList.toggle('chosen', this.shown === name);
+        return row;
+    }
+
+    #get(name, ...form) { return this.page.programs.ask(['get', this.name, name, ...form]); }
+
+    // The frames of the tape that a file begins with, or the program's refusal.
+    tape(name) { return this.#get(name, '--tape'); }
+
+    // Shows a file: as a text, or its tape as a listing or as source.
+    async show(name, as) {
+        const got = await this.#get(name, as === 'text' ? '--text' : '--tape');
+        const given = got.status === 0 && as !== 'text' ? await this.page.programs.ask([as], got.out) : got;
+        if (given.status !== 0) {
+            tell('files-status', `${name}: ${textOf(given.out)}${given.said}`, true);
+            return;
+        }
+        tell('files-status', '');
+        this.#show(name, textOf(given.out), { text: 'text', tape: 'listing of its tape', source: 'source of its tape' }[as]);
+    }
+
+    #show(name, text, as) {
+        this.shown = name;
+        $('shown-name').textContent = name ? `${name}, ${as}` : 'No file is shown';
+        $('shown').textContent = text.replaceAll('\r', '');
+        for (const row of $('directory').tBodies[0].rows) row.classList.toggle('chosen', row.dataset.name === name);
+    }
+
+    async #home(name, ...form) {
+        const { status, out, said } = await this.#get(name, ...form);
+        if (status !== 0) {
+            tell('files-status', `${name}: ${said}`, true);
+            return;
+        }
+        takeHome(`${name}${{ '--text': '.txt', '--tape': '.bin' }[form[0]] ?? ''}`, out);
+        tell('files-status', `${name}: ${out.length} bytes`);
+    }
+
+    async #put(input) {
+        const form = $('put-as').value === 'text' ? ['--text'] : [], told = [];
+        let isBad = false;
+        for (const file of input.files) {
+            const { status, out, said } = await this.put(nameOf(file.name), await bytesOfFile(file), ...form);
+            told.push(status === 0 ? textOf(out) : `${file.name}: ${textOf(out)}${said}`);
+            isBad ||= status !== 0;
+        }
+        input.value = '';
+        tell('files-status', told.join(''), isBad);
+    }
+
+    // Makes bytes a file of the volume.
+    put(name, bytes, ...form) { return this.page.programs.ask(['put', this.name, name, ...form], bytes); }
+
+    // Changes the volume by lines of a script, and tells their replies.
+    async #change(...lines) {
+        const { status, out, said } = await this.page.programs.ask(['run', this.name, '--strict'], `${lines.join('\n')}\n`);
+        tell('files-status', textOf(out) + said, status !== 0);
+    }
+}
+
+// The name that a file of the host has on a volume; what can't be one is the program's to refuse.
+function nameOf(name) {
+    const [first, ...rest] = name.toUpperCase().split('.');
+    return rest.length ? `${first.slice(0, 6)}.${rest.at(-1).slice(0, 2)}` : first.slice(0, 6);
+}
+
+// A colour of the style, light or dark, as a canvas takes it.
+function colourOf(style, name) {
+    const probe = made('span', { style: `color: var(${name})` });
+    $('blocks').after(probe);
+    const colour = getComputedStyle(probe).color;
+    probe.remove();
+    return colour;
+}

@@ -1,0 +1,176 @@
+// What the program asks of its host: files, which lie in a map, and three streams. It decides nothing that the program decides.
+const utf8 = new TextEncoder(), text = new TextDecoder();
+const ENOENT = 2, EAGAIN = 11, EEXIST = 17, EINVAL = 22, ESPIPE = 29;
+const O_CREAT = 0o100, O_EXCL = 0o200, O_TRUNC = 0o1000;
+
+// A file: bytes that may grow. Each has a number, as a name may lead to another file meanwhile.
+export class Held {
+    static last = 0;
+
+    constructor(bytes = new Uint8Array(0)) {
+        this.room = bytes;
+        this.size = bytes.length;
+        this.names = 1;
+        this.number = ++Held.last;
+    }
+
+    get bytes() { return this.room.subarray(0, this.size); }
+
+    put(at, part) {
+        const end = at + part.length;
+        if (end > this.room.length) {
+            const room = new Uint8Array(Math.max(end, 2 * this.room.length));
+            room.set(this.bytes);
+            this.room = room;
+        }
+        this.room.set(part, at);
+        this.size = Math.max(this.size, end);
+    }
+
+    cut(size) {
+        this.put(size, new Uint8Array(0));
+        this.size = size;
+    }
+}
+
+// Runs the program with these words. `files` has get, set, has and delete, as a Map has. `read(most)` gives bytes for standard input,
+// none at its end, and `write(bytes, stream)` takes what is written to stream 1 or 2; where `promised` is given, the two may promise.
+// `locked(file)` tells whether another run holds a file, and `terminal` whether standard input is one. The answer is the exit status.
+export async function command(module, files, words, host) {
+    let exports;
+    const memory = (at, count) => new Uint8Array(exports.memory.buffer, Number(at), Number(count));
+    const calls = imports(memory, files, words, host);
+    if (host.promised)
+        for (const name of ['read', 'write'])
+            calls[name] = new WebAssembly.Suspending(calls[name]);
+    exports = (await WebAssembly.instantiate(module, { env: calls })).exports;
+    return (host.promised ? WebAssembly.promising(exports.main) : exports.main)(0, 0n);
+}
+
+function imports(memory, files, words, host) {
+    let errno = 0, next = 3;
+    const open = new Map();
+    const fail = why => { errno = why; return -1; };
+    const give = (at, bytes) => { memory(at, bytes.length).set(bytes); return BigInt(bytes.length); };
+    const path = at => {
+        const all = memory(at, 4096), end = all.indexOf(0);
+        return text.decode(all.slice(0, end)).replace(/^\.\//, '');
+    };
+    const opened = (file, name) => { open.set(next, { file, name, at: 0 }); return next++; };
+    const copy = (number, least) => {
+        while (open.has(next) || next < least) next++;
+        open.set(next, open.get(number));
+        return next++;
+    };
+    return {
+        rattle_arg(which, at, room) {
+            const word = words[Number(which)];
+            if (word === undefined) return -1n;
+            const bytes = utf8.encode(word);
+            return bytes.length > Number(room) ? -2n : give(at, bytes);
+        },
+        rattle_env: () => -1n,
+        rattle_env_at: () => -1n,
+        rattle_errno: () => errno,
+        rattle_set_errno(why) { errno = why; },
+        isatty: number => number === 0 && host.terminal ? 1 : 0,
+
+        open(at, flags) {
+            const name = path(at);
+            let file = files.get(name);
+            if (file && (flags & O_CREAT) && (flags & O_EXCL)) return fail(EEXIST);
+            if (!file) {
+                if (!(flags & O_CREAT)) return fail(ENOENT);
+                file = new Held();
+                files.set(name, file);
+            }
+            if (flags & O_TRUNC) file.cut(0);
+            return opened(file, name);
+        },
+        close(number) { return open.delete(number) ? 0 : fail(EINVAL); },
+        dup: number => copy(number, 3),
+        fcntl: (number, what, least) => copy(number, Number(least)),
+        read(number, at, most) {
+            if (number === 0) {
+                const part = host.read(Number(most));
+                return part instanceof Promise ? part.then(it => give(at, it)) : give(at, part);
+            }
+            const own = open.get(number), part = own.file.bytes.subarray(own.at, own.at + Number(most));
+            own.at += part.length;
+            return give(at, part);
+        },
+        write(number, at, count) {
+            const part = memory(at, count).slice();
+            if (number === 1 || number === 2) {
+                const done = host.write(part, number);
+                return done instanceof Promise ? done.then(() => count) : count;
+            }
+            const own = open.get(number);
+            own.file.put(own.at, part);
+            own.at += part.length;
+            files.changed?.(own.file);
+            return count;
+        },
+        lseek(number, by, from) {
+            const own = open.get(number);
+            if (!own) return BigInt(fail(ESPIPE));
+            own.at = Number(by) + [0, own.at, own.file.size][from];
+            return BigInt(own.at);
+        },
+        ftruncate(number, size) {
+            open.get(number).file.cut(Number(size));
+            files.changed?.(open.get(number).file);
+            return 0;
+        },
+        statx(folder, at, flags, mask, to) {
+            const name = path(at), file = name === '' ? open.get(folder)?.file : files.get(name);
+            if (!file) return fail(ENOENT);
+            put_stat(memory(to, 256), file);
+            return 0;
+        },
+        realpath(at, to) {
+            const name = path(at);
+            if (!files.has(name)) { errno = ENOENT; return 0n; }
+            const bytes = utf8.encode(`${name}\0`);
+            if (to === 0n) return 0n;
+            give(to, bytes);
+            return to;
+        },
+        unlink(at) {
+            const name = path(at), file = files.get(name);
+            if (!file) return fail(ENOENT);
+            file.names--;
+            files.delete(name);
+            return 0;
+        },
+        link(from, to) {
+            const file = files.get(path(from));
+            if (!file) return fail(ENOENT);
+            if (files.has(path(to))) return fail(EEXIST);
+            file.names++;
+            files.set(path(to), file);
+            return 0;
+        },
+        rename(from, to) {
+            const file = files.get(path(from));
+            if (!file) return fail(ENOENT);
+            files.delete(path(from));
+            files.set(path(to), file);
+            return 0;
+        },
+        flock(number) { return host.locked?.(open.get(number).name) ? fail(EAGAIN) : 0; },
+        fchmod: () => 0, chown: () => 0, fsync: () => 0, fdatasync: () => 0, __sysv_signal: () => 0n,
+    };
+}
+
+// A plain file of one user, as Linux tells of it (statx).
+function put_stat(bytes, file) {
+    const at = new DataView(bytes.buffer, bytes.byteOffset, 256);
+    bytes.fill(0);
+    at.setUint32(0, 0x7ff, true);
+    at.setUint32(4, 512, true);
+    at.setUint32(16, file.names, true);
+    at.setUint16(28, 0o100644, true);
+    at.setBigUint64(32, BigInt(file.number), true);
+    at.setBigUint64(40, BigInt(file.size), true);
+}

@@ -1,0 +1,343 @@
+// The Machine pane: a `run` that lives, to whose console each key of the panel gives a line, and whose replies the lamps show.
+import { $, made, tell, keepInput } from './dom.js';
+import { Lines, canLive, textOf } from './program.js';
+import { Panel } from './panel.js';
+import { Paper, keyOf } from './paper.js';
+
+// What a PDP-8/I does in a millisecond, about; and how long its printer takes for a character, in milliseconds.
+const STEPS = 300, CHARACTER = 100;
+const MOST = 1000000, PICTURE = 11, CORE = 0o100000, LISTED = 6000;
+
+export const octal = (number, digits) => number.toString(8).padStart(digits, '0');
+
+export class Machine {
+    lines = null;
+    registers = null;
+    isGoing = false;
+    many = 20000;
+    breaks = new Set();
+    keys = [];
+    cells = new Map();
+
+    constructor(page) {
+        this.page = page;
+        this.panel = new Panel($('panel'), {
+            switches: word => this.#ask(`SWITCHES ${octal(word, 4)}`).then(() => page.store.note('switches', word)),
+            load: () => this.#loadAddress(), examine: () => this.#examine(), deposit: () => this.#deposit(),
+            start: () => this.start(), stop: () => this.stop(), go: () => this.go(), step: () => this.step(),
+        });
+        this.paper = new Paper($('console'));
+        for (const id of ['speed', 'printer', 'core-from']) keepInput(page.store, id);
+        $('power').addEventListener('click', () => this.#renew());
+        $('core-tape').addEventListener('change', event => this.#chosen(event.target));
+        $('core-from').addEventListener('change', () => this.#core());
+        $('console').addEventListener('keydown', event => this.#key(event));
+        page.store.addEventListener('volume', () => this.#tapes());
+        page.store.addEventListener('tape', () => this.#tapes());
+        $('machine').addEventListener('shown', () => this.#refresh());
+        this.panel.address = page.store.notes.get('address') ?? 0o200;
+        this.panel.switches = page.store.notes.get('switches') ?? 0;
+        if (!canLive) tell('machine-status', 'This browser can\'t wait in a call of WebAssembly: the machine can\'t run here.', true);
+        this.panel.enable(canLive);
+        this.list(page.store.notes.get('listing') ?? '');
+    }
+
+    // The living run, begun at its first use with the core that the page keeps.
+    async #living() {
+        this.lines ??= this.#begin();
+        return this.lines;
+    }
+
+    async #begin() {
+        const { programs, store } = this.page;
+        if (!store.files.has('.machine')) await programs.ask(['create', '.machine', '8']);
+        const lines = await Lines.begin(programs, ['run', '--look', '.machine'], { ended: (status, said) => this.#ended(status, said) });
+        this.printed = 0;
+        const core = store.notes.get('core'), given = [];
+        core?.forEach((word, cell) => word && given.push(`DEPOSIT ${octal(cell, 5)} ${octal(word, 4)}`));
+        given.push(`SWITCHES ${octal(this.panel.switches, 4)}`);
+        await lines.ask(...given);
+        return lines;
+    }
+
+    async #ask(...lines) { return (await this.#living()).ask(...lines); }
+
+    #ended(status, said) {
+        this.lines = null;
+        this.isGoing = false;
+        if (status !== null) tell('machine-status', `the machine's run ended: ${said}`, true);
+    }
+
+    // A machine whose core is empty.
+    async #renew() {
+        this.isGoing = false;
+        (await this.lines)?.run.stop();
+        this.lines = null;
+        this.page.store.note('core', new Uint16Array(0));
+        this.breaks.clear();
+        this.list('');
+        this.paper.tear();
+        tell('machine-status', 'a new machine');
+        await this.#refresh();
+    }
+
+    // Lays the words of a tape over core, one by one as `tape` lists them.
+    async load(tape, name) {
+        const { status, out, said } = await this.page.programs.ask(['tape'], tape);
+        if (status !== 0) {
+            tell('machine-status', `${name}: ${textOf(out)}${said}`, true);
+            return false;
+        }
+        this.isGoing = false;
+        const words = textOf(out).trim().split('\n').filter(it => it).map(it => it.split(' '));
+        await this.#ask(...words.map(([field, address, word]) => `DEPOSIT ${field}${address} ${word}`));
+        const first = words[0] ? Number.parseInt(words[0][0] + words[0][1], 8) : 0o200;
+        this.#point(words.some(([field, address]) => field + address === '00200') ? 0o200 : first);
+        tell('machine-status', `${name}: ${words.length} words are in core; START begins at ${octal(this.panel.address, 5)}`);
+        this.#changed();
+        await this.#refresh();
+        return true;
+    }
+
+    #point(cell) {
+        this.panel.address = cell;
+        this.page.store.note('address', cell);
+    }
+
+    async #chosen(select) {
+        const { files, source, programs } = this.page, name = select.value;
+        select.value = '';
+        if (name === '') return;
+        if (name === 'source') {
+            if (await this.load(source.tape, 'the source\'s tape')) this.list($('listing').textContent);
+            return;
+        }
+        const { status, out, said } = await files.tape(name.slice(5));
+        if (status !== 0) return tell('machine-status', `${name.slice(5)}: ${said}`, true);
+        if (!await this.load(out, name.slice(5))) return;
+        const text = await programs.ask(['source'], out);
+        this.list(textOf(text.out).replaceAll('\r', ''));
+    }
+
+    #tapes() {
+        const { files, source } = this.page, own = (files?.entries ?? []).map(it => it.name).sort();
+        $('core-tape').replaceChildren(made('option', { value: '' }, 'choose a tape'), ...(source?.tape ? [made('option', { value: 'source' }, 'the source\'s')] : []),
+            ...own.map(it => made('option', { value: `file ${it}` }, it)));
+    }
+
+    // Shows a listing, whose cells are buttons for breaks.
+    list(text) {
+        this.cells.clear();
+        const lines = text.split('\n'), shown = lines.slice(0, LISTED).map(it => this.#line(it));
+        if (lines.length > LISTED) shown.push(made('span', { class: 'l none' }, `and ${lines.length - LISTED} further lines`));
+        $('code').replaceChildren(...shown);
+        this.page.store.note('listing', text);
+        this.#mark();
+    }
+
+    // A line begins with its cell, or ends with it and its word in a comment, as `assemble --list` and `source` write them.
+    #line(text) {
+        const cell = /^([0-7]{5})  [0-7]{4}/.exec(text)?.[1] ?? /\/([0-7]{5}) [0-7]{4}$/.exec(text)?.[1];
+        if (!cell) return made('span', { class: 'l none' }, `${text}\n`);
+        const button = made('button', { 'aria-pressed': String(this.breaks.has(cell)), 'aria-label': `break at ${cell}: ${text.replace(/\s+/g, ' ')}`,
+            onclick: () => this.toggle(cell, button) }, text);
+        const line = made('span', { class: 'l', 'data-cell': cell }, button, '\n');
+        this.cells.set(cell, line);
+        return line;
+    }
+
+    async toggle(cell, button) {
+        const how = this.breaks.has(cell) ? 'OFF' : 'ON';
+        const reply = (await this.#ask(`BREAK ${cell} ${how}`))?.[0] ?? '';
+        tell('machine-status', reply, reply.startsWith('?'));
+        if (reply.startsWith('?')) return;
+        how === 'ON' ? this.breaks.add(cell) : this.breaks.delete(cell);
+        button.setAttribute('aria-pressed', String(how === 'ON'));
+    }
+
+    #loadAddress() {
+        this.#point(this.panel.fieldSwitches * 0o10000 + this.panel.switches);
+        tell('machine-status', `address ${octal(this.panel.address, 5)}`);
+        this.panel.show(this.registers, this.panel.address, null);
+    }
+
+    // The cell behind one, in its field.
+    #next(cell) { return (cell & 0o70000) + ((cell + 1) & 0o7777); }
+
+    async #examine() { await this.#cell(`EXAMINE ${octal(this.panel.address, 5)}`); }
+
+    async #deposit() {
+        await this.#cell(`DEPOSIT ${octal(this.panel.address, 5)} ${octal(this.panel.switches, 4)}`);
+        this.#changed();
+        await this.#core();
+    }
+
+    async #cell(line) {
+        const [reply] = await this.#ask(line) ?? [''], [cell, word] = reply.split(' ');
+        tell('machine-status', reply);
+        this.panel.show(this.registers, Number.parseInt(cell, 8), Number.parseInt(word, 8));
+        this.#point(this.#next(this.panel.address));
+    }
+
+    async start() {
+        this.isGoing = false;
+        const [reply] = await this.#ask(`START ${octal(this.panel.address, 5)}`) ?? [''];
+        tell('machine-status', reply);
+        await this.go();
+    }
+
+    stop() { this.isGoing = false; }
+
+    async step() {
+        this.isGoing = false;
+        await this.#slice('STEP', 1);
+        tell('machine-status', this.reply);
+        await this.#stopped();
+    }
+
+    // Goes on until something stops the machine; what it does is shown at each picture.
+    async go() {
+        if (this.isGoing) return;
+        this.isGoing = true;
+        this.panel.runs(true);
+        let why = 'LIMIT', last = performance.now(), made = 0, told = last;
+        while (this.isGoing && why === 'LIMIT') {
+            await new Promise(requestAnimationFrame);
+            const now = performance.now();
+            const due = $('speed').value === 'real' ? Math.max(1, Math.round(Math.min(now - last, 100) * STEPS)) : Infinity;
+            last = now;
+            const before = this.total;
+            why = await this.#picture(due, now + PICTURE);
+            made += this.total - before;
+            if (now - told > 500) {
+                $('rate').textContent = `${rateOf(made / (now - told))} steps a second`;
+                told = now;
+                made = 0;
+            }
+        }
+        const isStopped = !this.isGoing;
+        this.isGoing = false;
+        this.panel.runs(false);
+        tell('machine-status', isStopped ? `stopped by the key: ${this.reply}` : this.reply ?? '', why === 'UNASSIGNED');
+        $('rate').textContent = '';
+        await this.#stopped();
+    }
+
+    total = 0;
+
+    // Steps until so many are made, or the time for a picture is over.
+    async #picture(due, until) {
+        let why = 'LIMIT', left = due;
+        do {
+            const begun = performance.now();
+            const count = Math.max(1, Math.min(left, this.registers?.busy ? 400 : this.many, MOST));
+            const before = this.total;
+            why = await this.#slice('GO', count);
+            left -= this.total - before;
+            const took = performance.now() - begun;
+            if (took > 8) this.many = Math.max(1000, this.many / 2 | 0);
+            else if (took < 4 && count === this.many) this.many = Math.min(MOST, this.many * 2);
+        } while (this.isGoing && why === 'LIMIT' && left > 0 && performance.now() < until);
+        this.#show();
+        if (this.isPrinting) await this.#print();
+        return why;
+    }
+
+    // A line STEP or GO, behind what the printer and the keyboard are due.
+    async #slice(word, count) {
+        const lines = [];
+        if (this.registers?.busy) {
+            this.isPrinting = true;
+            const now = performance.now();
+            this.since ??= now;
+            if ($('printer').value !== 'real' || now - this.since >= CHARACTER || word === 'STEP') {
+                lines.push('DONE');
+                this.since = null;
+            }
+        }
+        if (this.keys.length && !this.registers?.kbd) lines.push(`KEY ${octal(this.keys.shift(), 3)}`);
+        lines.push(`${word} ${count}`, 'REGISTERS');
+        const replies = await this.#ask(...lines);
+        if (!replies) return 'ENDED';
+        this.reply = replies.at(-2);
+        this.registers = JSON.parse(replies.at(-1));
+        if (this.registers.busy) this.isPrinting = true;
+        const [, steps, why] = this.reply.split(' ');
+        this.total += Number(steps);
+        return why;
+    }
+
+    // What was printed since it was last shown.
+    async #print() {
+        this.isPrinting = this.registers.busy;
+        const [reply] = await this.#ask('PRINTED') ?? ['PRINTED'];
+        const all = reply.split(' ').slice(1), fresh = all.slice(this.printed ?? 0);
+        this.printed = all.length;
+        if (fresh.length) this.paper.print(Uint8Array.from(fresh, it => Number.parseInt(it, 8) & 0o177));
+    }
+
+    async #stopped() {
+        await this.#print();
+        this.#changed();
+        await this.#refresh();
+    }
+
+    // Shows the registers and some of core.
+    async #refresh() {
+        if (!canLive || $('machine').hidden) return;
+        const [reply] = await this.#ask('REGISTERS') ?? [];
+        if (!reply) return;
+        this.registers = JSON.parse(reply);
+        this.#show();
+        await this.#core();
+    }
+
+    #show() {
+        this.panel.show(this.registers, null, null, this.isGoing);
+        if (this.isGoing && performance.now() - (this.listedAt ?? 0) < 100) return;
+        this.listedAt = performance.now();
+        $('registers').replaceChildren(...Object.entries(this.registers).map(([name, value]) => made('div', {}, made('dt', {}, name), made('dd', {}, String(value)))));
+        this.#mark();
+    }
+
+    // Marks the line of the next instruction.
+    #mark() {
+        this.marked?.classList.remove('at');
+        this.marked = this.registers && this.cells.get(this.registers.if + this.registers.pc);
+        this.marked?.classList.add('at');
+        if (!this.isGoing) this.marked?.scrollIntoView({ block: 'nearest' });
+    }
+
+    async #core() {
+        if (!canLive) return;
+        const from = Number.parseInt($('core-from').value, 8) & 0o77770;
+        const cells = Array.from({ length: 64 }, (_, k) => (from & 0o70000) + ((from + k) & 0o7777));
+        const replies = await this.#ask(...cells.map(it => `EXAMINE ${octal(it, 5)}`));
+        if (!replies) return;
+        const rows = Array.from({ length: 8 }, (_, k) => replies.slice(8 * k, 8 * k + 8));
+        $('core').textContent = rows.map(it => `${it[0].slice(0, 5)}  ${it.map(one => one.slice(6)).join(' ')}`).join('\n');
+    }
+
+    // Has the page keep what core holds, once nothing has changed it for a while.
+    #changed() {
+        clearTimeout(this.keeping);
+        this.keeping = setTimeout(() => this.#keep(), 700);
+    }
+
+    async #keep() {
+        if (this.isGoing || !this.lines) return;
+        const replies = await this.#ask(...Array.from({ length: CORE }, (_, cell) => `EXAMINE ${octal(cell, 5)}`));
+        if (replies) this.page.store.note('core', Uint16Array.from(replies, it => Number.parseInt(it.slice(6), 8)));
+    }
+
+    #key(event) {
+        const key = keyOf(event);
+        if (key === null) return;
+        event.preventDefault();
+        this.keys.push((key.toUpperCase().charCodeAt(0) & 0o177) | 0o200);
+    }
+}
+
+function rateOf(thousands) {
+    return thousands >= 1000 ? `${(thousands / 1000).toFixed(1)} million` : `${Math.round(thousands)} thousand`;
+}

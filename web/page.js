@@ -1,0 +1,76 @@
+// The page: loads the program, and lets the panes begin.
+import { $, made } from './dom.js';
+import { Store } from './store.js';
+import { Programs, load, canLive, hasWideMemory } from './program.js';
+import { Files } from './files.js';
+import { Source } from './source.js';
+import { Machine } from './machine.js';
+import { Teletype } from './teletype.js';
+import { Script } from './script.js';
+
+const PANES = ['files', 'source', 'machine', 'teletype', 'script'];
+
+function trouble(text) {
+    $('trouble').textContent = text;
+    $('trouble').hidden = false;
+}
+
+// Tabs as a keyboard works them: arrows go from one to the next, and Tab into the pane.
+class Tabs {
+    constructor(store) {
+        this.store = store;
+        for (const name of PANES) {
+            const tab = $(`tab-${name}`);
+            tab.addEventListener('click', () => this.show(name));
+            tab.addEventListener('keydown', event => this.#key(event, PANES.indexOf(name)));
+        }
+        const asked = location.hash.slice(1);
+        this.show(PANES.includes(asked) ? asked : store.notes.get('pane') ?? 'files');
+    }
+
+    #key(event, at) {
+        const to = { ArrowRight: at + 1, ArrowLeft: at + PANES.length - 1, Home: 0, End: PANES.length - 1 }[event.key];
+        if (to === undefined) return;
+        event.preventDefault();
+        const name = PANES[to % PANES.length];
+        this.show(name);
+        $(`tab-${name}`).focus();
+    }
+
+    show(name) {
+        for (const it of PANES) {
+            $(it).hidden = it !== name;
+            $(`tab-${it}`).setAttribute('aria-selected', it === name);
+            $(`tab-${it}`).tabIndex = it === name ? 0 : -1;
+        }
+        this.store.note('pane', name);
+        $(name).dispatchEvent(new Event('shown'));
+    }
+}
+
+async function begin() {
+    if (!hasWideMemory) {
+        trouble('This browser has no WebAssembly memory of 64 bits, which the program needs. Chromium, Chrome and Edge from version 133 '
+            + 'and Firefox from version 134 have it.');
+        return;
+    }
+    const store = await Store.open();
+    const programs = new Programs(await load('pdp8.wasm'), store);
+    const page = { store, programs, tell: trouble };
+    page.tabs = new Tabs(store);
+    page.files = new Files(page);
+    page.machine = new Machine(page);
+    page.teletype = new Teletype(page);
+    page.source = new Source(page);
+    page.script = new Script(page);
+    await page.files.begin();
+    $('kept').textContent = store.isKept ? 'What you open and write stays in this browser until you remove it.'
+        : 'This browser keeps nothing: take home what you want to keep.';
+    if (!canLive)
+        $('kept').append(' Without promises in WebAssembly calls (JSPI) or an isolated page, the Machine, and programs that wait for a key, '
+            + 'can\'t run here; whole scripts can.');
+    document.body.append(made('span', { id: 'ready', hidden: true }));
+    globalThis.geivottu = page;
+}
+
+begin().catch(error => trouble(`The page can't begin: ${error.message ?? error}`));

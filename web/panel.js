@@ -1,0 +1,125 @@
+// The front panel as a picture that works: lamps that show what `REGISTERS` told, switches, and keys that give lines.
+import { made } from './dom.js';
+
+const ROWS = [
+    ['pc', 'Program counter', 12], ['ma', 'Memory address', 12], ['mb', 'Memory buffer', 12], ['ac', 'Accumulator', 12],
+];
+const SMALL = [['l', 'Link', 1], ['if', 'Inst field', 3], ['df', 'Data field', 3], ['run', 'Run', 1], ['ion', 'Ion', 1]];
+const KEYS = [
+    ['start', 'Start', 'starts at the address, with AC and L clear'], ['load', 'Load add', 'takes the address from the switches'],
+    ['deposit', 'Dep', 'deposits the switches at the address'], ['examine', 'Exam', 'shows the word at the address'],
+    ['go', 'Cont', 'goes on'], ['stop', 'Stop', 'stops'], ['step', 'Sing step', 'makes one step'],
+];
+
+export class Panel {
+    #lamps = {};
+    #words = {};
+    #keys = {};
+    #address = 0;
+
+    // `does` has what each key does, and `switches` what a change of the switches does.
+    constructor(element, does) {
+        this.does = does;
+        element.append(made('div', { class: 'brand' }, made('span', {}, 'programmed data processor'), made('span', {}, '8/I')));
+        for (const row of ROWS) element.append(this.#row(row));
+        const small = made('div', { class: 'small' });
+        for (const row of SMALL) small.append(this.#row(row));
+        element.append(small, this.#switches());
+        const keys = made('div', { class: 'keys' });
+        for (const [what, text, title] of KEYS) {
+            this.#keys[what] = made('button', { title, id: `key-${what}`, onclick: () => does[what]() }, text);
+            keys.append(this.#keys[what]);
+        }
+        this.addressShown = made('span', { class: 'name', id: 'address' });
+        keys.append(this.addressShown);
+        element.append(keys);
+    }
+
+    #row([name, text, bits]) {
+        const lamps = Array.from({ length: bits }, () => made('span', { class: 'lamp' }));
+        this.#lamps[name] = lamps;
+        const word = this.#words[name] = made('span', { class: 'word' });
+        const row = made('div', { class: 'bits' }, ...threes(lamps));
+        return made('div', { class: 'lamps', role: 'img', 'data-row': name, 'aria-label': text }, made('span', { class: 'name' }, text), row, word);
+    }
+
+    #switches() {
+        const field = this.field = [2, 1, 0].map(bit => this.#switch(`field switch ${bit}`, () => {}));
+        const register = this.register = Array.from({ length: 12 }, (_, bit) => this.#switch(`switch ${bit}`, () => this.does.switches(this.switches)));
+        this.switchesShown = made('span', { class: 'word', id: 'switches-shown' });
+        const line = (text, own, shown, id) => made('div', { class: 'switches', role: 'group', id, 'aria-label': text },
+            made('span', { class: 'name' }, text), made('div', { class: 'bits' }, ...threes(own)), shown);
+        const rows = made('div', {}, line('Field', field, made('span', { class: 'word' }), 'field-switches'), line('Switch register', register, this.switchesShown, 'switch-register'));
+        this.#told();
+        return rows;
+    }
+
+    #switch(label, changed) {
+        const it = made('button', { class: 'switch', role: 'switch', 'aria-checked': 'false', 'aria-label': label, onclick: () => {
+            it.setAttribute('aria-checked', String(it.getAttribute('aria-checked') !== 'true'));
+            this.#told();
+            changed();
+        } });
+        return it;
+    }
+
+    #told() { if (this.switchesShown) this.switchesShown.textContent = this.switches.toString(8).padStart(4, '0'); }
+
+    get switches() { return wordOf(this.register); }
+
+    set switches(word) {
+        this.register.forEach((it, bit) => it.setAttribute('aria-checked', String((word >> (11 - bit) & 1) === 1)));
+        this.#told();
+    }
+
+    get fieldSwitches() { return wordOf(this.field); }
+
+    get address() { return this.#address; }
+
+    set address(cell) {
+        this.#address = cell;
+        this.addressShown.textContent = `address ${cell.toString(8).padStart(5, '0')}`;
+    }
+
+    enable(isAble) { for (const it of Object.values(this.#keys)) it.disabled = !isAble; }
+
+    runs(isGoing) {
+        this.#keys.stop.disabled = !isGoing;
+        for (const name of ['go', 'step', 'load', 'deposit', 'examine']) this.#keys[name].disabled = isGoing;
+    }
+
+    // Shows the registers, and the address and the word that were last examined; where these are not known, their lamps are dark.
+    show(registers, address, word) {
+        if (!registers) return;
+        this.#light('pc', Number.parseInt(registers.pc, 8));
+        this.#light('ac', Number.parseInt(registers.ac, 8));
+        this.#light('l', Number(registers.l));
+        this.#light('if', Number(registers.if));
+        this.#light('df', Number(registers.df));
+        this.#light('run', Number(registers.run), '');
+        this.#light('ion', Number(registers.ion), '');
+        this.#light('ma', address === null ? null : address & 0o7777);
+        this.#light('mb', word);
+    }
+
+    #light(name, word, shown) {
+        const lamps = this.#lamps[name], bits = lamps.length;
+        const text = shown ?? (word === null ? '' : word.toString(8).padStart(Math.ceil(bits / 3), '0'));
+        if (lamps.word === word) return;
+        lamps.word = word;
+        lamps.forEach((it, bit) => it.classList.toggle('on', word !== null && (word >> (bits - 1 - bit) & 1) === 1));
+        this.#words[name].textContent = text;
+        const row = this.#words[name].parentNode;
+        row.querySelector('.bits').classList.toggle('dark', word === null);
+        row.setAttribute('aria-label', `${row.querySelector('.name').textContent} ${word === null ? 'not known' : bits === 1 ? (word ? 'on' : 'off') : text}`);
+    }
+}
+
+// Lamps or switches by threes, as their octal digits are.
+function threes(all) {
+    return Array.from({ length: Math.ceil(all.length / 3) }, (_, k) => made('span', {}, ...all.slice(3 * k, 3 * k + 3)));
+}
+
+function wordOf(switches) {
+    return switches.reduce((word, it) => 2 * word + (it.getAttribute('aria-checked') === 'true' ? 1 : 0), 0);
+}

@@ -1,0 +1,139 @@
+// The paper of a Teletype: characters are put on it as they come, or ten a second. It is kept in sheets, so that a browser lays out only
+// the last of them anew.
+const MOST = 60000, SHEET = 2000;
+
+export class Paper {
+    #waiting = [];
+    #pace = null;
+    #due = 0;
+    #timer = 0;
+    #isAsked = false;
+
+    // `shown` is told how many characters were printed, `kept` what the paper then holds.
+    constructor(element, { shown = () => {}, kept = () => {} } = {}) {
+        this.element = element;
+        this.shown = shown;
+        this.kept = kept;
+        this.length = 0;
+        this.#sheet();
+    }
+
+    get text() { return this.element.textContent; }
+
+    #sheet() {
+        const sheet = document.createElement('div');
+        this.last = document.createTextNode('');
+        sheet.append(this.last);
+        this.element.append(sheet);
+    }
+
+    // Characters a second, null for full speed.
+    set pace(pace) {
+        this.#pace = pace;
+        this.#ask();
+    }
+
+    restore(text) {
+        this.last.data = text;
+        this.length = text.length;
+        this.element.scrollTop = this.element.scrollHeight;
+    }
+
+    tear() {
+        this.element.replaceChildren();
+        this.#sheet();
+        this.length = 0;
+        this.kept('');
+    }
+
+    print(bytes) {
+        this.#waiting.push(bytes);
+        this.#ask();
+    }
+
+    // Leaves out what was not printed yet.
+    drop() { this.#waiting = []; }
+
+    #ask() {
+        if (this.#isAsked || !this.#waiting.length) return;
+        this.#isAsked = true;
+        requestAnimationFrame(now => this.#frame(now));
+    }
+
+    // What is due at this picture.
+    #frame(now) {
+        this.#isAsked = false;
+        let count = Infinity;
+        if (this.#pace) {
+            this.#due = Math.min(this.#due + (now - (this.#timer || now)) * this.#pace / 1000, 3);
+            count = Math.floor(this.#due);
+            this.#due -= count;
+        }
+        this.#timer = this.#waiting.length ? now : 0;
+        let made = 0, text = '';
+        while (made < count && this.#waiting.length) {
+            const part = this.#waiting[0], taken = part.subarray(0, count - made);
+            if (taken.length === part.length) this.#waiting.shift();
+            else this.#waiting[0] = part.subarray(taken.length);
+            for (const it of taken) text += this.#character(it);
+            made += taken.length;
+        }
+        if (made) {
+            this.#put(text);
+            this.shown(made);
+        }
+        if (!this.#waiting.length) this.#timer = 0;
+        this.#ask();
+    }
+
+    // A character as a page shows it: a line feed goes on, a return alone begins the line anew, and the bell is seen.
+    #character(it) {
+        if (it === 0o7) this.#ring();
+        if (it === 0o12) return '\n';
+        if (it === 0o11) return '\t';
+        return it < 0o40 || it === 0o177 ? '' : String.fromCharCode(it);
+    }
+
+    #put(text) {
+        const { element } = this, isAtEnd = element.scrollTop + element.clientHeight >= element.scrollHeight - 30;
+        const cut = text.indexOf('\n') + 1;
+        if (this.last.length > SHEET && cut) {
+            this.last.appendData(text.slice(0, cut));
+            this.#sheet();
+            this.last.appendData(text.slice(cut));
+        } else this.last.appendData(text);
+        this.length += text.length;
+        while (this.length > MOST && element.children.length > 1) {
+            this.length -= element.firstChild.textContent.length;
+            element.firstChild.remove();
+        }
+        if (isAtEnd) element.scrollTop = element.scrollHeight;
+        if (this.#pace && text.includes('\n')) this.#feed();
+        clearTimeout(this.keeping);
+        this.keeping = setTimeout(() => this.kept(this.text), 500);
+    }
+
+    #feed() {
+        this.element.classList.remove('feeds');
+        void this.element.offsetWidth;
+        this.element.classList.add('feeds');
+    }
+
+    #ring() {
+        this.element.classList.add('rings');
+        setTimeout(() => this.element.classList.remove('rings'), 150);
+    }
+}
+
+// The characters of a key that was struck, null for one that is the browser's: Tab goes on, as everywhere in a page.
+export function keyOf(event) {
+    if (event.altKey || event.metaKey || event.isComposing) return null;
+    if (event.ctrlKey) {
+        if (['c', 'v', 'x', 'a'].includes(event.key.toLowerCase()) && (event.key.toLowerCase() === 'v' || !getSelection().isCollapsed)) return null;
+        return /^[a-z@[\\\]^_]$/i.test(event.key) ? String.fromCharCode(event.key.toUpperCase().charCodeAt(0) & 0o37) : null;
+    }
+    if (event.key === 'Enter') return '\r';
+    if (event.key === 'Backspace' || event.key === 'Delete') return '\x7f';
+    if (event.key === 'Escape') return '\x1b';
+    return event.key.length === 1 ? event.key : null;
+}

@@ -1,0 +1,201 @@
+// Runs of the program pdp8, each in a worker. The words of a run that are names of files in the page are these files.
+const latin1 = new TextDecoder('latin1'), utf8 = new TextEncoder();
+const WAITING = 1 << 16;
+
+export const bytesOf = it => typeof it === 'string' ? utf8.encode(it) : it;
+export const textOf = bytes => latin1.decode(bytes);
+
+// Whether a call of the program can wait for what a user types: by promises in calls, or else by memory that two threads have. The page's
+// address may ask for less, as `?wait=memory` and `?wait=none` do in the tests.
+const asked = new URLSearchParams(location.search).get('wait');
+const promises = 'Suspending' in WebAssembly && asked === null;
+export const canLive = promises || (globalThis.crossOriginIsolated === true && asked !== 'none');
+
+// Whether the browser has memories of 64 bits: the smallest module with one.
+export const hasWideMemory = WebAssembly.validate(new Uint8Array([0, 97, 115, 109, 1, 0, 0, 0, 5, 3, 1, 4, 1]));
+
+export async function load(url) {
+    const answer = await fetch(url);
+    if (!answer.ok) throw new Error(`${url}: ${answer.status}`);
+    return WebAssembly.compile(await answer.arrayBuffer());
+}
+
+export class Programs {
+    #last = Promise.resolve();
+    #spare = null;
+    held = new Set();
+
+    constructor(module, store) {
+        this.module = module;
+        this.store = store;
+    }
+
+    // A whole run, behind those that were asked for before: its exit status, and what it wrote to each stream.
+    ask(words, input = '') {
+        const answer = this.#last.then(() => new Promise(go => {
+            const out = [], said = [];
+            const run = new Run(this, words, {
+                input: bytesOf(input),
+                heard: it => out.push(it),
+                said: it => said.push(it),
+                ended: status => go({ status, out: joined(out), said: textOf(joined(said)) }),
+            });
+            this.asked = run;
+        }));
+        this.#last = answer;
+        return answer;
+    }
+
+    // Ends the whole run that is going on.
+    stop() { this.asked?.stop(); }
+
+    // A run that lives until its input is ended, or it is stopped.
+    async begin(words, how) {
+        await this.#last;
+        return new Run(this, words, { ...how, input: null });
+    }
+
+    // Workers are begun ahead, since that takes some time.
+    worker() {
+        const own = this.#spare ?? new Worker('worker.js', { type: 'module' });
+        this.#spare = new Worker('worker.js', { type: 'module' });
+        return own;
+    }
+}
+
+// One run. `heard` and `said` take what it writes to standard output and to standard error, `ended` its status, null where it was
+// stopped. `room` is how many bytes it may be ahead of what `show` was told, none for no limit; `patience` after how many milliseconds
+// a read gives nothing.
+export class Run {
+    #queue = [];
+    #ended = false;
+    #channel = null;
+    #isWanted = false;
+
+    constructor(programs, words, how) {
+        this.programs = programs;
+        this.how = how;
+        this.shown = 0;
+        this.isLive = true;
+        this.worker = programs.worker();
+        this.worker.onmessage = ({ data }) => this.#take(data);
+        this.worker.onerror = event => this.#end(null, event.message ?? 'the worker failed');
+        if (!promises && canLive && how.input === null) this.#channel = new SharedArrayBuffer(16 + (1 << 16));
+        const { files } = programs.store;
+        const own = words.filter(it => files.has(it));
+        this.holds = words[0] === 'run' && !words.includes('--look') && how.input === null ? own : [];
+        const locked = [...programs.held];
+        this.holds = this.holds.filter(it => !locked.includes(it));
+        this.holds.forEach(it => programs.held.add(it));
+        this.worker.postMessage({
+            begin: true, module: programs.module, words, files: own.map(it => [it, files.get(it)]), input: how.input, locked,
+            terminal: how.terminal ?? false, patience: how.patience ?? 0, room: how.room ?? WAITING, channel: this.#channel, promises,
+        });
+        this.isPaced = how.room !== undefined;
+    }
+
+    #take(data) {
+        if (!this.isLive) return;
+        if (data.files) for (const [name, bytes] of data.files) bytes ? this.programs.store.put(name, bytes) : this.programs.store.remove(name);
+        else if (data.wants) {
+            this.#isWanted = true;
+            this.#give();
+        } else if (data.bytes) {
+            (data.stream === 1 ? this.how.heard : this.how.said)?.(data.bytes);
+            if (!this.isPaced) this.show(data.bytes.length);
+        } else this.#end(data.status, data.failed);
+    }
+
+    #end(status, failed = null) {
+        if (!this.isLive) return;
+        this.isLive = false;
+        this.worker.terminate();
+        this.holds.forEach(it => this.programs.held.delete(it));
+        if (failed) this.how.said?.(bytesOf(`${failed}\n`));
+        this.how.ended?.(status);
+    }
+
+    // Bytes for its standard input.
+    say(it) {
+        if (!this.isLive) return;
+        if (!this.#channel) return this.worker.postMessage({ bytes: bytesOf(it) });
+        this.#queue.push(bytesOf(it));
+        this.#give();
+    }
+
+    // The end of its standard input.
+    end() {
+        if (!this.isLive) return;
+        if (!this.#channel) return this.worker.postMessage({ end: true });
+        this.#ended = true;
+        this.#give();
+    }
+
+    // So many further bytes of its output were shown.
+    show(count) {
+        this.shown += count;
+        if (!this.#channel) return this.isLive && this.worker.postMessage({ shown: this.shown });
+        Atomics.store(new Int32Array(this.#channel), 2, this.shown);
+        Atomics.notify(new Int32Array(this.#channel), 2);
+    }
+
+    stop() { this.#end(null); }
+
+    // Where the worker waits in a call, the next bytes are laid into the memory that both have.
+    #give() {
+        if (!this.#channel || !this.#isWanted || !(this.#queue.length || this.#ended)) return;
+        const state = new Int32Array(this.#channel, 0, 4), room = new Uint8Array(this.#channel, 16);
+        const part = this.#queue.shift();
+        if (part && part.length > room.length) this.#queue.unshift(part.subarray(room.length));
+        if (part) room.set(part.subarray(0, room.length));
+        this.#isWanted = false;
+        Atomics.store(state, 1, part ? Math.min(part.length, room.length) : -1);
+        Atomics.store(state, 0, 1);
+        Atomics.notify(state, 0);
+    }
+}
+
+// A living `run` in which each line gets one line of reply.
+export class Lines {
+    #text = '';
+    #waiting = [];
+
+    static async begin(programs, words, { ended, terminal } = {}) {
+        const it = new Lines();
+        it.said = '';
+        it.run = await programs.begin(words, {
+            terminal,
+            heard: bytes => it.#hear(textOf(bytes)),
+            said: bytes => { it.said += textOf(bytes); },
+            ended: status => { it.#waiting.splice(0).forEach(({ go }) => go(null)); ended?.(status, it.said + it.#text); },
+        });
+        return it;
+    }
+
+    #hear(text) {
+        this.#text += text;
+        while (this.#waiting.length) {
+            const { count, go } = this.#waiting[0];
+            const lines = this.#text.split('\n');
+            if (lines.length <= count) return;
+            this.#text = lines.slice(count).join('\n');
+            this.#waiting.shift();
+            go(lines.slice(0, count));
+        }
+    }
+
+    // The replies to these lines, null where the run ends before they are all there.
+    ask(...lines) {
+        if (!this.run.isLive) return Promise.resolve(null);
+        return new Promise(go => {
+            this.#waiting.push({ count: lines.length, go });
+            this.run.say(lines.map(it => `${it}\n`).join(''));
+        });
+    }
+}
+
+export function joined(parts) {
+    const all = new Uint8Array(parts.reduce((sum, it) => sum + it.length, 0));
+    parts.reduce((at, it) => { all.set(it, at); return at + it.length; }, 0);
+    return all;
+}

@@ -1,0 +1,99 @@
+// The Script pane: `run` over the volume that is open, a whole script at once, or a session whose lines are given one by one.
+import { $, tell, follow, keepInput } from './dom.js';
+import { bytesOf, canLive, textOf } from './program.js';
+
+const FIRST = 'STORE HELLO.PA 4\n*200\n\tCLA IAC\n\tHLT\n$\nASSEMBLE HELLO.BN<HELLO.PA\nFINISH\nLOAD HELLO.BN\nFINISH\nRUN 00200 10\nREGISTERS\nDIRECT\n';
+
+export class Script {
+    constructor(page) {
+        this.page = page;
+        this.run = null;
+        $('lines').value = FIRST;
+        for (const id of ['lines', 'script-saving', 'strict']) keepInput(page.store, id);
+        $('script-run').addEventListener('click', () => this.whole());
+        $('script-stop').addEventListener('click', () => this.run?.stop());
+        $('session').addEventListener('click', () => this.#session());
+        $('entry').addEventListener('submit', event => this.#enter(event));
+        $('session').disabled = !canLive;
+    }
+
+    #words() {
+        const { files } = this.page, words = ['run', files.name];
+        if ($('script-saving').value) words.push($('script-saving').value);
+        if ($('strict').checked) words.push('--strict');
+        return files.name === '' ? tell('script-status', 'No volume is open: open one, or make a new one, in the pane Files.', true) : words;
+    }
+
+    // Runs the whole script; its replies are shown as they come.
+    async whole() {
+        const words = this.#words();
+        if (!words) return;
+        this.run?.stop();
+        if (canLive) {
+            await this.#begin(words);
+            this.run?.say(bytesOf($('lines').value));
+            this.run?.end();
+            return;
+        }
+        $('replies').textContent = '';
+        const { status, out, said } = await this.page.programs.ask(words, $('lines').value);
+        follow($('replies'), textOf(out));
+        this.#ended(status, said);
+    }
+
+    async #begin(words, terminal = false) {
+        $('replies').textContent = '';
+        tell('script-status', 'running');
+        let said = '';
+        this.run = await this.page.programs.begin(words, {
+            terminal, room: 1 << 16,
+            heard: bytes => this.#show(bytes),
+            said: bytes => terminal ? follow($('replies'), textOf(bytes)) : said += textOf(bytes),
+            ended: status => this.#ended(status, said),
+        });
+        this.#buttons(terminal);
+    }
+
+    // Replies are shown a picture at a time, and the run waits where it is far ahead.
+    #show(bytes) {
+        if (!this.shown) requestAnimationFrame(() => this.#flush());
+        (this.shown ??= []).push(bytes);
+    }
+
+    #flush() {
+        const parts = this.shown ?? [], it = $('replies');
+        this.shown = null;
+        follow(it, parts.map(textOf).join(''));
+        while (it.childNodes.length > 300) it.firstChild.remove();
+        this.run?.show(parts.reduce((sum, part) => sum + part.length, 0));
+    }
+
+    #ended(status, said) {
+        this.#flush();
+        this.run = null;
+        tell('script-status', said + (status === null ? 'stopped' : `status ${status}`), status === null || status !== 0);
+        this.#buttons(false);
+    }
+
+    #buttons(isSession) {
+        $('script-stop').disabled = this.run === null;
+        $('session').textContent = isSession ? 'End the session' : 'Begin a session';
+        for (const id of ['entry-line', 'entry-say']) $(id).disabled = !isSession;
+        if (isSession) $('entry-line').focus();
+    }
+
+    async #session() {
+        if (this.run) return this.run.end();
+        const words = this.#words();
+        if (!words) return;
+        await this.#begin(words, true);
+    }
+
+    #enter(event) {
+        event.preventDefault();
+        const line = $('entry-line').value;
+        follow($('replies'), `> ${line}\n`);
+        this.run?.say(bytesOf(`${line}\n`));
+        $('entry-line').value = '';
+    }
+}

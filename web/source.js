@@ -1,0 +1,156 @@
+// The Source pane: `assemble` over the text, its faults at their lines, its listing and symbols, and where the tape goes.
+import { $, made, tell, takeHome, bytesOfFile, keepInput } from './dom.js';
+import { textOf } from './program.js';
+
+const SOURCE = 'source.pa', TAPE = '.source.bin', LISTING = '.source.lst';
+
+export class Source {
+    constructor(page) {
+        this.page = page;
+        this.faulty = new Map();
+        keepInput(page.store, 'source-name');
+        $('text').value = page.store.notes.get('text') ?? '';
+        $('text').addEventListener('input', () => this.#edited());
+        $('text').addEventListener('scroll', () => { $('gutter').scrollTop = $('text').scrollTop; });
+        $('text').addEventListener('keydown', event => this.#key(event));
+        $('assemble').addEventListener('click', () => this.assemble());
+        $('tape-home').addEventListener('click', () => takeHome(`${this.#name}.bin`, this.tape));
+        $('text-home').addEventListener('click', () => takeHome(`${this.#name}.pa`, new TextEncoder().encode($('text').value)));
+        $('to-core').addEventListener('click', () => this.#toCore());
+        $('to-teletype').addEventListener('click', () => this.#toTeletype());
+        $('to-volume').addEventListener('click', () => this.#toVolume());
+        $('source-file').addEventListener('change', event => this.#opened(event.target));
+        $('example').addEventListener('change', event => this.#example(event.target));
+        page.store.addEventListener('volume', () => this.#buttons());
+        this.#number();
+        this.#buttons();
+    }
+
+    get #name() { return $('source-name').value.trim() || 'SOURCE'; }
+
+    get tape() { return this.page.store.files.get(TAPE) ?? null; }
+
+    set(text) {
+        $('text').value = text;
+        this.#edited();
+    }
+
+    #edited() {
+        this.page.store.note('text', $('text').value);
+        if (this.faulty.size) {
+            this.faulty.clear();
+            $('faults').replaceChildren();
+        }
+        this.#number();
+    }
+
+    // Tab is left to those who go on by it: a tab is typed by Ctrl-I.
+    #key(event) {
+        if (event.ctrlKey && event.key.toLowerCase() === 'i') {
+            event.preventDefault();
+            $('text').setRangeText('\t', $('text').selectionStart, $('text').selectionEnd, 'end');
+            this.#edited();
+        }
+        if (event.ctrlKey && event.key === 'Enter') this.assemble();
+    }
+
+    // The numbers of the lines, with a mark at those that have a fault.
+    #number() {
+        const count = $('text').value.split('\n').length;
+        if (this.numbered === count && !this.faulty.size && !$('gutter').querySelector('.bad')) return;
+        this.numbered = count;
+        $('gutter').replaceChildren(...Array.from({ length: count }, (_, k) => this.faulty.has(k + 1)
+            ? made('span', { class: 'bad' }, `${this.faulty.get(k + 1)} ${k + 1}\n`) : `${k + 1}\n`), '\n\n\n');
+        $('gutter').scrollTop = $('text').scrollTop;
+    }
+
+    #buttons() {
+        for (const id of ['tape-home', 'to-core', 'to-teletype']) $(id).disabled = this.tape === null;
+        $('to-volume').disabled = this.tape === null || this.page.files.name === '';
+    }
+
+    async assemble() {
+        const { store, programs } = this.page;
+        for (const it of [TAPE, LISTING]) store.files.delete(it);
+        tell('source-status', '');
+        this.#buttons();
+        store.put(`.${SOURCE}`, new TextEncoder().encode($('text').value));
+        const { status, said } = await programs.ask(['assemble', `.${SOURCE}`, '--output', TAPE, '--list', LISTING, '--cross']);
+        this.#show(store.files.get(LISTING));
+        this.#tellFaults(status === 0 ? '' : said);
+        tell('source-status', status === 0 ? `assembled: a tape of ${this.tape.length} frames` : said.split('\n').find(it => it.startsWith('? ')) ?? said, status !== 0);
+        this.#buttons();
+        store.dispatchEvent(new Event('tape'));
+        return status === 0;
+    }
+
+    // Splits what `--list` writes: the lines, and behind the last empty line the symbols.
+    #show(listing) {
+        const text = listing ? textOf(listing).replaceAll('\r', '') : '';
+        const split = /\n\n((?:[A-Z][A-Z0-9]* +[0-7]{4}[ \d]*\n)+)$/.exec(text);
+        $('listing').textContent = split ? text.slice(0, split.index) : text;
+        $('symbols').textContent = split ? split[1] : '';
+    }
+
+    // Faults as the program tells them: NAME:LINE:COLUMN: CODE: WORDS.
+    #tellFaults(said) {
+        this.faulty.clear();
+        const found = [...said.matchAll(/^\S+?:(\d+):(\d+): ([A-Z]{2}): (.*)$/gm)];
+        for (const [, line, , code] of found) this.faulty.set(Number(line), code);
+        $('faults').replaceChildren(...found.map(([, line, column, code, words]) =>
+            made('li', {}, made('button', { onclick: () => this.#go(Number(line), Number(column)) }, `line ${line}, column ${column}: ${code}: ${words}`))));
+        this.#number();
+        if (found.length) this.#go(Number(found[0][1]), Number(found[0][2]), false);
+    }
+
+    // Puts the cursor at a place of the text.
+    #go(line, column, takesFocus = true) {
+        const lines = $('text').value.split('\n');
+        const at = lines.slice(0, line - 1).reduce((sum, it) => sum + it.length + 1, 0) + column - 1;
+        if (takesFocus) $('text').focus();
+        $('text').setSelectionRange(at, at + Math.max(1, lines[line - 1].length - column + 1));
+        $('text').scrollTop = Math.max(0, (line - 5) * parseFloat(getComputedStyle($('text')).lineHeight));
+    }
+
+    async #toCore() {
+        if (!await this.page.machine.load(this.tape, `the tape of ${this.#name}`)) return;
+        this.page.machine.list($('listing').textContent);
+        this.page.tabs.show('machine');
+    }
+
+    #toTeletype() {
+        this.page.teletype.choose('source');
+        this.page.tabs.show('teletype');
+        $('tty-run').focus();
+    }
+
+    // The text and the tape become files of the volume that is open.
+    async #toVolume() {
+        const { files } = this.page, told = [];
+        let isBad = false;
+        for (const [name, bytes, ...form] of [[`${this.#name}.PA`, $('text').value, '--text'], [`${this.#name}.BN`, this.tape]]) {
+            const { status, out, said } = await files.put(name, bytes, ...form);
+            told.push(textOf(out) + said);
+            isBad ||= status !== 0;
+        }
+        tell('source-status', told.join(''), isBad);
+    }
+
+    async #opened(input) {
+        const file = input.files[0];
+        if (file) {
+            this.set(textOf(await bytesOfFile(file)).replaceAll('\r\n', '\n'));
+            $('source-name').value = file.name.toUpperCase().split('.')[0].replace(/[^A-Z0-9]/g, '').slice(0, 6);
+        }
+        input.value = '';
+    }
+
+    async #example(select) {
+        if (!select.value) return;
+        const answer = await fetch(`examples/${select.value}`);
+        this.set(await answer.text());
+        $('source-name').value = select.value.toUpperCase().split('.')[0];
+        select.value = '';
+        tell('source-status', '');
+    }
+}

@@ -1,0 +1,139 @@
+// The Teletype pane: `teletype --live`, whose keys are struck at the paper, in a line, or by the tape reader.
+import { $, made, tell, bytesOfFile, keepInput } from './dom.js';
+import { canLive, textOf } from './program.js';
+import { Paper, keyOf } from './paper.js';
+
+export class Teletype {
+    constructor(page) {
+        this.page = page;
+        this.run = null;
+        this.own = null;
+        this.paper = new Paper($('paper'), { shown: count => this.run?.show(count), kept: text => page.store.note('paper', text) });
+        this.paper.restore(page.store.notes.get('paper') ?? '');
+        for (const id of ['tty-start', 'tty-switches', 'pace', 'capitals', 'reader']) keepInput(page.store, id);
+        this.#paces();
+        $('pace').addEventListener('change', () => this.#paces());
+        $('tty-run').addEventListener('click', () => this.begin());
+        $('tty-stop').addEventListener('click', () => this.stop());
+        $('tear').addEventListener('click', () => this.paper.tear());
+        $('copy').addEventListener('click', () => this.#copy());
+        $('paper').addEventListener('keydown', event => this.#key(event));
+        $('paper').addEventListener('paste', event => this.strike(event.clipboardData.getData('text')));
+        $('keys').addEventListener('submit', event => this.#line(event));
+        $('read').addEventListener('click', () => this.strike($('reader').value));
+        $('tape-file').addEventListener('change', event => this.#opened(event.target));
+        page.store.addEventListener('volume', () => this.#list());
+        page.store.addEventListener('tape', () => this.#list());
+        this.#list();
+    }
+
+    #paces() { this.paper.pace = $('pace').value === 'real' ? 10 : null; }
+
+    // The tapes that there are: that of the source, one of the host, and files of the volume.
+    #list() {
+        const chosen = $('tape').value, { files, source } = this.page;
+        const rows = [made('option', { value: '' }, 'choose a tape')];
+        if (source?.tape) rows.push(made('option', { value: 'source' }, 'the source\'s'));
+        if (this.own) rows.push(made('option', { value: 'own' }, this.own));
+        const own = (files?.entries ?? []).map(it => it.name).sort();
+        if (own.length) rows.push(made('optgroup', { label: files.name }, ...own.map(it => made('option', { value: `file ${it}` }, it))));
+        $('tape').replaceChildren(...rows);
+        $('tape').value = chosen;
+        if ($('tape').selectedIndex < 0) $('tape').value = '';
+    }
+
+    choose(tape) {
+        this.#list();
+        $('tape').value = tape;
+    }
+
+    async #opened(input) {
+        const file = input.files[0];
+        if (file) {
+            this.page.store.put('.tape.bin', await bytesOfFile(file));
+            this.own = file.name;
+            this.choose('own');
+        }
+        input.value = '';
+    }
+
+    #words() {
+        const tape = $('tape').value, words = ['teletype', '--live'];
+        if (tape === 'source') words.push('.source.bin');
+        else if (tape === 'own') words.push('.tape.bin');
+        else words.push(this.page.files.name, tape.slice(5));
+        if ($('tty-start').value.trim()) words.push('--start', $('tty-start').value.trim());
+        if ($('tty-switches').value.trim()) words.push('--switches', $('tty-switches').value.trim());
+        return words;
+    }
+
+    async begin() {
+        if (!$('tape').value) return tell('tty-status', 'Which tape?', true);
+        this.stop();
+        const words = this.#words();
+        if (!canLive) words.splice(1, 1);
+        let said = '';
+        const how = {
+            heard: bytes => this.paper.print(bytes),
+            said: bytes => { said += textOf(bytes); },
+            ended: status => this.#ended(status, said),
+            room: 4096, patience: 16,
+        };
+        tell('tty-status', 'running');
+        if (!canLive) return this.#whole(words);
+        this.run = await this.page.programs.begin(words, how);
+        this.#buttons();
+        $('paper').focus();
+    }
+
+    // Where nothing can wait, the keys are what the tape reader holds.
+    async #whole(words) {
+        const { status, out, said } = await this.page.programs.ask(words, $('reader').value);
+        this.paper.print(out);
+        this.#ended(status, said);
+    }
+
+    #ended(status, said) {
+        this.run = null;
+        tell('tty-status', said || (status === null ? 'stopped' : `status ${status}`), status !== 0 && status !== null);
+        this.#buttons();
+    }
+
+    stop() {
+        if (!this.run) return;
+        this.paper.drop();
+        this.run.stop();
+    }
+
+    #buttons() { $('tty-stop').disabled = this.run === null; }
+
+    // Strikes the keys of a text, in the order in which they were typed.
+    strike(text) {
+        const keys = $('capitals').checked ? text.toUpperCase() : text;
+        this.run?.say(Uint8Array.from(keys.replaceAll('\r\n', '\n'), it => it.charCodeAt(0) & 0o377));
+    }
+
+    #key(event) {
+        const key = keyOf(event);
+        if (key === null) return;
+        event.preventDefault();
+        this.strike(key);
+    }
+
+    #line(event) {
+        event.preventDefault();
+        this.strike(`${$('line').value}\r`);
+        $('line').value = '';
+    }
+
+    async #copy() {
+        const text = this.paper.text;
+        try {
+            await navigator.clipboard.writeText(text);
+            tell('tty-status', `copied ${text.length} characters`);
+        } catch {
+            getSelection().selectAllChildren($('paper'));
+            tell('tty-status', 'The paper is chosen: copy it.');
+        }
+    }
+}
