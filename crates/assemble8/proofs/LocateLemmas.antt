@@ -413,7 +413,7 @@ second_ends bytes taken lexer assembler all over s = by_absurd (sym over ∙ ap 
     by_absurd : true ≡ false → IsSettledAt bytes taken
     by_absurd e = absurd cc
 
--- ## The turn
+-- ## From the first pass to the second
 
 pub turned : (whole : Source) (f : AsmFault) (old new : asm.Progress) → BeginsSecond whole (Err f) old new → no_word whole ≡ Some f
 turned whole (At code line) old new turns = turns.0

@@ -66,7 +66,7 @@ same_fault s older place old names fixed there =
 
 -- an assembler of these parts
 abbrev pub progress : Bool → SymbolTable → Spot → ℕ → Option AsmFault → Progress
-progress again symbols spot line failed = record { symbols = symbols; spot = spot; has_turned = again; line = line; failed = failed }
+progress again symbols spot line failed = record { symbols = symbols; spot = spot; is_second = again; line = line; failed = failed }
 
 -- a statement more, which has no fault
 pub first_more : (s : Statement) (older : Source) (old : Progress) (n line : ℕ) (again : Bool) (symbols roomed new : SymbolTable) (spot next : Spot) (failed : Option AsmFault) (tags : List ℕ)
@@ -90,7 +90,7 @@ first_more s older old n line again symbols roomed new spot next failed tags is 
       line = refl;
       no_fault = ap (λ f. first_of f (at_line s.line (statement_fault s older))) first.no_fault
           ∙ ap (at_line s.line) (same_fault s older spot.location roomed names fixed there ∙ ap (λ t. fault_by_table t s.body spot.location roomed) (sym same) ∙ read.no_fault);
-      pass = ap (λ (p : Progress). p.has_turned) is ∙ first.pass;
+      pass = ap (λ (p : Progress). p.is_second) is ∙ first.pass;
       goes_on = ap (λ (p : Progress). p.failed) is ∙ first.goes_on;
     }
 

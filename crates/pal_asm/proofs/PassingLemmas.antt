@@ -20,7 +20,7 @@ use Rattle.pal_asm.specs.declared.faults.Code.TheVariants.{NE}
 use Rattle.pal_asm.specs.declared.faults.AsmFault.{AsmFault}
 use Rattle.pal_asm.specs.declared.faults.AsmFault.TheVariants.{At, Memory}
 use Rattle.pal_asm.specs.declared.passing.Pass.{Pass}
-use Rattle.pal_asm.specs.Passing.{Counts, Paused, Stands, IsBehind, TellsJoinFault, HasPassed, Settles, SettlesIn, PassesTo, EndsSource, TurnsPass}
+use Rattle.pal_asm.specs.Passing.{Counts, Paused, Stands, IsBehind, TellsJoinFault, HasPassed, Settles, SettlesIn, PassesTo, EndsSource, BeginsSecondPass}
 use Rattle.pal_asm.specs.TextSteps.{is_pause_answer, PassesByte}
 use Rattle.pal_asm.proofs.ByteLemmas.{from_behind, the_rest, up_to, one_more}
 
@@ -339,7 +339,7 @@ source_ends old new last over begins ends is = (
 )
 
 -- the second pass begins
-pub turned : (text : List ℕ) (seam : ℕ) (old new : asm.Progress) (pass : Pass) → pass.waiting ≡ None → pass.assembler ≡ new → Ends text (Ok tt) → BeginsSecond (statements text) (Ok tt) old new → TurnsPass text (Ok tt) pass
+pub turned : (text : List ℕ) (seam : ℕ) (old new : asm.Progress) (pass : Pass) → pass.waiting ≡ None → pass.assembler ≡ new → Ends text (Ok tt) → BeginsSecond (statements text) (Ok tt) old new → BeginsSecondPass text (Ok tt) pass
 turned text seam old new pass none is ends turns = (
   ap (λ b. if b then None else Some (At NE (line_after text))) ends.1,
   (none, subst (λ (a : asm.Progress). IsSecond a (statements text) []) (sym is) turns, refl),

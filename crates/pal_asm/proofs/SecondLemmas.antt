@@ -20,7 +20,7 @@ use Rattle.pal_asm.proofs.PassLemmas.{progress, place_passed}
 use Rattle.pal_asm.proofs.WholeLemmas.{IsKnown, first_none, second_none, or_right, tags_keep, no_fault_at, no_fault_before, permanent_kept, tag_to_whole, body_to_whole, same_place, same_field, goes_on, same_pair}
 use Rattle.pal_asm.proofs.AgainLemmas.{grows_over, tags_set, body_set}
 
--- ## The turn
+-- ## From the first pass to the second
 
 -- before the first statement names stand for what they stand for at last
 pub all_last : (whole : Source) → first_order whole ≡ None → values whole ≡ second_values whole []
@@ -119,7 +119,7 @@ second_more whole later older s old again symbols middle new spot next line fail
         has_word = second.has_word;
         words = ap (λ f. first_of f (at_line s.line (word_fault known (place_at older) s.body))) second.words
             ∙ ap (at_line s.line) (ap (λ p. word_fault known p s.body) (sym there) ∙ ap (λ k. word_fault k spot.location s.body) (sym names) ∙ made.no_word_fault);
-        pass = ap (λ (p : Progress). p.has_turned) is ∙ second.pass;
+        pass = ap (λ (p : Progress). p.is_second) is ∙ second.pass;
         goes_on = ap (λ (p : Progress). p.failed) is ∙ second.goes_on;
       },
     )

@@ -18,7 +18,7 @@ use Rattle.pal_asm.specs.Places.{Source, values}
 use Rattle.pal_asm.specs.Faults.{first_of, first_order, no_end, words_fault}
 use Rattle.pal_asm.specs.Laws.{StatementsStay}
 use Rattle.pal_asm.specs.Passes.{IsFirst, IsSecond}
-use Rattle.pal_asm.specs.Passing.{Counts, Stands, IsBehind, IsMade, PassesTo, MakesTo, HasPassed, HasMade, IsWithin, EndsSource, TurnsPass}
+use Rattle.pal_asm.specs.Passing.{Counts, Stands, IsBehind, IsMade, PassesTo, MakesTo, HasPassed, HasMade, IsWithin, EndsSource, BeginsSecondPass}
 use Rattle.pal_asm.specs.Progress as asm
 use Rattle.pal_asm.specs.Texts.{texts, Behind, RanOut, IsFaultOf}
 use Rattle.pal_asm.specs.TextSteps.{are_several, GoesOn, BeginsPass, BeginsAgain, PassesSource, MakesSource, AreWordsOf, IsWordsFault}
@@ -274,7 +274,7 @@ second_refused whole before sources none f pass new pairs made long ends is begi
     words_refused whole before (text_of (get_or sources 0 none).now) (texts (behind_one sources)) f new made (second_at whole before sources none (Err f) pass new pairs made long ends is begins makes)
 
 -- the second pass begins with a lexer of no byte
-pub again_begins : (whole : List ℕ) (several : Bool) (lexer : lex.Progress) (pass : Pass) → HasRead lexer 0 [] → lexer.may_pause ≡ several → TurnsPass whole (Ok tt) pass → (pass.lexer ≡ lexer) × (pass.ended ≡ false)
+pub again_begins : (whole : List ℕ) (several : Bool) (lexer : lex.Progress) (pass : Pass) → HasRead lexer 0 [] → lexer.may_pause ≡ several → BeginsSecondPass whole (Ok tt) pass → (pass.lexer ≡ lexer) × (pass.ended ≡ false)
     → (pass.ended ≡ false) × Counts pass.lexer [] several [] (λ source. IsMade (statements whole) pass [] source)
 again_begins whole several lexer pass read may turns is = (
   is.1,
@@ -287,7 +287,7 @@ again_begins whole several lexer pass read may turns is = (
   },
 )
 
-pub second_fault : {A : Type 0} (text : List ℕ) (r : Result A AsmFault) (pass : Pass) → IfErr r (λ f. IsWordsFault text f) → TurnsPass text (Ok tt) pass → IfErr r (λ f. IsFaultOf text f)
+pub second_fault : {A : Type 0} (text : List ℕ) (r : Result A AsmFault) (pass : Pass) → IfErr r (λ f. IsWordsFault text f) → BeginsSecondPass text (Ok tt) pass → IfErr r (λ f. IsFaultOf text f)
 second_fault text (Ok value) pass told turns = tt
 second_fault text (Err f) pass told turns = met_second text f pass.assembler told turns.0 turns.1.1
 

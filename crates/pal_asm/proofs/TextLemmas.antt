@@ -17,7 +17,7 @@ use Rattle.pal_asm.specs.Laws.{FixedNamesKeepTheirValues, FirstFaultStays, WordF
 use Rattle.pal_asm.specs.Progress.{Progress}
 use Rattle.pal_asm.specs.Passes.{IsSecond}
 use Rattle.pal_asm.specs.TextSteps.{IsFirstFault, IsWordsFault}
-use Rattle.pal_asm.specs.Passing.{TurnsPass}
+use Rattle.pal_asm.specs.Passing.{BeginsSecondPass}
 use Rattle.pal_asm.specs.declared.passing.Pass.{Pass}
 use Rattle.pal_asm.specs.Texts.{Behind, IsFaultOf}
 use Rattle.pal_asm.proofs.WholeLemmas.{first_none, second_none, some_none, no_fault_before, fixed_keep}
@@ -123,7 +123,7 @@ wordless source f told = by_test (has_word source) told
     by_test false e = refl
 
 -- the fault of a source with no word, or with no `$`
-pub turned : (text : List ℕ) (f : AsmFault) (new : Pass) → TurnsPass text (Err f) new → first_order (statements text) ≡ None → IsFaultOf text f
+pub turned : (text : List ℕ) (f : AsmFault) (new : Pass) → BeginsSecondPass text (Err f) new → first_order (statements text) ≡ None → IsFaultOf text f
 turned text (At code line) new turns none =
     ap (λ o. first_of o (first_of (no_end text) (first_of (words_fault (values (statements text)) (statements text)) (no_word (statements text))))) none ∙ by_end (no_end text) turns
   where

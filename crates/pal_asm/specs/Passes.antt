@@ -37,7 +37,7 @@ pub record IsFirst (assembler : Progress) (source : Source) : Type 0 where
   pub word : assembler.spot.word ≡ has_word source
   pub line : assembler.line ≡ last_line source
   pub no_fault : first_order source ≡ None
-  pub pass : assembler.has_turned ≡ false
+  pub pass : assembler.is_second ≡ false
   pub goes_on : assembler.failed ≡ None
 
 -- A fault was answered, and is answered for good.
@@ -73,10 +73,10 @@ pub record IsSecond (assembler : Progress) (whole older : Source) : Type 0 where
   pub no_fault : first_order whole ≡ None
   pub has_word : no_word whole ≡ None
   pub words : words_fault (values whole) older ≡ None
-  pub pass : assembler.has_turned ≡ true
+  pub pass : assembler.is_second ≡ true
   pub goes_on : assembler.failed ≡ None
 
--- what the turn to the second pass answers
+-- what beginning the second pass answers
 abbrev pub BeginsSecond : Source → Result (Unit {0}) AsmFault → Progress → Progress → Type 0
 BeginsSecond whole (Ok nothing) old new = IsSecond new whole []
 BeginsSecond whole (Err (At code line)) old new = (no_word whole ≡ Some (At code line)) × HasFailed new (At code line)
@@ -95,13 +95,13 @@ AnswersSecond whole older statement (Err (At code line)) old new =
     (words_fault (values whole) (Ok statement ∷ older) ≡ Some (At code line)) × HasFailed new (At code line)
 AnswersSecond whole older statement (Err Memory) old new = ⊥
 
--- the passes have turned, and go on
+-- the second pass goes on
 abbrev pub HasBegunSecond : Progress → Type 0
-HasBegunSecond assembler = (assembler.failed ≡ None) × (assembler.has_turned ≡ true)
+HasBegunSecond assembler = (assembler.failed ≡ None) × (assembler.is_second ≡ true)
 
 -- the first pass goes on
 abbrev pub HasNotBegunSecond : Progress → Type 0
-HasNotBegunSecond assembler = (assembler.failed ≡ None) × (assembler.has_turned ≡ false)
+HasNotBegunSecond assembler = (assembler.failed ≡ None) × (assembler.is_second ≡ false)
 
 -- the same fault for good
 abbrev pub StaysFailed : {A : Type 0} → Result A AsmFault → Progress → Progress → Type 0

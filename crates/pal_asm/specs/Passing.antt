@@ -115,8 +115,8 @@ EndsSource old last (Err fault) new ended =
     ((cut : List ℕ) → HasPaused old cut → ⊥)
     × ((seam : ℕ) (text : List ℕ) → HasRead old seam text → first_fault (statements text) ≡ None → no_end text ≡ Some fault)
 
--- What the turn from the first pass to the second comes to, behind a text that is all of the source.
-abbrev pub TurnsPass : List ℕ → Result (Unit {0}) AsmFault → Pass → Type 0
-TurnsPass text (Ok nothing) new = (no_end text ≡ None) × IsMade (statements text) new [] []
-TurnsPass text (Err Memory) new = ⊥
-TurnsPass text (Err (At code line)) new = first_of (no_end text) (no_word (statements text)) ≡ Some (At code line)
+-- What going from the first pass to the second comes to, behind a text that is all of the source.
+abbrev pub BeginsSecondPass : List ℕ → Result (Unit {0}) AsmFault → Pass → Type 0
+BeginsSecondPass text (Ok nothing) new = (no_end text ≡ None) × IsMade (statements text) new [] []
+BeginsSecondPass text (Err Memory) new = ⊥
+BeginsSecondPass text (Err (At code line)) new = first_of (no_end text) (no_word (statements text)) ≡ Some (At code line)

@@ -7,8 +7,8 @@ use Rattle.pal_asm.specs.declared.spots.Spot.{Spot}
 pub record Progress : Type 0 where
   pub symbols : SymbolTable
   pub spot : Spot
-  -- whether the passes have turned
-  pub has_turned : Bool
+  -- whether the second pass goes on
+  pub is_second : Bool
   -- the line of the last statement
   pub line : ℕ
   -- the fault that was answered, which is answered for good

@@ -31,7 +31,7 @@ fn is_pause(body: &Body) -> bool
 pub struct Assembler {
     symbols: Symbols,
     spot: Spot,
-    has_turned: bool,
+    is_second: bool,
     line: u64,
     failed: Option<AsmFault>,
 }
@@ -49,7 +49,7 @@ impl Model for Assembler {
     ghost view = { λ a. record {
       symbols = a.symbols;
       spot = a.spot;
-      has_turned = a.has_turned;
+      is_second = a.is_second;
       line = a.line;
       failed = a.failed;
     } };
@@ -65,7 +65,7 @@ impl Assembler {
         Assembler {
             symbols: Symbols::new(alloc),
             spot: first_spot(),
-            has_turned: false,
+            is_second: false,
             line: 1,
             failed: None,
         }
@@ -77,7 +77,7 @@ impl Assembler {
     /// Its fault is the first of the source in the order of its statements. A call that answers want of memory took
     /// nothing, and comes only for a statement that defines names, which asks for the room of each, also of one that is there
     /// already, and asks for none where its tags have a fault; after another fault each call answers the same (PAL III Symbolic Assembler manual, and this project's profile
-    /// of it). PAUSE says nothing: of several sources the statements come one after the other. Behind the turn nothing is
+    /// of it). PAUSE says nothing: of several sources the statements come one after the other. Behind its end nothing is
     /// taken.
     pub fn first(&mut self, statement: &Statement) -> Result<(), AsmFault>
         ensures answers { (older : Source) (tokens : List Token) → is_pause_body statement.now.body ≡ false
@@ -92,7 +92,7 @@ impl Assembler {
         if let Some(fault) = self.failed {
             return Err(fault);
         }
-        if self.has_turned {
+        if self.is_second {
             return Ok(());
         }
         if is_pause(&statement.body) {
@@ -116,8 +116,8 @@ impl Assembler {
         }
     }
 
-    /// Turns from the first pass to the second, where `$` ended the last statement; a source with no word is answered NW
-    /// with the line of that `$` (this project's profile of PAL III). It takes no memory, and a second turn changes nothing.
+    /// Goes from the first pass to the second, where `$` ended the last statement; a source with no word is answered NW
+    /// with the line of that `$` (this project's profile of PAL III). It takes no memory, and where it was done before it changes nothing.
     pub fn begin_second(&mut self) -> Result<(), AsmFault>
         ensures turns { (whole : Source) → IsFirst self.old whole → BeginsSecond whole result self.old self.new }
         ensures turned { HasBegunSecond self.old → (result ≡ Ok tt) × (self.new ≡ self.old) }
@@ -126,21 +126,21 @@ impl Assembler {
         if let Some(fault) = self.failed {
             return Err(fault);
         }
-        if self.has_turned {
+        if self.is_second {
             return Ok(());
         }
         if !self.spot.word {
             return Err(self.fail(Code::NW, self.line));
         }
         self.spot = first_spot();
-        self.has_turned = true;
+        self.is_second = true;
         Ok(())
     }
 
     /// Takes the next statement of the same source in the second pass, and hands out its word with the cell of that, if it
     /// is one. Its fault is a name in a word that no statement defines, or an address out of reach, the first of these in
     /// the source (PAL III Symbolic Assembler manual, and this project's profile of it). It takes no memory, PAUSE says nothing,
-    /// and before the turn nothing is handed out.
+    /// and before the second pass nothing is handed out.
     pub fn second(&mut self, statement: &Statement) -> Result<Option<(Cell, Word)>, AsmFault>
         ensures answers { (whole later older : Source) (tokens : List Token)
             → is_pause_body statement.now.body ≡ false → whole ≡ later
@@ -154,7 +154,7 @@ impl Assembler {
         if let Some(fault) = self.failed {
             return Err(fault);
         }
-        if !self.has_turned {
+        if !self.is_second {
             return Ok(None);
         }
         if is_pause(&statement.body) {

@@ -21,5 +21,5 @@ mod words;
 pub use assemblers::Assembler;
 pub use faults::{AsmFault, Code};
 pub use making::make_text;
-pub use passing::{Pass, end_source, pass_text, settle, turn_pass};
+pub use passing::{Pass, begin_second_pass, end_source, pass_text, settle};
 pub use texts::{assemble, assemble_all};

@@ -6,7 +6,7 @@ ghost use Rattle.pal_lex.specs.Progress.{setting};
 ghost use Rattle.pal_lex.specs.Reading.{HasRead, HasPaused, is_pause_body};
 ghost use Rattle.pal_asm.specs.Places.{Source};
 ghost use Rattle.pal_asm.specs.Passes.{IsFirst};
-ghost use Rattle.pal_asm.specs.Passing.{IsBehind, HasPassed, Settles, SettlesIn, PassesTo, EndsSource, TurnsPass};
+ghost use Rattle.pal_asm.specs.Passing.{IsBehind, HasPassed, Settles, SettlesIn, PassesTo, EndsSource, BeginsSecondPass};
 ghost use Rattle.pal_asm.specs.TextSteps.{is_pause_answer, PassesByte};
 
 use crate::laws::{lexical_fault_is_told, no_lexical_fault, statements_stay};
@@ -174,12 +174,12 @@ fn is_over(lexer: &Lexer) -> bool
     lexer.end().is_ok()
 }
 
-/// Turns from the first pass to the second, where all sources were read and no statement waits; a lexer of no byte goes on.
+/// Goes from the first pass to the second, where all sources were read and no statement waits; a lexer of no byte goes on.
 /// It takes no memory.
-pub fn turn_pass(pass: &mut Pass, lexer: Lexer) -> Result<(), AsmFault>
+pub fn begin_second_pass(pass: &mut Pass, lexer: Lexer) -> Result<(), AsmFault>
     requires { pass.old.waiting ≡ None }
     ensures turns { (seam : ℕ) (text : List ℕ) → HasRead pass.old.lexer seam text
-        → IsFirst pass.old.assembler (statements text) → TurnsPass text result pass.new }
+        → IsFirst pass.old.assembler (statements text) → BeginsSecondPass text result pass.new }
     ensures lexer { OnOk result ((pass.new.lexer ≡ lexer) × (pass.new.ended ≡ false)) }
 {
     no_lexical_fault();

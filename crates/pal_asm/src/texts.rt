@@ -12,7 +12,7 @@ ghost use Rattle.pal_asm.specs.TextSteps.{are_several, HasPassedAll, BeginsPass,
 
 use crate::laws::statements_stay;
 use crate::making::make_text;
-use crate::passing::{Pass, end_source, pass_text, turn_pass};
+use crate::passing::{Pass, begin_second_pass, end_source, pass_text};
 use crate::{AsmFault, Assembler};
 use pal_lex::Lexer;
 use pal_lex::laws::{join_goes_on, source_ends_join};
@@ -41,7 +41,7 @@ pub fn assemble_all(alloc: Global, sources: &[&[u8]]) -> Result<Vec<(Cell, Word)
     let mut pass = begin(alloc, sources);
     first_pass(&mut pass, sources)?;
     let lexer = lexer_of(alloc, sources);
-    match turn_pass(&mut pass, lexer) {
+    match begin_second_pass(&mut pass, lexer) {
         Ok(()) => second_pass(alloc, sources, &mut pass),
         Err(fault) => Err(fault),
     }

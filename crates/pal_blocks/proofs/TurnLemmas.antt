@@ -27,7 +27,7 @@ use Rattle.pal_blocks.specs.Schedule.{statements_in, joined_blocks, from_turn, k
 use Rattle.pal_blocks.specs.Schedule.{if_paused}
 use Rattle.pal_blocks.specs.Passing.{text_in, added, IsOver}
 use Rattle.pal_asm.specs.Passing.{Counts, IsMade, IsBehind}
-use Rattle.pal_asm.specs.Passing.{TellsJoinFault, HasPassed, Settles, EndsSource, TurnsPass}
+use Rattle.pal_asm.specs.Passing.{TellsJoinFault, HasPassed, Settles, EndsSource, BeginsSecondPass}
 use Rattle.pal_blocks.specs.Steps.{PassesBlock}
 use Rattle.pal_blocks.specs.Progress.{due_of, block_of, Place, text_taken, IsInPass, IsFirstPass, IsSecondPass, IsAssembling}
 use Rattle.pal_blocks.specs.Turns.{TakesBlock}
@@ -465,7 +465,7 @@ none_again sources n is =
 pub first_turn : EndsJoin → NoWordIsTold → (sources : List (List ℕ)) (left : ℕ) (it : Assembling) (block : List ℕ) (offset count total : ℕ) (pass pass2 : Pass) (r : Result (Unit {0}) AsmFault) → IsAssembling sources it left → 2 ≤ left → it.again ≡ false
     → block ≡ block_of sources (due_of it) → count ≡ get_or it.blocks.items it.source 0 → nat_lt (it.block + 1) count ≡ false → total ≡ length it.blocks.items → nat_lt (it.source + 1) total ≡ false
     → PassesClause it.pass block it.offset offset (Ok tt) pass → EndedClause it.pass (Ok tt) pass → pass.waiting ≡ None
-    → ((seam : ℕ) (text : List ℕ) → HasRead pass.lexer seam text → IsFirst pass.assembler (statements text) → TurnsPass text r pass2)
+    → ((seam : ℕ) (text : List ℕ) → HasRead pass.lexer seam text → IsFirst pass.assembler (statements text) → BeginsSecondPass text r pass2)
     → (r ≡ Ok tt → HasRead pass2.lexer 0 [] × (pass2.lexer.may_pause ≡ nat_lt 1 (length it.blocks.items)) × (pass2.ended ≡ false))
     → TakesBlock sources left r (record { blocks = it.blocks; source = 0; block = 0; offset = 0; again = true; pass = pass2; pairs = it.pairs })
 first_turn law noword sources left it block offset count total pass pass2 r is more again this counted test many stops passes settles none turns fresh = by_result r refl (turns read.1.0 read.0 read.1.1.1 done)
@@ -517,7 +517,7 @@ first_turn law noword sources left it block offset count total pass pass2 r is m
         from_now (blocks_among sources) (blocks_among sources) _ (omega arith)
         ∙ ap (λ o. first_of o (no_word (statements (newest_first sources)))) (none_again sources (blocks_among sources - blocks_among sources) (nothing_left (blocks_among sources))) ∙ word
 
-    by_result : (a : Result (Unit {0}) AsmFault) → r ≡ a → TurnsPass read.0 a pass2 → TakesBlock sources left a new
+    by_result : (a : Result (Unit {0}) AsmFault) → r ≡ a → BeginsSecondPass read.0 a pass2 → TakesBlock sources left a new
     by_result (Ok tt) e turned = (
       record {
         files = is.files;

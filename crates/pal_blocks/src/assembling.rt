@@ -13,7 +13,7 @@ use bin_tape::{TapeFault, write_tape};
 use char_pack::laws::joined_text;
 use char_pack::{PackFault, pack_blocks};
 use pal_asm::laws::{has_words, no_lexical_fault, no_word_is_told};
-use pal_asm::{AsmFault, Assembler, Pass, end_source, turn_pass};
+use pal_asm::{AsmFault, Assembler, Pass, begin_second_pass, end_source};
 use pal_lex::Lexer;
 use pal_lex::laws::source_ends_join;
 use std::alloc::Global;
@@ -141,7 +141,7 @@ impl Assembling {
         self.source = 0;
         self.again = true;
         let lexer = lexer_of(alloc, &self.blocks);
-        turn_pass(&mut self.pass, lexer)
+        begin_second_pass(&mut self.pass, lexer)
     }
 
     /// Takes the next block in the second pass.

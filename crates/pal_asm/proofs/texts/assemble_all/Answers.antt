@@ -8,16 +8,16 @@ use Rattle.pal_asm.proofs.texts.assemble_all.Goals as goal
 pub second_pass-requires-clause-begins : goal.second_pass-requires-clause-begins
 second_pass-requires-clause-begins c =
     let all = c.in_ok-first_pass.ensures.passed in
-    again_begins (join_of (texts c.args.sources.now)) (are_several (texts c.args.sources.now)) c.lexer_of-lexer.result c.turn_pass.new.pass c.lexer_of-lexer.ensures.read c.lexer_of-lexer.ensures.several
+    again_begins (join_of (texts c.args.sources.now)) (are_several (texts c.args.sources.now)) c.lexer_of-lexer.result c.begin_second_pass.new.pass c.lexer_of-lexer.ensures.read c.lexer_of-lexer.ensures.several
     (c.in-Ok.ensures.turns all.0 (join_of (texts c.args.sources.now)) all.1.0 all.1.1) c.in-Ok.ensures.lexer
 
 pub returns-in-Ok-clause-fault : goal.returns-in-Ok-clause-fault
 returns-in-Ok-clause-fault c =
     let all = c.in_ok-first_pass.ensures.passed in
-    second_fault (join_of (texts c.args.sources.now)) c.second_pass.result c.turn_pass.new.pass c.second_pass.ensures.fault
+    second_fault (join_of (texts c.args.sources.now)) c.second_pass.result c.begin_second_pass.new.pass c.second_pass.ensures.fault
     (c.in-Ok.ensures.turns all.0 (join_of (texts c.args.sources.now)) all.1.0 all.1.1)
 
 pub returns-clause-fault : goal.returns-clause-fault
 returns-clause-fault c =
     let all = c.in_ok-first_pass.ensures.passed in
-    turned (join_of (texts c.args.sources.now)) c.in-Err.fault c.turn_pass.new.pass (c.in-Err.ensures.turns all.0 (join_of (texts c.args.sources.now)) all.1.0 all.1.1) all.1.1.no_fault
+    turned (join_of (texts c.args.sources.now)) c.in-Err.fault c.begin_second_pass.new.pass (c.in-Err.ensures.turns all.0 (join_of (texts c.args.sources.now)) all.1.0 all.1.1) all.1.1.no_fault
