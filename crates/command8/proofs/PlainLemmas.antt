@@ -1,5 +1,5 @@
 -- Plain command lines are taken, and ask for what they say.
-use Rattle.std.proofs.Common.{◌≡◌, ◌∙◌, ◌&&◌, if◌then◌else◌, ℕ, Bool, codes, true, false, refl, sym, ap, ap₂, map, option_map, subst, List, [], ◌∷◌, ◌++◌, Option, Some, None}
+use Rattle.std.proofs.Common.{◌≡◌, ◌∙◌, ◌&&◌, if◌then◌else◌, ℕ, Bool, codes, true, false, true≢false, refl, sym, ap, ap₂, map, option_map, subst, List, [], ◌∷◌, ◌++◌, Option, Some, None}
 use Rattle.std.specs.Prelude.{find, length, nat_eq}
 use Rattle.std.specs.Str.{bytes_eq}
 use Rattle.clap.specs.Walk.{answers_to, finished, nothing_held, rows_after}
@@ -19,13 +19,13 @@ use Rattle.command8.specs.declared.kinds.RunForm.{RunForm}
 use Rattle.command8.specs.declared.kinds.Saving.{Saving}
 use Rattle.command8.specs.declared.kinds.Saving.TheVariants.{AtEnd, Never, Always}
 use Rattle.command8.specs.declared.kinds.Task.{Task}
-use Rattle.command8.specs.declared.kinds.Task.TheVariants.{Tape, Rim, Source, Run, Create, Get, Put, Check, Assemble, Teletype}
+use Rattle.command8.specs.declared.kinds.Task.TheVariants.{Tape, Rim, Source, Run, Create, Get, GetBin, Put, Check, Assemble, Teletype}
 use Rattle.command8.specs.declared.kinds.Task.TheVariants as task
 use Rattle.command8.specs.declared.verbs.Verb.{Verb}
 use Rattle.command8.specs.declared.verbs.Verb.TheVariants as verb
 use Rattle.command8.specs.Octal.{octal_from, octal_of}
 use Rattle.command8.specs.TaskSteps.{verb_of, word}
-use Rattle.command8.specs.Tasks.{Asks, AsksFor, IsAssembleOf, IsCheckOf, IsCreateOf, IsGetOf, IsListOf, IsPlain, IsPutOf, IsRimOf, IsRunOf, IsSource, IsTakenAs, IsTape, IsTeletypeOf, assemble_app, check_app, create_app, flag_rule, get_app, get_form, is_set, leaves, list_app, number_of, option_rule, pdp8, pdp8_top, put_app, put_form, rim_app, rim_form, run_app, saving_of, source_app, tape_app, teletype_app}
+use Rattle.command8.specs.Tasks.{Asks, AsksFor, IsAssembleOf, IsCheckOf, IsCreateOf, IsGetBinOf, IsGetOf, IsListOf, IsPlain, IsPutOf, IsRimOf, IsRunOf, IsSource, IsTakenAs, IsTape, IsTeletypeOf, assemble_app, check_app, create_app, flag_rule, get_app, get_form, is_set, leaves, list_app, number_of, option_rule, pdp8, pdp8_top, put_app, put_form, rim_app, rim_form, run_app, saving_of, source_app, tape_app, teletype_app}
 use Rattle.command8.proofs.EnterLemmas.{Finds, asks_no_more, enter_met, enter_takes}
 use Rattle.command8.proofs.LeafLemmas.{below, blocks_built, files_built, image_built, name_built, tape_built}
 use Rattle.command8.proofs.NumberLemmas.{none_some}
@@ -58,6 +58,7 @@ of (Run image form) = verb.Run
 of (Create image blocks) = verb.Create
 of (task.List image) = verb.List
 of (Get image file form) = verb.Get
+of (GetBin image file) = verb.Get
 of (Put image file form) = verb.Put
 of (Check image) = verb.Check
 
@@ -71,6 +72,7 @@ asked_word name rows (Run image form) asks = asks.0
 asked_word name rows (Create image blocks) asks = asks.0
 asked_word name rows (task.List image) asks = asks.0
 asked_word name rows (Get image file form) asks = asks.0
+asked_word name rows (GetBin image file) asks = asks.0
 asked_word name rows (Put image file form) asks = asks.0
 asked_word name rows (Check image) asks = asks.0
 
@@ -85,6 +87,7 @@ data Seen : Verb → Task → Type 0 where
   a_create : (image : _) (blocks : ℕ) → Seen verb.Create (Create image blocks)
   a_list : (image : _) → Seen verb.List (task.List image)
   a_get : (image : _) (file : _) (form : GetForm) → Seen verb.Get (Get image file form)
+  a_get_bin : (image : _) (file : _) → Seen verb.Get (GetBin image file)
   a_put : (image : _) (file : _) (form : PutForm) → Seen verb.Put (Put image file form)
   a_check : (image : _) → Seen verb.Check (Check image)
 
@@ -98,6 +101,7 @@ seen (Run image form) = a_run image form
 seen (Create image blocks) = a_create image blocks
 seen (task.List image) = a_list image
 seen (Get image file form) = a_get image file form
+seen (GetBin image file) = a_get_bin image file
 seen (Put image file form) = a_put image file form
 seen (Check image) = a_check image
 
@@ -363,16 +367,17 @@ text_use = by_flag (filled (flag_rule (codes "text"))) (codes "text")
 abbrev tape_use : Use
 tape_use = by_flag (filled (flag_rule (codes "tape"))) (codes "tape")
 
-abbrev with_get : List Row → Option Text × Option Text × GetForm
-with_get rows = (first_of (codes "IMAGE") rows, first_of (codes "NAME") rows, get_form rows)
+abbrev with_get : List Row → Option Text × Option Text × GetForm × Bool
+with_get rows = (first_of (codes "IMAGE") rows, first_of (codes "NAME") rows, get_form rows, is_set (codes "bin") rows)
 
-asks_get : (image file : Text) (form : GetForm) (rows : List Row) → with_get rows ≡ (Some image, Some file, form) → (task : Task) → Seen verb.Get task
+asks_get : (image file : Text) (form : GetForm) (rows : List Row) → with_get rows ≡ (Some image, Some file, form, false) → (task : Task) → Seen verb.Get task
     → AsksFor (word verb.Get) rows task → IsGetOf image file form task
 asks_get image file form rows is task (a_get own member how) asks = (
   some_eq own.bytes.items image (sym asks.1 ∙ ap (λ p. p.0) is),
   some_eq member.bytes.items file (sym asks.2 ∙ ap (λ p. p.1) is),
   asks.3 ∙ ap (λ p. p.2) is,
 )
+asks_get image file form rows is task (a_get_bin own member) asks = absurd (true≢false (sym asks.3 ∙ ap (λ p. p.3) is))
 
 pub plain_get_frames : (name image file : Text) → IsPlain image → IsPlain file
     → IsTakenAs (name ∷ codes "get" ∷ image ∷ file ∷ []) (IsGetOf image file get_as.Frames)
@@ -406,6 +411,26 @@ plain_get_tape name image file plain plain_too =
       valid = refl;
     }) name
     (asks_get image file get_as.Tape (found_by verb.Get (at_place image_built image ∷ at_place name_built file ∷ tape_use ∷ [])) refl)
+
+abbrev with_get_bin : List Row → Option Text × Option Text × Bool
+with_get_bin rows = (first_of (codes "IMAGE") rows, first_of (codes "NAME") rows, is_set (codes "bin") rows)
+
+asks_get_bin : (image file : Text) (rows : List Row) → with_get_bin rows ≡ (Some image, Some file, true) → (task : Task) → Seen verb.Get task
+    → AsksFor (word verb.Get) rows task → IsGetBinOf image file task
+asks_get_bin image file rows is task (a_get own member how) asks = absurd (true≢false (sym (ap (λ p. p.2) is) ∙ asks.4))
+asks_get_bin image file rows is task (a_get_bin own member) asks =
+    (some_eq own.bytes.items image (sym asks.1 ∙ ap (λ p. p.0) is), some_eq member.bytes.items file (sym asks.2 ∙ ap (λ p. p.1) is))
+
+pub plain_get_bin : (name image file : Text) → IsPlain image → IsPlain file
+    → IsTakenAs (name ∷ codes "get" ∷ image ∷ file ∷ codes "--bin" ∷ []) (IsGetBinOf image file)
+plain_get_bin name image file plain plain_too =
+    entered_as verb.Get (at_place image_built image ∷ at_place name_built file ∷ bin_use ∷ []) (IsGetBinOf image file) (record {
+      pass = (no_option image plain, record { found = refl; passes = refl; no_end = refl }, (no_option file plain_too, record { found = refl; passes = refl; no_end = refl }, (record { read = refl; found = refl; takes_value = refl }, refl, tt)));
+      settles = refl;
+      defaults = refl;
+      valid = refl;
+    }) name
+    (asks_get_bin image file (found_by verb.Get (at_place image_built image ∷ at_place name_built file ∷ bin_use ∷ [])) refl)
 
 abbrev with_put : List Row → Option Text × Option Text × PutForm
 with_put rows = (first_of (codes "IMAGE") rows, first_of (codes "NAME") rows, put_form rows)

@@ -53,7 +53,7 @@ list_leaf : IsLeaf (below list_app.top)
 list_leaf = record { parts = (word_part _ _ refl (refl, refl) refl refl, (a_help refl, tt)); negates = refl; once = refl }
 
 get_leaf : IsLeaf (below get_app.top)
-get_leaf = record { parts = (word_part _ _ refl (refl, refl) refl refl, (word_part _ _ refl (refl, refl) refl refl, (flag_part _ _ refl refl refl (λ x. refl), (flag_part _ _ refl refl refl (λ x. refl), (a_help refl, tt))))); negates = refl; once = refl }
+get_leaf = record { parts = (word_part _ _ refl (refl, refl) refl refl, (word_part _ _ refl (refl, refl) refl refl, (flag_part _ _ refl refl refl (λ x. refl), (flag_part _ _ refl refl refl (λ x. refl), (flag_part _ _ refl refl refl (λ x. refl), (a_help refl, tt)))))); negates = refl; once = refl }
 
 put_leaf : IsLeaf (below put_app.top)
 put_leaf = record { parts = (word_part _ _ refl (refl, refl) refl refl, (word_part _ _ refl (refl, refl) refl refl, (flag_part _ _ refl refl refl (λ x. refl), (a_help refl, tt)))); negates = refl; once = refl }

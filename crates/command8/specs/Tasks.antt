@@ -23,7 +23,7 @@ use Rattle.command8.specs.declared.kinds.RunForm.{RunForm}
 use Rattle.command8.specs.declared.kinds.Saving.{Saving}
 use Rattle.command8.specs.declared.kinds.Saving.TheVariants.{AtEnd, Never, Always}
 use Rattle.command8.specs.declared.kinds.Task.{Task}
-use Rattle.command8.specs.declared.kinds.Task.TheVariants.{Tape, Rim, Source, Run, Create, Get, Put, Check, Assemble, Teletype}
+use Rattle.command8.specs.declared.kinds.Task.TheVariants.{Tape, Rim, Source, Run, Create, Get, GetBin, Put, Check, Assemble, Teletype}
 use Rattle.command8.specs.declared.kinds.Task.TheVariants as task
 use Rattle.command8.specs.declared.kinds.TaskFault.{TaskFault}
 use Rattle.command8.specs.declared.kinds.TaskFault.TheVariants.{Words, Memory, LookAndKeep, InputTwice, CrossAlone, Start, Switches}
@@ -110,7 +110,8 @@ list_app = subcommand (codes "list") (image_rule ∷ [])
 
 abbrev pub get_app : App
 get_app =
-    subcommand (codes "get") (image_rule ∷ name_rule ∷ flag_rule (codes "text") ∷ flag_rule (codes "tape") ∷ [])
+    subcommand (codes "get") (image_rule ∷ name_rule ∷ flag_rule (codes "text") ∷ flag_rule (codes "tape")
+    ∷ flag_rule (codes "bin") ∷ [])
 
 abbrev pub put_app : App
 put_app = subcommand (codes "put") (image_rule ∷ name_rule ∷ flag_rule (codes "text") ∷ [])
@@ -156,7 +157,7 @@ is_set id values = option_map_or (λ text. bytes_eq text (codes "true")) (first_
 abbrev pub rim_form : List Row → RimForm
 rim_form values = if is_set (codes "bin") values then Bin else Lines
 
--- what is asked of a file: its tape, else its text, else its frames
+-- what is asked of a file that is asked for as it is: its tape, else its text, else its frames
 abbrev pub get_form : List Row → GetForm
 get_form values = if is_set (codes "tape") values then get_as.Tape else if is_set (codes "text") values then get_as.Text else get_as.Frames
 
@@ -227,6 +228,9 @@ AsksFor name values (Create image blocks) = (name ≡ codes "create")
 AsksFor name values (task.List image) = (name ≡ codes "list") × (first_of (codes "IMAGE") values ≡ Some image.bytes.items)
 AsksFor name values (Get image file form) = (name ≡ codes "get") × (first_of (codes "IMAGE") values ≡ Some image.bytes.items)
     × (first_of (codes "NAME") values ≡ Some file.bytes.items) × (form ≡ get_form values)
+    × (is_set (codes "bin") values ≡ false)
+AsksFor name values (GetBin image file) = (name ≡ codes "get") × (first_of (codes "IMAGE") values ≡ Some image.bytes.items)
+    × (first_of (codes "NAME") values ≡ Some file.bytes.items) × (is_set (codes "bin") values ≡ true)
 AsksFor name values (Put image file form) = (name ≡ codes "put") × (first_of (codes "IMAGE") values ≡ Some image.bytes.items)
     × (first_of (codes "NAME") values ≡ Some file.bytes.items) × (form ≡ put_form values)
 AsksFor name values (Check image) = (name ≡ codes "check") × (first_of (codes "IMAGE") values ≡ Some image.bytes.items)
@@ -276,6 +280,7 @@ HasFitBlocks (Run image form) = ⊤
 HasFitBlocks (Create image blocks) = (8 ≤ blocks) × (blocks ≤ 4095)
 HasFitBlocks (task.List image) = ⊤
 HasFitBlocks (Get image file form) = ⊤
+HasFitBlocks (GetBin image file) = ⊤
 HasFitBlocks (Put image file form) = ⊤
 HasFitBlocks (Check image) = ⊤
 HasFitBlocks (Assemble form) = (1 ≤ length form.sources.items) × (length form.sources.items ≤ 8)
@@ -343,6 +348,10 @@ IsListOf name task = ⊥
 abbrev pub IsGetOf : Text → Text → GetForm → Task → Type 0
 IsGetOf name member kind (Get image file form) = (image.bytes.items ≡ name) × (file.bytes.items ≡ member) × (form ≡ kind)
 IsGetOf name member kind task = ⊥
+
+abbrev pub IsGetBinOf : Text → Text → Task → Type 0
+IsGetBinOf name member (GetBin image file) = (image.bytes.items ≡ name) × (file.bytes.items ≡ member)
+IsGetBinOf name member task = ⊥
 
 abbrev pub IsPutOf : Text → Text → PutForm → Task → Type 0
 IsPutOf name member kind (Put image file form) = (image.bytes.items ≡ name) × (file.bytes.items ≡ member) × (form ≡ kind)

@@ -39,7 +39,9 @@ pub fn get<'a>(alloc: Global) -> Draft<'a>
     let text = "Write its text, each line ended by LF";
     let with_text = with_argument(plain, flag(alloc, "text", text));
     let tape = "Write the BIN tape that it begins with, also where --text is given";
-    with_argument(with_text, flag(alloc, "tape", tape))
+    let with_tape = with_argument(with_text, flag(alloc, "tape", tape));
+    let bin = "Write the BIN tape of the core image that it is, also where others are given";
+    with_argument(with_tape, flag(alloc, "bin", bin))
 }
 
 pub fn put<'a>(alloc: Global) -> Draft<'a>
@@ -93,6 +95,9 @@ pub fn get_asked(alloc: Global, found: &ArgMatches<'_>) -> Result<Task, TaskFaul
 {
     let image = value_of(alloc, found, "IMAGE")?;
     let file = value_of(alloc, found, "NAME")?;
+    if is_set(found, "bin") {
+        return Ok(Task::GetBin(image, file));
+    }
     Ok(Task::Get(image, file, get_form(found)))
 }
 

@@ -101,6 +101,9 @@ pub enum Task {
     /// Write what the file of the second name has, on the volume in the file of the first.
     Get(String, String, GetForm),
 
+    /// Write the BIN tape of the core image that the file of the second name is, on the volume in the file of the first.
+    GetBin(String, String),
+
     /// Make the bytes on standard input the file of the second name, on the volume in the file of the first.
     Put(String, String, PutForm),
 

@@ -6,7 +6,7 @@ ghost use Rattle.command8.specs.declared.kinds.Saving.TheVariants.{AtEnd, Never,
 ghost use Rattle.char_pack.specs.declared.forms.GetForm.TheVariants as get_as;
 ghost use Rattle.char_pack.specs.declared.forms.PutForm.TheVariants as put_as;
 ghost use Rattle.command8.specs.Octal.{octal_of};
-ghost use Rattle.command8.specs.Tasks.{IsAssembleOf, IsCheckOf, IsCreateOf, IsGetOf, IsListOf, IsPlain};
+ghost use Rattle.command8.specs.Tasks.{IsAssembleOf, IsCheckOf, IsCreateOf, IsGetBinOf, IsGetOf, IsListOf, IsPlain};
 ghost use Rattle.command8.specs.Tasks.{IsPutOf, IsRimOf, IsRunOf, IsSource, IsTakenAs, IsTape, IsTeletypeOf, number_of};
 
 /// A law: plain command lines are taken, and ask for what they say; a run that is both to look and to keep asks for no task (this
@@ -39,6 +39,8 @@ pub fn plain_words()
     ensures get_tape { (name image file : List ℕ) → IsPlain image → IsPlain file
         → IsTakenAs (name ∷ codes "get" ∷ image ∷ file ∷ codes "--tape" ∷ [])
         (IsGetOf image file get_as.Tape) }
+    ensures get_bin { (name image file : List ℕ) → IsPlain image → IsPlain file
+        → IsTakenAs (name ∷ codes "get" ∷ image ∷ file ∷ codes "--bin" ∷ []) (IsGetBinOf image file) }
     ensures put { (name image file : List ℕ) → IsPlain image → IsPlain file
         → IsTakenAs (name ∷ codes "put" ∷ image ∷ file ∷ []) (IsPutOf image file put_as.Frames) }
     ensures put_text { (name image file : List ℕ) → IsPlain image → IsPlain file

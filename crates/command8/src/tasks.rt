@@ -21,8 +21,8 @@ use std::alloc::Global;
 /// to 8 files, one of them at most `-`, else `InputTwice`, with `--output`, `--list` and `--cross`, which without a listing is `CrossAlone`, `teletype TAPE`
 /// or `teletype TAPE NAME` with `--start` and a cell of five octal digits, else `Start`, `--switches` and a word of four, else `Switches`,
 /// `--steps` and a number from 1 up, `--raw` and `--live`, `run IMAGE` with `--strict` and with `--look` or `--keep`, which together are
-/// `LookAndKeep`, `create IMAGE BLOCKS` with 8 to 4095 blocks of 512 bytes, `list IMAGE`, `get IMAGE NAME` with `--text` or `--tape`,
-/// which goes before it, `put IMAGE NAME` with `--text`, or `check IMAGE` (this project's profile). A request for help or the version
+/// `LookAndKeep`, `create IMAGE BLOCKS` with 8 to 4095 blocks of 512 bytes, `list IMAGE`, `get IMAGE NAME` with `--text`, `--tape`,
+/// which goes before it, or `--bin`, which goes before both, `put IMAGE NAME` with `--text`, or `check IMAGE` (this project's profile). A request for help or the version
 /// comes back as an error of `clap`, as it gives it.
 pub fn task(alloc: Global, words: &[&str]) -> Result<Task, TaskFault>
     ensures answer { Answers (map (λ given. given.now) words.now) result }

@@ -5,4 +5,5 @@ pub mod Starts
 pub mod LineEnds
 pub mod Written
 pub mod Rims
+pub mod Cores
 pub mod ListSteps

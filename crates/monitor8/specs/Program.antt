@@ -1,6 +1,8 @@
 -- The lines that the program prints beside those of a session (this project's profile).
 use Rattle.std.specs.Prelude.{ℕ, ◌/◌, ◌%◌, codes, decimal, List, [], ◌∷◌, ◌++◌}
 use Rattle.word12.specs.Octal.{octal_digit, octal4}
+use Rattle.core_image.specs.declared.faults.CoreFault.{CoreFault}
+use Rattle.core_image.specs.declared.faults.CoreFault.TheVariants as core
 use Rattle.rim_tape.specs.declared.faults.RimFault.{RimFault}
 use Rattle.rim_tape.specs.declared.faults.RimFault.TheVariants as rim
 use Rattle.volume_image.specs.declared.faults.ImageFault.{ImageFault}
@@ -37,6 +39,11 @@ rim_text (rim.BadFrame place frame) = codes "? RIM 1 BAD FRAME " ++ decimal plac
 rim_text rim.NoTrailer = codes "? RIM 2 NO TRAILER"
 rim_text rim.Memory = codes "? 10 MEMORY"
 
+abbrev pub core_text : CoreFault → List ℕ
+core_text (core.BadWord place word) = codes "? CORE 1 BAD WORD " ++ decimal place ++ codes " " ++ octal4 word
+core_text core.TooShort = codes "? CORE 2 TOO SHORT"
+core_text core.Memory = codes "? 10 MEMORY"
+
 -- the field and the address of a cell
 abbrev pub cell_text : ℕ → List ℕ
 cell_text cell = octal_digit (cell / 0o10000) ∷ octal4 (cell % 0o10000)
@@ -56,6 +63,8 @@ program_text (line.Halted cell ac l) = halted_text cell ac l
 program_text (line.Unassigned cell word) = codes "UNASSIGNED " ++ cell_text cell ++ codes " " ++ octal4 word
 program_text (line.KeysEnd cell) = codes "KEYS END " ++ cell_text cell
 program_text (line.Limit cell) = codes "LIMIT " ++ cell_text cell
+program_text (line.Start cell) = codes "START " ++ cell_text cell
+program_text (line.Core fault) = core_text fault
 program_text (line.Rim fault) = rim_text fault
 program_text (line.Image fault) = image_text fault
 program_text (line.Directory fault) = directory_text fault

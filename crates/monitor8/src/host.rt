@@ -24,7 +24,7 @@ mod runs;
 mod streams;
 mod teletypes;
 
-use archives::{check_volume, get_file, list_files, put_file};
+use archives::{check_volume, get_bin, get_file, list_files, put_file};
 use assembling::assemble_files;
 use hints::is_rim;
 use images::{Content, make_file};
@@ -103,7 +103,8 @@ fn gives_data(task: &Task) -> bool {
         | Task::Source
         | Task::Assemble(_)
         | Task::Teletype(_)
-        | Task::Get(..) => true,
+        | Task::Get(..)
+        | Task::GetBin(..) => true,
         Task::Tape
         | Task::Rim(RimForm::Lines)
         | Task::Run(..)
@@ -131,6 +132,7 @@ where
         Task::Create(image, blocks) => create_image(rt, &image, blocks),
         Task::List(image) => list_files(rt, &image),
         Task::Get(image, name, form) => get_file(rt, &image, &name, form),
+        Task::GetBin(image, name) => get_bin(rt, &image, &name),
         Task::Put(image, name, form) => put_file(rt, &image, &name, form),
         Task::Check(image) => check_volume(rt, &image),
     }

@@ -2,6 +2,7 @@
 //! the command line asks for, over the session of `session8`.
 #![tactic(auto)]
 
+mod cores;
 mod host;
 mod line_ends;
 mod listings;
@@ -11,6 +12,7 @@ mod sources;
 mod starts;
 
 pub use command8::{Task, TaskFault, plain_words, task};
+pub use cores::core_tape;
 pub use host::program;
 pub use line_ends::with_line_feeds;
 pub use listings::tape_text;

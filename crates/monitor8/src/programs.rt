@@ -1,9 +1,10 @@
 ghost use Rattle.std.specs.Prelude.{◌≡◌, ◌+◌, ◌≤◌, ◌++◌, OnOk, OnErr, IsOk, IsOkUnless, vec_len, vec_capacity};
 ghost use Rattle.arrayvec.specs.ArrayVec.{array_vec_len};
-ghost use Rattle.monitor8.specs.Program.{program_line, program_text, image_text, directory_text, halted_text, cell_text, frame_text};
+ghost use Rattle.monitor8.specs.Program.{program_line, program_text, image_text, directory_text, halted_text, cell_text, core_text, frame_text};
 ghost use Rattle.monitor8.specs.Program as spec;
 ghost use Rattle.script8.specs.declared.faults.SessionFault.TheVariants.{Memory};
 
+use core_image::CoreFault;
 use os8_dir::DirFault;
 use rim_tape::RimFault;
 use script8::SessionFault;
@@ -43,6 +44,12 @@ pub enum ProgramLine {
 
     /// A machine at a terminal made as many steps as it was to make, up to this cell.
     Limit(Cell),
+
+    /// The program of a core image starts at this cell.
+    Start(Cell),
+
+    /// The words of the file are no core image.
+    Core(CoreFault),
 
     /// The frames are no RIM tape.
     Rim(RimFault),
@@ -99,6 +106,11 @@ fn put_line(text: &mut TextLine, line: ProgramLine)
             put(text, b"LIMIT ");
             put_cell(text, cell);
         }
+        ProgramLine::Start(cell) => {
+            put(text, b"START ");
+            put_cell(text, cell);
+        }
+        ProgramLine::Core(fault) => put_core(text, fault),
         ProgramLine::Rim(fault) => put_rim(text, fault),
         ProgramLine::Image(fault) => put_image(text, fault),
         ProgramLine::Directory(fault) => put_directory(text, fault),
@@ -127,6 +139,24 @@ fn put_cell(text: &mut TextLine, cell: Cell)
 {
     put(text, &[b'0' + cell.field()]);
     put(text, &cell.address().octal4());
+}
+
+/// Puts the text of a fault of a core image into an empty line.
+fn put_core(text: &mut TextLine, fault: CoreFault)
+    requires { array_vec_len text.old ≡ 0 }
+    ensures text { text.new.items ≡ text.old.items ++ core_text fault }
+    ensures short { array_vec_len text.new ≤ 60 }
+{
+    match fault {
+        CoreFault::BadWord { place, word } => {
+            put(text, b"? CORE 1 BAD WORD ");
+            put_number(text, place as u64);
+            put(text, b" ");
+            put(text, &word.octal4());
+        }
+        CoreFault::TooShort => put(text, b"? CORE 2 TOO SHORT"),
+        CoreFault::Memory => put(text, b"? 10 MEMORY"),
+    }
 }
 
 /// Puts the text of a fault of a RIM tape into an empty line.

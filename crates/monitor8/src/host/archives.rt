@@ -2,13 +2,14 @@
 
 use super::hints::{refused_image, tell_bad_text};
 use super::images::{Image, seen};
-use super::{Ended, print_line};
-use crate::ProgramLine;
+use super::{Ended, print_line, tell_line};
+use crate::{ProgramLine, core_tape};
 use archive8::{ArchiveFault, GetForm, PutForm, check, get, list, put};
 use script8::{LineReply, Reply, SessionFault, put_reply};
 use session8::read_all;
 use std::fs::{File, Files};
 use std::io::Input;
+use word12::Cell;
 
 /// Lists the files of the volume in an image file.
 pub fn list_files<R: Files + Print + Eprint + AllocGlobal>(
@@ -33,6 +34,34 @@ pub fn get_file<R: Files + Print + Eprint + AllocGlobal>(
     match get(rt.alloc(), &bytes, name.as_bytes(), form) {
         Ok(given) => print_line(rt, &given),
         Err(fault) => Err(ended(rt, bytes.len(), fault)),
+    }
+}
+
+/// Writes the BIN tape of a core image on the volume in an image file, and tells on standard error where its program starts.
+pub fn get_bin<R: Files + Print + Eprint + AllocGlobal>(
+    rt: &R,
+    image: &str,
+    name: &str,
+) -> Result<(), Ended> {
+    let (frames, start) = core_of_file(rt, image, name)?;
+    print_line(rt, &frames)?;
+    tell_line(rt, &ProgramLine::Start(start))
+}
+
+/// The BIN tape of a core image on the volume in an image file, and the cell where its program starts.
+pub fn core_of_file<R: Files + Eprint + AllocGlobal>(
+    rt: &R,
+    image: &str,
+    name: &str,
+) -> Result<(Vec<u8>, Cell), Ended> {
+    let bytes = seen(rt, image)?;
+    let frames = match get(rt.alloc(), &bytes, name.as_bytes(), GetForm::Frames) {
+        Ok(frames) => frames,
+        Err(fault) => return Err(ended(rt, bytes.len(), fault)),
+    };
+    match core_tape(rt.alloc(), &frames) {
+        Ok(core) => Ok(core),
+        Err(fault) => Err(Ended::Line(ProgramLine::Core(fault))),
     }
 }
 

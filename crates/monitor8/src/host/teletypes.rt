@@ -1,6 +1,6 @@
 //! A program of a tape at the Teletype: standard input is the keyboard, and standard output the paper.
 
-use super::archives::tape_of_file;
+use super::archives::{core_of_file, tape_of_file};
 use super::images::seen;
 use super::streams::Output;
 use super::{Ended, tell_line, unprinted};
@@ -12,17 +12,25 @@ use script8::SessionFault;
 use std::fs::Files;
 use std::io::Input;
 use terminal8::{Form, Input as Keys, TerminalFault, Why, run};
+use word12::Cell;
 
-/// Loads a tape into a new machine, and runs it at the Teletype.
+/// How the name of a core image ends.
+const CORE_IMAGE: &str = ".SV";
+
+/// Loads a tape or a core image into a new machine, and runs it at the Teletype.
 pub fn run_teletype<R: Files + Input + Print + Eprint + AllocGlobal>(
     rt: &R,
     form: &TeletypeForm,
 ) -> Result<(), Ended> {
-    let frames = match &form.name {
-        Some(name) => tape_of_file(rt, &form.file, name)?,
-        None => seen(rt, &form.file)?,
+    let (frames, start) = match &form.name {
+        Some(name) if name.ends_with(CORE_IMAGE) => {
+            let (frames, start) = core_of_file(rt, &form.file, name)?;
+            (frames, Some(start))
+        }
+        Some(name) => (tape_of_file(rt, &form.file, name)?, None),
+        None => (seen(rt, &form.file)?, None),
     };
-    let mut machine = machine_of(rt, form, &frames)?;
+    let mut machine = machine_of(rt, form, &frames, start)?;
     let struck = if form.is_raw { Form::Raw } else { Form::Text };
     let keys = if form.is_live {
         Keys::Live
@@ -45,11 +53,12 @@ pub fn run_teletype<R: Files + Input + Print + Eprint + AllocGlobal>(
     }
 }
 
-/// A machine that stands where the program of a tape is to begin.
+/// A machine that stands where the program of a tape is to begin: at its first word where no other start is known.
 fn machine_of<R: AllocGlobal>(
     rt: &R,
     form: &TeletypeForm,
     frames: &[u8],
+    start: Option<Cell>,
 ) -> Result<Machine, Ended> {
     let mut core = match Core::new(rt.alloc()) {
         Ok(core) => core,
@@ -65,7 +74,7 @@ fn machine_of<R: AllocGlobal>(
     if let Some(word) = form.switches {
         machine.switches(word);
     }
-    machine.start(form.start.unwrap_or(first));
+    machine.start(form.start.or(start).unwrap_or(first));
     Ok(machine)
 }
 

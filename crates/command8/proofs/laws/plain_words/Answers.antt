@@ -1,4 +1,4 @@
-use Rattle.command8.proofs.PlainLemmas.{plain_assemble, plain_assemble_input, plain_assemble_output, plain_assemble_two, plain_check, plain_create, plain_get_frames, plain_get_tape, plain_get_text, plain_list, plain_put_frames, plain_put_text, plain_rim, plain_rim_bin, plain_run, plain_run_both, plain_run_keep, plain_run_look, plain_run_strict, plain_source, plain_tape, plain_teletype, plain_teletype_file, plain_teletype_start}
+use Rattle.command8.proofs.PlainLemmas.{plain_assemble, plain_assemble_input, plain_assemble_output, plain_assemble_two, plain_check, plain_create, plain_get_bin, plain_get_frames, plain_get_tape, plain_get_text, plain_list, plain_put_frames, plain_put_text, plain_rim, plain_rim_bin, plain_run, plain_run_both, plain_run_keep, plain_run_look, plain_run_strict, plain_source, plain_tape, plain_teletype, plain_teletype_file, plain_teletype_start}
 use Rattle.command8.proofs.laws.plain_words.Goals as goal
 
 pub returns : goal.returns
@@ -17,6 +17,7 @@ returns c = record {
   get = plain_get_frames;
   get_text = plain_get_text;
   get_tape = plain_get_tape;
+  get_bin = plain_get_bin;
   put = plain_put_frames;
   put_text = plain_put_text;
   assemble = plain_assemble;
