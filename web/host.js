@@ -58,7 +58,8 @@ function imports(memory, files, words, host) {
     };
     const opened = (file, name) => { open.set(next, { file, name, at: 0 }); return next++; };
     const copy = (number, least) => {
-        while (open.has(next) || next < least) next++;
+        next = Math.max(next, least);
+        while (open.has(next)) next++;
         open.set(next, open.get(number));
         return next++;
     };
