@@ -1,12 +1,13 @@
 #!/usr/bin/env bash
 # Runs six programs of 100,000,000 steps and more at the Teletype, which they don't touch, and by scripts with GO 1000000, in one run:
-# prints the processor seconds of each less those of a program that stops at once, and the part of GO's rate that is reached. Then the
-# seconds in which 100 MB of keys are echoed, and how many MB that is a second; and those of a source of 6 MB that is assembled and listed.
-# Takes palbart from Debian's packages where it is missing.
+# prints the processor seconds of each less those of a program that stops at once, and the part of GO's rate that is reached; and, since
+# seconds differ from run to run, the instructions of the host's processor for a step of each (valgrind). Then the seconds in which 100 MB of
+# keys are echoed, and how many MB that is a second; and those of a source of 6 MB that is assembled and listed. Takes palbart and valgrind
+# from Debian's packages where they are missing.
 set -eu
 top=$(cd "$(dirname "${BASH_SOURCE[0]}")/.." && pwd)
 . "$top/bench/seconds.sh"
-dpkg -s palbart >/dev/null 2>&1 || { apt-get update && apt-get install -y palbart; } >&2
+dpkg -s palbart valgrind >/dev/null 2>&1 || { apt-get update && apt-get install -y palbart valgrind; } >&2
 program=$top/crates/pdp8/out/pdp8
 
 folder=$(mktemp -d)
@@ -30,6 +31,18 @@ for name in isz copy multiply operate indirect; do
     read -r a b <<<"$(alternate 3 "run_script $name" "run_teletype $name")"
     awk -v name=$name -v a="$a" -v b="$b" -v script="$idle_script" -v teletype="$idle_teletype" \
         'BEGIN { a -= script; b -= teletype; printf "%-10s %8.3f %8.3f %6.2f\n", name, a, b, a / b }'
+done
+
+instructions() { valgrind --tool=callgrind --callgrind-out-file=/dev/null "$program" "$@" 2>&1 >/dev/null </dev/stdin | awk '/Collected/ { print $4 }'; }
+steps=1000000
+printf '%-10s %8s %8s    instructions of the host a step\n' program GO teletype
+for name in isz copy multiply operate indirect; do
+    few=$(head -n -400 "$name.go" | instructions run V)
+    many=$({ head -n -400 "$name.go"; echo "GO $steps"; } | instructions run V)
+    first=$(instructions teletype "$name.bin" --start 00200 --steps 1 </dev/null)
+    last=$(instructions teletype "$name.bin" --start 00200 --steps $((steps + 1)) </dev/null)
+    awk -v name=$name -v script=$((many - few)) -v teletype=$((last - first)) -v steps=$steps \
+        'BEGIN { printf "%-10s %8.2f %8.2f\n", name, script / steps, teletype / steps }'
 done
 
 printf 'A, KSF;JMP .-1;KRB;TLS;TSF;JMP .-1;JMP A$' | "$program" assemble - >echo.bin
