@@ -33,7 +33,7 @@ for name in isz copy multiply operate indirect; do
         'BEGIN { a -= script; b -= teletype; printf "%-10s %8.3f %8.3f %6.2f\n", name, a, b, a / b }'
 done
 
-instructions() { valgrind --tool=callgrind --callgrind-out-file=/dev/null "$program" "$@" 2>&1 >/dev/null </dev/stdin | awk '/Collected/ { print $4 }'; }
+instructions() { valgrind --tool=callgrind --callgrind-out-file=/dev/null "$program" "$@" 2>&1 >/dev/null | awk '/Collected/ { print $4 }'; }
 steps=1000000
 printf '%-10s %8s %8s    instructions of the host a step\n' program GO teletype
 for name in isz copy multiply operate indirect; do

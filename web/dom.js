@@ -1,4 +1,4 @@
-// Small helpers of the panes.
+// What all panes use.
 export const $ = id => document.getElementById(id);
 
 export function made(tag, attributes = {}, ...children) {

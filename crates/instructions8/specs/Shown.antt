@@ -17,23 +17,23 @@ field_pieces field = if nat_eq field 0 then [] else (octal_digit field ∷ 0o60 
 
 -- What is shown where a word is of this code, whichever cells are tagged: the name, which an address or the number of a
 -- field follows.
-abbrev pub Shows : List ℕ → ℕ → Kind → Type 0
-Shows name code (Reference row) =
+abbrev pub ShowsName : List ℕ → ℕ → Kind → Type 0
+ShowsName name code (Reference row) =
     (tagged : ℕ → Bool) (cell word : ℕ) → word / 0o1000 ≡ code / 0o1000 → is_reference (cell % 0o10000) word ≡ true
     → BeginsWith name (statement tagged cell word)
-Shows name code (FieldTransfer row) =
+ShowsName name code (FieldTransfer row) =
     (field : ℕ) → field < 8 → (tagged : ℕ → Bool) (cell : ℕ) → statement tagged cell (code + 0o10 * field) ≡ name ∷ field_pieces field
-Shows name code (Group1 bits) = (tagged : ℕ → Bool) (cell : ℕ) → statement tagged cell code ≡ name ∷ []
-Shows name code (Group2 bits) = (tagged : ℕ → Bool) (cell : ℕ) → statement tagged cell code ≡ name ∷ []
-Shows name code (EitherGroup bits) = (tagged : ℕ → Bool) (cell : ℕ) → statement tagged cell code ≡ name ∷ []
-Shows name code (Transfer row) = (tagged : ℕ → Bool) (cell : ℕ) → statement tagged cell code ≡ name ∷ []
-Shows name code (Keyboard pulses) = (tagged : ℕ → Bool) (cell : ℕ) → statement tagged cell code ≡ name ∷ []
-Shows name code (Printer pulses) = (tagged : ℕ → Bool) (cell : ℕ) → statement tagged cell code ≡ name ∷ []
-Shows name code PaperTape = (tagged : ℕ → Bool) (cell : ℕ) → statement tagged cell code ≡ name ∷ []
+ShowsName name code (Group1 bits) = (tagged : ℕ → Bool) (cell : ℕ) → statement tagged cell code ≡ name ∷ []
+ShowsName name code (Group2 bits) = (tagged : ℕ → Bool) (cell : ℕ) → statement tagged cell code ≡ name ∷ []
+ShowsName name code (EitherGroup bits) = (tagged : ℕ → Bool) (cell : ℕ) → statement tagged cell code ≡ name ∷ []
+ShowsName name code (Transfer row) = (tagged : ℕ → Bool) (cell : ℕ) → statement tagged cell code ≡ name ∷ []
+ShowsName name code (Keyboard pulses) = (tagged : ℕ → Bool) (cell : ℕ) → statement tagged cell code ≡ name ∷ []
+ShowsName name code (Printer pulses) = (tagged : ℕ → Bool) (cell : ℕ) → statement tagged cell code ≡ name ∷ []
+ShowsName name code PaperTape = (tagged : ℕ → Bool) (cell : ℕ) → statement tagged cell code ≡ name ∷ []
 
 -- a word of an instruction is shown by its name
 abbrev pub IsShown : Instruction → Type 0
-IsShown one = Shows one.name one.code one.kind
+IsShown one = ShowsName one.name one.code one.kind
 
 -- the operates of group 1
 abbrev pub is_of_group_1 : Kind → Bool

@@ -38,19 +38,19 @@ pub record IsGroup2 (word : ℕ) (bits : List Bit) : Type 0 where
   pub steps : (s : State) → IsNextWord word s → step s ≡ group2_row s word
 
 -- what a step does where the next word is of this code
-abbrev pub Does : ℕ → Kind → Type 0
-Does code (Reference row) =
+abbrev pub StepsAs : ℕ → Kind → Type 0
+StepsAs code (Reference row) =
     (word : ℕ) (s : State) → word / 0o1000 ≡ code / 0o1000 → IsNextWord word s → step s ≡ (row s word, Ran None)
-Does code (Group1 bits) = IsGroup1 code bits
-Does code (Group2 bits) = IsGroup2 code bits
-Does code (EitherGroup bits) = IsGroup1 code bits × IsGroup2 (code + 0o400) bits
-Does code (Transfer row) = (s : State) → IsNextWord code s → step s ≡ (row s, Ran None)
-Does code (FieldTransfer row) =
+StepsAs code (Group1 bits) = IsGroup1 code bits
+StepsAs code (Group2 bits) = IsGroup2 code bits
+StepsAs code (EitherGroup bits) = IsGroup1 code bits × IsGroup2 (code + 0o400) bits
+StepsAs code (Transfer row) = (s : State) → IsNextWord code s → step s ≡ (row s, Ran None)
+StepsAs code (FieldTransfer row) =
     (field : ℕ) → field < 8 → (s : State) → IsNextWord (code + 0o10 * field) s → step s ≡ (row s field, Ran None)
-Does code (Keyboard pulses) = (s : State) → IsNextWord code s → step s ≡ (keyboard_row s pulses, Ran None)
-Does code (Printer pulses) = (s : State) → IsNextWord code s → step s ≡ printer_row s pulses
-Does code PaperTape = (s : State) → IsNextWord code s → step s ≡ (advanced s, Ran None)
+StepsAs code (Keyboard pulses) = (s : State) → IsNextWord code s → step s ≡ (keyboard_row s pulses, Ran None)
+StepsAs code (Printer pulses) = (s : State) → IsNextWord code s → step s ≡ printer_row s pulses
+StepsAs code PaperTape = (s : State) → IsNextWord code s → step s ≡ (advanced s, Ran None)
 
 -- an instruction's code is decoded as its kind
 abbrev pub IsDone : Instruction → Type 0
-IsDone one = Does one.code one.kind
+IsDone one = StepsAs one.code one.kind
