@@ -1,10 +1,9 @@
 -- A text that clap took as a number is read as that number.
-use Rattle.std.proofs.Common.{◌≡◌, ◌∙◌, ◌<◌, ◌≤◌, ℕ, zero, suc, List, Option, Some, None, Result, Ok, Err, ap, arith, refl, sym, true, option_map}
+use Rattle.std.proofs.Common.{◌≡◌, ◌∙◌, ◌≤◌, ℕ, List, Option, Some, None, Result, Ok, Err, ap, arith, refl, sym, true, option_map}
 use Rattle.std.specs.Prelude.{nat_le}
 use Rattle.std.proofs.lemmas.Bool.Decides.{nat_tests}
 use Rattle.std.specs.Str.Parse.{ParsesUnsigned}
 use Rattle.clap.specs.Words.{IsUnsignedIn, ReadsOne, Text}
-use Rattle.command8.specs.OctalSteps.{octal_limit}
 use Rattle.command8.specs.Tasks.{is_limit, most_steps, number_of}
 
 pub unsigned_reads : (E : Type 0) (G : List ℕ → Result ℕ E → Type 0) (low high : ℕ) (t : List ℕ) (r : Option ℕ) → ReadsOne G t r
@@ -34,12 +33,3 @@ same_some x y same = cc
 
 pub none_some : {X : Type 0} (x : X) → None ≡ Some x → ⊥
 none_some x same = cc
-
--- an octal number of at most 4 digits
-pub four_digits : (count value : ℕ) → count < 5 → value < octal_limit count → value < 0o10000
-four_digits zero value short small = omega (arith, small)
-four_digits (suc zero) value short small = omega (arith, small)
-four_digits (suc (suc zero)) value short small = omega (arith, small)
-four_digits (suc (suc (suc zero))) value short small = omega (arith, small)
-four_digits (suc (suc (suc (suc zero)))) value short small = omega (arith, small)
-four_digits (suc (suc (suc (suc (suc n))))) value short small = omega (arith, short)

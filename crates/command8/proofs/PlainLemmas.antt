@@ -23,7 +23,7 @@ use Rattle.command8.specs.declared.kinds.Task.TheVariants.{Tape, Rim, Source, Ru
 use Rattle.command8.specs.declared.kinds.Task.TheVariants as task
 use Rattle.command8.specs.declared.verbs.Verb.{Verb}
 use Rattle.command8.specs.declared.verbs.Verb.TheVariants as verb
-use Rattle.command8.specs.Octal.{octal_from, octal_of}
+use Rattle.word12.specs.Octal.{octal_from, octal_of}
 use Rattle.command8.specs.TaskSteps.{verb_of, word}
 use Rattle.command8.specs.Tasks.{Asks, AsksFor, IsAssembleOf, IsCheckOf, IsCreateOf, IsGetBinOf, IsGetOf, IsListOf, IsPlain, IsPutOf, IsRimOf, IsRunOf, IsSource, IsTakenAs, IsTape, IsTeletypeOf, assemble_app, check_app, create_app, flag_rule, get_app, get_form, is_set, leaves, list_app, number_of, option_rule, pdp8, pdp8_top, put_app, put_form, rim_app, rim_form, run_app, saving_of, source_app, tape_app, teletype_app}
 use Rattle.command8.proofs.EnterLemmas.{Finds, asks_no_more, enter_met, enter_takes}

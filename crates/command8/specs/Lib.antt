@@ -1,6 +1,4 @@
 pub mod CommandSteps
-pub mod Octal
-pub mod OctalSteps
 pub mod Tasks
 pub mod TaskSteps
 pub mod Usage

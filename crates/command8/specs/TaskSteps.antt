@@ -9,7 +9,7 @@ use Rattle.command8.specs.declared.kinds.TaskFault.{TaskFault}
 use Rattle.command8.specs.declared.kinds.TaskFault.TheVariants.{Words, Memory, LookAndKeep, InputTwice, CrossAlone, Start, Switches}
 use Rattle.command8.specs.declared.verbs.Verb.{Verb}
 use Rattle.command8.specs.declared.verbs.Verb.TheVariants as verb
-use Rattle.command8.specs.Octal.{octal_of}
+use Rattle.word12.specs.Octal.{octal_of}
 use Rattle.command8.specs.Tasks.{AsksBoth, AsksCrossAlone, AsksFor, AsksNoStart, AsksNoSwitches, HasFitBlocks, NamesInputTwice, most_steps, values_of}
 
 -- ## What it asks for

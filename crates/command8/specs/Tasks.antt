@@ -14,7 +14,7 @@ use Rattle.char_pack.specs.declared.forms.GetForm.{GetForm}
 use Rattle.char_pack.specs.declared.forms.GetForm.TheVariants as get_as
 use Rattle.char_pack.specs.declared.forms.PutForm.{PutForm}
 use Rattle.char_pack.specs.declared.forms.PutForm.TheVariants as put_as
-use Rattle.command8.specs.Octal.{octal_of}
+use Rattle.word12.specs.Octal.{octal_of}
 use Rattle.command8.specs.declared.kinds.AssembleForm.{AssembleForm}
 use Rattle.command8.specs.declared.kinds.TeletypeForm.{TeletypeForm}
 use Rattle.command8.specs.declared.kinds.RimForm.{RimForm}

@@ -5,7 +5,7 @@ ghost use Rattle.command8.specs.declared.kinds.RimForm.TheVariants.{Lines, Bin};
 ghost use Rattle.command8.specs.declared.kinds.Saving.TheVariants.{AtEnd, Never, Always};
 ghost use Rattle.char_pack.specs.declared.forms.GetForm.TheVariants as get_as;
 ghost use Rattle.char_pack.specs.declared.forms.PutForm.TheVariants as put_as;
-ghost use Rattle.command8.specs.Octal.{octal_of};
+ghost use Rattle.word12.specs.Octal.{octal_of};
 ghost use Rattle.command8.specs.Tasks.{IsAssembleOf, IsCheckOf, IsCreateOf, IsGetBinOf, IsGetOf, IsListOf, IsPlain};
 ghost use Rattle.command8.specs.Tasks.{IsPutOf, IsRimOf, IsRunOf, IsSource, IsTakenAs, IsTape, IsTeletypeOf, number_of};
 

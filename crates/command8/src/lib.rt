@@ -6,7 +6,6 @@ mod file_commands;
 mod found;
 mod kinds;
 mod laws;
-mod octal;
 mod parts;
 mod runs;
 mod tapes;

@@ -7,12 +7,11 @@ ghost use Rattle.command8.specs.TaskSteps.{Gives, Needs, IsNoStart, IsNoSwitches
 ghost use Rattle.command8.specs.declared.verbs.Verb.TheVariants as verb;
 
 use crate::found::{is_set, steps_of, text_of, value_if_given, value_of};
-use crate::octal::{cell, octal_word};
 use crate::parts::{Draft, flag, hidden, leaf, may_have, must_have, option, steps, with_argument};
 use crate::{Task, TaskFault, TeletypeForm};
 use clap::ArgMatches;
 use std::alloc::Global;
-use word12::{Cell, Word};
+use word12::{Cell, Word, octal_cell, octal_word};
 
 /// The subcommand `teletype`.
 pub fn teletype<'a>(alloc: Global) -> Draft<'a>
@@ -84,7 +83,7 @@ fn start_of(alloc: Global, found: &ArgMatches<'_>) -> Result<Option<Cell>, TaskF
     ensures refused { IfErr result (IsNoStart (rows_of (found_of found.now))) }
 {
     match text_of(found, "start") {
-        Some(text) => match cell(text.as_bytes()) {
+        Some(text) => match octal_cell(text.as_bytes()) {
             Some(start) => Ok(Some(start)),
             None => Err(TaskFault::Start(String::from_str(alloc, text)?)),
         },

@@ -10,8 +10,8 @@ use Rattle.std.proofs.lemmas.Str.{digit_value_digit}
 use Rattle.std.proofs.lemmas.Str.Parse.{digit_from_value}
 use Rattle.word12.specs.Sixbit.{sixbit_code, is_letter, is_digit}
 use Rattle.os8_dir.specs.Names.{name_of, words_of_name, paired, padded, before_dot, after_dot, codes_of, codes_within, with_code, spelled, extension_codes, parsed_name}
-use Rattle.word12.specs.Octal.{octal_digit, octal4}
-use Rattle.script8.specs.Lines.{number_of, digits_from, octal_from, octal_of, within, cell_of, character_of}
+use Rattle.word12.specs.Octal.{octal_digit, octal4, octal_from, octal_of}
+use Rattle.script8.specs.Lines.{number_of, digits_from, within, cell_of, character_of}
 use Rattle.script8.specs.Replies.{cell_text, character_text}
 use Rattle.script8.specs.Shown.{shown, shown_code, shown_words, shown_extension, shown_name}
 

@@ -1,5 +1,4 @@
--- Decimal and octal numbers.
-use Rattle.script8.specs.Steps.{octal_limit}
+-- Decimal numbers.
 use Rattle.std.proofs.Common.{◌<◌, ◌≤◌, ◌*◌, ◌+◌, zero, suc, ℕ, arith, add-one}
 
 -- the numbers of so many digits are below
@@ -21,16 +20,3 @@ six_digits (suc (suc (suc (suc (suc (suc (suc n))))))) value short small = omega
 -- one digit more
 pub next_digit : (count value digit : ℕ) → value < limit count → digit ≤ 9 → 10 * value + digit < limit (count + 1)
 next_digit count value digit small one = rw (add-one count) (omega (arith, small, one))
-
--- an octal number of at most 4 digits
-pub four_digits : (count value : ℕ) → count < 5 → value < octal_limit count → value < 4096
-four_digits zero value short small = omega (arith, small)
-four_digits (suc zero) value short small = omega (arith, small)
-four_digits (suc (suc zero)) value short small = omega (arith, small)
-four_digits (suc (suc (suc zero))) value short small = omega (arith, small)
-four_digits (suc (suc (suc (suc zero)))) value short small = omega (arith, small)
-four_digits (suc (suc (suc (suc (suc n))))) value short small = omega (arith, short)
-
--- one octal digit more
-pub next_octal : (count value digit : ℕ) → value < octal_limit count → digit ≤ 7 → 8 * value + digit < octal_limit (count + 1)
-next_octal count value digit small one = rw (add-one count) (omega (arith, small, one))

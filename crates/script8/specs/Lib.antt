@@ -5,4 +5,3 @@ pub mod Lines
 pub mod Replies
 pub mod Shown
 pub mod Written
-pub mod Steps

@@ -2,6 +2,7 @@
 use Rattle.std.specs.Prelude.{◌≡◌, ◌⊎◌, ℕ, ◌+◌, ◌-◌, ◌*◌, codes, ◌==◌, ◌&&◌, nat_eq, nat_le, nat_lt, if◌then◌else◌, Bool, true, false, Option, Some, None, option_map, List, [], ◌∷◌, length, Result, Ok, Err}
 use Rattle.std.specs.List.{list_all}
 use Rattle.std.specs.Str.{bytes_eq}
+use Rattle.word12.specs.Octal.{octal_of}
 use Rattle.script8.specs.declared.entries.Entry.{Entry}
 use Rattle.script8.specs.declared.entries.Entry.TheVariants as entry
 use Rattle.script8.specs.declared.entries.FileEntry.{FileEntry}
@@ -61,15 +62,6 @@ steps_of word = within 1 step_limit (number_of word)
 -- an entry that makes steps may be asked for so many
 abbrev pub are_steps : ℕ → Bool
 are_steps n = nat_le 1 n && nat_le n step_limit
-
--- the number that octal digits go on to
-abbrev pub octal_from : ℕ → List ℕ → Option ℕ
-octal_from n [] = Some n
-octal_from n (b ∷ bs) = if nat_le 0o60 b && nat_lt b 0o70 then octal_from (8 * n + (b - 0o60)) bs else None
-
--- an octal number of just so many digits
-abbrev pub octal_of : ℕ → List ℕ → Option ℕ
-octal_of count digits = if nat_eq (length digits) count then octal_from 0 digits else None
 
 -- a cell: one octal digit of field, and four of address
 abbrev pub cell_of : List ℕ → Option ℕ

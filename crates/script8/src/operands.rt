@@ -1,28 +1,11 @@
 //! The operands of entries: numbers, cells, words, characters and names.
-ghost use Rattle.std.specs.Prelude.{◌≡◌, ◌≢◌, ◌≤◌, ◌<◌, ◌⊎◌, IfSome, [], Err, length};
-ghost use Rattle.script8.specs.Lines.{name_bytes, number_of, digits_from, within as within_of, steps_of, are_steps, cell_of, character_of, setting_of, octal_of, octal_from};
-ghost use Rattle.script8.specs.Steps.{octal_limit};
+ghost use Rattle.std.specs.Prelude.{◌≡◌, ◌≢◌, ◌≤◌, ◌⊎◌, [], Err, length};
+ghost use Rattle.script8.specs.Lines.{name_bytes, number_of, digits_from, within as within_of, steps_of, are_steps, character_of, setting_of};
 ghost use Rattle.script8.specs.declared.faults.SessionFault.TheVariants.{Memory};
 
 use crate::{Bytes, SessionFault};
 use std::alloc::Global;
-use word12::{Cell, Word};
-
-/// The cell of one octal digit of field and four of address.
-pub(crate) fn cell(digits: &[u8]) -> Option<Cell>
-    ensures { result ≡ cell_of digits.now }
-{
-    let number = octal(digits, 5)?;
-    Some(Cell::of(number))
-}
-
-/// The word of four octal digits.
-pub(crate) fn octal_word(digits: &[u8]) -> Option<Word>
-    ensures { result ≡ octal_of 4 digits.now }
-{
-    let number = octal(digits, 4)?;
-    Some(Word::low(number as u16))
-}
+use word12::octal;
 
 /// The character of three octal digits, up to 377.
 pub(crate) fn character(digits: &[u8]) -> Option<u8>
@@ -91,34 +74,6 @@ pub(crate) fn name(alloc: Global, word: &[u8]) -> Result<Bytes, SessionFault>
     }
     let items = Vec::from_slice(alloc, word)?;
     Ok(Bytes::new(items))
-}
-
-/// An octal number of just so many digits.
-fn octal(digits: &[u8], count: usize) -> Option<u32>
-    requires { count ≤ 5 }
-    ensures value { result ≡ octal_of count digits.now }
-    ensures range { IfSome result (λ number. number < octal_limit count) }
-{
-    if digits.len() != count {
-        return None;
-    }
-    octal_value(digits)
-}
-
-/// The number of octal digits.
-fn octal_value(digits: &[u8]) -> Option<u32>
-    requires { length digits.now ≤ 5 }
-    ensures value { result ≡ octal_from 0 digits.now }
-    ensures range { IfSome result (λ number. number < octal_limit (length digits.now)) }
-{
-    let mut value = 0;
-    for digit in digits {
-        match digit {
-            b'0'..=b'7' => value = 8 * value + u32::from(digit - b'0'),
-            _ => return None,
-        }
-    }
-    Some(value)
 }
 
 /// The number of decimal digits.

@@ -2,10 +2,11 @@ ghost use Rattle.std.specs.Prelude.{◌≡◌};
 ghost use Rattle.script8.specs.Lines.{says, Parses, form_of, command_of, words_of, bare, with_word, with_words, whole as whole_of, bare_entry, entry_with_word, at_console, bare_console, console_with_word, console_with_words};
 
 use crate::assembling::assemble;
-use crate::operands::{cell, character, name, number, octal_word, setting, steps, within};
+use crate::operands::{character, name, number, setting, steps, within};
 use crate::parts::first_part;
 use crate::{ConsoleEntry, Entry, FileEntry, JobEntry, Line, SessionFault};
 use std::alloc::Global;
+use word12::{octal_cell, octal_word};
 
 /// What a line of a script says: one CR at its end is dropped, an empty line is nothing, and a line of none of the forms, or
 /// with a number out of its limits, is `BadLine` (this project's profile).
@@ -147,7 +148,7 @@ fn parse_console_with_word(verb: &[u8], word: &[u8]) -> Option<ConsoleEntry>
     ensures { result ≡ console_with_word verb.now word.now }
 {
     if verb == b"START".as_slice() {
-        return Some(ConsoleEntry::Start(cell(word)?));
+        return Some(ConsoleEntry::Start(octal_cell(word)?));
     }
     if verb == b"STEP".as_slice() {
         return Some(ConsoleEntry::Step(steps(word)?));
@@ -162,7 +163,7 @@ fn parse_console_with_word(verb: &[u8], word: &[u8]) -> Option<ConsoleEntry>
         return Some(ConsoleEntry::Switches(octal_word(word)?));
     }
     if verb == b"EXAMINE".as_slice() {
-        return Some(ConsoleEntry::Examine(cell(word)?));
+        return Some(ConsoleEntry::Examine(octal_cell(word)?));
     }
     None
 }
@@ -172,17 +173,17 @@ fn parse_console_with_words(verb: &[u8], first: &[u8], second: &[u8]) -> Option<
     ensures { result ≡ console_with_words verb.now first.now second.now }
 {
     if verb == b"RUN".as_slice() {
-        let cell = cell(first)?;
+        let cell = octal_cell(first)?;
         let steps = steps(second)?;
         return Some(ConsoleEntry::Run { cell, steps });
     }
     if verb == b"DEPOSIT".as_slice() {
-        let cell = cell(first)?;
+        let cell = octal_cell(first)?;
         let word = octal_word(second)?;
         return Some(ConsoleEntry::Deposit { cell, word });
     }
     if verb == b"BREAK".as_slice() {
-        let cell = cell(first)?;
+        let cell = octal_cell(first)?;
         let is_on = setting(second)?;
         return Some(ConsoleEntry::Break { cell, is_on });
     }

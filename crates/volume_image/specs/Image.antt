@@ -4,6 +4,7 @@ use Rattle.volume_image.specs.Volume.{IsVolume}
 use Rattle.volume_image.specs.Stores.{InMemory}
 use Rattle.volume_image.specs.declared.faults.ImageFault.{ImageFault}
 use Rattle.volume_image.specs.declared.faults.ImageFault.TheVariants.{NotWhole, TooSmall, TooLarge, BadWord, Memory}
+use Rattle.word12.specs.declared.sizes.TheConstants.{BLOCK, FIRST_FILE_BLOCK, MOST_BLOCKS}
 
 -- numbers that fit in bytes
 abbrev pub AreBytes : List ℕ → Type 0
@@ -27,7 +28,7 @@ pub record IsFirstBadWord (bytes : List ℕ) (number : ℕ) : Type 0 where
 pub record HasImageSize (bytes : List ℕ) : Type 0 where
   pub whole : length bytes % 512 ≡ 0
   pub least : 8 ≤ length bytes / 512
-  pub most : length bytes / 512 ≤ 4095
+  pub most : length bytes / 512 ≤ MOST_BLOCKS
 
 -- an image of that size whose words have twelve bits
 pub record IsImage (bytes : List ℕ) : Type 0 where
@@ -39,14 +40,14 @@ pub record IsImageOf (bytes : List ℕ) (blocks : List (List ℕ)) : Type 0 wher
   pub volume : IsVolume blocks
   pub size : length bytes ≡ 512 * length blocks
   pub range : (k : ℕ) → image_word bytes k < 0o10000
-  pub words : (n k : ℕ) → n < length blocks → k < 256 → block_word blocks n k ≡ image_word bytes (256 * n + k)
+  pub words : (n k : ℕ) → n < length blocks → k < BLOCK → block_word blocks n k ≡ image_word bytes (BLOCK * n + k)
 
 -- what is answered where bytes are to be read as an image: want of memory is told of an image only
 abbrev pub ReadsImage : List ℕ → Result InMemory ImageFault → Type 0
 ReadsImage bytes (Ok volume) = IsImageOf bytes volume.blocks × (volume.reads ≡ 0) × (volume.writes ≡ 0)
 ReadsImage bytes (Err NotWhole) = length bytes % 512 ≢ 0
 ReadsImage bytes (Err TooSmall) = (length bytes % 512 ≡ 0) × (length bytes / 512 < 8)
-ReadsImage bytes (Err TooLarge) = (length bytes % 512 ≡ 0) × (4095 < length bytes / 512)
+ReadsImage bytes (Err TooLarge) = (length bytes % 512 ≡ 0) × (MOST_BLOCKS < length bytes / 512)
 ReadsImage bytes (Err (BadWord number)) = HasImageSize bytes × IsFirstBadWord bytes number
 ReadsImage bytes (Err Memory) = IsImage bytes
 
@@ -58,7 +59,7 @@ minus n = (0o10000 - n) % 0o10000
 -- first block of files, no next segment, no flag word, minus the number of information words, and one entry, which is
 -- empty and has minus its length
 abbrev pub new_directory : ℕ → List ℕ
-new_directory blocks = minus 1 ∷ 7 ∷ 0 ∷ 0 ∷ minus 1 ∷ 0 ∷ minus (blocks - 7) ∷ []
+new_directory blocks = minus 1 ∷ FIRST_FILE_BLOCK ∷ 0 ∷ 0 ∷ minus 1 ∷ 0 ∷ minus (blocks - FIRST_FILE_BLOCK) ∷ []
 
 -- word k of block n of an empty volume
 abbrev pub new_word : ℕ → ℕ → ℕ → ℕ
@@ -68,16 +69,16 @@ new_word blocks n k = if n == 1 then slice_index (new_directory blocks) k else 0
 pub record IsNewVolume (count : ℕ) (blocks : List (List ℕ)) : Type 0 where
   pub volume : IsVolume blocks
   pub size : length blocks ≡ count
-  pub words : (n k : ℕ) → n < count → k < 256 → block_word blocks n k ≡ new_word count n k
+  pub words : (n k : ℕ) → n < count → k < BLOCK → block_word blocks n k ≡ new_word count n k
 
 -- what is answered where an empty volume of so many blocks is wanted
 abbrev pub Creates : ℕ → Result InMemory ImageFault → Type 0
 Creates count (Ok volume) = IsNewVolume count volume.blocks × (volume.reads ≡ 0) × (volume.writes ≡ 0)
 Creates count (Err NotWhole) = ⊥
 Creates count (Err TooSmall) = count < 8
-Creates count (Err TooLarge) = 4095 < count
+Creates count (Err TooLarge) = MOST_BLOCKS < count
 Creates count (Err (BadWord number)) = ⊥
-Creates count (Err Memory) = (8 ≤ count) × (count ≤ 4095)
+Creates count (Err Memory) = (8 ≤ count) × (count ≤ MOST_BLOCKS)
 
 -- the image of a volume is read back as that volume, where memory is there
 abbrev pub WrittenIsReadBack : Type 0

@@ -1,14 +1,15 @@
 -- Volumes as lists of blocks, and what a failing device leaves of them.
 use Rattle.std.specs.Prelude.{◌≡◌, ℕ, ◌+◌, ◌<◌, ◌≤◌, nat_lt, if◌then◌else◌, List, [], length, slice_index, slice_index_or, All, slice_set}
+use Rattle.word12.specs.declared.sizes.TheConstants.{BLOCK, MOST_BLOCKS}
 
 -- a block has 256 words
 abbrev pub IsBlock : List ℕ → Type 0
-IsBlock words = length words ≡ 256
+IsBlock words = length words ≡ BLOCK
 
 -- 8 to 4095 blocks
 pub record IsVolume (blocks : List (List ℕ)) : Type 0 where
   pub least : 8 ≤ length blocks
-  pub most : length blocks ≤ 4095
+  pub most : length blocks ≤ MOST_BLOCKS
   pub each : All IsBlock blocks
 
 -- each word of each block has twelve bits (Small Computer Handbook)

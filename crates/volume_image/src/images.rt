@@ -1,10 +1,11 @@
 ghost use Rattle.std.specs.Prelude.{◌≡◌, ℕ, ◌+◌, ◌*◌, ◌%◌, ◌<◌, ◌≤◌, length, slice_index, vec_capacity, All, MatchOption, IfOk, IsOk, OnOk, OnErr};
+ghost use Rattle.word12.specs.declared.sizes.TheConstants.{BLOCK, MOST_BLOCKS};
 ghost use Rattle.volume_image.specs.Image.{image_word, block_word, IsFirstBadWord, IsImageOf, IsNewVolume, new_word};
 ghost use Rattle.volume_image.specs.Volume.{IsBlock, IsVolume};
 
 use crate::Block;
 use std::alloc::{AllocError, Global};
-use word12::Word;
+use word12::{BLOCK, FIRST_FILE_BLOCK, MOST_BLOCKS, Word};
 
 // Takes each word as a number, by which it is known to have twelve bits; a compiler leaves this out.
 pub(crate) fn know_words(words: &[Word])
@@ -44,10 +45,10 @@ fn lay_words(bytes: &[u8], first: usize, words: &mut [Word])
 // A block of an image; of each word just the low twelve bits.
 fn block_at(bytes: &[u8], number: usize) -> Block
     requires { 512 * number + 512 ≤ length bytes.now }
-    ensures { (k : ℕ) → k < 256 → slice_index result k ≡ image_word bytes.now (256 * number + k) % 0o10000 }
+    ensures { (k : ℕ) → k < BLOCK → slice_index result k ≡ image_word bytes.now (BLOCK * number + k) % 0o10000 }
 {
-    let mut words = [Word::ZERO; 256];
-    lay_words(bytes, 256 * number, &mut words);
+    let mut words = [Word::ZERO; BLOCK];
+    lay_words(bytes, BLOCK * number, &mut words);
     words
 }
 
@@ -56,8 +57,8 @@ pub(crate) fn blocks_of(alloc: Global, bytes: &[u8], count: usize) -> Result<Vec
     requires { length bytes.now ≡ 512 * count }
     ensures count { IfOk result (λ blocks. length blocks.items ≡ count) }
     ensures each { IfOk result (λ blocks. All IsBlock blocks.items) }
-    ensures words { IfOk result (λ blocks. (n k : ℕ) → n < count → k < 256 →
-        block_word blocks.items n k ≡ image_word bytes.now (256 * n + k) % 0o10000) }
+    ensures words { IfOk result (λ blocks. (n k : ℕ) → n < count → k < BLOCK →
+        block_word blocks.items n k ≡ image_word bytes.now (BLOCK * n + k) % 0o10000) }
 {
     let mut blocks = Vec::with_capacity(alloc, count)?;
     for number in 0..count {
@@ -85,12 +86,12 @@ fn put_words(words: &[Word], first: usize, bytes: &mut [u8])
 fn put_blocks(blocks: &[Block], bytes: &mut [u8])
     requires size { length bytes.old ≡ 512 * length blocks.now }
     requires each { All IsBlock blocks.now }
-    ensures range { (k : ℕ) → k < 256 * length blocks.now → image_word bytes.new k < 0o10000 }
-    ensures words { (n k : ℕ) → n < length blocks.now → k < 256 →
-        block_word blocks.now n k ≡ image_word bytes.new (256 * n + k) }
+    ensures range { (k : ℕ) → k < BLOCK * length blocks.now → image_word bytes.new k < 0o10000 }
+    ensures words { (n k : ℕ) → n < length blocks.now → k < BLOCK →
+        block_word blocks.now n k ≡ image_word bytes.new (BLOCK * n + k) }
 {
     for number in 0..blocks.len() {
-        put_words(&blocks[number], 256 * number, bytes);
+        put_words(&blocks[number], BLOCK * number, bytes);
     }
 }
 
@@ -109,24 +110,24 @@ pub(crate) fn put_image(blocks: &[Block], bytes: &mut Vec<u8>) -> Result<(), All
 // Writes the words with which the directory of an empty volume begins.
 fn lay_directory(count: usize, words: &mut [Word])
     requires least { 8 ≤ count }
-    requires most { count ≤ 4095 }
-    requires size { length words.old ≡ 256 }
+    requires most { count ≤ MOST_BLOCKS }
+    requires size { length words.old ≡ BLOCK }
     requires zeros { (k : ℕ) → slice_index words.old k ≡ 0 }
     ensures { (k : ℕ) → slice_index words.new k ≡ new_word count 1 k }
 {
     words[0] = Word::low(0o7777);
-    words[1] = Word::low(7);
+    words[1] = Word::low(FIRST_FILE_BLOCK as u16);
     words[4] = Word::low(0o7777);
-    words[6] = Word::ZERO.minus(Word::low(count as u16 - 7));
+    words[6] = Word::ZERO.minus(Word::low((count - FIRST_FILE_BLOCK) as u16));
 }
 
 // A block of an empty volume.
 fn new_block(count: usize, number: usize) -> Block
     requires least { 8 ≤ count }
-    requires most { count ≤ 4095 }
-    ensures { (k : ℕ) → k < 256 → slice_index result k ≡ new_word count number k }
+    requires most { count ≤ MOST_BLOCKS }
+    ensures { (k : ℕ) → k < BLOCK → slice_index result k ≡ new_word count number k }
 {
-    let mut words = [Word::ZERO; 256];
+    let mut words = [Word::ZERO; BLOCK];
     if number == 1 {
         lay_directory(count, &mut words);
     }
@@ -136,7 +137,7 @@ fn new_block(count: usize, number: usize) -> Block
 // The blocks of an empty volume.
 pub(crate) fn new_blocks(alloc: Global, count: usize) -> Result<Vec<Block>, AllocError>
     requires least { 8 ≤ count }
-    requires most { count ≤ 4095 }
+    requires most { count ≤ MOST_BLOCKS }
     ensures { IfOk result (λ blocks. IsNewVolume count blocks.items) }
 {
     let mut blocks = Vec::with_capacity(alloc, count)?;

@@ -6,7 +6,7 @@ use crate::images::{blocks_of, first_bad_word, know_words, new_blocks, put_image
 use crate::{Block, BlockStore, DeviceFault, ImageFault};
 use std::alloc::Global;
 use std::marker::Model;
-use word12::Word;
+use word12::{MOST_BLOCKS, Word};
 
 /// A volume of 8 to 4095 blocks whose words stand in memory. As a store it never fails.
 #[derive(Debug, Drop)]
@@ -40,7 +40,7 @@ impl MemoryVolume {
         if count < 8 {
             return Err(ImageFault::TooSmall);
         }
-        if count > 4095 {
+        if count > MOST_BLOCKS {
             return Err(ImageFault::TooLarge);
         }
         if let Some(number) = first_bad_word(bytes) {
@@ -84,7 +84,7 @@ impl MemoryVolume {
         if blocks < 8 {
             return Err(ImageFault::TooSmall);
         }
-        if blocks > 4095 {
+        if blocks > MOST_BLOCKS {
             return Err(ImageFault::TooLarge);
         }
         let made = new_blocks(alloc, blocks)?;

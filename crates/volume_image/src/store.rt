@@ -2,10 +2,10 @@ ghost use Rattle.std.specs.Prelude.{◌≡◌, ℕ, ◌+◌, ◌<◌, List, leng
 ghost use Rattle.volume_image.specs.Volume.{AreWords, IsVolume, IsDamaged, counted};
 
 use thiserror::Error;
-use word12::Word;
+use word12::{BLOCK, Word};
 
 /// The 256 words of a block.
-pub type Block = [Word; 256];
+pub type Block = [Word; BLOCK];
 
 /// A block could not be read or written.
 #[derive(Clone, Copy, PartialEq, Eq, Debug, Error)]

@@ -1,5 +1,5 @@
 -- Octal digits, as the handbook writes words, addresses and fields.
-use Rattle.std.specs.Prelude.{ℕ, ◌+◌, ◌-◌, ◌*◌, ◌/◌, ◌%◌, List, [], ◌∷◌}
+use Rattle.std.specs.Prelude.{ℕ, ◌+◌, ◌-◌, ◌*◌, ◌/◌, ◌%◌, ◌&&◌, if◌then◌else◌, nat_eq, nat_le, nat_lt, length, List, [], ◌∷◌, Option, None, Some, zero, suc}
 
 -- the ASCII code of the last octal digit of a number
 abbrev pub octal_digit : ℕ → ℕ
@@ -17,3 +17,18 @@ octal_number_after n (digit ∷ digits) = octal_number_after (8 * n + (digit - 4
 -- the number that octal digits spell
 abbrev pub octal_number : List ℕ → ℕ
 octal_number digits = octal_number_after 0 digits
+
+-- the number that octal digits go on to
+abbrev pub octal_from : ℕ → List ℕ → Option ℕ
+octal_from n [] = Some n
+octal_from n (digit ∷ digits) =
+    if nat_le 0o60 digit && nat_lt digit 0o70 then octal_from (8 * n + (digit - 0o60)) digits else None
+
+-- an octal number of just so many digits
+abbrev pub octal_of : ℕ → List ℕ → Option ℕ
+octal_of count digits = if nat_eq (length digits) count then octal_from 0 digits else None
+
+-- octal numbers of so many digits are below
+abbrev pub octal_limit : ℕ → ℕ
+octal_limit zero = 1
+octal_limit (suc count) = 8 * octal_limit count

@@ -1,5 +1,5 @@
 use Rattle.std.proofs.Common.{◌∙◌, ap, sym, option_map, Some}
-use Rattle.command8.specs.Octal.{octal_of}
+use Rattle.word12.specs.Octal.{octal_of}
 use Rattle.command8.proofs.teletypes.switches_of.Goals as goal
 
 pub returns-in-None-clause-switches : goal.returns-in-None-clause-switches

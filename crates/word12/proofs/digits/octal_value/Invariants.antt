@@ -1,7 +1,6 @@
 use Rattle.std.proofs.Common.{◌≡◌, ◌<◌, drop}
-use Rattle.command8.specs.Octal.{octal_from}
-use Rattle.command8.specs.OctalSteps.{octal_limit}
-use Rattle.command8.proofs.octal.octal_value.Given as goal
+use Rattle.word12.specs.Octal.{octal_from, octal_limit}
+use Rattle.word12.proofs.digits.octal_value.Given as goal
 
 -- the value is that of the digits so far
 abbrev pub invariant-loop-digit : goal.invariant-loop-digit

@@ -1,19 +1,18 @@
-//! Octal numbers of just so many digits.
+//! Octal numbers of just so many digits, as the handbook writes words and cells.
 ghost use Rattle.std.specs.Prelude.{◌≡◌, ◌≤◌, ◌<◌, IfSome, length};
-ghost use Rattle.command8.specs.Octal.{octal_from, octal_of};
-ghost use Rattle.command8.specs.OctalSteps.{octal_limit};
+ghost use Rattle.word12.specs.Octal.{octal_from, octal_limit, octal_of};
 
-use word12::{Cell, Word};
+use crate::{Cell, Word};
 
-/// The cell of one octal digit of field and four of address.
-pub fn cell(digits: &[u8]) -> Option<Cell>
+/// The cell of one octal digit of field and four of address, else nothing.
+pub fn octal_cell(digits: &[u8]) -> Option<Cell>
     ensures { result ≡ octal_of 5 digits.now }
 {
     let number = octal(digits, 5)?;
     Some(Cell::of(number))
 }
 
-/// The word of four octal digits.
+/// The word of four octal digits, else nothing.
 pub fn octal_word(digits: &[u8]) -> Option<Word>
     ensures { result ≡ octal_of 4 digits.now }
 {
@@ -21,8 +20,8 @@ pub fn octal_word(digits: &[u8]) -> Option<Word>
     Some(Word::low(number as u16))
 }
 
-/// The number of just so many octal digits.
-fn octal(digits: &[u8], count: usize) -> Option<u32>
+/// The number of just so many octal digits, at most five, else nothing.
+pub fn octal(digits: &[u8], count: usize) -> Option<u32>
     requires { count ≤ 5 }
     ensures value { result ≡ octal_of count digits.now }
     ensures range { IfSome result (λ number. number < octal_limit count) }

@@ -1,7 +1,0 @@
--- What small steps of the readers come to, for private clauses.
-use Rattle.std.specs.Prelude.{ℕ, zero, suc, ◌*◌}
-
--- the octal numbers of so many digits are below
-abbrev pub octal_limit : ℕ → ℕ
-octal_limit zero = 1
-octal_limit (suc n) = 8 * octal_limit n
