@@ -2,12 +2,13 @@
 -- them too.
 use Rattle.std.specs.Prelude.{ℕ, Bool, ◌+◌, ◌-◌, ◌*◌, ◌&&◌, nat_le, if◌then◌else◌, Option, Some, None, unwrap_or, List, slice_index}
 
--- a capital letter
+-- a capital letter, A (0101) to Z (0132) in ASCII
 abbrev pub is_letter : ℕ → Bool
-is_letter character = nat_le 65 character && nat_le character 90
+is_letter character = nat_le 0o101 character && nat_le character 0o132
 
+-- a digit, 0 (0060) to 9 (0071)
 abbrev pub is_digit : ℕ → Bool
-is_digit character = nat_le 48 character && nat_le character 57
+is_digit character = nat_le 0o60 character && nat_le character 0o71
 
 -- a letter's code is its ASCII code without 0100, a digit's its ASCII code; other characters have none in a name
 abbrev pub sixbit_code : ℕ → Option ℕ

@@ -1,6 +1,7 @@
 ghost use Rattle.std.specs.Prelude.{◌≡◌, ℕ, ◌+◌, ◌*◌, ◌/◌, ◌%◌, ◌<◌, ◌↔◌, IsSome, IfSome};
+ghost use Rattle.word12.specs.declared.sizes.TheConstants.{CORE, FIELD};
 
-use crate::Word;
+use crate::{FIELD, Word};
 use std::marker::Model;
 
 /// A cell of core: a field, 0 to 7, and an address in it, 0 to 0o7777 (Small Computer Handbook, MC8 extended memory).
@@ -16,7 +17,7 @@ impl Model for Cell {
 
     ghost view = { λ cell. cell.number };
 
-    ghost invariant = { λ cell. cell.number < 0o100000 };
+    ghost invariant = { λ cell. cell.number < CORE };
 
     ghost inverse = { λ number. record { number = number } };
 }
@@ -26,11 +27,11 @@ impl Cell {
     #[inline]
     pub fn new(field: u8, address: u16) -> Option<Cell>
         ensures fits { IsSome result ↔ ((field < 8) × (address < 0o10000)) }
-        ensures number { IfSome result (λ cell. cell ≡ 0o10000 * field + address) }
+        ensures number { IfSome result (λ cell. cell ≡ FIELD * field + address) }
     {
         if field < 8 && address < 0o10000 {
             Some(Cell {
-                number: 0o10000 * u32::from(field) + u32::from(address),
+                number: FIELD as u32 * u32::from(field) + u32::from(address),
             })
         } else {
             None
@@ -41,20 +42,20 @@ impl Cell {
     #[inline]
     pub fn at(field: u8, address: Word) -> Cell
         requires { field < 8 }
-        ensures number { result ≡ 0o10000 * field + address }
-        ensures range { result < 0o100000 }
+        ensures number { result ≡ FIELD * field + address }
+        ensures range { result < CORE }
     {
         Cell {
-            number: 0o10000 * u32::from(field) + u32::from(address.get()),
+            number: FIELD as u32 * u32::from(field) + u32::from(address.get()),
         }
     }
 
     /// The cell of this number among all cells of core.
     #[inline]
     pub fn of(number: u32) -> Cell
-        requires { number < 0o100000 }
+        requires { number < CORE }
         ensures number { result ≡ number }
-        ensures range { result < 0o100000 }
+        ensures range { result < CORE }
     {
         Cell { number }
     }
@@ -62,26 +63,26 @@ impl Cell {
     /// The field, 0 to 7.
     #[inline]
     pub fn field(self) -> u8
-        ensures value { result ≡ self / 0o10000 }
+        ensures value { result ≡ self / FIELD }
         ensures range { result < 8 }
     {
-        (self.number / 0o10000) as u8
+        (self.number / FIELD as u32) as u8
     }
 
     /// The address in the field.
     #[inline]
     pub fn address(self) -> Word
-        ensures value { result ≡ self % 0o10000 }
+        ensures value { result ≡ self % FIELD }
         ensures range { result < 0o10000 }
     {
-        Word::low((self.number % 0o10000) as u16)
+        Word::low((self.number % FIELD as u32) as u16)
     }
 
     /// The number of the cell among all cells of core: 0o10000 times the field, plus the address.
     #[inline]
     pub fn index(self) -> usize
         ensures value { result ≡ self }
-        ensures range { result < 0o100000 }
+        ensures range { result < CORE }
     {
         self.number as usize
     }
