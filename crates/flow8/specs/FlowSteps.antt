@@ -1,0 +1,36 @@
+-- What marking comes to on the way, for private clauses.
+use Rattle.std.specs.Prelude.{◌≡◌, ◌⊎◌, ℕ, ◌+◌, ◌*◌, ◌≤◌, Bool, true, false, if◌then◌else◌, List, [], length, Option, Some, None, slice_index_or, ◌++◌, option_to_list, sum_by}
+use Rattle.flow8.specs.Exits.{exits}
+use Rattle.flow8.specs.Flow.{Gives, IsAmong}
+
+-- how many cells are not marked
+abbrev pub unmarked : List Bool → ℕ
+unmarked reached = sum_by (λ mark. if mark then 0 else 1) reached
+
+-- a cell of the table is marked
+abbrev pub Has : List Bool → ℕ → Type 0
+Has reached cell = slice_index_or reached cell false ≡ true
+
+-- none is
+abbrev pub AreUnmarked : List Bool → Type 0
+AreUnmarked reached = (cell : ℕ) → Has reached cell → ⊥
+
+-- These cells are marked, but for those to which the tape gives no word; each that wasn't before waits.
+pub record Marks (words : List (Option ℕ)) (old new : List Bool) (waiting waiting' : List ℕ) (cells : List ℕ) : Type 0 where
+  pub size : length new ≡ length old
+  pub marks : (cell word : ℕ) → IsAmong cell cells → Gives words cell word → Has new cell
+  pub kept : (cell : ℕ) → Has old cell → Has new cell
+  pub only : (cell : ℕ) → Has new cell → Has old cell ⊎ (IsAmong cell cells × ((word : ℕ) × Gives words cell word))
+  pub waits : (cell : ℕ) → Has new cell → Has old cell ⊎ IsAmong cell waiting'
+  pub still_waits : (cell : ℕ) → IsAmong cell waiting → IsAmong cell waiting'
+  pub waiting_are : (cell : ℕ) → IsAmong cell waiting' → IsAmong cell waiting ⊎ Has new cell
+  pub sum : 2 * unmarked new + length waiting' ≤ 2 * unmarked old + length waiting
+
+-- the exits of a word, as a list
+abbrev pub exit_list : ℕ → Option ℕ → List ℕ
+exit_list cell None = []
+exit_list cell (Some word) = option_to_list (exits cell word).0 ++ option_to_list (exits cell word).1
+
+-- those of the word that the tape gives a cell
+abbrev pub cells_behind : List (Option ℕ) → ℕ → List ℕ
+cells_behind words cell = exit_list cell (slice_index_or words cell None)

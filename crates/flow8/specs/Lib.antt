@@ -1,0 +1,4 @@
+pub mod Exits
+pub mod Flow
+pub mod FlowSteps
+pub mod Laws
