@@ -28,6 +28,7 @@ const FIRST: u16 = 0o200;
 pub struct Names {
     /// The value of each name that is defined, by the number that the sixbit codes of its six characters make.
     pub symbols: BTreeMap<u64, u16>,
+    /// The address of the next statement.
     pub place: u16,
 }
 
