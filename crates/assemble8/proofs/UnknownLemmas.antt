@@ -10,7 +10,6 @@ use Rattle.pal_lex.specs.Statements.{statements, first_fault, first_of}
 use Rattle.pal_lex.specs.Reading.{Answers, tokens_behind, with_tokens}
 use Rattle.pal_lex.specs.Progress.{Progress}
 use Rattle.pal_lex.specs.declared.faults.LexFault.{LexFault}
-use Rattle.pal_lex.specs.declared.faults.LexFault.TheVariants as lex
 use Rattle.pal_lex.specs.declared.phrases.Statement.{Statement}
 use Rattle.pal_asm.specs.declared.faults.AsmFault.{AsmFault}
 use Rattle.pal_asm.specs.Places.{Source, values, values_at}

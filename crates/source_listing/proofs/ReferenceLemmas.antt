@@ -1,5 +1,5 @@
 -- What statements name.
-use Rattle.std.proofs.Common.{◌≡◌, ℕ, ◌+◌, ◌<◌, Bool, true, false, if◌then◌else◌, Ok, is_some, length, take, get_or, List, [], ◌∷◌, ◌++◌, refl, ap, sym, ◌∙◌, append_assoc, append-nil, arith}
+use Rattle.std.proofs.Common.{◌≡◌, ℕ, ◌<◌, Bool, true, false, if◌then◌else◌, Ok, is_some, length, take, get_or, List, [], ◌∷◌, ◌++◌, refl, ap, sym, ◌∙◌, append_assoc, append-nil, arith}
 use Rattle.pal_sym.specs.Permanent.{permanent}
 use Rattle.pal_lex.specs.Text.{ends_statement, text_of}
 use Rattle.pal_lex.specs.Statements.{statements}
