@@ -11,7 +11,7 @@ use Rattle.pal_asm.specs.declared.faults.AsmFault.TheVariants.{At}
 use Rattle.pal_asm.specs.Expressions.{Known}
 use Rattle.pal_asm.specs.Places.{Source, place_at, values}
 use Rattle.pal_asm.specs.Words.{word_values}
-use Rattle.pal_asm.specs.Faults.{first_of, at_line, first_order, word_fault, words_fault, no_end, no_word}
+use Rattle.pal_asm.specs.Faults.{first_of, at_line, word_fault, words_fault, no_end, no_word}
 use Rattle.assemble8.specs.Sources.{newest_first}
 use Rattle.assemble8.specs.Places.{shortest, is_settled, start_of, statement_place, place_at_byte}
 use Rattle.assemble8.specs.Unknowns.{unknown_in, newest_unknown, unknown_ended, about}
@@ -21,7 +21,7 @@ use Rattle.assemble8.specs.declared.faults.Place.{Place}
 use Rattle.assemble8.specs.declared.faults.Fault.{Fault}
 use Rattle.assemble8.proofs.PauseLemmas.{ends_parts}
 use Rattle.assemble8.proofs.LocateLemmas.{newest, one_more, nothing_read, words_stay, by_settled}
-use Rattle.assemble8.proofs.UnknownLemmas.{by_settled as settled_unknown}
+use Rattle.assemble8.proofs.UnknownLemmas.{by_settled as settled_unknown, not_refused}
 
 -- ## One word
 
@@ -132,10 +132,6 @@ first_told place last (b ∷ older) f others e = by_earlier (word_faults place l
           told.3 ∙ ap (about f.code) (sym ended) ∙ ap (λ t. about f.code (unknown_ended (word_values last) t)) shorter,
         )
 
-no_order : (o : Option AsmFault) → is_some o ≡ false → o ≡ None
-no_order None e = refl
-no_order (Some f) e = cc
-
 pub first_is_told : FirstIsTold
 first_is_told sources f others fine over e =
     let text = newest_first sources in
@@ -144,7 +140,7 @@ first_is_told sources f others fine over e =
     let words = words_fault last (statements text) in
     let rest = first_of words (no_word (statements text)) in
     let ended : no_end text ≡ None = ap (λ (o : Bool). if o then None else Some (At NE (line_after text))) over in (
-      ap (λ o. first_of o (first_of (no_end text) rest)) (no_order (first_order (statements text)) fine) ∙ ap (λ o. first_of o rest) ended
+      ap (λ o. first_of o (first_of (no_end text) rest)) (not_refused text fine) ∙ ap (λ o. first_of o rest) ended
           ∙ ap (λ o. first_of o (no_word (statements text))) told.0,
       told.1 ∙ ap (place_at_byte sources) (sym (by_settled text fine over)),
       told.2 ∙ ap (about f.code) (sym (settled_unknown text fine over)),

@@ -1,15 +1,15 @@
 -- Words with faults.
-use Rattle.std.proofs.Common.{◌≡◌, ℕ, ◌+◌, ◌<◌, Bool, true, false, not, ◌||◌, if◌then◌else◌, Option, Some, None, Ok, unwrap_or, length, take, drop, zero, suc, get_or, List, [], ◌∷◌, ◌++◌, refl, ap, sym, ◌∙◌, arith}
+use Rattle.std.proofs.Common.{◌≡◌, ℕ, ◌+◌, ◌<◌, Bool, true, false, not, ◌||◌, if◌then◌else◌, Option, None, Ok, unwrap_or, length, take, drop, zero, suc, get_or, List, [], ◌∷◌, ◌++◌, refl, ap, sym, ◌∙◌, arith}
 use Rattle.std.proofs.Math.Path.{fun_ext}
 use Rattle.std.specs.Borrow.{Bor}
 use Rattle.std.specs.BTreeMap.{BTreeMap}
 use Rattle.pal_sym.specs.Values.{if_none}
-use Rattle.pal_lex.specs.Text.{is_over, stretch, text_of}
+use Rattle.pal_lex.specs.Text.{is_over, ends_statement, stretch, text_of}
 use Rattle.pal_lex.specs.Statements.{statements}
-use Rattle.pal_lex.specs.Reading.{Answers, tokens_behind, with_tokens}
-use Rattle.pal_lex.specs.Progress.{Progress}
+use Rattle.pal_lex.specs.Reading.{with_tokens}
 use Rattle.pal_lex.specs.declared.phrases.Body.{Body}
 use Rattle.pal_lex.specs.declared.phrases.Statement.{Statement}
+use Rattle.pal_lex.specs.declared.pieces.Token.{Token}
 use Rattle.pal_asm.specs.declared.faults.Code.{Code}
 use Rattle.pal_asm.specs.Expressions.{Known}
 use Rattle.pal_asm.specs.Places.{Source, with_tags as tag_values, values, place_at}
@@ -18,13 +18,12 @@ use Rattle.pal_asm.specs.Faults.{word_fault}
 use Rattle.assemble8.specs.Sources.{texts_of, newest_first, counts_of}
 use Rattle.assemble8.specs.Places.{first_solid, start_of, is_refused, place_in, place_by, place_at_byte}
 use Rattle.assemble8.specs.Unknowns.{unknown_in}
-use Rattle.assemble8.specs.NameSteps.{known, Follows}
+use Rattle.assemble8.specs.Symbols.{known, Follows}
 use Rattle.assemble8.specs.JudgeSteps.{known_last, placed}
 use Rattle.assemble8.specs.Further.{with_line, newest_fault, byte_fault, with_place, word_faults, further_faults}
 use Rattle.assemble8.specs.declared.faults.Place.{Place}
 use Rattle.assemble8.specs.declared.further.Found.{Found}
-use Rattle.assemble8.proofs.PauseLemmas.{none_ends, one_ends, next_byte}
-use Rattle.assemble8.proofs.LocateLemmas.{handed}
+use Rattle.assemble8.proofs.PauseLemmas.{next_byte}
 use Rattle.assemble8.proofs.NameLemmas.{tagged_names}
 use Rattle.assemble8.proofs.StartLemmas.{length_taken}
 
@@ -48,16 +47,13 @@ placed_further place most l = placed-take place most (drop 1 l) ∙ ap (take mos
 
 -- ## One byte
 
-pub judged_none : (last : Known) (text : List ℕ) (b : ℕ) (old new : Progress) → Answers 0 text b (Ok None) old new → None ≡ byte_fault last text b
-judged_none last text b old new answers = sym (ap (λ (t : Bool). if t then newest_fault last (statements (b ∷ text)) else None) (none_ends b text answers.1))
+pub judged_none : (last : Known) (text : List ℕ) (b : ℕ) → ends_statement text b ≡ false → None ≡ byte_fault last text b
+judged_none last text b none = sym (ap (λ (t : Bool). if t then newest_fault last (statements (b ∷ text)) else None) none)
 
-pub judged_some : (last : Known) (text : List ℕ) (b : ℕ) (s : Statement) (old new : Progress) → old.may_pause ≡ false → Answers 0 text b (Ok (Some s)) old new
+pub judged_some : (last : Known) (text : List ℕ) (b : ℕ) (s : Statement) (tokens : List Token) → ends_statement text b ≡ true → statements (b ∷ text) ≡ Ok (with_tokens tokens s) ∷ statements text
     → with_line s.line (unknown_in (word_values last s.tags (statements text)) s.body) (word_fault (word_values last s.tags (statements text)) (place_at (statements text)) s.body) ≡ byte_fault last text b
-judged_some last text b s old new may answers =
-    let out = handed text b s old new may answers in
-    sym
-    (ap (λ (t : Bool). if t then newest_fault last (statements (b ∷ text)) else None) (one_ends b text (Ok (with_tokens (tokens_behind text) s)) out.1)
-    ∙ ap (newest_fault last) out.1)
+judged_some last text b s tokens ends more =
+    sym (ap (λ (t : Bool). if t then newest_fault last (statements (b ∷ text)) else None) ends ∙ ap (newest_fault last) more)
 
 pub judged_more : (place : ℕ → Place) (last : Known) (bytes : List ℕ) (n : ℕ) (fault : Option (Code × ℕ × Option ℕ)) (start : Option ℕ) (at : ℕ) (old new : List Found) → n < length bytes
     → placed place new ≡ placed place old ++ with_place (place at) fault → at ≡ unwrap_or start n → start ≡ first_solid (stretch (text_of (take n bytes)))

@@ -1,23 +1,20 @@
 -- The text that sources join to.
-use Rattle.std.proofs.Common.{◌≡◌, inl, inr, ℕ, ◌≤◌, Bool, true, false, Some, None, length, take, drop, get_or, nat_eq, ◌-◌, suc, List, [], ◌∷◌, ◌++◌, ap, sym, subst, ◌∙◌, append_assoc, append-nil, arith}
+use Rattle.std.proofs.Common.{◌≡◌, inl, inr, ℕ, ◌≤◌, Bool, true, false, Some, None, length, take, get_or, nat_eq, List, [], ◌∷◌, ◌++◌, ap, sym, subst, ◌∙◌, append_assoc, append-nil, arith}
 use Rattle.std.proofs.lemmas.Bool.Decides.{nat_tests}
-use Rattle.std.proofs.lemmas.List.{take_all}
 use Rattle.std.specs.Borrow.{Bor}
 use Rattle.char_pack.specs.Texts.{host_text}
 use Rattle.pal_lex.specs.Text.{text_of}
 use Rattle.pal_lex.specs.Joins.{before_pause, continued, join_of}
 use Rattle.assemble8.specs.Sources.{texts_of, newest_first, counts_by, counts_of}
 use Rattle.assemble8.specs.Steps.{Puts}
-use Rattle.assemble8.proofs.PauseLemmas.{text_joined}
+use Rattle.assemble8.proofs.NameLemmas.{behind_one, first_of_rest}
+use Rattle.assemble8.proofs.PauseLemmas.{text_joined, true_false}
 use Rattle.assemble8.proofs.StartLemmas.{length_taken}
 
 -- What stands in the join of sources and of those before them, and how many bytes of each, when one more was put there.
 pub record HasPut (source : Bor (List ℕ)) (others : List (Bor (List ℕ))) (old new counts counts_then : List ℕ) : Type 0 where
   pub text : join_of (texts_of (source ∷ others)) ++ text_of old ≡ join_of (texts_of others) ++ text_of new
   pub counts_are : counts ++ counts_of (texts_of (source ∷ others)) ≡ counts_then ++ counts_of (texts_of others)
-
-true_false : {A : Type 0} → true ≡ false → A
-true_false e = absurd cc
 
 -- there are others behind this one
 some_more : (next : Bor (List ℕ)) (later : List (Bor (List ℕ))) → nat_eq (length (next ∷ later)) 0 ≡ false
@@ -64,23 +61,13 @@ put_last source (next ∷ later) last bytes old new counts counts_then is none p
 
 -- ## The first of the sources that are left
 
-abbrev pub behind_one : {A : Type 0} → List A → List A
-behind_one l = take (length l - 1) (drop 1 l)
-
-less_one : (n : ℕ) → suc n - 1 ≡ n
-less_one n = omega arith
-
-first_one : (rest : List (Bor (List ℕ))) (none : Bor (List ℕ)) → 1 ≤ length rest → rest ≡ get_or rest 0 none ∷ behind_one rest
-first_one [] none long = absurd (omega (arith, long))
-first_one (source ∷ others) none long = ap (λ l. source ∷ l) (sym (ap (λ n. take n others) (less_one (length others)) ∙ take_all (length others) others (omega arith)))
-
 -- the whole join and all counts, when a source of which others follow was put
 pub puts_on : (sources rest : List (Bor (List ℕ))) (none : Bor (List ℕ)) (last goes : Bool) (bytes old new counts counts_then : List ℕ) → 1 ≤ length rest
     → newest_first sources ≡ join_of (texts_of rest) ++ text_of old → counts_of (texts_of sources) ≡ counts ++ counts_of (texts_of rest) → bytes ≡ host_text (get_or rest 0 none).now
     → last ≡ nat_eq (length (behind_one rest)) 0 → goes ≡ true → Puts last bytes goes old new counts counts_then
     → (newest_first sources ≡ join_of (texts_of (behind_one rest)) ++ text_of new) × (counts_of (texts_of sources) ≡ counts_then ++ counts_of (texts_of (behind_one rest)))
 puts_on sources rest none last goes bytes old new counts counts_then long joins counted is ends goes_on puts =
-    let first = first_one rest none long in
+    let first = first_of_rest rest none long in
     let put = put_prefix (get_or rest 0 none) (behind_one rest) last bytes old new counts counts_then is ends (subst (λ g. Puts last bytes g old new counts counts_then) goes_on puts) in
     (joins ∙ ap (λ l. join_of (texts_of l) ++ text_of old) first ∙ put.text, counted ∙ ap (λ l. counts ++ counts_of (texts_of l)) first ∙ put.counts_are)
 
@@ -90,6 +77,6 @@ pub puts_last : (sources rest : List (Bor (List ℕ))) (none : Bor (List ℕ)) (
     → last ≡ nat_eq (length (behind_one rest)) 0 → goes ≡ false → Puts last bytes goes old new counts counts_then
     → (text_of new ≡ newest_first sources) × (counts_then ≡ counts_of (texts_of sources))
 puts_last sources rest none last goes bytes old new counts counts_then long joins counted is ends goes_on puts =
-    let first = first_one rest none long in
+    let first = first_of_rest rest none long in
     let put = put_last (get_or rest 0 none) (behind_one rest) last bytes old new counts counts_then is ends (subst (λ g. Puts last bytes g old new counts counts_then) goes_on puts) in
     (sym (joins ∙ ap (λ l. join_of (texts_of l) ++ text_of old) first ∙ put.text), sym (counted ∙ ap (λ l. counts ++ counts_of (texts_of l)) first ∙ put.counts_are))

@@ -1,15 +1,12 @@
 pub mod ShapeLemmas
 pub mod PauseLemmas
 pub mod LocateLemmas
+pub mod ReadingLemmas
 pub mod StartLemmas
 pub mod PlaceLemmas
 pub mod JoinLemmas
-pub mod RowLemmas
 pub mod NameLemmas
 pub mod FurtherLemmas
 pub mod UnknownLemmas
-pub mod ReferenceLemmas
-pub mod LawLemmas
-pub mod StandLemmas
 pub mod SymbolLemmas
 pub mod FirstLemmas

@@ -1,13 +1,12 @@
 -- Where a text has its fault.
 use Rattle.std.proofs.Common.{◌≡◌, ℕ, ◌+◌, ◌≤◌, ◌<◌, nat_eq, Bool, true, false, ◌||◌, not, if◌then◌else◌, Option, Some, None, Result, Ok, Err, is_some, length, take, drop, get_or, List, [], ◌∷◌, ◌++◌, refl, ap, sym, subst, ◌∙◌, arith}
 use Rattle.std.proofs.lemmas.List.{take_all}
-use Rattle.pal_lex.specs.Text.{is_over, ends_statement, stretch, text_from, text_of, line_after}
+use Rattle.pal_lex.specs.Text.{is_over, ends_statement, stretch, text_of, line_after}
 use Rattle.pal_lex.specs.Statements.{statements, first_fault, judged, radix_after}
 use Rattle.pal_lex.specs.Laws.{EndsSource}
-use Rattle.pal_lex.specs.Reading.{HasRead, Answers, TellsFault, HandsOut, is_pause_body, tokens_behind, with_tokens}
+use Rattle.pal_lex.specs.Reading.{HasRead, Answers, HandsOut, is_pause_body, tokens_behind, with_tokens}
 use Rattle.pal_lex.specs.Progress.{Progress}
 use Rattle.pal_lex.specs.declared.faults.LexFault.{LexFault}
-use Rattle.pal_lex.specs.declared.faults.LexFault.TheVariants as lex
 use Rattle.pal_lex.specs.declared.phrases.Body.{Body}
 use Rattle.pal_lex.specs.declared.phrases.Body.TheVariants.{Nothing, Origin, Define, Decimal, Octal, Pause, Field, Reference, Word}
 use Rattle.pal_lex.specs.declared.phrases.Statement.{Statement}
@@ -25,7 +24,8 @@ use Rattle.assemble8.specs.Places.{shortest, is_refused, is_settled, start_of, s
 use Rattle.assemble8.specs.Steps.{is_memory, step_behind, PassesStatement, PassesByte, Passes, MakesByte, IsSettledAt, IsMetAt}
 use Rattle.assemble8.specs.declared.locating.Step.TheVariants as step
 use Rattle.assemble8.specs.declared.locating.Passed.TheVariants as passed
-use Rattle.assemble8.proofs.PauseLemmas.{none_ends, one_ends, ends_parts, over_stays, calm_byte, next_byte, whole_text, none_some}
+use Rattle.assemble8.proofs.StartLemmas.{length_from}
+use Rattle.assemble8.proofs.PauseLemmas.{none_ends, one_ends, ends_parts, over_stays, calm_byte, next_byte, whole_text, none_some, true_false, tells_fault}
 
 -- ## The shortest beginning
 
@@ -59,10 +59,7 @@ refused_stays later text now = by_fault (first_order (statements text)) refl
   where
     by_fault : (f : Option AsmFault) → first_order (statements text) ≡ f → is_refused (later ++ text) ≡ true
     by_fault (Some f) e = ap is_some (first_stays later text f e)
-    by_fault None e = absurd_none (sym (ap is_some e) ∙ now)
-      where
-        absurd_none : {A : Type 0} → false ≡ true → A
-        absurd_none e = absurd cc
+    by_fault None e = true_false (sym now ∙ ap is_some e)
 
 words_step : (last : Known) (ends : Bool) (s : Result Statement LexFault) (older : Source) (f : AsmFault) → words_fault last older ≡ Some f
     → words_fault last (if ends then s ∷ older else older) ≡ Some f
@@ -105,9 +102,7 @@ shortest_is holds stays bytes end inside now earlier =
 shortest_of : (holds : List ℕ → Bool) → ((later text : List ℕ) → holds text ≡ true → holds (later ++ text) ≡ true) → (bytes : List ℕ) (end : ℕ) → end < length bytes
     → holds (text_of (take (end + 1) bytes)) ≡ true → holds (text_of (take end bytes)) ≡ false → statement_place (shortest holds (text_of bytes)) ≡ start_of (text_of (take end bytes))
 shortest_of holds stays bytes end inside now earlier =
-    ap (λ t. statement_place (shortest holds t)) (goes_on bytes end inside)
-    ∙ ap statement_place (shortest_at holds stays (text_of (drop (end + 1) bytes)) (text_of (take end bytes)) (get_or bytes end 0)
-    (ap holds (sym (next_byte bytes end (get_or bytes end 0) inside refl)) ∙ now) earlier)
+    ap statement_place (shortest_is holds stays bytes end inside now earlier ∙ next_byte bytes end (get_or bytes end 0) inside refl)
 
 -- ## The place of the fault
 
@@ -119,10 +114,6 @@ by_open text fine going = rw (fine, going) refl
 
 pub by_settled : (text : List ℕ) → is_refused text ≡ false → is_over text ≡ true → fault_place text ≡ statement_place (shortest (is_settled (values (statements text))) text)
 by_settled text fine over = rw (fine, over) refl
-
-length_from : (bytes text : List ℕ) → length (text_from text bytes) ≡ length bytes + length text
-length_from [] text = omega arith
-length_from (b ∷ bytes) text = length_from bytes (b ∷ text) ∙ omega arith
 
 pub refused_whole : (bytes : List ℕ) (end : ℕ) → IsMetAt bytes (passed.Refused end) → is_refused (text_of bytes) ≡ true
 refused_whole bytes end p =
@@ -215,10 +206,7 @@ pass_none text b old new assembler going first answers =
 
 -- a statement of a single source is no PAUSE
 single : {A : Type 0} (pausing : Bool) (text : List ℕ) (b : ℕ) (s : Statement) (old new : Progress) → old.may_pause ≡ false → pausing ≡ true → HandsOut pausing 0 text b s old new → A
-single true text b s old new may is out = absurd_true (sym out.may_pause ∙ may)
-  where
-    absurd_true : {A : Type 0} → true ≡ false → A
-    absurd_true e = absurd cc
+single true text b s old new may is out = true_false (sym out.may_pause ∙ may)
 single false text b s old new may is out = absurd cc
 
 pub handed : (text : List ℕ) (b : ℕ) (s : Statement) (old new : Progress) → old.may_pause ≡ false → Answers 0 text b (Ok (Some s)) old new
@@ -252,16 +240,9 @@ pass_refused text b s old new assembler may answers passes =
     let out = handed text b s old new may answers in
     ap (λ l. is_some (first_order l)) out.1 ∙ passes (tokens_behind text) out.0
 
-told : (text : List ℕ) (b : ℕ) (fault : LexFault) (old new : Progress) → LexicalFaultIsTold → first_order (statements text) ≡ None → TellsFault 0 text b fault old new → is_refused (b ∷ text) ≡ true
-told text b fault old new law none tells = ap is_some (law text b fault none tells.0)
-
 pub pass_told : (text : List ℕ) (b : ℕ) (fault : LexFault) (old new : Progress) → LexicalFaultIsTold → first_order (statements text) ≡ None → is_memory fault ≡ false
     → Answers 0 text b (Err fault) old new → is_refused (b ∷ text) ≡ true
-pass_told text b (lex.IC line) old new law none other answers = told text b (lex.IC line) old new law none answers
-pass_told text b (lex.SY line) old new law none other answers = told text b (lex.SY line) old new law none answers
-pass_told text b (lex.NU line) old new law none other answers = told text b (lex.NU line) old new law none answers
-pass_told text b (lex.NE line) old new law none other answers = absurd answers
-pass_told text b lex.Memory old new law none other answers = absurd cc
+pass_told text b fault old new law none other answers = ap is_some (law text b fault none (tells_fault text b fault old new other answers).0)
 
 -- ## A byte in the second pass
 
@@ -315,11 +296,8 @@ whole_behind text later b s old new stay may answers =
 pub make_told : (text later : List ℕ) (b : ℕ) (fault : LexFault) (old new : Progress) → asm_laws.StatementsStay → NoFaultBefore → NoLexicalFault
     → first_order (statements (later ++ b ∷ text)) ≡ None → is_memory fault ≡ false → Answers 0 text b (Err fault) old new
     → is_settled (values (statements (later ++ b ∷ text))) (b ∷ text) ≡ true
-make_told text later b (lex.IC line) old new stay before law none other answers = no_lexical text later b (lex.IC line) stay before law none answers.0
-make_told text later b (lex.SY line) old new stay before law none other answers = no_lexical text later b (lex.SY line) stay before law none answers.0
-make_told text later b (lex.NU line) old new stay before law none other answers = no_lexical text later b (lex.NU line) stay before law none answers.0
-make_told text later b (lex.NE line) old new stay before law none other answers = absurd answers
-make_told text later b lex.Memory old new stay before law none other answers = absurd cc
+make_told text later b fault old new stay before law none other answers =
+    no_lexical text later b fault stay before law none (tells_fault text b fault old new other answers).0
 
 -- ## A pass over the first bytes of a text
 
@@ -408,10 +386,7 @@ second_settled bytes taken b lexer new before assembler inside is s p = (
 
 pub second_ends : (bytes : List ℕ) (taken : ℕ) (lexer : Progress) (assembler : asm.Progress) → length bytes ≤ taken → is_over (text_of bytes) ≡ true → SecondStands bytes taken lexer assembler
     → IsSettledAt bytes taken
-second_ends bytes taken lexer assembler all over s = by_absurd (sym over ∙ ap is_over (ap text_of (sym (take_all taken bytes all))) ∙ s.going)
-  where
-    by_absurd : true ≡ false → IsSettledAt bytes taken
-    by_absurd e = absurd cc
+second_ends bytes taken lexer assembler all over s = true_false (sym over ∙ ap is_over (ap text_of (sym (take_all taken bytes all))) ∙ s.going)
 
 -- ## From the first pass to the second
 

@@ -19,8 +19,9 @@ use Rattle.pal_asm.specs.declared.faults.Code.TheVariants.{PF}
 use Rattle.pal_asm.specs.Expressions.{Known, term_value, joined, joined_values, value_behind, value_of}
 use Rattle.pal_asm.specs.Places.{Source, set_by, sets_location, is_word, with_tags as tag_values, with_body as body_values, place_at, last_setting, words_since, values, values_at, fixed_at}
 use Rattle.pal_asm.specs.Faults.{first_of, past, undefined, term_fault, terms_fault, body_fault, tags_fault, statement_fault, at_line, first_order}
-use Rattle.assemble8.specs.Symbols.{with_tags, with_body, symbols_of}
-use Rattle.assemble8.specs.NameSteps.{known, values_by, place_by, Follows}
+use Rattle.assemble8.specs.Symbols.{with_tags, with_body, symbols_of, known, Follows}
+use Rattle.assemble8.specs.NameSteps.{values_by, place_by}
+use Rattle.assemble8.proofs.PauseLemmas.{none_some}
 
 -- what stands behind the first of a list
 abbrev pub behind_one : {A : Type 0} → List A → List A
@@ -29,10 +30,12 @@ behind_one l = take (length l - 1) (drop 1 l)
 less_one : (n : ℕ) → suc n - 1 ≡ n
 less_one n = omega arith
 
+pub first_of_rest : {A : Type 0} (rest : List A) (none : A) → 1 ≤ length rest → rest ≡ get_or rest 0 none ∷ behind_one rest
+first_of_rest [] none long = absurd (omega (arith, long))
+first_of_rest (x ∷ others) none long = ap (λ l. x ∷ l) (sym (ap (λ n. take n others) (less_one (length others)) ∙ take_all (length others) others (omega arith)))
+
 pub first_one : {A : Type 0} (l : List A) (a : A) → 1 ≤ length l → a ≡ get_or l 0 a → l ≡ a ∷ behind_one l
-first_one [] a long first = absurd (omega arith)
-first_one (x ∷ others) a long first =
-    ap (λ v. v ∷ others) (sym first) ∙ ap (λ v. a ∷ v) (sym (ap (λ n. take n others) (less_one (length others)) ∙ take_all (length others) others (omega arith)))
+first_one l a long first = first_of_rest l a long ∙ ap (λ x. x ∷ behind_one l) (sym first)
 
 -- ## Expressions
 
@@ -100,10 +103,7 @@ term_some names place (Name n) e = by_value (names n) refl e
   where
     by_value : (value : Option ℕ) → names n ≡ value → term_fault names place (Name n) ≡ None → (v : ℕ) × (names n ≡ Some v)
     by_value (Some v) is e = (v, is)
-    by_value None is e = absurd_some (sym e ∙ ap undefined is)
-      where
-        absurd_some : {A : Type 0} {code : Code} → None ≡ Some code → A
-        absurd_some e = absurd cc
+    by_value None is e = none_some (sym e ∙ ap undefined is)
 term_some names place (Number n) e = (n, refl)
 term_some names place Here e = (place, refl)
 
@@ -137,10 +137,7 @@ below_past place e = by_lt (nat_lt 4095 place) refl e
   where
     by_lt : (test : Bool) → nat_lt 4095 place ≡ test → past place ≡ None → place ≤ 4095
     by_lt false is e = grind (arith, nat_tests)
-    by_lt true is e = absurd_some (sym e ∙ ap (λ (t : Bool). if t then Some PF else None) is)
-      where
-        absurd_some : {A : Type 0} {code : Code} → None ≡ Some code → A
-        absurd_some e = absurd cc
+    by_lt true is e = none_some (sym e ∙ ap (λ (t : Bool). if t then Some PF else None) is)
 
 next_place : (setting words : ℕ) → past (setting + words) ≡ None → min (setting + words + 1) 65535 ≡ setting + (1 + words)
 next_place setting words e = let bound = below_past (setting + words) e in omega (arith, bound)

@@ -119,6 +119,9 @@ one_ends b text s more = by_test (ends_statement text b) (sym (grows b text) ∙
     by_test true e = refl
     by_test false e = absurd (omega (arith, e))
 
+pub true_false : {A : Type 0} → true ≡ false → A
+true_false e = absurd cc
+
 pub none_some : {A : Type 0} {B : Type 0} {a : A} → None ≡ Some a → B
 none_some e = absurd cc
 
@@ -153,16 +156,19 @@ met_statement text b s old new bad none answers = by_body (is_pause_body s.body)
     by_body true out = out.pauses
     by_body false out = (one_ends b text (Ok (with_tokens (tokens_behind text) s)) out.newest, fine_byte b text bad none out.no_fault)
 
-told : (text : List ℕ) (b : ℕ) (fault : LexFault) (old new : Progress) → first_fault (statements text) ≡ None → old.may_pause ≡ true → TellsFault 0 text b fault old new → Meets text b End new
-told text b fault old new none may tells = (fault_ends b text fault none tells.0, tells.1 none may)
+-- what a byte is answered that is refused, but for want of memory
+pub tells_fault : (text : List ℕ) (b : ℕ) (fault : LexFault) (old new : Progress) → is_memory fault ≡ false → Answers 0 text b (Err fault) old new → TellsFault 0 text b fault old new
+tells_fault text b (lex.IC line) old new other answers = answers
+tells_fault text b (lex.SY line) old new other answers = answers
+tells_fault text b (lex.NU line) old new other answers = answers
+tells_fault text b (lex.NE line) old new other answers = absurd answers
+tells_fault text b lex.Memory old new other answers = absurd cc
 
 pub met_fault : (text : List ℕ) (b : ℕ) (fault : LexFault) (old new : Progress) → first_fault (statements text) ≡ None → old.may_pause ≡ true
     → is_memory fault ≡ false → Answers 0 text b (Err fault) old new → Meets text b End new
-met_fault text b (lex.IC line) old new none may other answers = told text b (lex.IC line) old new none may answers
-met_fault text b (lex.SY line) old new none may other answers = told text b (lex.SY line) old new none may answers
-met_fault text b (lex.NU line) old new none may other answers = told text b (lex.NU line) old new none may answers
-met_fault text b (lex.NE line) old new none may other answers = absurd answers
-met_fault text b lex.Memory old new none may other answers = absurd cc
+met_fault text b fault old new none may other answers =
+    let tells = tells_fault text b fault old new other answers in
+    (fault_ends b text fault none tells.0, tells.1 none may)
 
 -- ## The first bytes of a text
 
@@ -239,10 +245,7 @@ calm_byte here b going none = by_parts (is_dead here b) (is_end b) refl refl
         by_dollar : (dollar : Bool) → (false || (dollar && not true)) ≡ false
         by_dollar true = refl
         by_dollar false = refl
-    by_parts false true d e = let ends : ends_statement here b ≡ true = rw (e, d, going) refl in absurd (true_false (sym ends ∙ none))
-      where
-        true_false : true ≡ false → ⊥
-        true_false e = cc
+    by_parts false true d e = let ends : ends_statement here b ≡ true = rw (e, d, going) refl in true_false (sym ends ∙ none)
     by_parts false false d e = (rw (d, e) refl, rw (going, no_end_no_dollar b e) refl)
 
 -- ## A text so far

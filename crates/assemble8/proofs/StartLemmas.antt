@@ -38,8 +38,8 @@ start_more bytes n b start comment inside is quiet same =
     ∙ sym (solid_by (is_dead older b) (is_end b) b (length older) (stretch older))
     ∙ sym (ap (λ t. first_solid (stretch t)) next)
 
-pub none_start : (bytes : List ℕ) (end taken : ℕ) (start : Option ℕ) → end < length bytes → taken ≡ end → start ≡ first_solid (stretch (text_of (take taken bytes))) → start ≡ None
-    → end ≡ start_of (text_of (take end bytes))
-none_start bytes end taken start inside all is none =
-    let same : first_solid (stretch (text_of (take end bytes))) ≡ None = ap (λ n. first_solid (stretch (text_of (take n bytes)))) (sym all) ∙ sym is ∙ none in
-    sym (length_taken bytes end (omega (arith, inside))) ∙ sym (ap (λ o. unwrap_or o (length (text_of (take end bytes)))) same)
+pub start_found : (bytes : List ℕ) (end taken : ℕ) (start : Option ℕ) → end < length bytes → taken ≡ end → start ≡ first_solid (stretch (text_of (take taken bytes)))
+    → unwrap_or start end ≡ start_of (text_of (take end bytes))
+start_found bytes end taken start inside all is =
+    ap (λ s. unwrap_or s end) (is ∙ ap (λ n. first_solid (stretch (text_of (take n bytes)))) all)
+    ∙ ap (unwrap_or (first_solid (stretch (text_of (take end bytes))))) (sym (length_taken bytes end (omega (arith, inside))))

@@ -20,6 +20,7 @@ use Rattle.assemble8.specs.Sources.{newest_first}
 use Rattle.assemble8.specs.Symbols.{Entries, with_value, with_tags, with_body, symbols_of}
 use Rattle.assemble8.specs.NameSteps.{values_by}
 use Rattle.assemble8.specs.Laws.{value_by, SymbolsHaveLastValues}
+use Rattle.assemble8.proofs.PauseLemmas.{none_some}
 use Rattle.assemble8.proofs.NameLemmas.{with_tag_more, same_values, fine_body, first_none}
 
 -- ## One more entry
@@ -102,12 +103,9 @@ valued es place (Word x) n = refl
 
 -- ## All of them
 
-some_none : {A B : Type 0} {x : A} → Some x ≡ None → B
-some_none e = absurd cc
-
 last_values : (source : Source) → first_order source ≡ None → (n : ℕ) → value_by (symbols_of source) n ≡ values source n
 last_values [] none n = refl
-last_values (Err fault ∷ older) none n = some_none (first_none (first_order older) (Some (lexical fault)) none).1
+last_values (Err fault ∷ older) none n = none_some (sym (first_none (first_order older) (Some (lexical fault)) none).1)
 last_values (Ok s ∷ older) none n =
     let fine = (first_none (first_order older) (at_line s.line (statement_fault s older)) none).0 in
     let place = place_at older in

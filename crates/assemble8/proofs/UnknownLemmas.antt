@@ -10,7 +10,6 @@ use Rattle.pal_lex.specs.Statements.{statements, first_fault, first_of}
 use Rattle.pal_lex.specs.Reading.{Answers, tokens_behind, with_tokens}
 use Rattle.pal_lex.specs.Progress.{Progress}
 use Rattle.pal_lex.specs.declared.faults.LexFault.{LexFault}
-use Rattle.pal_lex.specs.declared.faults.LexFault.TheVariants as lex
 use Rattle.pal_lex.specs.declared.phrases.Statement.{Statement}
 use Rattle.pal_asm.specs.declared.faults.AsmFault.{AsmFault}
 use Rattle.pal_asm.specs.Places.{Source, values, values_at}
@@ -19,11 +18,11 @@ use Rattle.pal_asm.specs.Faults.{first_order}
 use Rattle.pal_asm.specs.Laws.{StatementsStay, NoFaultBefore}
 use Rattle.assemble8.specs.Places.{shortest, is_refused, is_settled}
 use Rattle.assemble8.specs.Unknowns.{Standing, unknown_in, newest_unknown, unknown_ended, unknown_name}
-use Rattle.assemble8.specs.NameSteps.{known, Follows}
+use Rattle.assemble8.specs.Symbols.{known, Follows}
 use Rattle.assemble8.specs.JudgeSteps.{Stands}
 use Rattle.assemble8.specs.Steps.{IsMetAt, is_memory}
 use Rattle.assemble8.specs.declared.locating.Passed.TheVariants as passed
-use Rattle.assemble8.proofs.PauseLemmas.{none_ends, one_ends, whole_text, none_some}
+use Rattle.assemble8.proofs.PauseLemmas.{none_ends, one_ends, whole_text, none_some, tells_fault}
 use Rattle.assemble8.proofs.LocateLemmas.{newest, one_more, handed, shortest_is, refused_stays, settled_stays, refused_whole}
 
 -- ## What names stand for
@@ -72,11 +71,7 @@ ends_refused standing text b fault none some =
 
 pub told_refused : (standing : Standing) (text : List ℕ) (b : ℕ) (fault : LexFault) (old new : Progress) → first_fault (statements text) ≡ None → is_memory fault ≡ false
     → Answers 0 text b (Err fault) old new → None ≡ unknown_ended standing (b ∷ text)
-told_refused standing text b (lex.IC line) old new none other answers = ends_refused standing text b (lex.IC line) none answers.0
-told_refused standing text b (lex.SY line) old new none other answers = ends_refused standing text b (lex.SY line) none answers.0
-told_refused standing text b (lex.NU line) old new none other answers = ends_refused standing text b (lex.NU line) none answers.0
-told_refused standing text b (lex.NE line) old new none other answers = absurd answers
-told_refused standing text b lex.Memory old new none other answers = absurd cc
+told_refused standing text b fault old new none other answers = ends_refused standing text b fault none (tells_fault text b fault old new other answers).0
 
 -- ## The statement with the fault
 

@@ -8,7 +8,7 @@ use Rattle.pal_asm.specs.Places.{Source, values_at}
 use Rattle.pal_lex.specs.Statements.{statements}
 use Rattle.pal_lex.specs.Reading.{HasRead}
 use Rattle.pal_lex.specs.Progress.{Progress}
-use Rattle.assemble8.specs.NameSteps.{known, Follows}
+use Rattle.assemble8.specs.Symbols.{known, Follows}
 use Rattle.assemble8.specs.Unknowns.{Standing}
 use Rattle.assemble8.specs.Further.{byte_fault}
 use Rattle.assemble8.specs.declared.faults.Place.{Place}

@@ -2,14 +2,12 @@ pub mod Sources
 pub mod Places
 pub mod Unknowns
 pub mod Answers
+pub mod Reading
+pub mod Spelling
 pub mod Telling
-pub mod Rows
 pub mod Symbols
-pub mod References
-pub mod Listings
 pub mod Further
 pub mod NameSteps
 pub mod JudgeSteps
-pub mod SpotSteps
 pub mod Laws
 pub mod Steps

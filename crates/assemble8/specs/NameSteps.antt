@@ -1,18 +1,9 @@
 -- What the small steps of names come to, for private clauses.
-use Rattle.std.specs.Prelude.{◌≡◌, ℕ, ◌+◌, min, nat_eq, if◌then◌else◌, unwrap_or}
-use Rattle.std.specs.Ordering.{nat_cmp}
-use Rattle.std.specs.BTreeMap.{BTreeMap, get}
-use Rattle.pal_sym.specs.Permanent.{permanent}
+use Rattle.std.specs.Prelude.{ℕ, ◌+◌, min, nat_eq, if◌then◌else◌, unwrap_or}
 use Rattle.pal_sym.specs.Values.{if_none}
 use Rattle.pal_lex.specs.declared.phrases.Body.{Body}
 use Rattle.pal_lex.specs.declared.phrases.Body.TheVariants.{Nothing, Origin, Define, Decimal, Octal, Pause, Field, Reference, Word}
 use Rattle.pal_asm.specs.Expressions.{Known, value_of}
-use Rattle.pal_asm.specs.Places.{Source, place_at, values}
-use Rattle.assemble8.specs.Symbols.{symbols_of}
-
--- what a name stands for, where these are defined
-abbrev pub known : BTreeMap ℕ ℕ → Known
-known symbols name = if_none (get nat_cmp symbols name) (permanent name)
 
 -- `=` gives a name the value of an expression, if it has one
 abbrev pub values_by : Known → ℕ → Body → Known
@@ -37,9 +28,3 @@ place_by before place Pause = place
 place_by before place (Field e) = 0o200
 place_by before place (Reference operation indirect address) = min (place + 1) 65535
 place_by before place (Word e) = min (place + 1) 65535
-
--- These symbols and this place are those behind some statements.
-pub record Follows (symbols : BTreeMap ℕ ℕ) (place : ℕ) (source : Source) : Type 0 where
-  pub values : (n : ℕ) → known symbols n ≡ values source n
-  pub entries : symbols.entries ≡ symbols_of source
-  pub at : place ≡ place_at source

@@ -1,13 +1,13 @@
 -- The symbols of sources (PAL III Symbolic Assembler manual, and this project's profile of it).
-use Rattle.std.specs.Prelude.{ℕ, ◌+◌, ◌/◌, ◌%◌, nat_eq, nat_lt, is_some, if◌then◌else◌, Option, Some, None, codes, Ok, Err, List, [], ◌∷◌, ◌++◌}
+use Rattle.std.specs.Prelude.{◌≡◌, ℕ, Option, Some, None, Ok, Err, List, [], ◌∷◌}
 use Rattle.std.specs.Ordering.{nat_cmp}
-use Rattle.std.specs.BTreeMap.{insert_entry}
-use Rattle.word12.specs.Octal.{octal4}
+use Rattle.std.specs.BTreeMap.{BTreeMap, get, insert_entry}
 use Rattle.pal_sym.specs.Permanent.{permanent}
+use Rattle.pal_sym.specs.Values.{if_none}
 use Rattle.pal_lex.specs.declared.phrases.Body.{Body}
 use Rattle.pal_lex.specs.declared.phrases.Body.TheVariants.{Nothing, Origin, Define, Decimal, Octal, Pause, Field, Reference, Word}
 use Rattle.pal_asm.specs.Expressions.{Known, value_of}
-use Rattle.pal_asm.specs.Places.{Source, place_at, values_at}
+use Rattle.pal_asm.specs.Places.{Source, place_at, values, values_at}
 
 -- names with what they stand for, in the order of the names
 abbrev pub Entries : Type 0
@@ -41,26 +41,14 @@ symbols_of [] = []
 symbols_of (Err fault ∷ older) = symbols_of older
 symbols_of (Ok s ∷ older) = with_body (with_tags (symbols_of older) s.tags (place_at older)) (values_at s.tags older) (place_at older) s.body
 
--- ## Their text
+-- ## Symbols that are kept
 
--- the character of a sixbit code, a blank where there is none
-abbrev pub character_of : ℕ → ℕ
-character_of code = if nat_eq code 0 then 0o40 else (if nat_lt code 0o40 then 0o100 + code else code)
+-- what a name stands for, where these are defined
+abbrev pub known : BTreeMap ℕ ℕ → Known
+known symbols name = if_none (get nat_cmp symbols name) (permanent name)
 
--- the six characters of a name, with blanks for those that are missing
-unfoldable pub name_text : ℕ → List ℕ
-name_text name =
-    character_of (name / 0o10000000000 % 0o100) ∷ character_of (name / 0o100000000 % 0o100) ∷ character_of (name / 0o1000000 % 0o100)
-    ∷ character_of (name / 0o10000 % 0o100) ∷ character_of (name / 0o100 % 0o100) ∷ character_of (name % 0o100) ∷ []
-
--- a name with its value in four octal digits
-abbrev pub symbol_text : ℕ × ℕ → List ℕ
-symbol_text entry = name_text entry.0 ++ codes "  " ++ octal4 (entry.1 % 0o10000)
-
--- a symbol on a line, if it is no permanent one
-abbrev pub entry_text : ℕ × ℕ → List ℕ
-entry_text entry = if is_some (permanent entry.0) then [] else symbol_text entry ++ codes "\n"
-
-abbrev pub table_text : Entries → List ℕ
-table_text [] = []
-table_text (entry ∷ entries) = entry_text entry ++ table_text entries
+-- These symbols and this place are those behind some statements.
+pub record Follows (symbols : BTreeMap ℕ ℕ) (place : ℕ) (source : Source) : Type 0 where
+  pub values : (n : ℕ) → known symbols n ≡ values source n
+  pub entries : symbols.entries ≡ symbols_of source
+  pub at : place ≡ place_at source

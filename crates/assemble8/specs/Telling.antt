@@ -1,10 +1,10 @@
 -- The text of a fault, as a compiler tells it (this project's profile of PAL III).
-use Rattle.std.specs.Prelude.{ℕ, ◌-◌, ◌/◌, ◌%◌, Option, Some, None, nat_eq, nat_lt, nat_le, ◌&&◌, ◌||◌, if◌then◌else◌, zero, suc, take, codes, decimal, List, [], ◌∷◌, ◌++◌}
+use Rattle.std.specs.Prelude.{ℕ, ◌-◌, Option, Some, None, nat_eq, nat_lt, nat_le, ◌&&◌, ◌||◌, if◌then◌else◌, zero, suc, take, codes, decimal, List, [], ◌∷◌, ◌++◌}
 use Rattle.std.specs.Borrow.{Bor}
 use Rattle.pal_asm.specs.declared.faults.Code.{Code}
 use Rattle.pal_asm.specs.declared.faults.Code.TheVariants.{IC, SY, NU, UA, DT, RD, IR, FD, PF, NE, NW}
 use Rattle.assemble8.specs.Places.{bytes_of}
-use Rattle.assemble8.specs.Symbols.{character_of}
+use Rattle.assemble8.specs.Spelling.{spelling}
 use Rattle.assemble8.specs.declared.faults.Fault.{Fault}
 
 -- ## A line of a source
@@ -67,16 +67,6 @@ words_of FD = codes "bad field"
 words_of PF = codes "past 7777"
 words_of NE = codes "no $"
 words_of NW = codes "no word"
-
--- the character of a sixbit code, none where there is none
-abbrev pub character : ℕ → List ℕ
-character code = if nat_eq code 0 then [] else character_of code ∷ []
-
--- the characters of a name, six at most
-unfoldable pub spelling : ℕ → List ℕ
-spelling name =
-    character (name / 0o10000000000 % 0o100) ++ character (name / 0o100000000 % 0o100) ++ character (name / 0o1000000 % 0o100)
-    ++ character (name / 0o10000 % 0o100) ++ character (name / 0o100 % 0o100) ++ character (name % 0o100)
 
 -- the name that a fault is about, behind a blank
 abbrev pub named : Option ℕ → List ℕ

@@ -5,7 +5,7 @@ ghost use Rattle.pal_asm.specs.Texts.{IsFaultOf};
 ghost use Rattle.assemble8.specs.Sources.{texts_of, newest_first, counts_of};
 ghost use Rattle.assemble8.specs.Places.{place_of};
 ghost use Rattle.assemble8.specs.Unknowns.{unknown_name, about};
-ghost use Rattle.assemble8.specs.Answers.{IsAssembled, IsTold};
+ghost use Rattle.assemble8.specs.Answers.{IsAssembled, IsAssemblyOf, IsTold};
 ghost use Rattle.assemble8.specs.declared.faults.SourceFault.TheVariants.{Memory};
 
 use crate::joins::{Join, join_all};
@@ -17,31 +17,51 @@ use bin_tape::{TapeFault, write_tape};
 use pal_asm::laws::has_words;
 use pal_asm::{AsmFault, Code, assemble};
 use std::alloc::Global;
+use word12::{Cell, Word};
 
-/// The frames of the BIN tape that sources of the host are assembled to as one; or their first fault, with the place of the
-/// statement that has it, and of UA with the first name of the statement that stands for nothing there.
+/// Sources that are assembled as one, and have no fault.
+#[derive(Drop)]
+pub struct Assembly {
+    /// The text that they join to.
+    pub join: Join,
+    /// Its words with their cells, in the order of the text.
+    pub pairs: Vec<(Cell, Word)>,
+}
+
+/// Sources of the host, assembled as one; or their first fault, with the place of the statement that has it, and of UA with the
+/// first name of the statement that stands for nothing there.
 ///
 /// A source is taken as its text stands in a file of a volume: LF ends a line, with a CR before it or not. Each source but
 /// the last goes on in the next one at its first PAUSE that stands alone, and no source at all is an empty one (PAL III
 /// Symbolic Assembler manual, and this project's profile of it). `Memory` is answered where memory runs out.
+pub fn assembly_of(alloc: Global, sources: &[&[u8]]) -> Result<Assembly, SourceFault>
+    ensures assembly { IfOk result (λ assembly. IsAssemblyOf sources.now assembly) }
+    ensures fault { IfErr result (λ fault. IsTold sources.now fault) }
+{
+    let join = join_all(alloc, sources)?;
+    match assemble(alloc, &join.text) {
+        Ok(pairs) => Ok(Assembly { join, pairs }),
+        Err(fault) => Err(told(alloc, sources, &join, fault)),
+    }
+}
+
+/// The frames of the BIN tape that sources of the host are assembled to as one; or their first fault, as [`assembly_of`] tells
+/// it.
 pub fn assemble_sources(alloc: Global, sources: &[&[u8]]) -> Result<Vec<u8>, SourceFault>
     ensures tape { IfOk result (λ tape. IsAssembled sources.now tape.items) }
     ensures fault { IfErr result (λ fault. IsTold sources.now fault) }
 {
     has_words();
-    let join = join_all(alloc, sources)?;
-    match assemble(alloc, &join.text) {
-        Ok(pairs) => match write_tape(alloc, &pairs) {
-            Ok(frames) => Ok(frames),
-            Err(TapeFault::Memory) => Err(SourceFault::Memory),
-            Err(_) => unreachable!(),
-        },
-        Err(fault) => Err(told(alloc, sources, &join, fault)),
+    let assembly = assembly_of(alloc, sources)?;
+    match write_tape(alloc, &assembly.pairs) {
+        Ok(frames) => Ok(frames),
+        Err(TapeFault::Memory) => Err(SourceFault::Memory),
+        Err(_) => unreachable!(),
     }
 }
 
 /// A fault of a join of sources, with the place of the statement that has it and the name that it is about.
-pub(crate) fn told(alloc: Global, sources: &[&[u8]], join: &Join, fault: AsmFault) -> SourceFault
+fn told(alloc: Global, sources: &[&[u8]], join: &Join, fault: AsmFault) -> SourceFault
     requires text { text_of join.now.text.items ≡ newest_first sources.now }
     requires counts { join.now.counts.items ≡ counts_of (texts_of sources.now) }
     requires fault { IsFaultOf (newest_first sources.now) fault }

@@ -1,29 +1,27 @@
 //! Faults behind the first.
-ghost use Rattle.std.specs.Prelude.{◌≡◌, ℕ, ◌++◌, ◌∷◌, [], take, drop, false, not, ◌&&◌, Option, None, unwrap_or, List, IfOk, IfErr, OnOk};
+ghost use Rattle.std.specs.Prelude.{◌≡◌, ℕ, ◌++◌, ◌∷◌, [], take, drop, false, Option, None, unwrap_or, List, IfOk, IfErr, OnOk};
 ghost use Rattle.pal_lex.specs.Text.{text_of};
-ghost use Rattle.pal_lex.specs.Statements.{statements, first_fault};
+ghost use Rattle.pal_lex.specs.Statements.{statements};
 ghost use Rattle.pal_lex.specs.Reading.{HasRead};
-ghost use Rattle.pal_asm.specs.Places.{values};
 ghost use Rattle.pal_asm.specs.Faults.{first_order};
 ghost use Rattle.assemble8.specs.Places.{place_in, place_by};
-ghost use Rattle.assemble8.specs.NameSteps.{known, Follows};
+ghost use Rattle.assemble8.specs.Symbols.{known, Follows};
 ghost use Rattle.assemble8.specs.JudgeSteps.{placed, IsJudged};
 ghost use Rattle.assemble8.specs.Further.{with_place, word_faults, further_faults};
 ghost use Rattle.assemble8.specs.declared.faults.Place.{Place};
 ghost use Rattle.assemble8.specs.declared.faults.SourceFault.TheVariants.{Memory};
 
-use crate::faults::unless_memory;
 use crate::joins::join_all;
 use crate::judging::judge;
 use crate::locating::is_passed;
 use crate::names::{Names, names_of, no_names};
 use crate::places::place_of;
+use crate::reading::statement_ended;
 use crate::starts::{comment_behind, start_behind};
 use crate::{Fault, SourceFault};
 use pal_asm::Code;
-use pal_asm::laws::{no_fault_before, no_lexical_fault, statements_stay};
+use pal_asm::laws::{no_fault_before, statements_stay};
 use pal_lex::Lexer;
-use pal_lex::laws::fault_stays;
 use std::alloc::{AllocError, Global};
 use std::collections::BTreeMap;
 
@@ -51,7 +49,6 @@ pub fn further_faults(
     ensures faults { IfOk result (λ faults. faults.items ≡ further_faults sources.now most) }
     ensures fault { IfErr result (λ fault. fault ≡ Memory) }
 {
-    no_lexical_fault();
     let join = join_all(alloc, sources)?;
     if !is_passed(alloc, &join.text)? {
         return Ok(Vec::new(alloc));
@@ -109,13 +106,11 @@ fn word_faults(
     text: &[u8],
     last: &BTreeMap<u64, u16>,
 ) -> Result<Vec<Found>, SourceFault>
-    requires fine { first_order (statements (text_of text.now)) ≡ None }
-    requires lexical { first_fault (statements (text_of text.now)) ≡ None }
+    requires { first_order (statements (text_of text.now)) ≡ None }
     ensures found { IfOk result (λ found. (place : ℕ → Place) → placed place found.items
         ≡ word_faults place (known last.now) (text_of text.now)) }
     ensures fault { IfErr result (λ fault. fault ≡ Memory) }
 {
-    fault_stays();
     statements_stay();
     no_fault_before();
     let mut lexer = Lexer::without_tokens(alloc);
@@ -127,22 +122,12 @@ fn word_faults(
     while taken < text.len() {
         let byte = text[taken];
         let fault = judge_byte(&mut lexer, &mut names, last, byte)?;
-        keep(&mut found, fault, begun(start, taken))?;
+        keep(&mut found, fault, start.unwrap_or(taken))?;
         comment = comment_behind(comment, byte);
         start = start_behind(start, comment, byte, taken);
         taken += 1;
     }
     Ok(found)
-}
-
-/// Where a statement begins that a byte ends, if it has a byte that is no blank, else at that byte.
-fn begun(start: Option<usize>, end: usize) -> usize
-    ensures { result ≡ unwrap_or start end }
-{
-    match start {
-        Some(place) => place,
-        None => end,
-    }
 }
 
 /// Puts a fault behind others, if there is one.
@@ -176,22 +161,18 @@ fn judge_byte(
     byte: u8,
 ) -> Result<Option<(Code, u64, Option<u64>)>, SourceFault>
     ensures judges { (text : List ℕ) → HasRead lexer.old 0 text → lexer.old.may_pause ≡ false
-        → first_order (statements (byte ∷ text)) ≡ None → first_fault (statements (byte ∷ text)) ≡ None
+        → first_order (statements (byte ∷ text)) ≡ None
         → Follows names.old.symbols names.old.place (statements text)
         → IfOk result (λ fault. IsJudged text byte (known last.now) fault lexer.new names.new.symbols
         names.new.place) }
     ensures setting { lexer.new.may_pause ≡ lexer.old.may_pause }
     ensures fault { IfErr result (λ fault. fault ≡ Memory) }
 {
-    match lexer.push(byte) {
-        Ok(None) => Ok(None),
-        Ok(Some(statement)) => {
+    match statement_ended(lexer, byte)? {
+        Some(statement) => {
             let judged = judge(names, last, &statement)?;
             Ok(judged)
         }
-        Err(fault) => {
-            unless_memory(fault)?;
-            Ok(None)
-        }
+        None => Ok(None),
     }
 }

@@ -12,7 +12,8 @@ use std::alloc::{AllocError, Global};
 
 /// Sources that are one.
 #[derive(Drop)]
-pub(crate) struct Join {
+pub struct Join {
+    /// The text that they join to, as a file of a volume keeps it.
     pub text: Vec<u8>,
     /// How many bytes of it are of each source that another follows.
     pub counts: Vec<usize>,
@@ -32,11 +33,11 @@ pub(crate) fn join_all(alloc: Global, sources: &[&[u8]]) -> Result<Join, SourceF
     let mut rest = sources;
     while let [source, others @ ..] = rest {
         let text = host_text(alloc, source)?;
-        match put(alloc, &mut join, &text, others.is_empty()) {
-            Ok(true) => rest = others,
-            Ok(false) => return Ok(join),
-            Err(fault) => return Err(fault),
+        let goes_on = put(alloc, &mut join, &text, others.is_empty())?;
+        if !goes_on {
+            return Ok(join);
         }
+        rest = others;
     }
     Ok(join)
 }
@@ -52,18 +53,17 @@ fn put(alloc: Global, join: &mut Join, text: &[u8], last: bool) -> Result<bool, 
         join.text.extend_from_slice(text)?;
         return Ok(false);
     }
-    match prefix_of(alloc, text) {
-        Ok(None) => {
+    match prefix_of(alloc, text)? {
+        None => {
             join.text.extend_from_slice(text)?;
             Ok(false)
         }
-        Ok(Some(count)) => {
+        Some(count) => {
             let (prefix, _) = text.split_at(count);
             join.text.extend_from_slice(prefix)?;
             put_count(&mut join.counts, count)?;
             Ok(true)
         }
-        Err(fault) => Err(fault),
     }
 }
 

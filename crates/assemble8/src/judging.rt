@@ -1,14 +1,13 @@
 //! Whether a word has a fault.
-ghost use Rattle.std.specs.Prelude.{◌≡◌, ◌≤◌, ℕ, Some, None, Ok, ◌∷◌, List, IfOk};
+ghost use Rattle.std.specs.Prelude.{◌≡◌, Some, None, Ok, ◌∷◌, List, IfOk};
 ghost use Rattle.pal_lex.specs.Reading.{with_tokens};
 ghost use Rattle.pal_lex.specs.declared.pieces.Token.{Token};
 ghost use Rattle.pal_asm.specs.Expressions.{term_value, value_of};
-ghost use Rattle.pal_asm.specs.Expressions as spec;
 ghost use Rattle.pal_asm.specs.PassSteps.{GivesValue};
 ghost use Rattle.pal_asm.specs.Places.{Source, place_at};
 ghost use Rattle.pal_asm.specs.Words.{word_values};
 ghost use Rattle.pal_asm.specs.Faults.{term_fault, terms_fault, word_fault, out_of_reach, first_order};
-ghost use Rattle.assemble8.specs.NameSteps.{known, Follows};
+ghost use Rattle.assemble8.specs.Symbols.{known, Follows};
 ghost use Rattle.assemble8.specs.JudgeSteps.{known_last};
 ghost use Rattle.assemble8.specs.Unknowns.{unknown_in};
 ghost use Rattle.assemble8.specs.Further.{with_line};
@@ -19,9 +18,7 @@ use pal_asm::Code;
 use pal_lex::{Body, Name, Part, Statement, Term};
 use std::alloc::AllocError;
 use std::collections::BTreeMap;
-
-/// The addresses of a page.
-const PAGE: u16 = 0o200;
+use word12::PAGE;
 
 /// Takes the next statement, which has no fault that the first pass meets, and answers its fault with its line and the name
 /// that it is about, if it is a word that has one, where names stand for these values at last.
@@ -115,10 +112,8 @@ fn value_of(
     let mut value = 0;
     let mut rest = parts;
     while let [part, others @ ..] = rest {
-        match term_value(now, last, place, part.term) {
-            Ok(term) => value = joined(part.joint, value, term),
-            Err(code) => return Err(code),
-        }
+        let term = term_value(now, last, place, part.term)?;
+        value = joined(part.joint, value, term);
         rest = others;
     }
     Ok(value)

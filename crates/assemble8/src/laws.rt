@@ -1,23 +1,23 @@
-//! Laws about listings and further faults, which hold whatever tells them. A call of one does nothing, and lets its caller use it.
+//! Laws about texts, names and further faults, which hold whatever tells them. A call of one does nothing, and lets its caller use it.
 
-ghost use Rattle.assemble8.specs.Laws.{WordsAreListed, LinesAreListed, WordsStand, SymbolsHaveLastValues, FirstIsTold};
+ghost use Rattle.assemble8.specs.Laws.{FineByBytes, FineTermsHaveValue, SymbolsHaveLastValues, FirstIsTold};
 
-/// The words that stand at the lines of a listing are those of the sources, in their order and no others.
-pub fn words_are_listed()
-    ensures { WordsAreListed }
+use pal_asm::laws::{no_fault_before, statements_stay};
+
+/// A text grows by its bytes, and has no fault that the first pass meets up to any of them, where it has none.
+pub fn fine_by_bytes()
+    ensures { FineByBytes }
+{
+    statements_stay();
+    no_fault_before();
+}
+
+/// An expression whose terms have no fault has a value.
+pub fn fine_terms_have_value()
+    ensures { FineTermsHaveValue }
 {}
 
-/// The lines of a listing are those of the sources.
-pub fn lines_are_listed()
-    ensures { LinesAreListed }
-{}
-
-/// Each word of a listing stands at the source and the line at which its statement ends.
-pub fn words_stand()
-    ensures { WordsStand }
-{}
-
-/// The symbols of a listing have the values that names stand for behind all statements.
+/// The symbols of sources have the values that names stand for behind all statements.
 pub fn symbols_have_last_values()
     ensures { SymbolsHaveLastValues }
 {}

@@ -4,33 +4,33 @@
 //! A source is taken as `STORE` takes its lines, LF ending a line and each CR dropped, and several are joined as `ASSEMBLE` joins
 //! those of a volume (PAL III Symbolic Assembler manual, and this project's profile of it). In each contract a text has its newest byte
 //! first.
+//!
+//! What stands on it reads an [`Assembly`]: the text that sources join to, its words, its statements and its names.
 #![tactic(auto)]
 
 mod assembling;
-mod crossing;
 mod faults;
 mod further;
 mod joins;
 mod judging;
 pub mod laws;
-mod listing;
 mod locating;
 mod names;
 mod pauses;
 mod places;
-mod references;
-mod rows;
+mod reading;
 mod showing;
-mod spots;
+mod spelling;
 mod starts;
-mod tables;
 mod telling;
 mod texts;
 mod unknowns;
-mod word_ends;
 
-pub use assembling::assemble_sources;
+pub use assembling::{Assembly, assemble_sources, assembly_of};
 pub use faults::{Fault, Place, SourceFault};
 pub use further::further_faults;
-pub use listing::{ListingForm, list_sources};
+pub use joins::Join;
+pub use names::{Names, names_of, value_by_number};
+pub use reading::statement_ended;
+pub use spelling::name_text;
 pub use telling::fault_text;

@@ -190,9 +190,9 @@ fn make(lexer: &mut Lexer, assembler: &mut Assembler, byte: u8) -> Result<bool, 
             Ok(_) => Ok(byte != b'$'),
             Err(_) => Ok(false),
         },
-        Err(fault) => match unless_memory(fault) {
-            Ok(()) => Ok(false),
-            Err(memory) => Err(memory),
-        },
+        Err(fault) => {
+            unless_memory(fault)?;
+            Ok(false)
+        }
     }
 }

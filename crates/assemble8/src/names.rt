@@ -1,33 +1,34 @@
 //! What names stand for.
 ghost use Rattle.std.specs.Prelude.{◌≡◌, ℕ, None, Ok, [], ◌∷◌, List, false, IfOk, IfErr, OnOk};
 ghost use Rattle.pal_lex.specs.Text.{text_of};
-ghost use Rattle.pal_lex.specs.Statements.{statements, first_fault};
+ghost use Rattle.pal_lex.specs.Statements.{statements};
 ghost use Rattle.pal_lex.specs.Reading.{HasRead, with_tokens};
 ghost use Rattle.pal_lex.specs.declared.pieces.Token.{Token};
 ghost use Rattle.pal_asm.specs.Expressions as spec;
 ghost use Rattle.pal_asm.specs.Places.{Source, with_tags as tag_values};
 ghost use Rattle.pal_asm.specs.Faults.{first_order};
 ghost use Rattle.pal_sym.specs.Permanent.{permanent};
-ghost use Rattle.assemble8.specs.Symbols.{with_tags, with_body};
-ghost use Rattle.assemble8.specs.NameSteps.{known, values_by, place_by, Follows};
+ghost use Rattle.assemble8.specs.Symbols.{known, with_tags, with_body, Follows};
+ghost use Rattle.assemble8.specs.NameSteps.{values_by, place_by};
 ghost use Rattle.assemble8.specs.declared.faults.SourceFault.TheVariants.{Memory};
 
 use crate::SourceFault;
-use crate::faults::unless_memory;
+use crate::reading::statement_ended;
 use pal_asm::laws::{no_fault_before, statements_stay};
-use pal_lex::laws::fault_stays;
 use pal_lex::{Body, Joint, Lexer, Name, Part, Statement, Term};
 use pal_sym::{SymbolName, Symbols};
 use std::alloc::{AllocError, Global};
 use std::collections::BTreeMap;
 
-/// Where a source begins, and each `FIELD`.
+/// The address at which a source begins, and each `FIELD`.
 const FIRST: u16 = 0o200;
 
 /// What the names that statements define stand for, and the place of the next statement.
 #[derive(Drop)]
-pub(crate) struct Names {
+pub struct Names {
+    /// The value of each name that is defined, by the number that the sixbit codes of its six characters make.
     pub symbols: BTreeMap<u64, u16>,
+    /// The address of the next statement.
     pub place: u16,
 }
 
@@ -49,9 +50,8 @@ pub(crate) struct Reading {
 }
 
 /// The names of a text with no fault that the first pass meets. The only fault is `Memory`.
-pub(crate) fn names_of(alloc: Global, text: &[u8]) -> Result<Names, SourceFault>
-    requires fine { first_order (statements (text_of text.now)) ≡ None }
-    requires lexical { first_fault (statements (text_of text.now)) ≡ None }
+pub fn names_of(alloc: Global, text: &[u8]) -> Result<Names, SourceFault>
+    requires { first_order (statements (text_of text.now)) ≡ None }
     ensures names { IfOk result (λ names. Follows names.symbols names.place (statements (text_of text.now))) }
     ensures fault { IfErr result (λ fault. fault ≡ Memory) }
 {
@@ -61,15 +61,13 @@ pub(crate) fn names_of(alloc: Global, text: &[u8]) -> Result<Names, SourceFault>
 
 /// Reads a text with no fault that the first pass meets. The only fault is `Memory`.
 pub(crate) fn reading_of(alloc: Global, text: &[u8]) -> Result<Reading, SourceFault>
-    requires fine { first_order (statements (text_of text.now)) ≡ None }
-    requires lexical { first_fault (statements (text_of text.now)) ≡ None }
+    requires { first_order (statements (text_of text.now)) ≡ None }
     ensures names { IfOk result
         (λ reading. Follows reading.names.symbols reading.names.place (statements (text_of text.now))) }
     ensures read { IfOk result (λ reading. HasRead reading.lexer 0 (text_of text.now)) }
     ensures setting { IfOk result (λ reading. reading.lexer.may_pause ≡ false) }
     ensures fault { IfErr result (λ fault. fault ≡ Memory) }
 {
-    fault_stays();
     statements_stay();
     no_fault_before();
     let mut lexer = Lexer::without_tokens(alloc);
@@ -85,23 +83,19 @@ pub(crate) fn reading_of(alloc: Global, text: &[u8]) -> Result<Reading, SourceFa
 /// Takes the next byte, which ends no statement with a fault that the first pass meets.
 fn take_byte(lexer: &mut Lexer, names: &mut Names, byte: u8) -> Result<(), SourceFault>
     ensures takes { (text : List ℕ) → HasRead lexer.old 0 text → lexer.old.may_pause ≡ false
-        → first_order (statements (byte ∷ text)) ≡ None → first_fault (statements (byte ∷ text)) ≡ None
+        → first_order (statements (byte ∷ text)) ≡ None
         → Follows names.old.symbols names.old.place (statements text)
         → OnOk result (Follows names.new.symbols names.new.place (statements (byte ∷ text))
         × HasRead lexer.new 0 (byte ∷ text)) }
     ensures setting { lexer.new.may_pause ≡ lexer.old.may_pause }
     ensures fault { IfErr result (λ fault. fault ≡ Memory) }
 {
-    match lexer.push(byte) {
-        Ok(None) => Ok(()),
-        Ok(Some(statement)) => {
+    match statement_ended(lexer, byte)? {
+        Some(statement) => {
             take(names, &statement)?;
             Ok(())
         }
-        Err(fault) => {
-            unless_memory(fault)?;
-            Ok(())
-        }
+        None => Ok(()),
     }
 }
 
@@ -169,10 +163,8 @@ fn value_of(symbols: &BTreeMap<u64, u16>, place: u16, parts: &[Part]) -> Option<
     let mut value = 0;
     let mut rest = parts;
     while let [part, others @ ..] = rest {
-        match term_value(symbols, place, part.term) {
-            Some(term) => value = joined(part.joint, value, term),
-            None => return None,
-        }
+        let term = term_value(symbols, place, part.term)?;
+        value = joined(part.joint, value, term);
         rest = others;
     }
     Some(value)
@@ -189,15 +181,15 @@ fn term_value(symbols: &BTreeMap<u64, u16>, place: u16, term: Term) -> Option<u1
     }
 }
 
-/// The value of a name, the permanent one where no statement defines it.
+/// What a name stands for.
 pub(crate) fn name_value(symbols: &BTreeMap<u64, u16>, name: Name) -> Option<u16>
     ensures { result ≡ known symbols.now name }
 {
     value_by_number(symbols, name.number())
 }
 
-/// The value of the name of a number.
-pub(crate) fn value_by_number(symbols: &BTreeMap<u64, u16>, name: u64) -> Option<u16>
+/// What the name of a number stands for, the permanent value where no statement defines it.
+pub fn value_by_number(symbols: &BTreeMap<u64, u16>, name: u64) -> Option<u16>
     ensures { result ≡ known symbols.now name }
 {
     match symbols.get(&name) {
@@ -207,13 +199,11 @@ pub(crate) fn value_by_number(symbols: &BTreeMap<u64, u16>, name: u64) -> Option
 }
 
 /// The permanent value of a name, if it has one.
-pub(crate) fn permanent_value(name: u64) -> Option<u16>
+fn permanent_value(name: u64) -> Option<u16>
     ensures { result ≡ permanent name }
 {
-    match Symbols::permanent(SymbolName::numbered(name)) {
-        Some(word) => Some(word.get()),
-        None => None,
-    }
+    let word = Symbols::permanent(SymbolName::numbered(name))?;
+    Some(word.get())
 }
 
 /// Two values joined: sum and difference modulo 0o10000, inclusive or.

@@ -19,10 +19,7 @@ pub(crate) fn statement_place(text: &[u8], end: usize) -> usize
         start = start_behind(start, comment, byte, taken);
         taken += 1;
     }
-    match start {
-        Some(place) => place,
-        None => end,
-    }
+    start.unwrap_or(end)
 }
 
 /// Whether a comment goes on behind a byte.

@@ -1,12 +1,12 @@
 //! Faults, as a compiler tells them.
-ghost use Rattle.std.specs.Prelude.{◌≡◌, ◌<◌, ◌++◌, decimal, IfOk, OnOk};
+ghost use Rattle.std.specs.Prelude.{◌≡◌, ◌++◌, decimal, IfOk, OnOk};
 ghost use Rattle.assemble8.specs.Places.{bytes_of};
-ghost use Rattle.assemble8.specs.Telling.{letters_of, words_of, character, spelling, named, told, headline, with_caret, numbered, fault_text};
+ghost use Rattle.assemble8.specs.Telling.{letters_of, words_of, named, told, headline, with_caret, numbered, fault_text};
 
 use crate::Fault;
 use crate::places::{bytes_of, first_bytes};
 use crate::showing::{put_below, shown_line};
-use crate::tables::character_of;
+use crate::spelling::put_spelling;
 use pal_asm::Code;
 use std::alloc::{AllocError, Global};
 
@@ -89,31 +89,6 @@ fn put_named(text: &mut Vec<u8>, name: Option<u64>) -> Result<(), AllocError>
     }
 }
 
-/// Puts the characters of a name, six at most.
-#[tactic(auto, unfolding(crate::specs::Telling::spelling))]
-fn put_spelling(text: &mut Vec<u8>, name: u64) -> Result<(), AllocError>
-    ensures { OnOk result (text.new.items ≡ text.old.items ++ spelling name) }
-{
-    put_character(text, (name / 0o10000000000 % 0o100) as u8)?;
-    put_character(text, (name / 0o100000000 % 0o100) as u8)?;
-    put_character(text, (name / 0o1000000 % 0o100) as u8)?;
-    put_character(text, (name / 0o10000 % 0o100) as u8)?;
-    put_character(text, (name / 0o100 % 0o100) as u8)?;
-    put_character(text, (name % 0o100) as u8)?;
-    Ok(())
-}
-
-/// Puts the character of a sixbit code, none where there is none.
-fn put_character(text: &mut Vec<u8>, code: u8) -> Result<(), AllocError>
-    requires { code < 0o100 }
-    ensures { OnOk result (text.new.items ≡ text.old.items ++ character code) }
-{
-    if code != 0 {
-        text.push(character_of(code))?;
-    }
-    Ok(())
-}
-
 /// Puts a line with a caret below a column of it, from 1.
 fn put_caret(text: &mut Vec<u8>, line: &[u8], column: usize) -> Result<(), AllocError>
     ensures { OnOk result (text.new.items ≡ text.old.items ++ with_caret line.now column) }
@@ -126,7 +101,7 @@ fn put_caret(text: &mut Vec<u8>, line: &[u8], column: usize) -> Result<(), Alloc
 }
 
 /// Puts a fault as scripts are told it.
-pub(crate) fn put_numbered(text: &mut Vec<u8>, fault: Fault) -> Result<(), AllocError>
+fn put_numbered(text: &mut Vec<u8>, fault: Fault) -> Result<(), AllocError>
     ensures { OnOk result (text.new.items ≡ text.old.items ++ numbered fault) }
 {
     text.extend_from_slice(b"? 5 ")?;
@@ -138,7 +113,7 @@ pub(crate) fn put_numbered(text: &mut Vec<u8>, fault: Fault) -> Result<(), Alloc
 }
 
 /// Puts a number in decimal, without leading zeros.
-pub(crate) fn put_number(text: &mut Vec<u8>, number: u64) -> Result<(), AllocError>
+fn put_number(text: &mut Vec<u8>, number: u64) -> Result<(), AllocError>
     ensures { OnOk result (text.new.items ≡ text.old.items ++ decimal number) }
 {
     let mut digits = itoa::Buffer::new();

@@ -6,7 +6,7 @@ ghost use Rattle.pal_lex.specs.Reading.{HasRead};
 ghost use Rattle.pal_asm.specs.Places.{Source};
 ghost use Rattle.pal_asm.specs.Faults.{first_order};
 ghost use Rattle.assemble8.specs.Unknowns.{Standing, unknown_term, unknown_of, unknown_in, unknown_ended, unknown_name, about};
-ghost use Rattle.assemble8.specs.NameSteps.{Follows};
+ghost use Rattle.assemble8.specs.Symbols.{Follows};
 ghost use Rattle.assemble8.specs.JudgeSteps.{known_last, Stands};
 ghost use Rattle.assemble8.specs.Steps.{IsMetAt};
 ghost use Rattle.assemble8.specs.declared.faults.SourceFault.TheVariants.{Memory};
@@ -50,7 +50,6 @@ fn unknown_name(alloc: Global, text: &[u8], met: Passed) -> Result<Option<u64>, 
 {
     statements_stay();
     no_fault_before();
-    no_lexical_fault();
     match met {
         Passed::Refused(end) => {
             let none = no_names(alloc);

@@ -3,12 +3,11 @@
 use super::images::{Content, make_file};
 use super::{Ended, print_data, tell_text, texts_of};
 use crate::{ProgramLine, with_line_feeds};
-use assemble8::{
-    ListingForm, SourceFault, assemble_sources, fault_text, further_faults, list_sources,
-};
+use assemble8::{SourceFault, assemble_sources, fault_text, further_faults};
 use command8::AssembleForm;
 use host8::{HoldFault, look};
 use script8::SessionFault;
+use source_listing::{ListingForm, list_sources};
 use std::alloc::{AllocError, Global};
 use std::fs::{File, Files};
 use std::io::{ErrorKind, Input, Read};

@@ -4,7 +4,7 @@ use Rattle.pal_lex.specs.Text.{text_of, is_over}
 use Rattle.pal_lex.specs.Statements.{statements}
 use Rattle.pal_asm.specs.Places.{values}
 use Rattle.assemble8.specs.Places.{is_refused, place_in, place_by}
-use Rattle.assemble8.specs.NameSteps.{known}
+use Rattle.assemble8.specs.Symbols.{known}
 use Rattle.assemble8.specs.JudgeSteps.{placed}
 use Rattle.assemble8.specs.Further.{word_faults}
 use Rattle.assemble8.proofs.FurtherLemmas.{told_further}

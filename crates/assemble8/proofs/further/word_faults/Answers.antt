@@ -3,11 +3,11 @@ use Rattle.pal_lex.specs.Text.{text_of}
 use Rattle.pal_lex.specs.Statements.{statements}
 use Rattle.pal_lex.specs.Reading.{HasRead}
 use Rattle.pal_lex.specs.Progress.{Setting}
-use Rattle.assemble8.specs.NameSteps.{known, Follows}
+use Rattle.assemble8.specs.Symbols.{known, Follows}
 use Rattle.assemble8.specs.JudgeSteps.{placed}
 use Rattle.assemble8.proofs.LocateLemmas.{nothing_read}
 use Rattle.assemble8.proofs.PauseLemmas.{next_byte}
-use Rattle.assemble8.proofs.RowLemmas.{fine_prefix, fine_order}
+use Rattle.assemble8.proofs.ReadingLemmas.{fine_order}
 use Rattle.assemble8.proofs.StartLemmas.{comment_more, start_more}
 use Rattle.assemble8.proofs.FurtherLemmas.{judged_more}
 use Rattle.assemble8.proofs.further.word_faults.Goals as goal
@@ -31,13 +31,13 @@ loop-taken-preserved c =
     let stands = c.loop-taken.invariant in
     let next = sym (next_byte text taken byte inside refl) in
     let judged =
-    c.in_ok-fault.ensures.judges (text_of (take taken text)) stands.read stands.may (fine_order text taken c.statements_stay.ensures c.no_fault_before.ensures inside c.requires.fine)
-    (fine_prefix text taken c.fault_stays.ensures inside c.requires.lexical) stands.follows in
+    c.in_ok-fault.ensures.judges (text_of (take taken text)) stands.read stands.may (fine_order text taken c.statements_stay.ensures c.no_fault_before.ensures inside c.requires)
+    stands.follows in
     let quiet = c.comment_behind-comment.ensures ∙ comment_more text taken byte c.loop-taken.comment inside refl stands.quiet in
     record {
       told = λ place.
-          judged_more place (known c.args.last.now) text taken c.in_ok-fault.fault c.loop-taken.start c.begun.result c.loop-taken.found.items c.keep.new.found.items inside
-          (c.in_ok-keep.ensures place) c.begun.ensures stands.begins judged.told (stands.told place);
+          judged_more place (known c.args.last.now) text taken c.in_ok-fault.fault c.loop-taken.start c.unwrap_or.result c.loop-taken.found.items c.keep.new.found.items inside
+          (c.in_ok-keep.ensures place) c.unwrap_or.ensures stands.begins judged.told (stands.told place);
       follows = subst (λ t. Follows c.judge_byte.new.names.symbols c.judge_byte.new.names.place (statements t)) next judged.follows;
       read = subst (HasRead c.judge_byte.new.lexer 0) next judged.read;
       may = c.judge_byte.ensures.setting ∙ stands.may;

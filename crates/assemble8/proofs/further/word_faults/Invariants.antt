@@ -3,7 +3,7 @@ use Rattle.pal_lex.specs.Text.{in_comment, stretch, text_of}
 use Rattle.pal_lex.specs.Statements.{statements}
 use Rattle.pal_lex.specs.Reading.{HasRead}
 use Rattle.assemble8.specs.Places.{first_solid}
-use Rattle.assemble8.specs.NameSteps.{known, Follows}
+use Rattle.assemble8.specs.Symbols.{known, Follows}
 use Rattle.assemble8.specs.JudgeSteps.{placed}
 use Rattle.assemble8.specs.Further as spec
 use Rattle.assemble8.specs.declared.faults.Place.{Place}

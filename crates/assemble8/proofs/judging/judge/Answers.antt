@@ -1,8 +1,7 @@
 use Rattle.std.proofs.Common.{ap, ◌∙◌}
 use Rattle.pal_lex.specs.Reading.{with_tokens}
 use Rattle.pal_asm.specs.Places.{with_tags as tag_values}
-use Rattle.assemble8.specs.Symbols.{with_tags}
-use Rattle.assemble8.specs.NameSteps.{known}
+use Rattle.assemble8.specs.Symbols.{with_tags, known}
 use Rattle.assemble8.proofs.NameLemmas.{follows_on}
 use Rattle.assemble8.proofs.FurtherLemmas.{judged_word}
 use Rattle.assemble8.proofs.judging.judge.Goals as goal

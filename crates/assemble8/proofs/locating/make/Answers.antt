@@ -29,7 +29,7 @@ returns-in-Ok-Some-clause-makes c = λ text later read may going second.
     make_refused whole text c.args.byte statement c.in-Err-second.field-0 c.args.lexer.now c.push.new.self c.args.assembler.now c.second.new.self may answers
     (c.in-Err-second.ensures.answers whole more.0 (statements text) (tokens_behind text) quiet more.1 second)
 
-pub returns-in-Ok-unless_memory-clause-makes : goal.returns-in-Ok-unless_memory-clause-makes
-returns-in-Ok-unless_memory-clause-makes c = λ text later read may going second.
+pub returns-clause-makes : goal.returns-clause-makes
+returns-clause-makes c = λ text later read may going second.
     make_told text later c.args.byte c.in-Err.fault c.args.lexer.now c.push.new.self c.statements_stay.ensures c.no_fault_before.ensures c.no_lexical_fault.ensures second.no_fault
-    c.in-Ok-unless_memory.ensures.other (c.in-Err.ensures.answers 0 text read)
+    c.in_ok-unless_memory-in-Err.ensures.other (c.in-Err.ensures.answers 0 text read)

@@ -3,10 +3,10 @@ use Rattle.pal_lex.specs.Text.{text_of}
 use Rattle.pal_lex.specs.Statements.{statements}
 use Rattle.pal_lex.specs.Reading.{HasRead}
 use Rattle.pal_lex.specs.Progress.{Setting}
-use Rattle.assemble8.specs.NameSteps.{Follows}
+use Rattle.assemble8.specs.Symbols.{Follows}
 use Rattle.assemble8.proofs.LocateLemmas.{nothing_read}
 use Rattle.assemble8.proofs.PauseLemmas.{next_byte}
-use Rattle.assemble8.proofs.RowLemmas.{fine_prefix, fine_order}
+use Rattle.assemble8.proofs.ReadingLemmas.{fine_order}
 use Rattle.assemble8.proofs.names.reading_of.Goals as goal
 
 pub loop-taken-init : goal.loop-taken-init
@@ -24,8 +24,8 @@ loop-taken-preserved c =
     let stands = c.loop-taken.invariant in
     let next = sym (next_byte text taken (get_or text taken 0) inside refl) in
     let took =
-    c.in_ok-take_byte.ensures.takes (text_of (take taken text)) stands.read stands.may (fine_order text taken c.statements_stay.ensures c.no_fault_before.ensures inside c.requires.fine)
-    (fine_prefix text taken c.fault_stays.ensures inside c.requires.lexical) stands.follows in
+    c.in_ok-take_byte.ensures.takes (text_of (take taken text)) stands.read stands.may (fine_order text taken c.statements_stay.ensures c.no_fault_before.ensures inside c.requires)
+    stands.follows in
     record {
       follows = subst (λ t. Follows c.take_byte.new.names.symbols c.take_byte.new.names.place (statements t)) next took.0;
       read = subst (HasRead c.take_byte.new.lexer 0) next took.1;

@@ -2,7 +2,7 @@ use Rattle.std.proofs.Common.{◌≡◌, ◌-◌, false, take, length}
 use Rattle.pal_lex.specs.Text.{text_of}
 use Rattle.pal_lex.specs.Statements.{statements}
 use Rattle.pal_lex.specs.Reading.{HasRead}
-use Rattle.assemble8.specs.NameSteps.{Follows}
+use Rattle.assemble8.specs.Symbols.{Follows}
 use Rattle.assemble8.proofs.names.reading_of.Given as goal
 
 abbrev pub invariant-loop-taken : goal.invariant-loop-taken

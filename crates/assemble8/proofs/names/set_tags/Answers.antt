@@ -1,7 +1,6 @@
 use Rattle.std.proofs.Common.{◌≡◌, get_or, ap, sym, subst, ◌∙◌}
 use Rattle.pal_asm.specs.Places.{with_tags as tag_values}
-use Rattle.assemble8.specs.Symbols.{with_tags}
-use Rattle.assemble8.specs.NameSteps.{known}
+use Rattle.assemble8.specs.Symbols.{with_tags, known}
 use Rattle.assemble8.proofs.NameLemmas.{behind_one, first_one, with_tag_more, added}
 use Rattle.assemble8.proofs.names.set_tags.Goals as goal
 

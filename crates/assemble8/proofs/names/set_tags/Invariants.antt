@@ -1,7 +1,6 @@
 use Rattle.std.proofs.Common.{◌≡◌, ℕ, length}
 use Rattle.pal_asm.specs.Places.{with_tags as tag_values}
-use Rattle.assemble8.specs.Symbols.{with_tags}
-use Rattle.assemble8.specs.NameSteps.{known}
+use Rattle.assemble8.specs.Symbols.{with_tags, known}
 use Rattle.assemble8.proofs.names.set_tags.Given as goal
 
 abbrev pub invariant-loop-rest : goal.invariant-loop-rest

@@ -1,7 +1,7 @@
 use Rattle.std.proofs.Common.{◌≡◌, Some, length}
 use Rattle.pal_asm.specs.Expressions.{value_behind}
 use Rattle.pal_asm.specs.Expressions as spec
-use Rattle.assemble8.specs.NameSteps.{known}
+use Rattle.assemble8.specs.Symbols.{known}
 use Rattle.assemble8.proofs.names.value_of.Given as goal
 
 abbrev pub invariant-loop-rest : goal.invariant-loop-rest

@@ -1,5 +1,5 @@
 use Rattle.std.proofs.Common.{get_or, refl, ◌∙◌, arith}
-use Rattle.assemble8.proofs.StartLemmas.{comment_more, start_more, none_start}
+use Rattle.assemble8.proofs.StartLemmas.{comment_more, start_more, start_found}
 use Rattle.assemble8.proofs.starts.statement_place.Goals as goal
 
 pub loop-taken-preserved : goal.loop-taken-preserved
@@ -15,6 +15,7 @@ loop-taken-preserved c =
           ∙ start_more text taken byte c.loop-taken.start c.comment_behind-comment.result (omega (arith, c.loop-taken-test.true, c.requires)) refl quiet c.loop-taken.invariant.start;
     }
 
-pub returns-in-None : goal.returns-in-None
-returns-in-None c =
-    none_start c.args.text.now c.args.end c.loop-taken.taken c.loop-taken.start c.requires (omega (arith, c.loop-taken-test.false, c.loop-taken.invariant.within)) c.loop-taken.invariant.start c.in-None.is
+pub returns : goal.returns
+returns c =
+    c.unwrap_or.ensures
+    ∙ start_found c.args.text.now c.args.end c.loop-taken.taken c.loop-taken.start c.requires (omega (arith, c.loop-taken-test.false, c.loop-taken.invariant.within)) c.loop-taken.invariant.start

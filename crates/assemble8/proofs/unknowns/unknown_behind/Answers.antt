@@ -1,6 +1,6 @@
 use Rattle.std.proofs.Common.{ap, ◌∙◌}
 use Rattle.pal_asm.specs.Places.{with_tags as tag_values}
-use Rattle.assemble8.specs.NameSteps.{known}
+use Rattle.assemble8.specs.Symbols.{known}
 use Rattle.assemble8.specs.Unknowns.{unknown_in}
 use Rattle.assemble8.proofs.NameLemmas.{tagged_names}
 use Rattle.assemble8.proofs.unknowns.unknown_behind.Goals as goal

@@ -1,9 +1,0 @@
-use Rattle.std.proofs.Common.{◌≡◌, ◌++◌, length}
-use Rattle.assemble8.specs.References.{part_names, mentioned}
-use Rattle.assemble8.proofs.references.put_parts.Given as goal
-
-abbrev pub invariant-loop-rest : goal.invariant-loop-rest
-invariant-loop-rest l = l.found.items ++ mentioned l.spot (part_names l.rest) ≡ l.initial.found.items ++ mentioned l.spot (part_names l.fn.parts)
-
-abbrev pub decreases-loop-rest : goal.decreases-loop-rest
-decreases-loop-rest l = length l.rest

@@ -1,6 +1,0 @@
-use Rattle.std.proofs.Common.{◌≡◌, ◌++◌}
-use Rattle.assemble8.specs.Symbols.{table_text}
-use Rattle.assemble8.proofs.tables.put_table.Given as goal
-
-abbrev pub invariant-loop-name : goal.invariant-loop-name
-invariant-loop-name l = l.text.items ++ table_text l.name-iterator ≡ l.initial.text.items ++ table_text l.symbols.entries

@@ -1,0 +1,5 @@
+pub mod TextLemmas
+pub mod RowLemmas
+pub mod ReferenceLemmas
+pub mod StandLemmas
+pub mod LawLemmas
