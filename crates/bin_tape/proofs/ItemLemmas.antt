@@ -1,5 +1,5 @@
 -- What one more item does to what is kept of the items.
-use Rattle.std.proofs.Common.{◌≡◌, ℕ, ◌+◌, ◌*◌, ◌/◌, ◌%◌, ◌<◌, refl, arith, Some, None, List, [], ◌∷◌, ◌++◌}
+use Rattle.std.proofs.Common.{◌≡◌, ℕ, ◌+◌, ◌%◌, ◌<◌, refl, arith, Some, None, List, [], ◌∷◌, ◌++◌}
 use Rattle.bin_tape.specs.Items.{Item, Leader, Field, Origin, Word, IsPrefix, address_after, words_of, words_but_last}
 use Rattle.bin_tape.specs.Prefix.{IsLast}
 use Rattle.bin_tape.specs.declared.prefixes.LastWord.{LastWord}
@@ -10,13 +10,6 @@ address_low (Leader f ∷ older) h = address_low older h.2
 address_low (Field n ∷ older) h = address_low older h.1
 address_low (Origin high low ∷ older) h = omega (arith, h.0, h.1)
 address_low (Word high low ∷ older) h = omega arith
-
--- the parts of a cell
-pub low_part : (field address : ℕ) → address < 4096 → (4096 * field + address) % 4096 ≡ address
-low_part field address h = omega arith
-
-pub high_part : (field address : ℕ) → address < 4096 → (4096 * field + address) / 4096 ≡ field
-high_part field address h = omega arith
 
 -- a sum modulo 4096 of what is modulo 4096
 pub sum_low : (a b : ℕ) → (a % 4096 + b % 4096) % 4096 ≡ (a + b) % 4096

@@ -7,7 +7,7 @@ use Rattle.std.proofs.Math.Seq.{take-append_seam}
 use Rattle.bin_tape.specs.Frames.{heeded, ignore_count}
 use Rattle.bin_tape.specs.Items.{Item, Origin, Word, spelled, has_origin, words_of, words_but_last}
 use Rattle.bin_tape.specs.Tape.{IsTape}
-use Rattle.bin_tape.specs.Fault.{place_after, RefusesFrame, IsFault}
+use Rattle.bin_tape.specs.Fault.{place_after, IsFault}
 use Rattle.bin_tape.specs.Prefix.{ReadsItems, KeepsFrames, IsLast}
 use Rattle.bin_tape.specs.Pairs.{last_word}
 use Rattle.bin_tape.specs.Progress.{Progress}
@@ -25,7 +25,7 @@ use Rattle.bin_tape.specs.declared.readers.Tape.TheVariants as tape
 use Rattle.bin_tape.proofs.FrameLemmas.{ignore_none, kept_more}
 use Rattle.bin_tape.proofs.ItemLemmas.{words_none, words_some}
 use Rattle.bin_tape.proofs.PrefixLemmas.{reads_whole, part_none}
-use Rattle.bin_tape.proofs.ReaderLemmas.{longer, fault_of}
+use Rattle.bin_tape.proofs.ReaderLemmas.{longer}
 use Rattle.bin_tape.proofs.WritingLemmas.{last_one, map_of_words}
 
 -- one cell more has a word
@@ -171,11 +171,6 @@ map_of whole prefix later words out split held w = record {
   is_tape = subst (λ (l : List ℕ). IsTape l w.items) (sym split) (longer prefix later w.items w.is_tape);
   cells = λ cell within. held cell within ∙ ap (λ pairs. last_word pairs cell) w.words ∙ sym (map_of_words w.items cell);
 }
-
-pub map_refused : (whole before later : List ℕ) (frame : ℕ) (fault : TapeFault) → whole ≡ before ++ frame ∷ later
-    → RefusesFrame (before ++ frame ∷ later) fault → IsMapFault whole fault
-map_refused whole before later frame fault split refused =
-    inr (fault_of whole fault (subst (λ (l : List ℕ). RefusesFrame l fault) (sym split) refused))
 
 -- what a slice of a whole vector leaves of it
 pub whole_written : (count : ℕ) (new old : List (Option ℕ)) → length new ≡ count → take count (new ++ drop (length new) old) ≡ new

@@ -27,21 +27,6 @@ fault_of frames (CheckSum found computed) r = r
 fault_of frames NoTrailer r = absurd r.refused
 fault_of frames Memory r = absurd r.refused
 
--- more frames behind a refused one change nothing
-pub refuses_more : (frames rest : List ℕ) (fault : TapeFault) → RefusesFrame frames fault → RefusesFrame (frames ++ rest) fault
-refuses_more frames rest fault r = record {
-  before = r.before;
-  frame = r.frame;
-  after = r.after ++ rest;
-  items = r.items;
-  part = r.part;
-  split = ap (λ l. l ++ rest) r.split ∙ simp append_assoc;
-  not_ignore = r.not_ignore;
-  not_ignored = r.not_ignored;
-  is_open = r.is_open;
-  refused = r.refused;
-}
-
 -- more frames behind a tape mean nothing
 pub longer : (frames more : List ℕ) (items : List Item) → IsTape frames items → IsTape (frames ++ more) items
 longer frames more items t = record {

@@ -1,5 +1,6 @@
 -- What the heeded frames of a BIN tape say, item by item.
 use Rattle.std.specs.Prelude.{◌≡◌, ℕ, ◌+◌, ◌*◌, ◌%◌, ◌<◌, ◌⊎◌, nat_eq, if◌then◌else◌, Bool, true, false, Option, Some, None, List, [], ◌∷◌, ◌++◌}
+use Rattle.word12.specs.declared.sizes.TheConstants.{FIELD}
 
 -- A leader frame, a field setting, an origin or a word, the last two by the low six bits of their two frames.
 pub data Item : Type 0 where
@@ -63,7 +64,7 @@ address_after (Field n ∷ older) = address_after older
 
 -- the cell of a word that comes behind these items
 abbrev pub cell_after : List Item → ℕ
-cell_after items = 0o10000 * field_after items + address_after items
+cell_after items = FIELD * field_after items + address_after items
 
 -- the origin and word frames, added up
 abbrev pub frame_sum : List Item → ℕ

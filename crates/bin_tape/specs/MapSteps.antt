@@ -1,5 +1,6 @@
 -- What reading a tape into a map comes to on the way, for private clauses.
 use Rattle.std.specs.Prelude.{◌≡◌, ℕ, ◌<◌, ◌%◌, slice_index_or, true, Option, None, List, [], ◌++◌}
+use Rattle.word12.specs.declared.sizes.TheConstants.{CORE}
 use Rattle.bin_tape.specs.Frames.{heeded, ignore_count}
 use Rattle.bin_tape.specs.Items.{Item, spelled, has_origin, words_but_last}
 use Rattle.bin_tape.specs.Prefix.{ReadsItems}
@@ -12,7 +13,7 @@ use Rattle.bin_tape.specs.declared.prefixes.Prefix.{Prefix}
 
 -- each cell of core has the word of the last pair there
 abbrev pub HoldsWords : List (Option ℕ) → List (ℕ × ℕ) → Type 0
-HoldsWords words pairs = (cell : ℕ) → cell < 0o100000 → slice_index_or words cell None ≡ last_word pairs cell
+HoldsWords words pairs = (cell : ℕ) → cell < CORE → slice_index_or words cell None ≡ last_word pairs cell
 
 -- Of these frames a reader was given all but the rest, and each cell has the last word that it handed out.
 pub record HasReadTo (frames rest : List ℕ) (reader : Progress) (words : List (Option ℕ)) : Type 0 where

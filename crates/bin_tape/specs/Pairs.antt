@@ -1,5 +1,6 @@
 -- Words with their cells, in the order of a tape.
 use Rattle.std.specs.Prelude.{◌≡◌, ℕ, ◌<◌, nat_eq, if◌then◌else◌, Option, Some, None, List, [], ◌∷◌}
+use Rattle.word12.specs.declared.sizes.TheConstants.{CORE}
 use Rattle.std.specs.Option.{option_or}
 use Rattle.bin_tape.specs.Items.{Item, words_of, tape_map}
 use Rattle.bin_tape.specs.Tape.{IsTape}
@@ -7,7 +8,7 @@ use Rattle.bin_tape.specs.Tape.{IsTape}
 -- each is a cell of core with a word of twelve bits
 abbrev pub ArePairs : List (ℕ × ℕ) → Type 0
 ArePairs [] = Unit {0}
-ArePairs (pair ∷ later) = (pair.0 < 0o100000) × (pair.1 < 0o10000) × ArePairs later
+ArePairs (pair ∷ later) = (pair.0 < CORE) × (pair.1 < 0o10000) × ArePairs later
 
 -- the word of the last pair at a cell
 abbrev pub last_word : List (ℕ × ℕ) → ℕ → Option ℕ

@@ -1,5 +1,6 @@
 -- What a tape of words with their cells says, and what its frames are.
 use Rattle.std.specs.Prelude.{ℕ, ◌+◌, ◌/◌, ◌%◌, nat_eq, ◌&&◌, if◌then◌else◌, Bool, false, Option, Some, None, reverse, replicate, List, [], ◌∷◌, ◌++◌}
+use Rattle.word12.specs.declared.sizes.TheConstants.{FIELD}
 use Rattle.bin_tape.specs.Items.{Item, Leader, Field, Origin, Word, spelled, check_sum}
 
 -- a word, and an origin, by their high and low six bits
@@ -12,21 +13,21 @@ origin_item address = Origin (address / 0o100) (address % 0o100)
 -- the field that words go to behind a word for this cell, or behind none
 abbrev pub field_behind : Option ℕ → ℕ
 field_behind None = 0
-field_behind (Some before) = before / 0o10000
+field_behind (Some before) = before / FIELD
 
 -- Whether a word for the cell needs no origin behind a word for the cell before: it has the next address of the same
 -- field. Nothing is next behind address 7777, nor behind no word.
 abbrev pub is_next : Option ℕ → ℕ → Bool
 is_next None cell = false
-is_next (Some before) cell = nat_eq (cell / 0o10000) (before / 0o10000) && nat_eq (cell % 0o10000) (before % 0o10000 + 1)
+is_next (Some before) cell = nat_eq (cell / FIELD) (before / FIELD) && nat_eq (cell % FIELD) (before % FIELD + 1)
 
 -- the items, and a field setting where the field changes
 abbrev pub with_field : Option ℕ → ℕ → List Item → List Item
-with_field before cell items = if nat_eq (cell / 0o10000) (field_behind before) then items else Field (cell / 0o10000) ∷ items
+with_field before cell items = if nat_eq (cell / FIELD) (field_behind before) then items else Field (cell / FIELD) ∷ items
 
 -- the items, and an origin where the cell isn't the next
 abbrev pub with_origin : Option ℕ → ℕ → List Item → List Item
-with_origin before cell items = if is_next before cell then items else origin_item (cell % 0o10000) ∷ items
+with_origin before cell items = if is_next before cell then items else origin_item (cell % FIELD) ∷ items
 
 -- the items, and those of one more cell and word behind the cell before
 abbrev pub with_pair : Option ℕ → ℕ → ℕ → List Item → List Item

@@ -14,4 +14,4 @@ mod writing;
 pub use faults::TapeFault;
 pub use maps::TapeMap;
 pub use readers::{Tape, TapeReader};
-pub use writing::write_tape;
+pub use writing::{tape_of, write_tape};

@@ -6,10 +6,7 @@ ghost use Rattle.bin_tape.specs.MapSteps.{HasReadTo, HoldsWords};
 use crate::{Tape, TapeFault, TapeReader};
 use std::alloc::{AllocError, Global};
 use std::marker::Model;
-use word12::{Cell, Word};
-
-/// The words of core: eight fields of 0o10000 (Small Computer Handbook, MC8 extended memory).
-const CELLS: usize = 0o100000;
+use word12::{CORE, Cell, Word};
 
 /// The words that a BIN tape gives to cells of core.
 ///
@@ -34,7 +31,7 @@ impl TapeMap {
     pub fn read(alloc: Global, frames: &[u8]) -> Result<TapeMap, TapeFault>
         ensures { MatchResult result (λ map. IsMapOf frames.now map) (λ fault. IsMapFault frames.now fault) }
     {
-        let mut words = no_words(alloc, CELLS)?;
+        let mut words = no_words(alloc, CORE)?;
         read_words(frames, &mut words)?;
         Ok(TapeMap { words })
     }
@@ -84,15 +81,13 @@ fn take_frame(
         → MatchResult result (λ ended. MatchBool ended (IsMapOf whole words.new)
         (HasReadTo whole later reader.new words.new)) (λ fault. IsMapFault whole fault) }
 {
-    match reader.push(frame) {
-        Ok(tape) => match tape {
-            Tape::Nothing => Ok(false),
-            Tape::Word(cell, word) => {
-                words[cell.index()] = Some(word);
-                Ok(false)
-            }
-            Tape::End => Ok(true),
-        },
-        Err(fault) => Err(fault),
+    let tape = reader.push(frame)?;
+    match tape {
+        Tape::Nothing => Ok(false),
+        Tape::Word(cell, word) => {
+            words[cell.index()] = Some(word);
+            Ok(false)
+        }
+        Tape::End => Ok(true),
     }
 }

@@ -1,4 +1,5 @@
 ghost use Rattle.std.specs.Prelude.{◌≡◌, ℕ, ◌+◌, ◌/◌, ◌%◌, ◌<◌, List, [], ◌∷◌, ◌++◌, length, IfOk, IfErr, OnOk};
+ghost use Rattle.word12.specs.declared.sizes.TheConstants.{CORE};
 ghost use Rattle.bin_tape.specs.Items.{Item};
 ghost use Rattle.bin_tape.specs.Pairs.{ArePairs};
 ghost use Rattle.bin_tape.specs.Writing.{tape_of, tape_with, leader, with_field, with_origin, with_pair, word_item, field_behind, is_next};
@@ -15,12 +16,11 @@ const LEADER: [u8; 16] = [0o200; 16];
 ///
 /// They are 16 leader frames; for each pair a field setting where the field changes, which is 0 at first, an origin
 /// where the pair is the first or isn't at the next address of the same field, and the word; the check sum; and 16
-/// trailer frames. The only fault is `Memory`; memory is taken once, for five frames a pair.
-pub fn write_tape(alloc: Global, pairs: &[(Cell, Word)]) -> Result<Vec<u8>, TapeFault>
+/// trailer frames. Memory is taken once, for five frames a pair.
+pub fn tape_of(alloc: Global, pairs: &[(Cell, Word)]) -> Result<Vec<u8>, AllocError>
     requires { 0 < length pairs.now }
     ensures tape { IfOk result (λ frames. frames.items ≡ tape_of pairs.now) }
     ensures pairs { OnOk result (ArePairs pairs.now) }
-    ensures fault { IfErr result (λ fault. fault ≡ TapeFault.Memory) }
 {
     let mut tape = Writer::new(alloc, pairs.len())?;
     let mut before = None;
@@ -29,6 +29,17 @@ pub fn write_tape(alloc: Global, pairs: &[(Cell, Word)]) -> Result<Vec<u8>, Tape
         before = Some(cell);
     }
     let frames = tape.finish()?;
+    Ok(frames)
+}
+
+/// The frames of [`tape_of`]. The only fault is `Memory`.
+pub fn write_tape(alloc: Global, pairs: &[(Cell, Word)]) -> Result<Vec<u8>, TapeFault>
+    requires { 0 < length pairs.now }
+    ensures tape { IfOk result (λ frames. frames.items ≡ tape_of pairs.now) }
+    ensures pairs { OnOk result (ArePairs pairs.now) }
+    ensures fault { IfErr result (λ fault. fault ≡ TapeFault.Memory) }
+{
+    let frames = tape_of(alloc, pairs)?;
     Ok(frames)
 }
 
@@ -59,7 +70,7 @@ impl Writer {
         ensures put { (items : List Item) → HoldsFrames self.old.frames.items self.old.sum items
             → OnOk result (HoldsFrames self.new.frames.items self.new.sum
             (with_pair before cell word items)) }
-        ensures pair { (cell < 0o100000) × (word < 0o10000) }
+        ensures pair { (cell < CORE) × (word < 0o10000) }
     {
         let again = before;
         self.put_field(before, cell)?;

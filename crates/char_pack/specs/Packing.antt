@@ -1,5 +1,7 @@
 -- Three characters in two words (OS/8 Software Support Manual).
 use Rattle.std.specs.Prelude.{◌≡◌, ℕ, ◌+◌, ◌-◌, ◌*◌, ◌/◌, ◌%◌, ◌≤◌, List, [], ◌∷◌, ◌++◌, length, replicate}
+use Rattle.word12.specs.declared.sizes.TheConstants.{BLOCK}
+use Rattle.char_pack.specs.declared.packing.TheConstants as declared
 
 -- The frames of words: three for each two of them, where the third has the high four bits of both. An odd last word
 -- gives none.
@@ -33,15 +35,15 @@ pub record IsPacking (bytes words : List ℕ) : Type 0 where
 
 -- how many words a block has
 unfoldable pub block_words : ℕ
-block_words = 256
+block_words = BLOCK
 
 -- how many frames a block has
 unfoldable pub block_frames : ℕ
-block_frames = 384
+block_frames = declared.BLOCK_FRAMES
 
 -- how many blocks hold so many frames
 abbrev pub block_count : ℕ → ℕ
-block_count n = (n + 383) / 384
+block_count n = (n + (declared.BLOCK_FRAMES - 1)) / declared.BLOCK_FRAMES
 
 -- the words of bytes in whole blocks, where zeros fill the last block
 abbrev pub packed_blocks : List ℕ → List ℕ
@@ -50,7 +52,7 @@ packed_blocks bytes =
 
 -- the words are the fewest whole blocks whose frames begin with the bytes, and the frames behind are zeros
 pub record IsBlockPacking (bytes words : List ℕ) : Type 0 where
-  pub whole : length words ≡ 256 * block_count (length bytes)
+  pub whole : length words ≡ BLOCK * block_count (length bytes)
   pub reads_back : frames words ≡ bytes ++ replicate (block_frames * block_count (length bytes) - length bytes) 0
-  pub fewest : (others behind : List ℕ) (count : ℕ) → length others ≡ 256 * count → frames others ≡ bytes ++ behind
+  pub fewest : (others behind : List ℕ) (count : ℕ) → length others ≡ BLOCK * count → frames others ≡ bytes ++ behind
       → length words ≤ length others

@@ -13,7 +13,7 @@ mod texts;
 
 pub use faults::{PackFault, TextFault};
 pub use forms::{GetForm, PutForm};
-pub use packing::{pack, pack_blocks};
+pub use packing::{BLOCK_FRAMES, pack, pack_blocks};
 pub use reading::{Frames, frame_at, frame_count};
 pub use storing::{character_count, is_storable, store, stored_block_count};
 pub use texts::{CONTROL_Z, Text, text_of};

@@ -1,15 +1,13 @@
 ghost use Rattle.std.specs.Prelude.{◌≡◌, ◌+◌, ◌*◌, ◌<◌, ◌++◌, length, replicate, IfOk, OnOk, vec_len};
+ghost use Rattle.word12.specs.declared.sizes.TheConstants.{BLOCK};
 ghost use Rattle.char_pack.specs.Packing.{group, packed, group_count, IsPacking, packed_blocks, block_count, IsBlockPacking};
 
 use crate::PackFault;
 use std::alloc::{AllocError, Global};
-use word12::Word;
+use word12::{BLOCK, Word};
 
-/// The words of a block.
-pub(crate) const BLOCK_WORDS: usize = 256;
-
-/// The frames of a block.
-pub(crate) const BLOCK_FRAMES: usize = 384;
+/// The frames of a block, three for each two of its words (OS/8 Software Support Manual).
+pub const BLOCK_FRAMES: usize = 384;
 
 /// The words of bytes, three in two words, zeros behind the last byte (OS/8 Software Support Manual).
 ///
@@ -29,10 +27,10 @@ pub fn pack(alloc: Global, bytes: &[u8]) -> Result<Vec<Word>, PackFault>
 /// They are the fewest blocks whose frames begin with the bytes, none for no byte.
 pub fn pack_blocks(alloc: Global, bytes: &[u8]) -> Result<Vec<Word>, PackFault>
     ensures words { IfOk result (λ words. words.items ≡ packed_blocks bytes.now) }
-    ensures length { IfOk result (λ words. vec_len words ≡ 256 * block_count (length bytes.now)) }
+    ensures length { IfOk result (λ words. vec_len words ≡ BLOCK * block_count (length bytes.now)) }
     ensures packing { IfOk result (λ words. IsBlockPacking bytes.now words.items) }
 {
-    let count = BLOCK_WORDS * bytes.len().div_ceil(BLOCK_FRAMES);
+    let count = BLOCK * bytes.len().div_ceil(BLOCK_FRAMES);
     let mut blocks = Vec::with_capacity(alloc, count)?;
     push_packed(&mut blocks, bytes)?;
     push_zeros(&mut blocks, count - 2 * bytes.len().div_ceil(3))?;

@@ -1,4 +1,5 @@
 ghost use Rattle.std.specs.Prelude.{◌≡◌, ◌+◌, ◌*◌, ◌++◌, ◌∷◌, ◌↔◌, ◌≤◌, ℕ, List, [], true, false, map, length, IfOk, OnOk, IsErrOf, vec_len};
+ghost use Rattle.word12.specs.declared.sizes.TheConstants.{BLOCK};
 ghost use Rattle.char_pack.specs.Packing.{packed, block_count};
 ghost use Rattle.char_pack.specs.StoreSteps.{held_bytes, packed_text, is_plain};
 ghost use Rattle.char_pack.specs.Texts as spec;
@@ -6,10 +7,10 @@ ghost use Rattle.char_pack.specs.declared.faults.TextFault.TheVariants.{BadText}
 ghost use Rattle.char_pack.specs.declared.storing.Held.TheVariants.{Nothing};
 
 use crate::TextFault;
-use crate::packing::{BLOCK_FRAMES, BLOCK_WORDS, push_group, push_zeros};
+use crate::packing::{BLOCK_FRAMES, push_group, push_zeros};
 use crate::texts::CONTROL_Z;
 use std::alloc::{AllocError, Global};
-use word12::Word;
+use word12::{BLOCK, Word};
 
 const CR: u8 = 0o015;
 
@@ -59,7 +60,7 @@ pub fn stored_block_count(host: &[u8]) -> usize
 pub fn store(alloc: Global, host: &[u8]) -> Result<Vec<Word>, TextFault>
     ensures words { IfOk result (λ words. words.items ≡ spec.stored host.now) }
     ensures length { IfOk result (λ words. vec_len words
-        ≡ 256 * block_count (length (spec.host_text host.now) + 1)) }
+        ≡ BLOCK * block_count (length (spec.host_text host.now) + 1)) }
     ensures bad_text { IsErrOf result BadText ↔ (spec.is_storable host.now ≡ false) }
 {
     if !is_storable(host) {
@@ -74,9 +75,9 @@ fn stored_words(alloc: Global, host: &[u8]) -> Result<Vec<Word>, AllocError>
     requires { spec.is_storable host.now ≡ true }
     ensures words { IfOk result (λ words. words.items ≡ spec.stored host.now) }
     ensures length { IfOk result (λ words. vec_len words
-        ≡ 256 * block_count (length (spec.host_text host.now) + 1)) }
+        ≡ BLOCK * block_count (length (spec.host_text host.now) + 1)) }
 {
-    let count = BLOCK_WORDS * (character_count(host) / BLOCK_FRAMES + 1);
+    let count = BLOCK * (character_count(host) / BLOCK_FRAMES + 1);
     let mut words = Vec::with_capacity(alloc, count)?;
     push_text(&mut words, host)?;
     let left = count.saturating_sub(words.len());
@@ -153,7 +154,8 @@ fn is_plain(byte: u8) -> bool
 fn put_byte(words: &mut Vec<Word>, held: Held, byte: u8) -> Result<Held, AllocError>
     requires { spec.may_stand byte ≡ true }
     ensures { IfOk result (λ next. (later : List ℕ) → words.new.items ++ packed (held_bytes next ++ later)
-        ≡ words.old.items ++ packed (held_bytes held ++ (map (λ character. 0o200 + character) (spec.line_ends byte) ++ later))) }
+        ≡ words.old.items ++ packed (held_bytes held
+        ++ (map (λ character. 0o200 + character) (spec.line_ends byte) ++ later))) }
 {
     match byte {
         CR => Ok(held),

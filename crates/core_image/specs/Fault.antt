@@ -1,5 +1,6 @@
 -- The one fault of words that are no core image.
 use Rattle.std.specs.Prelude.{◌≡◌, ℕ, ◌+◌, ◌*◌, ◌<◌, ◌≤◌, ◌⊎◌, length, slice_index, List}
+use Rattle.word12.specs.declared.sizes.TheConstants.{BLOCK}
 use Rattle.core_image.specs.Segments.{AreSegments, IsFirst, IsControl, blocks_in, blocks_of}
 use Rattle.core_image.specs.Image.{HasHead, IsCount, IsStart, IsImage, count_of}
 use Rattle.core_image.specs.declared.faults.CoreFault.{CoreFault}
@@ -7,7 +8,7 @@ use Rattle.core_image.specs.declared.faults.CoreFault.TheVariants.{BadWord, TooS
 
 -- word 0 is no number of segments, or word 1, behind one, is no 62N3
 abbrev pub IsBadHead : List ℕ → ℕ → Type 0
-IsBadHead words place = (0o400 ≤ length words)
+IsBadHead words place = (BLOCK ≤ length words)
     × (((place ≡ 0) × (slice_index words 0 < 0o7602))
     ⊎ ((place ≡ 1) × IsCount (slice_index words 0) × (IsStart (slice_index words 1) → ⊥)))
 
@@ -31,7 +32,7 @@ pub record EndsEarly (words : List ℕ) : Type 0 where
   pub has_more : HasMore words older
   pub first : IsFirst (slice_index words (4 + 2 * length older))
   pub control : IsControl (slice_index words (4 + 2 * length older)) (slice_index words (5 + 2 * length older))
-  pub short : length words < 0o400 * (1 + blocks_in older + blocks_of (slice_index words (5 + 2 * length older)))
+  pub short : length words < BLOCK * (1 + blocks_in older + blocks_of (slice_index words (5 + 2 * length older)))
 
 -- the words are a core image
 pub record IsSomeImage (words : List ℕ) : Type 0 where
@@ -44,5 +45,5 @@ pub record IsSomeImage (words : List ℕ) : Type 0 where
 -- the control block or the words of a segment. Memory runs out only for the words of an image.
 abbrev pub IsFault : List ℕ → CoreFault → Type 0
 IsFault words (BadWord place word) = (word ≡ slice_index words place) × (IsBadHead words place ⊎ IsBadSegment words place)
-IsFault words TooShort = (length words < 0o400) ⊎ EndsEarly words
+IsFault words TooShort = (length words < BLOCK) ⊎ EndsEarly words
 IsFault words Memory = IsSomeImage words

@@ -1,5 +1,6 @@
 -- When the words of a file are a core image, and what it gives.
 use Rattle.std.specs.Prelude.{◌≡◌, ℕ, ◌+◌, ◌-◌, ◌*◌, ◌/◌, ◌%◌, ◌<◌, ◌≤◌, length, slice_index, List}
+use Rattle.word12.specs.declared.sizes.TheConstants.{BLOCK, FIELD}
 use Rattle.core_image.specs.Segments.{AreSegments, field_of, pairs_in}
 
 -- word 0 of the control block is minus the number of segments, 1 to 126, as many as a block of 256 words has room for
@@ -15,7 +16,7 @@ IsStart word = (word / 0o100 ≡ 0o62) × (word % 8 ≡ 3)
 
 -- The file begins with a whole block whose words 0 and 1 are those of a control block.
 pub record HasHead (words : List ℕ) : Type 0 where
-  pub whole : 0o400 ≤ length words
+  pub whole : BLOCK ≤ length words
   pub count : IsCount (slice_index words 0)
   pub start : IsStart (slice_index words 1)
 
@@ -27,5 +28,5 @@ pub record IsImage (words : List ℕ) (pairs : List (ℕ × ℕ)) (start status 
   pub are : AreSegments words segments
   pub all : length segments ≡ count_of words
   pub pairs_are : pairs ≡ pairs_in words segments
-  pub start_is : start ≡ 0o10000 * field_of (slice_index words 1) + slice_index words 2
+  pub start_is : start ≡ FIELD * field_of (slice_index words 1) + slice_index words 2
   pub status_is : status ≡ slice_index words 3

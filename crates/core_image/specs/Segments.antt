@@ -1,6 +1,7 @@
 -- The segments of a core image, as its control block tells them (this project's reading of the OS/8 Software Support Manual). Each is the
 -- two words of it in the block, and a list of them has the newest first.
 use Rattle.std.specs.Prelude.{◌≡◌, ℕ, ◌+◌, ◌*◌, ◌/◌, ◌%◌, ◌<◌, ◌≤◌, nat_eq, if◌then◌else◌, length, slice_index, take, drop, List, [], ◌∷◌, ◌++◌}
+use Rattle.word12.specs.declared.sizes.TheConstants.{BLOCK, FIELD, PAGE}
 
 -- Bits 1 to 5 of a segment's second word are its pages of 0200 words, 0 for all 32 of a field, and bits 6 to 8 its field.
 abbrev pub pages_of : ℕ → ℕ
@@ -11,11 +12,11 @@ field_of word = word / 8 % 8
 
 -- a segment's first word is its first address, which begins a block
 abbrev pub IsFirst : ℕ → Type 0
-IsFirst first = first % 0o400 ≡ 0
+IsFirst first = first % BLOCK ≡ 0
 
 -- its second word has no other bits, and its pages do not go past the end of their field
 abbrev pub IsControl : ℕ → ℕ → Type 0
-IsControl first control = (control < 0o4000) × (control % 8 ≡ 0) × (first + 0o200 * pages_of control ≤ 0o10000)
+IsControl first control = (control < 0o4000) × (control % 8 ≡ 0) × (first + PAGE * pages_of control ≤ FIELD)
 
 -- the blocks of a segment's words, each segment begun at a block of the file
 abbrev pub blocks_of : ℕ → ℕ
@@ -33,7 +34,7 @@ numbered cell (word ∷ words) = (cell, word) ∷ numbered (cell + 1) words
 -- the cells of a segment with its words, which stand from this block of the file on
 abbrev pub pairs_of : List ℕ → ℕ → ℕ × ℕ → List (ℕ × ℕ)
 pairs_of words block segment =
-    numbered (0o10000 * field_of segment.1 + segment.0) (take (0o200 * pages_of segment.1) (drop (0o400 * block) words))
+    numbered (FIELD * field_of segment.1 + segment.0) (take (PAGE * pages_of segment.1) (drop (BLOCK * block) words))
 
 -- the cells of all segments with their words, in the order of the file: behind the control block the segments one by one
 abbrev pub pairs_in : List ℕ → List (ℕ × ℕ) → List (ℕ × ℕ)
@@ -46,5 +47,5 @@ AreSegments words [] = Unit {0}
 AreSegments words (segment ∷ older) =
     (slice_index words (4 + 2 * length older) ≡ segment.0) × (slice_index words (5 + 2 * length older) ≡ segment.1)
     × IsFirst segment.0 × IsControl segment.0 segment.1
-    × (0o400 * (1 + blocks_in older + blocks_of segment.1) ≤ length words)
+    × (BLOCK * (1 + blocks_in older + blocks_of segment.1) ≤ length words)
     × AreSegments words older

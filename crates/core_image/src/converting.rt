@@ -4,7 +4,7 @@ ghost use Rattle.core_image.specs.Fault.{IsFault};
 
 use crate::{CoreFault, read};
 use bin_tape::laws::written_tape;
-use bin_tape::{TapeFault, write_tape};
+use bin_tape::tape_of;
 use std::alloc::Global;
 use word12::{Cell, Word};
 
@@ -17,9 +17,6 @@ pub fn bin_tape(alloc: Global, words: &[Word]) -> Result<(Vec<u8>, Cell), CoreFa
 {
     written_tape();
     let image = read(alloc, words)?;
-    match write_tape(alloc, &image.pairs) {
-        Ok(bin) => Ok((bin, image.start)),
-        Err(TapeFault::Memory) => Err(CoreFault::Memory),
-        Err(_) => unreachable!(),
-    }
+    let bin = tape_of(alloc, &image.pairs)?;
+    Ok((bin, image.start))
 }

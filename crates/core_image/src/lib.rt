@@ -6,6 +6,7 @@
 
 mod converting;
 mod faults;
+pub mod laws;
 mod reading;
 mod segments;
 

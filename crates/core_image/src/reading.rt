@@ -1,13 +1,14 @@
 ghost use Rattle.std.specs.Prelude.{◌≡◌, ℕ, ◌+◌, ◌≤◌, ◌++◌, length, MatchResult, OnOk};
+ghost use Rattle.word12.specs.declared.sizes.TheConstants.{CORE};
 ghost use Rattle.core_image.specs.Segments.{numbered};
 ghost use Rattle.core_image.specs.Image.{HasHead, IsImage, count_of};
 ghost use Rattle.core_image.specs.Fault.{IsFault, IsSomeImage};
 ghost use Rattle.core_image.specs.ReadSteps.{HasKept, HasReadSome};
 
 use crate::CoreFault;
-use crate::segments::{BLOCK, PAGE, blocks, field, pages, segment_at, segment_count};
+use crate::segments::{blocks, field, pages, segment_at, segment_count};
 use std::alloc::{AllocError, Global};
-use word12::{Cell, Word};
+use word12::{BLOCK, Cell, PAGE, Word};
 
 /// What a core image gives.
 #[derive(Drop)]
@@ -68,7 +69,7 @@ fn pairs_of(alloc: Global, words: &[Word], count: usize) -> Result<Vec<(Cell, Wo
     for number in 0..count {
         let (first, control) = segment_at(words, number, block)?;
         let from = BLOCK * block;
-        let size = PAGE * pages(control);
+        let size = PAGE as usize * pages(control);
         put_words(
             &mut pairs,
             Cell::at(field(control), first),
@@ -81,7 +82,7 @@ fn pairs_of(alloc: Global, words: &[Word], count: usize) -> Result<Vec<(Cell, Wo
 
 /// Puts words for the cells from one on behind the others.
 fn put_words(pairs: &mut Vec<(Cell, Word)>, first: Cell, words: &[Word]) -> Result<(), AllocError>
-    requires { first + length words.now ≤ 0o100000 }
+    requires { first + length words.now ≤ CORE }
     ensures { OnOk result (pairs.new.items ≡ pairs.old.items ++ numbered first words.now) }
 {
     let mut number = first.index() as u32;

@@ -1,18 +1,13 @@
 //! The segments that the control block tells of.
 ghost use Rattle.std.specs.Prelude.{◌≡◌, ◌≢◌, ℕ, ◌+◌, ◌*◌, ◌-◌, ◌<◌, ◌≤◌, length, slice_index, List, MatchResult, IfOk, true, ◌↔◌};
+ghost use Rattle.word12.specs.declared.sizes.TheConstants.{BLOCK};
 ghost use Rattle.core_image.specs.Segments.{IsControl, blocks_of, field_of, pages_of};
 ghost use Rattle.core_image.specs.Image.{HasHead, count_of};
 ghost use Rattle.core_image.specs.Fault.{IsFault};
 ghost use Rattle.core_image.specs.ReadSteps.{HasReadTo, TellsSegment};
 
 use crate::CoreFault;
-use word12::{Cell, Word};
-
-/// The words of a block.
-pub const BLOCK: usize = 0o400;
-
-/// The words of a page.
-pub const PAGE: usize = 0o200;
+use word12::{BLOCK, Cell, FIELD, PAGE, Word};
 
 /// Minus the greatest number of segments that a block has room for, 126.
 const MOST: u16 = 0o7602;
@@ -52,7 +47,7 @@ pub fn segment_at(words: &[Word], number: usize, block: usize) -> Result<(Word, 
         → TellsSegment words.now older result }
 {
     let first = words[4 + 2 * number];
-    if first.get() % 0o400 != 0 {
+    if usize::from(first.get()) % BLOCK != 0 {
         return Err(CoreFault::BadWord {
             place: 4 + 2 * number,
             word: first,
@@ -77,7 +72,7 @@ fn is_control(first: Word, control: Word) -> bool
 {
     control.get() < 0o4000
         && control.get() % 8 == 0
-        && usize::from(first.get()) + PAGE * pages(control) <= 0o10000
+        && usize::from(first.get()) + PAGE as usize * pages(control) <= FIELD
 }
 
 /// The pages of a segment, by its second word.

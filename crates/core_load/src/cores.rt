@@ -1,11 +1,12 @@
 ghost use Rattle.std.specs.Prelude.{◌≡◌, ℕ, ◌<◌, List, slice_index, slice_set, IfOk, IsOkUnless};
+ghost use Rattle.word12.specs.declared.sizes.TheConstants.{CORE};
 ghost use Rattle.bin_tape.specs.declared.faults.TapeFault.TheVariants.{Memory};
 ghost use Rattle.core_load.specs.Core.{zeros, IsCore};
 
 use bin_tape::TapeFault;
 use std::alloc::{AllocError, Global};
 use std::marker::Model;
-use word12::{Cell, Word};
+use word12::{CORE, Cell, Word};
 
 /// Core of 0o100000 words: eight fields of 0o10000 (Small Computer Handbook, MC8 extended memory).
 #[derive(Drop)]
@@ -24,10 +25,10 @@ impl Model for Core {
 impl Core {
     /// Core whose words are all 0.
     pub fn new(alloc: Global) -> Result<Core, TapeFault>
-        ensures zeros { IfOk result (λ core. core ≡ zeros 0o100000) }
+        ensures zeros { IfOk result (λ core. core ≡ zeros CORE) }
         ensures memory { IsOkUnless result Memory }
     {
-        let words = zero_words(alloc, CELLS)?;
+        let words = zero_words(alloc, CORE)?;
         Ok(Core { words })
     }
 
@@ -52,8 +53,6 @@ impl Core {
         self.words[cell.index()] = word;
     }
 }
-
-const CELLS: usize = 0o100000;
 
 #[tactic(auto, unfolding(crate::specs::Core::zeros))]
 fn zero_words(alloc: Global, count: usize) -> Result<Vec<Word>, AllocError>

@@ -52,21 +52,19 @@ impl Loader {
     {
         longer_tape();
         let before = self.reader;
-        match self.reader.push(frame) {
-            Ok(tape) => match tape.word() {
-                Some(word) => match self.words.reserve(1) {
-                    Ok(()) => {
-                        self.words.push_reserved(word);
-                        Ok(())
-                    }
-                    Err(refused) => {
-                        self.reader = before;
-                        Err(TapeFault::from(refused))
-                    }
-                },
-                None => Ok(()),
+        let tape = self.reader.push(frame)?;
+        match tape.word() {
+            Some(word) => match self.words.reserve(1) {
+                Ok(()) => {
+                    self.words.push_reserved(word);
+                    Ok(())
+                }
+                Err(refused) => {
+                    self.reader = before;
+                    Err(TapeFault::from(refused))
+                }
             },
-            Err(fault) => Err(fault),
+            None => Ok(()),
         }
     }
 

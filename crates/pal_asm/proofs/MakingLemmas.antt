@@ -92,9 +92,6 @@ quiet_at bad text b before none = by_test (pauses text b) refl
     by_test true e = some_none _ (sym (bad text b e before) ∙ none)
     by_test false e = refl
 
-abbrev Fitting : Source → Pass → List (ℕ × ℕ) → Source → Type 0
-Fitting whole pass pairs s = IsMade whole pass pairs s
-
 pub made_byte : PauseJoins → ByteGoesOn → PauseIsBad → (whole : Source) (pass new : Pass) (pairs pairs2 : List (ℕ × ℕ)) (lexer : lex.Progress) (answer : Option Statement) (result : Result (Unit {0}) AsmFault) (prefix : List ℕ) (several : Bool) (here : List ℕ) (b : ℕ)
     → ((seam : ℕ) (text : List ℕ) → HasRead pass.lexer seam text → Answers seam text b (Ok answer) pass.lexer lexer)
     → ((text : List ℕ) → HasPaused pass.lexer text → IsNothing (Ok answer) × (lexer ≡ pass.lexer))

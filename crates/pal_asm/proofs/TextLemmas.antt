@@ -16,7 +16,7 @@ use Rattle.pal_asm.specs.Faults.{first_of, at_line, lexical, statement_fault, fi
 use Rattle.pal_asm.specs.Laws.{FixedNamesKeepTheirValues, FirstFaultStays, WordFaultStays, NoWordIsTold, LexicalFaultIsTold, NoLexicalFault, StatementsStay, NoFaultBefore, FirstStatementsTell, FirstWordsTell, NoEndIsTold}
 use Rattle.pal_asm.specs.Progress.{Progress}
 use Rattle.pal_asm.specs.Passes.{IsSecond}
-use Rattle.pal_asm.specs.TextSteps.{IsFirstFault, IsWordsFault}
+use Rattle.pal_asm.specs.TextSteps.{IsWordsFault}
 use Rattle.pal_asm.specs.Passing.{BeginsSecondPass}
 use Rattle.pal_asm.specs.declared.passing.Pass.{Pass}
 use Rattle.pal_asm.specs.Texts.{Behind, IsFaultOf}
@@ -133,23 +133,6 @@ turned text (At code line) new turns none =
     by_end None told =
         ap (λ o. first_of o (no_word (statements text))) (no_words (values (statements text)) (statements text) (wordless (statements text) (At code line) told)) ∙ told
 turned text Memory new turns none = absurd turns
-
--- the fault that the first pass met
-pub met_first : (text : List ℕ) (f : AsmFault) → IsFirstFault text f → IsFaultOf text f
-met_first text (At code line) told =
-    both_of (first_order (statements text)) (no_end text) (first_of (words_fault (values (statements text)) (statements text)) (no_word (statements text))) told
-  where
-    both_of : {f : AsmFault} (a b c : Option AsmFault) → first_of a b ≡ Some f → first_of a (first_of b c) ≡ Some f
-    both_of None None c e = absurd cc
-    both_of None (Some g) c e = e
-    both_of (Some g) b c e = e
-met_first text Memory ran = record {
-  again = false;
-  first = λ _. ran;
-  no_fault = λ e. absurd (true≢false (sym e));
-  has_word = λ e. absurd (true≢false (sym e));
-  second = λ e. absurd (true≢false (sym e));
-}
 
 -- the fault that the second pass met
 pub met_second : (text : List ℕ) (f : AsmFault) (turned : Progress) → IsWordsFault text f → no_end text ≡ None → IsSecond turned (statements text) [] → IsFaultOf text f

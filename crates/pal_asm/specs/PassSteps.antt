@@ -1,5 +1,6 @@
 -- What the small steps of the two passes come to, for private clauses.
 use Rattle.std.specs.Prelude.{◌≡◌, ℕ, ◌+◌, ◌*◌, ◌%◌, ◌≤◌, nat_eq, Bool, true, ◌||◌, if◌then◌else◌, Option, Some, None, unwrap_or, Result, Ok, Err, List, [], ◌∷◌, length}
+use Rattle.word12.specs.declared.sizes.TheConstants.{FIELD}
 use Rattle.pal_sym.specs.SymbolTable.{SymbolTable}
 use Rattle.pal_sym.specs.Permanent.{permanent}
 use Rattle.pal_sym.specs.Values.{symbol_value, is_fixed as fixed_in, set_again}
@@ -9,6 +10,7 @@ use Rattle.pal_lex.specs.declared.phrases.Part.{Part}
 use Rattle.pal_asm.specs.declared.faults.Code.{Code}
 use Rattle.pal_asm.specs.declared.faults.Code.TheVariants.{DT}
 use Rattle.pal_asm.specs.declared.spots.Spot.{Spot}
+use Rattle.pal_asm.specs.declared.spots.TheConstants.{FIRST_PLACE}
 use Rattle.pal_asm.specs.Expressions.{Known, value_of}
 use Rattle.pal_asm.specs.Places.{is_word, with_tags, with_body, is_among, field_by}
 use Rattle.pal_asm.specs.Words.{body_word}
@@ -24,7 +26,7 @@ place_by known place (Define name e) = place
 place_by known place Decimal = place
 place_by known place Pause = place
 place_by known place Octal = place
-place_by known place (Field e) = 0o200
+place_by known place (Field e) = FIRST_PLACE
 place_by known place (Reference operation indirect address) = place + 1
 place_by known place (Word e) = place + 1
 
@@ -147,7 +149,7 @@ MakesWord word fault (Err code) = fault ≡ Some code
 
 abbrev pub pair_at : Spot → Option ℕ → Option (ℕ × ℕ)
 pair_at spot None = None
-pair_at spot (Some word) = Some (0o10000 * spot.field + spot.location % 0o10000, word)
+pair_at spot (Some word) = Some (FIELD * spot.field + spot.location % 0o10000, word)
 
 -- A body was passed in the second pass, where names stood for these values.
 pub record IsMade (known : Known) (new : SymbolTable) (spot next : Spot) (body : Body) (pair : Option (ℕ × ℕ)) : Type 0 where

@@ -7,6 +7,7 @@ use Rattle.pal_lex.specs.declared.phrases.Body.{Body}
 use Rattle.pal_lex.specs.declared.phrases.Body.TheVariants.{Nothing, Origin, Define, Decimal, Octal, Pause, Field, Reference, Word}
 use Rattle.pal_lex.specs.declared.phrases.Statement.{Statement}
 use Rattle.pal_asm.specs.Expressions.{Known, value_of}
+use Rattle.pal_asm.specs.declared.spots.TheConstants.{FIRST_PLACE}
 
 -- the statements of a source, each as it reads or with its fault
 abbrev pub Source : Type 0
@@ -50,7 +51,7 @@ set_by known place (Define name e) before = before
 set_by known place Decimal before = before
 set_by known place Pause before = before
 set_by known place Octal before = before
-set_by known place (Field e) before = 0o200
+set_by known place (Field e) before = FIRST_PLACE
 set_by known place (Reference operation indirect address) before = before
 set_by known place (Word e) before = before
 
@@ -74,7 +75,7 @@ with_body known place (Word e) name = known name
 abbrev mutual
   -- the value of the last `*`, or 0200 behind `FIELD` and where there is none
   pub last_setting : Source → ℕ
-  last_setting [] = 0o200
+  last_setting [] = FIRST_PLACE
   last_setting (Err fault ∷ older) = last_setting older
   last_setting (Ok s ∷ older) =
       set_by (with_tags s.tags (last_setting older + words_since older) (values older)) (last_setting older + words_since older) s.body (last_setting older)

@@ -1,5 +1,6 @@
 -- The words of a source, each with its cell (PAL III Symbolic Assembler manual, and this project's profile of it).
 use Rattle.std.specs.Prelude.{ℕ, ◌+◌, ◌*◌, ◌/◌, ◌%◌, nat_eq, nat_lt, if◌then◌else◌, Bool, Option, Some, None, Ok, Err, List, [], ◌∷◌, ◌++◌}
+use Rattle.word12.specs.declared.sizes.TheConstants.{FIELD, PAGE}
 use Rattle.pal_lex.specs.Language.{word_of}
 use Rattle.pal_lex.specs.Statements.{statements}
 use Rattle.pal_lex.specs.declared.phrases.Operation.{Operation}
@@ -13,8 +14,8 @@ use Rattle.pal_asm.specs.Places.{Source, place_at, field_at, values, values_at}
 -- offset with 0200; no other address can be reached
 abbrev pub offset_of : ℕ → ℕ → Option ℕ
 offset_of place address =
-    if nat_lt address 0o200 then Some address
-    else (if nat_eq (address / 0o200) (place / 0o200) then Some (address % 0o200 + 0o200) else None)
+    if nat_lt address PAGE then Some address
+    else (if nat_eq (address / PAGE) (place / PAGE) then Some (address % PAGE + 0o200) else None)
 
 abbrev pub offset_to : ℕ → Option ℕ → Option ℕ
 offset_to place None = None
@@ -39,7 +40,7 @@ body_word known place (Word e) = value_of known place e
 
 -- the cell of a word behind these statements
 abbrev pub cell_at : Source → ℕ
-cell_at older = 0o10000 * field_at older + place_at older
+cell_at older = FIELD * field_at older + place_at older
 
 abbrev pub with_pair : List (ℕ × ℕ) → ℕ → Option ℕ → List (ℕ × ℕ)
 with_pair pairs cell None = pairs

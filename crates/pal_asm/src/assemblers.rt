@@ -103,23 +103,23 @@ impl Assembler {
             Ok(()) => {}
             Err(code) => return Err(self.fail(code, statement.line)),
         }
-        match self.symbols.room(tags.len() + definitions(&statement.body)) {
-            Ok(()) => match pass(&mut self.symbols, self.spot, tags, &statement.body) {
-                Ok(spot) => {
-                    self.spot = spot;
-                    self.line = statement.line;
-                    Ok(())
-                }
-                Err(code) => Err(self.fail(code, statement.line)),
-            },
-            Err(refused) => Err(AsmFault::from(refused)),
+        self.symbols
+            .room(tags.len() + definitions(&statement.body))?;
+        match pass(&mut self.symbols, self.spot, tags, &statement.body) {
+            Ok(spot) => {
+                self.spot = spot;
+                self.line = statement.line;
+                Ok(())
+            }
+            Err(code) => Err(self.fail(code, statement.line)),
         }
     }
 
     /// Goes from the first pass to the second, where `$` ended the last statement; a source with no word is answered NW
     /// with the line of that `$` (this project's profile of PAL III). It takes no memory, and where it was done before it changes nothing.
     pub fn begin_second(&mut self) -> Result<(), AsmFault>
-        ensures turns { (whole : Source) → IsFirst self.old whole → BeginsSecond whole result self.old self.new }
+        ensures turns { (whole : Source) → IsFirst self.old whole
+            → BeginsSecond whole result self.old self.new }
         ensures turned { HasBegunSecond self.old → (result ≡ Ok tt) × (self.new ≡ self.old) }
         ensures failed { StaysFailed result self.old self.new }
     {

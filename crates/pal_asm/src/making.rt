@@ -40,13 +40,9 @@ fn make_answer(
                 pass.ended = true;
                 return Ok(());
             }
-            match pass.assembler.second(statement) {
-                Ok(handed) => {
-                    put_handed(pairs, handed);
-                    Ok(())
-                }
-                Err(fault) => Err(fault),
-            }
+            let handed = pass.assembler.second(statement)?;
+            put_handed(pairs, handed);
+            Ok(())
         }
     }
 }
@@ -63,13 +59,9 @@ fn make_byte(pass: &mut Pass, pairs: &mut Vec<(Cell, Word)>, byte: u8) -> Result
     pause_is_bad();
     no_lexical_fault();
     no_fault_before();
-    match pairs.reserve(1) {
-        Ok(()) => match pass.lexer.push(byte) {
-            Ok(answer) => make_answer(pass, pairs, &answer),
-            Err(fault) => Err(AsmFault::from(fault)),
-        },
-        Err(refused) => Err(AsmFault::from(refused)),
-    }
+    pairs.reserve(1)?;
+    let answer = pass.lexer.push(byte)?;
+    make_answer(pass, pairs, &answer)
 }
 
 /// Takes characters from a place on up to the end of a statement in the second pass.
@@ -89,10 +81,8 @@ fn make_statement(
 {
     *offset = read_on(&mut pass.lexer, text, *offset);
     if *offset < text.len() {
-        match make_byte(pass, pairs, text[*offset]) {
-            Ok(()) => *offset += 1,
-            Err(fault) => return Err(fault),
-        }
+        make_byte(pass, pairs, text[*offset])?;
+        *offset += 1;
     }
     Ok(())
 }
@@ -112,10 +102,7 @@ pub fn make_text(
         → MakesTo whole prefix several here text.now offset.new result pass.new pairs.new.items }
 {
     while *offset < text.len() {
-        match make_statement(pass, pairs, text, offset) {
-            Ok(()) => {}
-            Err(fault) => return Err(fault),
-        }
+        make_statement(pass, pairs, text, offset)?;
     }
     Ok(())
 }

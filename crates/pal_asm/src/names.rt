@@ -58,10 +58,10 @@ fn define_tags(symbols: &mut Symbols, tags: &[Name], location: u16) -> Result<()
     let mut rest = tags;
     while let [tag, others @ ..] = rest {
         let place = place_value(location)?;
-        match symbols.define_tag(SymbolName::numbered(tag.number()), place) {
-            Ok(()) => rest = others,
-            Err(_) => return Err(Code::DT),
-        }
+        symbols
+            .define_tag(SymbolName::numbered(tag.number()), place)
+            .map_err(|_| Code::DT)?;
+        rest = others;
     }
     Ok(())
 }
@@ -72,10 +72,10 @@ fn define(symbols: &mut Symbols, spot: Spot, name: Name, parts: &[Part]) -> Resu
     ensures { PassesBody (Body.Define name parts.now) spot symbols.old symbols.new result }
 {
     let value = value_of(symbols, spot.location, parts)?;
-    match symbols.define_value(SymbolName::numbered(name.number()), value) {
-        Ok(()) => Ok(spot),
-        Err(_) => Err(Code::RD),
-    }
+    symbols
+        .define_value(SymbolName::numbered(name.number()), value)
+        .map_err(|_| Code::RD)?;
+    Ok(spot)
 }
 
 /// Passes a body in the first pass.

@@ -71,13 +71,11 @@ pub fn settle(pass: &mut Pass) -> Result<(), AsmFault>
     statements_stay();
     match &pass.waiting {
         None => Ok(()),
-        Some(statement) => match pass.assembler.first(statement) {
-            Ok(()) => {
-                pass.waiting = None;
-                Ok(())
-            }
-            Err(fault) => Err(fault),
-        },
+        Some(statement) => {
+            pass.assembler.first(statement)?;
+            pass.waiting = None;
+            Ok(())
+        }
     }
 }
 
@@ -102,13 +100,9 @@ fn pass_byte(pass: &mut Pass, byte: u8) -> Result<(), AsmFault>
     byte_goes_on();
     pause_joins();
     lexical_fault_is_told();
-    match pass.lexer.push(byte) {
-        Ok(answer) => {
-            keep(pass, answer);
-            Ok(())
-        }
-        Err(fault) => Err(AsmFault::from(fault)),
-    }
+    let answer = pass.lexer.push(byte)?;
+    keep(pass, answer);
+    Ok(())
 }
 
 /// Takes characters from a place on up to the end of a statement, where no statement waits.
@@ -123,10 +117,8 @@ fn pass_statement(pass: &mut Pass, text: &[u8], offset: &mut usize) -> Result<()
 {
     *offset = read_on(&mut pass.lexer, text, *offset);
     if *offset < text.len() {
-        match pass_byte(pass, text[*offset]) {
-            Ok(()) => *offset += 1,
-            Err(fault) => return Err(fault),
-        }
+        pass_byte(pass, text[*offset])?;
+        *offset += 1;
     }
     Ok(())
 }
@@ -141,13 +133,8 @@ pub fn pass_text(pass: &mut Pass, text: &[u8], offset: &mut usize) -> Result<(),
     join_goes_on();
     statements_stay();
     while *offset < text.len() {
-        match settle(pass) {
-            Ok(()) => match pass_statement(pass, text, offset) {
-                Ok(()) => {}
-                Err(fault) => return Err(fault),
-            },
-            Err(fault) => return Err(fault),
-        }
+        settle(pass)?;
+        pass_statement(pass, text, offset)?;
     }
     settle(pass)
 }
@@ -157,13 +144,9 @@ pub fn end_source(pass: &mut Pass, last: bool) -> Result<(), AsmFault>
     ensures ends { EndsSource pass.old.lexer last result pass.new.lexer pass.new.ended }
     ensures others { (pass.new.assembler ≡ pass.old.assembler) × (pass.new.waiting ≡ pass.old.waiting) }
 {
-    match pass.lexer.next_source(last) {
-        Ok(()) => {
-            pass.ended = is_over(&pass.lexer);
-            Ok(())
-        }
-        Err(fault) => Err(AsmFault::from(fault)),
-    }
+    pass.lexer.next_source(last)?;
+    pass.ended = is_over(&pass.lexer);
+    Ok(())
 }
 
 /// Whether a `$` has ended the sources.
@@ -183,15 +166,9 @@ pub fn begin_second_pass(pass: &mut Pass, lexer: Lexer) -> Result<(), AsmFault>
     ensures lexer { OnOk result ((pass.new.lexer ≡ lexer) × (pass.new.ended ≡ false)) }
 {
     no_lexical_fault();
-    match pass.lexer.end() {
-        Ok(()) => match pass.assembler.begin_second() {
-            Ok(()) => {
-                pass.lexer = lexer;
-                pass.ended = false;
-                Ok(())
-            }
-            Err(fault) => Err(fault),
-        },
-        Err(fault) => Err(AsmFault::from(fault)),
-    }
+    pass.lexer.end()?;
+    pass.assembler.begin_second()?;
+    pass.lexer = lexer;
+    pass.ended = false;
+    Ok(())
 }

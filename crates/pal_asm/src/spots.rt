@@ -5,6 +5,7 @@ ghost use Rattle.pal_asm.specs.Expressions.{value_of};
 ghost use Rattle.pal_asm.specs.Faults.{past};
 ghost use Rattle.pal_asm.specs.PassSteps.{Moves, spot_by, spot_fault};
 ghost use Rattle.pal_asm.specs.declared.spots.Spot.{Spot};
+ghost use Rattle.pal_asm.specs.declared.spots.TheConstants.{FIRST_PLACE};
 
 use crate::Code;
 use crate::expressions::{place_value, value_of};
@@ -22,14 +23,14 @@ pub struct Spot {
 }
 
 /// Where a source begins, and each `FIELD`.
-const FIRST: u16 = 0o200;
+pub const FIRST_PLACE: u16 = 0o200;
 
 /// The spot at which a source begins.
 pub fn first_spot() -> Spot
-    ensures { result ≡ record { location = 0o200; field = 0; word = false } }
+    ensures { result ≡ record { location = FIRST_PLACE; field = 0; word = false } }
 {
     Spot {
-        location: FIRST,
+        location: FIRST_PLACE,
         field: 0,
         word: false,
     }
@@ -60,9 +61,9 @@ pub fn field(symbols: &Symbols, spot: Spot, parts: &[Part]) -> Result<Spot, Code
         return Err(Code::FD);
     }
     Ok(Spot {
-        location: FIRST,
         field: number as u8,
         word: spot.word,
+        ..first_spot()
     })
 }
 

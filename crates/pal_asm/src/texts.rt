@@ -41,10 +41,8 @@ pub fn assemble_all(alloc: Global, sources: &[&[u8]]) -> Result<Vec<(Cell, Word)
     let mut pass = begin(alloc, sources);
     first_pass(&mut pass, sources)?;
     let lexer = lexer_of(alloc, sources);
-    match begin_second_pass(&mut pass, lexer) {
-        Ok(()) => second_pass(alloc, sources, &mut pass),
-        Err(fault) => Err(fault),
-    }
+    begin_second_pass(&mut pass, lexer)?;
+    second_pass(alloc, sources, &mut pass)
 }
 
 /// Whether there is more than one source.
@@ -85,10 +83,8 @@ fn go_on(pass: &mut Pass, others: &[&[u8]]) -> Result<bool, AsmFault>
     if others.is_empty() {
         return Ok(false);
     }
-    match end_source(pass, !are_several(others)) {
-        Ok(()) => Ok(!pass.ended),
-        Err(fault) => Err(fault),
-    }
+    end_source(pass, !are_several(others))?;
+    Ok(!pass.ended)
 }
 
 /// Takes a source in the first pass, and answers whether it goes on with the next of the others.
@@ -100,10 +96,8 @@ fn first_source(pass: &mut Pass, source: &[u8], others: &[&[u8]]) -> Result<bool
     source_ends_join();
     statements_stay();
     let mut offset = 0;
-    match pass_text(pass, source, &mut offset) {
-        Ok(()) => go_on(pass, others),
-        Err(fault) => Err(fault),
-    }
+    pass_text(pass, source, &mut offset)?;
+    go_on(pass, others)
 }
 
 /// Takes all sources in the first pass.
@@ -114,11 +108,11 @@ fn first_pass(pass: &mut Pass, sources: &[&[u8]]) -> Result<(), AsmFault>
 {
     let mut rest = sources;
     while let [source, others @ ..] = rest {
-        match first_source(pass, source, others) {
-            Ok(true) => rest = others,
-            Ok(false) => return Ok(()),
-            Err(fault) => return Err(fault),
+        let goes_on = first_source(pass, source, others)?;
+        if !goes_on {
+            return Ok(());
         }
+        rest = others;
     }
     Ok(())
 }
@@ -132,17 +126,17 @@ fn second_source(
 ) -> Result<bool, AsmFault>
     ensures { (whole before : List ℕ) → whole ≡ join_of (text_of source.now ∷ texts others.now) ++ before
         → no_end whole ≡ None
-        → BeginsAgain (statements whole) before (text_of source.now ∷ texts others.now) pass.old pairs.old.items
-        → MakesSource (statements whole) before (text_of source.now) (texts others.now) result pass.new pairs.new.items }
+        → BeginsAgain (statements whole) before (text_of source.now ∷ texts others.now) pass.old
+        pairs.old.items
+        → MakesSource (statements whole) before (text_of source.now) (texts others.now) result pass.new
+        pairs.new.items }
 {
     join_goes_on();
     source_ends_join();
     statements_stay();
     let mut offset = 0;
-    match make_text(pass, pairs, source, &mut offset) {
-        Ok(()) => go_on(pass, others),
-        Err(fault) => Err(fault),
-    }
+    make_text(pass, pairs, source, &mut offset)?;
+    go_on(pass, others)
 }
 
 /// Takes all sources in the second pass.
@@ -152,18 +146,19 @@ fn second_pass(
     pass: &mut Pass,
 ) -> Result<Vec<(Cell, Word)>, AsmFault>
     requires ends { no_end (join_of (texts sources.now)) ≡ None }
-    requires begins { BeginsAgain (statements (join_of (texts sources.now))) [] (texts sources.now) pass.old [] }
+    requires begins { BeginsAgain (statements (join_of (texts sources.now))) [] (texts sources.now)
+        pass.old [] }
     ensures pairs { IfOk result (λ pairs. AreWordsOf (join_of (texts sources.now)) pairs.items) }
     ensures fault { IfErr result (λ fault. IsWordsFault (join_of (texts sources.now)) fault) }
 {
     let mut pairs = Vec::new(alloc);
     let mut rest = sources;
     while let [source, others @ ..] = rest {
-        match second_source(pass, &mut pairs, source, others) {
-            Ok(true) => rest = others,
-            Ok(false) => return Ok(pairs),
-            Err(fault) => return Err(fault),
+        let goes_on = second_source(pass, &mut pairs, source, others)?;
+        if !goes_on {
+            return Ok(pairs);
         }
+        rest = others;
     }
     Ok(pairs)
 }

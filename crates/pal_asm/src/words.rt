@@ -9,10 +9,10 @@ use crate::Code;
 use crate::expressions::{address_value, value_of};
 use pal_lex::{Body, Expression, Operation};
 use pal_sym::Symbols;
-use word12::Word;
+use word12::{PAGE, Word};
 
-/// The addresses of a page, and the bit of a memory reference that stands for its own page.
-const PAGE: u16 = 0o200;
+/// The bit of a memory reference that stands for its own page.
+const OWN_PAGE: u16 = 0o200;
 /// The bit of a memory reference that is indirect.
 const INDIRECT: u16 = 0o400;
 
@@ -26,7 +26,7 @@ fn offset_of(location: u16, address: Word) -> Option<Word>
         return Some(Word::low(number));
     }
     if number / PAGE == location / PAGE {
-        return Some(Word::low(number % PAGE + PAGE));
+        return Some(Word::low(number % PAGE + OWN_PAGE));
     }
     None
 }

@@ -1,4 +1,5 @@
 ghost use Rattle.std.specs.Prelude.{◌≡◌, ◌<◌, ◌≤◌, ℕ, ◌+◌, IfOk, IfErr, nat_lt, true, false, List, [], length, get_or};
+ghost use Rattle.word12.specs.declared.sizes.TheConstants.{BLOCK};
 ghost use Rattle.pal_lex.specs.Reading.{HasRead};
 ghost use Rattle.pal_asm.specs.declared.faults.AsmFault.TheVariants.{Memory};
 ghost use Rattle.pal_blocks.specs.Blocks.{blocks_among, blocks_of_each, AreFiles, assembling_turns};
@@ -9,7 +10,7 @@ ghost use Rattle.pal_blocks.specs.Steps.{HoldsTape};
 use crate::making::make_block;
 use crate::passing::pass_block;
 use bin_tape::laws::written_tape;
-use bin_tape::{TapeFault, write_tape};
+use bin_tape::tape_of;
 use char_pack::laws::joined_text;
 use char_pack::{PackFault, pack_blocks};
 use pal_asm::laws::{has_words, no_lexical_fault, no_word_is_told};
@@ -86,7 +87,7 @@ impl Assembling {
     /// block of the first reading that there is no word, and from then on that of a word in the blocks read again (this
     /// project's profile of PAL III). Where memory runs out no turn is taken, and the same block is due again.
     pub fn take(&mut self, alloc: Global, block: &[Word]) -> Result<(), AsmFault>
-        requires { length block.now ≡ 256 }
+        requires { length block.now ≡ BLOCK }
         ensures { (sources : List (List ℕ)) (left : ℕ) → IsAssembling sources self.old left → 2 ≤ left
             → block.now ≡ block_of sources (due_of self.old) → TakesBlock sources left result self.new }
     {
@@ -114,7 +115,7 @@ impl Assembling {
 
     /// Takes the next block in the first pass. At the last one the passes turn.
     fn take_first(&mut self, alloc: Global, block: &[Word]) -> Result<(), AsmFault>
-        requires block { length block.now ≡ 256 }
+        requires block { length block.now ≡ BLOCK }
         requires first { self.old.again ≡ false }
         ensures { (sources : List (List ℕ)) (left : ℕ) → IsAssembling sources self.old left → 2 ≤ left
             → block.now ≡ block_of sources (due_of self.old) → TakesBlock sources left result self.new }
@@ -123,10 +124,7 @@ impl Assembling {
         no_lexical_fault();
         source_ends_join();
         no_word_is_told();
-        match pass_block(&mut self.pass, block, &mut self.offset) {
-            Ok(()) => {}
-            Err(fault) => return Err(fault),
-        }
+        pass_block(&mut self.pass, block, &mut self.offset)?;
         self.offset = 0;
         if follows(self.block, blocks_at(&self.blocks, self.source)) {
             self.block += 1;
@@ -146,7 +144,7 @@ impl Assembling {
 
     /// Takes the next block in the second pass.
     fn take_again(&mut self, block: &[Word]) -> Result<(), AsmFault>
-        requires block { length block.now ≡ 256 }
+        requires block { length block.now ≡ BLOCK }
         requires second { self.old.again ≡ true }
         ensures { (sources : List (List ℕ)) (left : ℕ) → IsAssembling sources self.old left → 2 ≤ left
             → block.now ≡ block_of sources (due_of self.old) → TakesBlock sources left result self.new }
@@ -154,10 +152,7 @@ impl Assembling {
         joined_text();
         no_lexical_fault();
         source_ends_join();
-        match make_block(&mut self.pass, &mut self.pairs, block, &mut self.offset) {
-            Ok(()) => {}
-            Err(fault) => return Err(fault),
-        }
+        make_block(&mut self.pass, &mut self.pairs, block, &mut self.offset)?;
         self.offset = 0;
         if follows(self.block, blocks_at(&self.blocks, self.source)) {
             self.block += 1;
@@ -179,16 +174,13 @@ fn tape_words(alloc: Global, pairs: &[(Cell, Word)]) -> Result<Vec<Word>, AsmFau
     ensures words { IfOk result (λ words. 0 < length pairs.now → HoldsTape pairs.now words.items) }
     ensures fault { IfErr result (λ fault. fault ≡ Memory) }
 {
-    match pairs {
-        [] => Ok(Vec::new(alloc)),
-        _ => match write_tape(alloc, pairs) {
-            Ok(frames) => match pack_blocks(alloc, &frames) {
-                Ok(words) => Ok(words),
-                Err(PackFault::Memory) => Err(AsmFault::Memory),
-            },
-            Err(TapeFault::Memory) => Err(AsmFault::Memory),
-            Err(_) => unreachable!(),
-        },
+    if pairs.is_empty() {
+        return Ok(Vec::new(alloc));
+    }
+    let frames = tape_of(alloc, pairs)?;
+    match pack_blocks(alloc, &frames) {
+        Ok(words) => Ok(words),
+        Err(PackFault::Memory) => Err(AsmFault::Memory),
     }
 }
 

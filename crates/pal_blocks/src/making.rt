@@ -1,5 +1,6 @@
 //! A block in the second pass.
 ghost use Rattle.std.specs.Prelude.{◌≡◌, ◌++◌, ℕ, Bool, true, Ok, List, length, take};
+ghost use Rattle.word12.specs.declared.sizes.TheConstants.{BLOCK};
 ghost use Rattle.char_pack.specs.Packing.{frames};
 ghost use Rattle.char_pack.specs.Texts.{is_ended};
 ghost use Rattle.pal_lex.specs.Text.{text_from};
@@ -8,7 +9,8 @@ ghost use Rattle.pal_asm.specs.Passing.{HasMade, IsWithin};
 ghost use Rattle.pal_blocks.specs.Passing.{text_in, added};
 ghost use Rattle.pal_blocks.specs.Steps.{MakesBlock};
 
-use crate::passing::{BLOCK_FRAMES, lay_characters};
+use crate::passing::lay_characters;
+use char_pack::BLOCK_FRAMES;
 use char_pack::laws::joined_text;
 use pal_asm::{AsmFault, Pass, make_text};
 use word12::{Cell, Word};
@@ -21,7 +23,7 @@ pub(crate) fn make_block(
     block: &[Word],
     offset: &mut usize,
 ) -> Result<(), AsmFault>
-    requires { length block.now ≡ 256 }
+    requires { length block.now ≡ BLOCK }
     ensures makes { (whole : Source) (prefix given : List ℕ) (several : Bool)
         → HasMade whole pass.old pairs.old.items prefix several
         (text_from (text_in given) (take offset.old (added given block.now))) (is_ended given)
@@ -37,13 +39,9 @@ pub(crate) fn make_block(
     let mut bytes = [0; BLOCK_FRAMES];
     let count = lay_characters(block, &mut bytes);
     let (text, _) = bytes.split_at(count);
-    match make_text(pass, pairs, text, offset) {
-        Ok(()) => {
-            if count < BLOCK_FRAMES {
-                pass.ended = true;
-            }
-            Ok(())
-        }
-        Err(fault) => Err(fault),
+    make_text(pass, pairs, text, offset)?;
+    if count < BLOCK_FRAMES {
+        pass.ended = true;
     }
+    Ok(())
 }

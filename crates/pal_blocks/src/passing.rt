@@ -1,5 +1,7 @@
 //! A block in the first pass.
 ghost use Rattle.std.specs.Prelude.{◌≡◌, ◌≤◌, ◌++◌, ℕ, Bool, true, nat_lt, None, OnOk, List, length, take};
+ghost use Rattle.word12.specs.declared.sizes.TheConstants.{BLOCK};
+ghost use Rattle.char_pack.specs.declared.packing.TheConstants.{BLOCK_FRAMES};
 ghost use Rattle.char_pack.specs.Packing.{frames};
 ghost use Rattle.char_pack.specs.Texts.{characters, is_ended};
 ghost use Rattle.pal_lex.specs.Text.{text_from};
@@ -9,21 +11,18 @@ ghost use Rattle.pal_blocks.specs.Passing.{text_in, added};
 ghost use Rattle.pal_blocks.specs.Steps.{PassesBlock};
 
 use char_pack::laws::joined_text;
-use char_pack::{CONTROL_Z, frame_at};
+use char_pack::{BLOCK_FRAMES, CONTROL_Z, frame_at};
 use pal_asm::{AsmFault, Pass, pass_text, settle};
 use word12::Word;
 
-/// The frames of a block.
-pub(crate) const BLOCK_FRAMES: usize = 384;
-
 /// Lays the characters of a block into a buffer, up to the first control Z, and answers how many.
 pub(crate) fn lay_characters(block: &[Word], bytes: &mut [u8]) -> usize
-    requires block { length block.now ≡ 256 }
-    requires bytes { length bytes.old ≡ 384 }
-    ensures range { result ≤ 384 }
-    ensures same { length bytes.new ≡ 384 }
+    requires block { length block.now ≡ BLOCK }
+    requires bytes { length bytes.old ≡ BLOCK_FRAMES }
+    ensures range { result ≤ BLOCK_FRAMES }
+    ensures same { length bytes.new ≡ BLOCK_FRAMES }
     ensures characters { take result bytes.new ≡ characters (frames block.now) }
-    ensures ended { is_ended (frames block.now) ≡ nat_lt result 384 }
+    ensures ended { is_ended (frames block.now) ≡ nat_lt result BLOCK_FRAMES }
 {
     joined_text();
     let mut count = 0;
@@ -44,7 +43,7 @@ pub(crate) fn pass_block(
     block: &[Word],
     offset: &mut usize,
 ) -> Result<(), AsmFault>
-    requires { length block.now ≡ 256 }
+    requires { length block.now ≡ BLOCK }
     ensures passes { (prefix given : List ℕ) (several : Bool)
         → HasPassed pass.old prefix several
         (text_from (text_in given) (take offset.old (added given block.now))) (is_ended given)
@@ -60,13 +59,9 @@ pub(crate) fn pass_block(
     let mut bytes = [0; BLOCK_FRAMES];
     let count = lay_characters(block, &mut bytes);
     let (text, _) = bytes.split_at(count);
-    match pass_text(pass, text, offset) {
-        Ok(()) => {
-            if count < BLOCK_FRAMES {
-                pass.ended = true;
-            }
-            Ok(())
-        }
-        Err(fault) => Err(fault),
+    pass_text(pass, text, offset)?;
+    if count < BLOCK_FRAMES {
+        pass.ended = true;
     }
+    Ok(())
 }

@@ -40,10 +40,6 @@ pub behind_more : (before : List Part) (part : Part) (o : Option (List Part)) �
 behind_more before part None = refl
 behind_more before part (Some found) = ap Some (append_assoc before (part ∷ []) found)
 
-pub behind_nothing : (o : Option (List Part)) → behind [] o ≡ o
-behind_nothing None = refl
-behind_nothing (Some found) = refl
-
 pub behind_first : (part : Part) (o : Option (List Part)) → behind (part ∷ []) o ≡ with_part (Some part) o
 behind_first part None = refl
 behind_first part (Some found) = refl

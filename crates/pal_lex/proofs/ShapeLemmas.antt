@@ -6,7 +6,7 @@ use Rattle.pal_lex.specs.Text.{since}
 use Rattle.pal_lex.specs.Cutting.{Piece, Run, Mark, is_coded, is_space, sign_of, is_legal, has_illegal, is_blank, is_operand, trimmed, with_character, with_blank, with_sign, with_byte, pieces}
 use Rattle.pal_lex.specs.Runs.{base, run_kind, number_kind, are_digits, number, token, in_order, tokens, name_number}
 use Rattle.pal_lex.specs.Language.{is_named, free_name, operation_in}
-use Rattle.pal_lex.specs.Grammar.{joint_of, term_of, part_of, with_part, parts, terms, is_sign, expression, map_body, is_star, is_equals, is_comma, reference, definition, field_number, spaced_body, operation_body, lone_body, longer_body, body, untagged, with_tag, said, is_bad, has_bad_number}
+use Rattle.pal_lex.specs.Grammar.{joint_of, term_of, part_of, with_part, parts, terms, is_sign, expression, map_body, is_star, is_equals, is_comma, reference, definition, field_number, spaced_body, operation_body, lone_body, longer_body, untagged, with_tag, said, is_bad, has_bad_number}
 use Rattle.pal_lex.specs.Joins.{is_lone_pause, is_pause}
 use Rattle.pal_lex.specs.declared.pieces.Term.TheVariants.{Name, Number, Here}
 use Rattle.pal_lex.specs.declared.pieces.Kind.{Kind}
@@ -177,11 +177,6 @@ bare_longer t u others =
     (both_ways (is_equals u.kind) _ _ _ _ (ap (definition (free_name t.kind)) (bare_expression others))
     (both_ways (is_named (name_number (codes "FIELD")) t.kind) _ _ _ _ (ap (map_body Field) (bare_field u others))
     (both_ways (is_blank u.kind) _ _ _ _ (bare_spaced (operation_in t.kind) (t ∷ u ∷ others) (u ∷ others)) (ap (map_body Word) (bare_expression (t ∷ u ∷ others))))))
-
-bare_body : (l : List Token) → body (all_bare l) ≡ body l
-bare_body [] = refl
-bare_body (t ∷ []) = bare_lone t
-bare_body (t ∷ u ∷ others) = bare_longer t u others
 
 bare_said : (l : List Token) → said (all_bare l) ≡ said l
 bare_said [] = refl

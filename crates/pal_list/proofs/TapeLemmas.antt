@@ -1,15 +1,20 @@
 -- The words of a tape, cell by cell.
-use Rattle.std.proofs.Common.{◌≡◌, ◌≢◌, ℕ, ◌+◌, ◌*◌, ◌<◌, ◌≤◌, nat_eq, Bool, true, false, if◌then◌else◌, inl, inr, Option, Some, None, zero, suc, length, replicate, reverse, take, drop, slice_index_or, slice_set, get_or-set_other, List, [], ◌∷◌, ◌++◌, ◌⊎◌, refl, ap, sym, subst, ◌∙◌, arith}
+use Rattle.std.proofs.Common.{◌≡◌, ◌≢◌, ℕ, ◌+◌, ◌*◌, ◌<◌, ◌≤◌, nat_eq, Bool, true, false, Result, Ok, Err, MatchResult, IsErrAnd, if◌then◌else◌, inl, inr, Option, Some, None, zero, suc, length, replicate, reverse, take, drop, slice_index_or, slice_set, get_or-set_other, List, [], ◌∷◌, ◌++◌, ◌⊎◌, refl, ap, sym, subst, ◌∙◌, arith}
 use Rattle.std.specs.Option.{option_or}
 use Rattle.std.proofs.lemmas.Bool.Decides.{eqb_tells, leb_tells}
 use Rattle.std.proofs.lemmas.Grind.{get_or-set_at}
 use Rattle.std.proofs.lemmas.List.{get_or-replicate, reverse-append}
+use Rattle.std.proofs.lemmas.Result.{err_from_is_err_and}
 use Rattle.std.proofs.Math.Seq.{take-append_seam}
 use Rattle.bin_tape.specs.Items.{Item, Leader, Field, Origin, Word, IsPrefix, field_after, address_after, cell_after, words_of, tape_map}
 use Rattle.bin_tape.specs.Pairs.{last_word, ArePairs}
 use Rattle.bin_tape.specs.Progress.{Progress}
-use Rattle.bin_tape.specs.Reading.{HasRead}
-use Rattle.pal_list.specs.Sources.{with_word, words_below}
+use Rattle.bin_tape.specs.Reading.{HasRead, IsWhole}
+use Rattle.bin_tape.specs.Fault.{IsFault}
+use Rattle.bin_tape.specs.declared.faults.TapeFault.{TapeFault}
+use Rattle.pal_list.specs.declared.faults.ListFault.{ListFault}
+use Rattle.pal_list.specs.declared.faults.ListFault.TheVariants.{Tape}
+use Rattle.pal_list.specs.Sources.{IsListFault, with_word, words_below}
 use Rattle.pal_list.specs.Steps.{HoldsRead}
 
 -- ## The last word of a cell
@@ -183,3 +188,10 @@ pairs_one (first ∷ pairs) pair all cell word = (all.0, all.1, pairs_one pairs 
 pub pairs_reverse : (pairs : List (ℕ × ℕ)) → ArePairs pairs → ArePairs (reverse pairs)
 pairs_reverse [] all = tt
 pairs_reverse (pair ∷ pairs) all = subst ArePairs (sym (reverse-append (pair ∷ []) pairs)) (pairs_one (reverse pairs) pair (pairs_reverse pairs all.2) all.0 all.1)
+
+-- what a reader tells at the end, as a fault of a source
+pub judged : (frames : List ℕ) (out : List (ℕ × ℕ)) (r : Result (Unit {0}) TapeFault) (s : Result (Unit {0}) ListFault)
+    → MatchResult r (λ x. s ≡ Ok x) (λ e. IsErrAnd s (λ fault. fault ≡ Tape e)) → MatchResult r (λ _. IsWhole frames out) (λ fault. IsFault frames fault)
+    → MatchResult s (λ _. IsWhole frames out) (λ fault. IsListFault frames fault)
+judged frames out (Ok x) s is whole = rw is whole
+judged frames out (Err e) s is refused = let p = err_from_is_err_and s is in rw (p.1, p.2) refused

@@ -1,5 +1,6 @@
 -- The tags that a source defines, and what they stand for.
 use Rattle.std.specs.Prelude.{◌≡◌, ◌≢◌, ℕ, ◌<◌, ◌%◌, Bool, if◌then◌else◌, Some, None, Ok, Err, reverse, ◌↔◌, true, List, [], ◌∷◌, ◌++◌}
+use Rattle.word12.specs.declared.sizes.TheConstants.{CORE, FIELD}
 use Rattle.pal_lex.specs.Text.{text_of}
 use Rattle.pal_lex.specs.Statements.{statements}
 use Rattle.pal_sym.specs.Permanent.{permanent}
@@ -32,14 +33,14 @@ Differ (name ∷ others) = IsNoneOf others name × Differ others
 
 -- a name is no cell's tag
 abbrev pub IsNoTag : ℕ → Type 0
-IsNoTag name = (cell : ℕ) → cell < 0o100000 → tag_name cell ≢ name
+IsNoTag name = (cell : ℕ) → cell < CORE → tag_name cell ≢ name
 
 -- A text defines the tags of the tagged cells among these, the newest first, each once; they stand for the addresses of
 -- their cells, and other names for their permanent values.
 pub record DefinesTags (text : List ℕ) (pairs : List (ℕ × ℕ)) : Type 0 where
   pub tags_are : tags_in (statements (text_of text)) ≡ tags_of (is_tagged pairs) (reverse pairs)
   pub once : Differ (tags_in (statements (text_of text)))
-  pub values_are : (cell : ℕ) → cell < 0o100000 → values (statements (text_of text)) (tag_name cell) ≡ (if is_tagged pairs cell then Some (cell % 0o10000) else None)
+  pub values_are : (cell : ℕ) → cell < CORE → values (statements (text_of text)) (tag_name cell) ≡ (if is_tagged pairs cell then Some (cell % FIELD) else None)
   pub others_are : (name : ℕ) → IsNoTag name → values (statements (text_of text)) name ≡ permanent name
 
 -- ## Which cells are tagged, by the tape alone
@@ -49,9 +50,9 @@ pub record Refers (items : List Item) (named : ℕ) : Type 0 where
   pub cell : ℕ
   pub word : ℕ
   pub there : tape_map items cell ≡ Some word
-  pub reference : is_reference (cell % 0o10000) word ≡ true
+  pub reference : is_reference (cell % FIELD) word ≡ true
   pub names : referred_cell cell word ≡ named
 
 -- Just the cells of a tape are tagged that a memory reference of the tape names.
 abbrev pub TagsWhatIsNamed : List Item → Type 0
-TagsWhatIsNamed items = (cell : ℕ) → cell < 0o100000 → (is_tagged (words_of_tape items) cell ≡ true) ↔ ((tape_map items cell ≢ None) × Refers items cell)
+TagsWhatIsNamed items = (cell : ℕ) → cell < CORE → (is_tagged (words_of_tape items) cell ≡ true) ↔ ((tape_map items cell ≢ None) × Refers items cell)

@@ -1,5 +1,6 @@
 -- The lines of a source, by the words that it gives cells (PAL III Symbolic Assembler manual, and this project's profile).
 use Rattle.std.specs.Prelude.{ℕ, ◌/◌, ◌%◌, nat_eq, Bool, if◌then◌else◌, Option, List, [], ◌∷◌, ◌++◌, codes}
+use Rattle.word12.specs.declared.sizes.TheConstants.{FIELD}
 use Rattle.word12.specs.Octal.{octal_digit, octal4}
 use Rattle.bin_tape.specs.Writing.{field_behind, is_next, newest_cell}
 use Rattle.pal_list.specs.Statements.{statement}
@@ -11,15 +12,15 @@ line_end = 0o15 ∷ 0o12 ∷ []
 
 -- `FIELD` with the number of the cell's field
 abbrev pub field_line : ℕ → List ℕ
-field_line cell = codes "FIELD " ++ octal_digit (cell / 0o10000) ∷ line_end
+field_line cell = codes "FIELD " ++ octal_digit (cell / FIELD) ∷ line_end
 
 -- `*` with the cell's address in octal
 abbrev pub origin_line : ℕ → List ℕ
-origin_line cell = 0o52 ∷ octal4 (cell % 0o10000) ++ line_end
+origin_line cell = 0o52 ∷ octal4 (cell % FIELD) ++ line_end
 
 -- a `/` with the cell, its field first, and the word in octal
 abbrev pub comment : ℕ → ℕ → List ℕ
-comment cell word = 0o57 ∷ octal_digit (cell / 0o10000) ∷ octal4 (cell % 0o10000) ++ 0o40 ∷ octal4 word
+comment cell word = 0o57 ∷ octal_digit (cell / FIELD) ∷ octal4 (cell % FIELD) ++ 0o40 ∷ octal4 word
 
 -- pieces, the first behind this byte and the others behind a blank
 abbrev pub led : ℕ → List (List ℕ) → List ℕ
@@ -38,7 +39,7 @@ word_line tagged cell word = tag_part tagged cell ++ led 9 (statement tagged cel
 -- the next, and the word
 abbrev pub cell_lines : (ℕ → Bool) → Option ℕ → ℕ → ℕ → List ℕ
 cell_lines tagged before cell word =
-    (if nat_eq (cell / 0o10000) (field_behind before) then [] else field_line cell) ++ (if is_next before cell then [] else origin_line cell)
+    (if nat_eq (cell / FIELD) (field_behind before) then [] else field_line cell) ++ (if is_next before cell then [] else origin_line cell)
     ++ word_line tagged cell word
 
 -- the lines of cells with their words, the newest first, where these cells are tagged

@@ -1,5 +1,6 @@
 -- The statements of memory references whose cells have tags.
 use Rattle.std.specs.Prelude.{◌≡◌, ℕ, ◌+◌, ◌*◌, ◌/◌, ◌%◌, nat_eq, true, Some, Ok, List, [], ◌∷◌, ◌++◌}
+use Rattle.word12.specs.declared.sizes.TheConstants.{FIELD}
 use Rattle.pal_lex.specs.Text.{text_of}
 use Rattle.pal_lex.specs.Language.{word_of}
 use Rattle.pal_lex.specs.Statements.{statements}
@@ -20,7 +21,7 @@ pub record NamesThere (source : Source) (cell word name : ℕ) : Type 0 where
   pub older : Source
   pub statement : Statement
   pub split : source ≡ newer ++ Ok statement ∷ older
-  pub place : 0o10000 * field_at older + place_at older ≡ cell
+  pub place : FIELD * field_at older + place_at older ≡ cell
   pub operation : Operation
   pub is_operation : word_of operation ≡ 0o1000 * (word / 0o1000)
   pub body : statement.body ≡ Reference operation (nat_eq (word / 0o400 % 2) 1) (Some (record { joint = Add; term = Name name } ∷ []))
@@ -28,5 +29,5 @@ pub record NamesThere (source : Source) (cell word name : ℕ) : Type 0 where
 -- At each memory reference of a tape whose cell has a tag the statement of a text there is a reference by that tag's name.
 abbrev pub NamesTags : List ℕ → List Item → Type 0
 NamesTags text items =
-    (cell word : ℕ) → tape_map items cell ≡ Some word → is_reference (cell % 0o10000) word ≡ true → is_tagged (words_of_tape items) (referred_cell cell word) ≡ true
+    (cell word : ℕ) → tape_map items cell ≡ Some word → is_reference (cell % FIELD) word ≡ true → is_tagged (words_of_tape items) (referred_cell cell word) ≡ true
     → NamesThere (statements (text_of text)) cell word (tag_name (referred_cell cell word))

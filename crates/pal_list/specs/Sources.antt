@@ -1,5 +1,6 @@
 -- The source that says what a tape says.
 use Rattle.std.specs.Prelude.{◌≡◌, ℕ, zero, suc, Option, None, Some, reverse, List, [], ◌∷◌}
+use Rattle.word12.specs.declared.sizes.TheConstants.{CORE}
 use Rattle.pal_lex.specs.Text.{text_of}
 use Rattle.pal_asm.specs.Words.{pairs_of}
 use Rattle.pal_asm.specs.Faults.{fault_of}
@@ -21,9 +22,9 @@ unfoldable pub words_below : List Item → ℕ → List (ℕ × ℕ)
 words_below items zero = []
 words_below items (suc cell) = with_word (tape_map items cell) cell (words_below items cell)
 
--- the words of a tape of 0o100000 cells, the highest cell first
+-- the words of a tape, the highest cell first
 abbrev pub words_of_tape : List Item → List (ℕ × ℕ)
-words_of_tape items = words_below items 0o100000
+words_of_tape items = words_below items CORE
 
 -- A text assembles without a fault to these words with their cells.
 pub record IsReadAs (text : List ℕ) (pairs : List (ℕ × ℕ)) : Type 0 where

@@ -1,5 +1,6 @@
 -- What the parts of a source come to, for private clauses.
 use Rattle.std.specs.Prelude.{◌≡◌, ℕ, ◌<◌, Bool, ◌&&◌, slice_index_or, Option, None, List, false}
+use Rattle.word12.specs.declared.sizes.TheConstants.{CORE}
 use Rattle.bin_tape.specs.Items.{Item, tape_map}
 use Rattle.bin_tape.specs.Tape.{IsTape}
 use Rattle.bin_tape.specs.Pairs.{last_word}
@@ -12,7 +13,7 @@ use Rattle.pal_list.specs.Sources.{words_below, words_of_tape}
 
 -- these are the last words of a tape's cells
 abbrev pub HoldsMap : List Item → List (Option ℕ) → Type 0
-HoldsMap items words = (cell : ℕ) → cell < 0o100000 → slice_index_or words cell None ≡ tape_map items cell
+HoldsMap items words = (cell : ℕ) → cell < CORE → slice_index_or words cell None ≡ tape_map items cell
 
 -- the frames are a tape, and these are the last words of its cells
 pub record IsHeld (frames : List ℕ) (words : List (Option ℕ)) : Type 0 where
@@ -24,7 +25,7 @@ pub record IsHeld (frames : List ℕ) (words : List (Option ℕ)) : Type 0 where
 pub record HoldsRead (reader : Progress) (frames : List ℕ) (words : List (Option ℕ)) : Type 0 where
   pub out : List (ℕ × ℕ)
   pub read : HasRead reader frames out
-  pub cells : (cell : ℕ) → cell < 0o100000 → slice_index_or words cell None ≡ last_word out cell
+  pub cells : (cell : ℕ) → cell < CORE → slice_index_or words cell None ≡ last_word out cell
 
 -- ## Tags
 
@@ -38,4 +39,4 @@ tagged_in tags cell = slice_index_or tags cell false
 
 -- these tell which cells are tagged
 abbrev pub HoldsTags : (ℕ → Bool) → List Bool → Type 0
-HoldsTags tagged tags = (cell : ℕ) → cell < 0o100000 → tagged_in tags cell ≡ tagged cell
+HoldsTags tagged tags = (cell : ℕ) → cell < CORE → tagged_in tags cell ≡ tagged cell

@@ -1,6 +1,7 @@
 //! Laws of the sources of tapes.
 
 ghost use Rattle.std.specs.Prelude.{◌≡◌, ℕ, ◌<◌, ◌++◌, None, length, reverse, List};
+ghost use Rattle.word12.specs.declared.sizes.TheConstants.{CORE};
 ghost use Rattle.bin_tape.specs.Pairs.{ArePairs};
 ghost use Rattle.bin_tape.specs.Writing.{tape_of};
 ghost use Rattle.pal_lex.specs.Text.{text_of};
@@ -53,7 +54,7 @@ pub fn references_are_by_tags()
 
 /// No two cells have the same tag, and no tag is a permanent name.
 pub fn tags_are_names_of_their_own()
-    ensures differ { (a b : ℕ) → a < 0o100000 → b < 0o100000 → tag_name a ≡ tag_name b → a ≡ b }
+    ensures differ { (a b : ℕ) → a < CORE → b < CORE → tag_name a ≡ tag_name b → a ≡ b }
     ensures free { (cell : ℕ) → permanent (tag_name cell) ≡ None }
 {}
 

@@ -1,4 +1,5 @@
 ghost use Rattle.std.specs.Prelude.{◌≡◌, ℕ, ◌/◌, ◌++◌, nat_eq, if◌then◌else◌, OnOk, List, [], ◌∷◌, length};
+ghost use Rattle.word12.specs.declared.sizes.TheConstants.{CORE, FIELD};
 ghost use Rattle.bin_tape.specs.Writing.{field_behind, is_next};
 ghost use Rattle.pal_list.specs.Steps.{tagged_in};
 ghost use Rattle.pal_list.specs.Lines.{line_end, field_line, origin_line, comment, tag_part, word_line, cell_lines};
@@ -16,7 +17,7 @@ pub fn put_cell(
     cell: Cell,
     word: Word,
 ) -> Result<(), AllocError>
-    requires { length tags.now ≡ 0o100000 }
+    requires { length tags.now ≡ CORE }
     ensures { OnOk result (text.new.items ≡ text.old.items
         ++ cell_lines (tagged_in tags.now) before cell word) }
 {
@@ -30,24 +31,14 @@ pub fn put_cell(
 /// Appends a field where it changes.
 fn put_field(text: &mut Vec<u8>, before: Option<Cell>, cell: Cell) -> Result<(), AllocError>
     ensures { OnOk result (text.new.items ≡ text.old.items
-        ++ (if nat_eq (cell / 0o10000) (field_behind before) then [] else field_line cell)) }
+        ++ (if nat_eq (cell / FIELD) (field_behind before) then [] else field_line cell)) }
 {
     let field = cell.field();
     if field == field_behind(before) {
         return Ok(());
     }
-    let line = [
-        b'F',
-        b'I',
-        b'E',
-        b'L',
-        b'D',
-        b' ',
-        b'0' + field,
-        b'\r',
-        b'\n',
-    ];
-    text.extend_from_slice(&line)?;
+    text.extend_from_slice(b"FIELD ")?;
+    text.extend_from_slice(&[b'0' + field, b'\r', b'\n'])?;
     Ok(())
 }
 
@@ -68,7 +59,7 @@ fn put_origin(text: &mut Vec<u8>, before: Option<Cell>, cell: Cell) -> Result<()
 /// Appends the line of a cell's word: its tag, if it has one, its statement, and a comment with the cell and the word in
 /// octal.
 fn put_word(text: &mut Vec<u8>, tags: &[bool], cell: Cell, word: Word) -> Result<(), AllocError>
-    requires { length tags.now ≡ 0o100000 }
+    requires { length tags.now ≡ CORE }
     ensures { OnOk result (text.new.items ≡ text.old.items ++ word_line (tagged_in tags.now) cell word) }
 {
     put_tag(text, tags, cell)?;
@@ -79,7 +70,7 @@ fn put_word(text: &mut Vec<u8>, tags: &[bool], cell: Cell, word: Word) -> Result
 
 /// Appends a cell's tag and a comma, if it has one.
 fn put_tag(text: &mut Vec<u8>, tags: &[bool], cell: Cell) -> Result<(), AllocError>
-    requires { length tags.now ≡ 0o100000 }
+    requires { length tags.now ≡ CORE }
     ensures { OnOk result (text.new.items ≡ text.old.items ++ tag_part (tagged_in tags.now) cell) }
 {
     if tags[cell.index()] {

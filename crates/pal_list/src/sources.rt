@@ -1,4 +1,5 @@
 ghost use Rattle.std.specs.Prelude.{◌≡◌, ℕ, ◌<◌, ◌++◌, ◌∷◌, [], None, Option, List, IfOk, IfErr, OnOk, length, replicate, vec_len, slice_index_or};
+ghost use Rattle.word12.specs.declared.sizes.TheConstants.{CORE};
 ghost use Rattle.bin_tape.specs.Items.{Item};
 ghost use Rattle.bin_tape.specs.Writing.{newest_cell};
 ghost use Rattle.pal_list.specs.Steps.{tagged_in, IsHeld, HoldsMap, HoldsRead};
@@ -8,12 +9,9 @@ ghost use Rattle.pal_list.specs.Sources.{IsSourceOf, IsListFault, with_word, wor
 use crate::ListFault;
 use crate::lines::put_cell;
 use crate::tags::tags_of;
-use bin_tape::{TapeFault, TapeReader};
+use bin_tape::TapeReader;
 use std::alloc::{AllocError, Global};
-use word12::{Cell, Word};
-
-/// The words of core: eight fields of 0o10000.
-const CELLS: usize = 0o100000;
+use word12::{CORE, Cell, Word};
 
 /// The PAL III source of a BIN tape: a line for each cell that the tape gives a word, by rising field and address, with
 /// `FIELD` where the field changes and an origin where a cell isn't the next; at last `$`. Lines end with CR and LF. A cell
@@ -37,18 +35,15 @@ pub fn source_of(alloc: Global, frames: &[u8]) -> Result<Vec<u8>, ListFault>
 
 /// The last word that a tape gives each cell.
 fn words_of(alloc: Global, frames: &[u8]) -> Result<Vec<Option<Word>>, ListFault>
-    ensures size { IfOk result (λ words. vec_len words ≡ 0o100000) }
+    ensures size { IfOk result (λ words. vec_len words ≡ CORE) }
     ensures words { IfOk result (λ words. IsHeld frames.now words.items) }
     ensures fault { IfErr result (λ fault. IsListFault frames.now fault) }
 {
-    let mut words = no_words(alloc, CELLS)?;
+    let mut words = no_words(alloc, CORE)?;
     let mut reader = TapeReader::new();
     take_all(&mut reader, frames, &mut words);
-    match reader.end() {
-        Ok(()) => Ok(words),
-        Err(TapeFault::Memory) => Err(ListFault::Memory),
-        Err(fault) => Err(ListFault::Tape(fault)),
-    }
+    reader.end().map_err(ListFault::Tape)?;
+    Ok(words)
 }
 
 fn no_words(alloc: Global, count: usize) -> Result<Vec<Option<Word>>, AllocError>
@@ -60,7 +55,7 @@ fn no_words(alloc: Global, count: usize) -> Result<Vec<Option<Word>>, AllocError
 
 /// Puts the words that frames bring to a new reader into their cells.
 fn take_all(reader: &mut TapeReader, frames: &[u8], words: &mut [Option<Word>])
-    requires { length words.old ≡ 0o100000 }
+    requires { length words.old ≡ CORE }
     ensures { HoldsRead reader.old [] words.old → HoldsRead reader.new frames.now words.new }
 {
     for frame in frames {
@@ -70,7 +65,7 @@ fn take_all(reader: &mut TapeReader, frames: &[u8], words: &mut [Option<Word>])
 
 /// Puts the word that one more frame brings into its cell.
 fn take(reader: &mut TapeReader, frame: u8, words: &mut [Option<Word>])
-    requires { length words.old ≡ 0o100000 }
+    requires { length words.old ≡ CORE }
     ensures { (frames : List ℕ) → HoldsRead reader.old frames words.old
         → HoldsRead reader.new (frames ++ frame ∷ []) words.new }
 {
@@ -86,14 +81,14 @@ fn take(reader: &mut TapeReader, frame: u8, words: &mut [Option<Word>])
 
 /// The lines of the cells that have a word, by rising cell, where these cells are tagged.
 fn lines_of(alloc: Global, words: &[Option<Word>], tags: &[bool]) -> Result<Vec<u8>, AllocError>
-    requires words { length words.now ≡ 0o100000 }
-    requires size { length tags.now ≡ 0o100000 }
+    requires words { length words.now ≡ CORE }
+    requires size { length tags.now ≡ CORE }
     ensures { IfOk result (λ text. (items : List Item) → HoldsMap items words.now
         → text.items ≡ lines_of (tagged_in tags.now) (words_of_tape items)) }
 {
     let mut text = Vec::new(alloc);
     let mut before = None;
-    for number in 0u32..32768 {
+    for number in 0u32..CORE as u32 {
         let word = words[number as usize];
         before = put_next(&mut text, tags, before, Cell::of(number), word)?;
     }
@@ -108,7 +103,7 @@ fn put_next(
     cell: Cell,
     word: Option<Word>,
 ) -> Result<Option<Cell>, AllocError>
-    requires { length tags.now ≡ 0o100000 }
+    requires { length tags.now ≡ CORE }
     ensures text { (older : List (ℕ × ℕ)) → text.old.items ≡ lines_of (tagged_in tags.now) older
         → before ≡ newest_cell older
         → OnOk result (text.new.items ≡ lines_of (tagged_in tags.now) (with_word word cell older)) }

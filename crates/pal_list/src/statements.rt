@@ -1,4 +1,5 @@
 ghost use Rattle.std.specs.Prelude.{◌≡◌, ℕ, ◌/◌, ◌%◌, ◌++◌, ◌∷◌, [], codes, nat_eq, if◌then◌else◌, length, OnOk};
+ghost use Rattle.word12.specs.declared.sizes.TheConstants.{CORE};
 ghost use Rattle.pal_list.specs.Lines.{led};
 ghost use Rattle.pal_list.specs.Steps.{tagged_in};
 ghost use Rattle.pal_list.specs.Statements.{address, reference, statement};
@@ -19,7 +20,7 @@ pub fn put_statement(
     cell: Cell,
     word: Word,
 ) -> Result<(), AllocError>
-    requires { length tags.now ≡ 0o100000 }
+    requires { length tags.now ≡ CORE }
     ensures { OnOk result (text.new.items ≡ text.old.items
         ++ led 9 (statement (tagged_in tags.now) cell word)) }
 {
@@ -48,7 +49,7 @@ fn put_reference(
     cell: Cell,
     word: Word,
 ) -> Result<(), AllocError>
-    requires { length tags.now ≡ 0o100000 }
+    requires { length tags.now ≡ CORE }
     ensures { OnOk result (text.new.items ≡ text.old.items
         ++ led 9 (reference (tagged_in tags.now) cell word)) }
 {
@@ -71,7 +72,7 @@ fn put_indirection(text: &mut Vec<u8>, word: Word) -> Result<(), AllocError>
 
 /// Appends the cell that a memory reference in a cell names: its tag, where it is tagged, else its address.
 fn put_address(text: &mut Vec<u8>, tags: &[bool], cell: Cell, word: Word) -> Result<(), AllocError>
-    requires { length tags.now ≡ 0o100000 }
+    requires { length tags.now ≡ CORE }
     ensures { OnOk result (text.new.items ≡ text.old.items ++ 0o40 ∷ address (tagged_in tags.now) cell word) }
 {
     let named = referred_cell(cell, word);

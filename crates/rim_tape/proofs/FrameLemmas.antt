@@ -4,7 +4,7 @@ use Rattle.std.proofs.lemmas.List.{take-append-drop, replicate-append-replicate,
 use Rattle.std.proofs.Math.Seq.{take-suc, drop-cons}
 use Rattle.rim_tape.specs.Pairs.{frames_of, spelled, AreOfField0}
 use Rattle.rim_tape.specs.Tape.{IsRim, IsPart, IsOpen}
-use Rattle.rim_tape.specs.Fault.{IsOutOfPlace, Refuses, IsSomeRim}
+use Rattle.rim_tape.specs.Fault.{IsOutOfPlace, RefusesFrame, IsSomeRim}
 use Rattle.rim_tape.specs.ReadSteps.{mark_of, HasBits, HasWord, HasReadTo, HasReadSome, Goes}
 
 -- the frames up to a place, and one more
@@ -42,7 +42,7 @@ out_of_place (p ∷ rest) frame mark is trailer (inr high) = omega (arith, is, h
 
 pub refused : (frames : List ℕ) (place mark : ℕ) (pairs : List (ℕ × ℕ)) (part : List ℕ) → place < length frames
     → IsOpen (take place frames) pairs part → mark ≡ mark_of part → (get_or frames place 0 ≡ 128 → 0 < length part)
-    → (get_or frames place 0 < mark) ⊎ (mark + 64 ≤ get_or frames place 0) → Refuses frames place (get_or frames place 0)
+    → (get_or frames place 0 < mark) ⊎ (mark + 64 ≤ get_or frames place 0) → RefusesFrame frames place (get_or frames place 0)
 refused frames place mark pairs part inside opened is trailer other = record {
   before = take place frames;
   after = drop (suc place) frames;

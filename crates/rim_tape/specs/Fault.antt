@@ -10,7 +10,7 @@ IsOutOfPlace [] frame = (frame < 0o100) ⊎ (0o200 < frame)
 IsOutOfPlace (a ∷ rest) frame = 0o100 ≤ frame
 
 -- Among the frames one is refused: what stands before it is open, and it closes that.
-pub record Refuses (frames : List ℕ) (place frame : ℕ) : Type 0 where
+pub record RefusesFrame (frames : List ℕ) (place frame : ℕ) : Type 0 where
   pub before : List ℕ
   pub after : List ℕ
   pub pairs : List (ℕ × ℕ)
@@ -34,6 +34,6 @@ pub record IsSomeRim (frames : List ℕ) : Type 0 where
 -- The fault of frames that are no tape: that of the first frame which can't come where it does, or that none is the trailer. Memory
 -- runs out only for the words of a tape.
 abbrev pub IsFault : List ℕ → RimFault → Type 0
-IsFault frames (BadFrame place frame) = Refuses frames place frame
+IsFault frames (BadFrame place frame) = RefusesFrame frames place frame
 IsFault frames NoTrailer = EndsOpen frames
 IsFault frames Memory = IsSomeRim frames

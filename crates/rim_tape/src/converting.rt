@@ -4,7 +4,7 @@ ghost use Rattle.rim_tape.specs.Fault.{IsFault};
 
 use crate::{RimFault, read};
 use bin_tape::laws::written_tape;
-use bin_tape::{TapeFault, write_tape};
+use bin_tape::tape_of;
 use std::alloc::Global;
 
 /// The BIN tape of the words of a RIM tape, which gives each cell the last of them there.
@@ -15,9 +15,6 @@ pub fn bin_tape(alloc: Global, frames: &[u8]) -> Result<Vec<u8>, RimFault>
 {
     written_tape();
     let pairs = read(alloc, frames)?;
-    match write_tape(alloc, &pairs) {
-        Ok(bin) => Ok(bin),
-        Err(TapeFault::Memory) => Err(RimFault::Memory),
-        Err(_) => unreachable!(),
-    }
+    let bin = tape_of(alloc, &pairs)?;
+    Ok(bin)
 }

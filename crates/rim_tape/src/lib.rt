@@ -7,6 +7,7 @@
 mod converting;
 mod faults;
 mod frames;
+pub mod laws;
 mod reading;
 
 pub use converting::bin_tape;

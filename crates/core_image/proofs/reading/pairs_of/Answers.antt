@@ -12,7 +12,7 @@ loop-number-preserved c =
           segment_more c.args.words.now c.loop-number.number c.loop-number.block c.blocks-block.result older (c.in_ok-first.first, c.in_ok-first.control)
           c.blocks-block.ensures.value c.blocks-block.ensures.range read (c.in_ok-first.ensures older read (omega (arith, c.requires.count)));
       pairs_are =
-          pairs_more c.args.words.now c.loop-number.block c.at.result c.in_ok-first.first c.in_ok-first.control c.pages-size.result older
-          c.loop-number.pairs.items c.put_words.new.pairs.items read.block_is c.pages-size.ensures.value
+          pairs_more c.args.words.now c.loop-number.block c.at.result c.in_ok-first.first c.in_ok-first.control c.pages.result older
+          c.loop-number.pairs.items c.put_words.new.pairs.items read.block_is c.pages.ensures.value
           (omega (arith, c.at.ensures.number, c.field.ensures.value)) c.loop-number.invariant.pairs_are c.in_ok-put_words.ensures;
     }

@@ -11,8 +11,7 @@ split_at xs i inside = sym (take-append-drop i xs) ∙ ap (λ l. take i xs ++ l)
 
 pub returns-in_err-push : goal.returns-in_err-push
 returns-in_err-push c =
-    let p = err_from_is_err_and c.from_residual.result c.from_residual.ensures.1 in
-    rw (p.1, p.2)
+    let p = err_from_is_err_and c.from_residual.result c.from_residual.ensures.1 in rw (p.1, p.2)
     (load_refused c.args.frames.now (take c.loop-frame.frame-index c.args.frames.now) (drop (suc c.loop-frame.frame-index) c.args.frames.now) _ _ _ _ _
     (split_at c.args.frames.now c.loop-frame.frame-index c.loop-frame-test.true)
     (c.in_err-push.ensures _ c.loop-frame.invariant))

@@ -1,10 +1,9 @@
-use Rattle.std.proofs.Common.{Ok, [], get_or, sym, subst, ◌∙◌, append-nil}
-use Rattle.pal_lex.specs.Text.{text_of}
+use Rattle.std.proofs.Common.{Ok, [], sym, subst, ◌∙◌, append-nil}
+use Rattle.std.proofs.lemmas.Result.{err_from_is_err_and}
 use Rattle.pal_lex.specs.Joins.{join_of}
 use Rattle.pal_lex.specs.Statements.{statements}
 use Rattle.pal_asm.specs.Texts.{texts}
-use Rattle.pal_asm.specs.TextSteps.{MakesSource, BeginsAgain}
-use Rattle.pal_asm.proofs.NameLemmas.{behind_one}
+use Rattle.pal_asm.specs.TextSteps.{BeginsAgain}
 use Rattle.pal_asm.proofs.SourceLemmas.{second_at, joined_is, all_joined, words_made, second_refused}
 use Rattle.pal_asm.proofs.texts.second_pass.Goals as goal
 
@@ -19,23 +18,24 @@ pub loop-rest-preserved : goal.loop-rest-preserved
 loop-rest-preserved c =
     let i = c.loop-rest.invariant in
     let whole = join_of (texts c.args.sources.now) in
-    let at = subst (λ t. MakesSource (statements whole) i.before (text_of (get_or c.loop-rest.rest.now 0 _).now) (texts (behind_one c.loop-rest.rest.now)) (Ok t) c.second_source.new.pass c.second_source.new.pairs.items) c.in-Ok-true.field-0-test
-    (second_at whole i.before c.loop-rest.rest.now _ (Ok c.in-Ok-true.field-0) c.loop-rest.pass c.second_source.new.pass c.loop-rest.pairs.items c.second_source.new.pairs.items c.in-len1-up.len_at_least c.requires.ends i.whole i.begins c.in-Ok-true.ensures) in
+    let at = rw c.if-not-goes_on.false at
+    (second_at whole i.before c.loop-rest.rest.now _ (Ok c.in_ok-goes_on.goes_on) c.loop-rest.pass c.second_source.new.pass c.loop-rest.pairs.items c.second_source.new.pairs.items c.in-len1-up.len_at_least c.requires.ends i.whole i.begins c.in_ok-goes_on.ensures) in
     record { before = at.0; begins = at.1.1; whole = joined_is c.loop-rest.rest.now _ i.before whole c.in-len1-up.len_at_least i.whole ∙ at.1.0 }
 
-pub returns-in-Ok-false-clause-pairs : goal.returns-in-Ok-false-clause-pairs
-returns-in-Ok-false-clause-pairs c =
+pub returns-then-not-goes_on-clause-pairs : goal.returns-then-not-goes_on-clause-pairs
+returns-then-not-goes_on-clause-pairs c =
     let i = c.loop-rest.invariant in
     let whole = join_of (texts c.args.sources.now) in
     words_made whole _ c.second_source.new.pass c.second_source.new.pairs.items (joined_is c.loop-rest.rest.now _ i.before whole c.in-len1-up.len_at_least i.whole)
-    (subst (λ t. MakesSource (statements whole) i.before (text_of (get_or c.loop-rest.rest.now 0 _).now) (texts (behind_one c.loop-rest.rest.now)) (Ok t) c.second_source.new.pass c.second_source.new.pairs.items) c.in-Ok-false.field-0-test
-    (second_at whole i.before c.loop-rest.rest.now _ (Ok c.in-Ok-false.field-0) c.loop-rest.pass c.second_source.new.pass c.loop-rest.pairs.items c.second_source.new.pairs.items c.in-len1-up.len_at_least c.requires.ends i.whole i.begins c.in-Ok-false.ensures))
+    (rw c.if-not-goes_on.true at
+    (second_at whole i.before c.loop-rest.rest.now _ (Ok c.in_ok-goes_on.goes_on) c.loop-rest.pass c.second_source.new.pass c.loop-rest.pairs.items c.second_source.new.pairs.items c.in-len1-up.len_at_least c.requires.ends i.whole i.begins c.in_ok-goes_on.ensures))
 
-pub returns-in-Err-clause-fault : goal.returns-in-Err-clause-fault
-returns-in-Err-clause-fault c =
+pub returns-in_err-goes_on-clause-fault : goal.returns-in_err-goes_on-clause-fault
+returns-in_err-goes_on-clause-fault c =
     let i = c.loop-rest.invariant in
-    second_refused (join_of (texts c.args.sources.now)) i.before c.loop-rest.rest.now _ c.in-Err.fault c.loop-rest.pass c.second_source.new.pass c.loop-rest.pairs.items c.second_source.new.pairs.items
-    c.in-len1-up.len_at_least c.requires.ends i.whole i.begins c.in-Err.ensures
+    let p = err_from_is_err_and c.from_residual.result c.from_residual.ensures.1 in rw (p.1, p.2)
+    (second_refused (join_of (texts c.args.sources.now)) i.before c.loop-rest.rest.now _ _ c.loop-rest.pass c.second_source.new.pass c.loop-rest.pairs.items c.second_source.new.pairs.items
+    c.in-len1-up.len_at_least c.requires.ends i.whole i.begins c.in_err-goes_on.ensures)
 
 pub returns-clause-pairs : goal.returns-clause-pairs
 returns-clause-pairs c =

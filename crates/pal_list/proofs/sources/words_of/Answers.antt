@@ -1,12 +1,13 @@
-use Rattle.std.proofs.Common.{None, ap, ◌∙◌, slice_index_or, arith}
+use Rattle.std.proofs.Common.{None, Ok, Err, ap, ◌∙◌, slice_index_or, arith}
+use Rattle.std.proofs.lemmas.Result.{err_from_is_err_and}
 use Rattle.bin_tape.specs.Pairs.{last_word}
-use Rattle.pal_list.proofs.TapeLemmas.{holds_first, map_words, whole_written}
+use Rattle.pal_list.proofs.TapeLemmas.{holds_first, map_words, whole_written, judged}
 use Rattle.pal_list.proofs.sources.words_of.Goals as goal
 
-pub returns-in-Ok-clause-words : goal.returns-in-Ok-clause-words
-returns-in-Ok-clause-words c =
+pub returns-clause-words : goal.returns-clause-words
+returns-clause-words c =
     let held = c.take_all.ensures (holds_first 32768 c.new-reader.result c.deref_mut.result.now (omega arith) c.new-reader.ensures (c.deref_mut.ensures.value ∙ c.in_ok-words.ensures)) in
-    let whole = c.in-Ok.ensures c.args.frames.now held.out held.read in
+    let whole = judged c.args.frames.now held.out c.end.result (Ok _) c.in_ok-map_err.ensures.cases (c.end.ensures c.args.frames.now held.out held.read) in
     record {
       items = whole.items;
       is_tape = whole.is_tape;
@@ -17,7 +18,8 @@ returns-in-Ok-clause-words c =
           ∙ map_words whole.items cell;
     }
 
-pub returns : goal.returns
-returns c =
+pub returns-in_err-map_err-clause-fault : goal.returns-in_err-map_err-clause-fault
+returns-in_err-map_err-clause-fault c =
     let held = c.take_all.ensures (holds_first 32768 c.new-reader.result c.deref_mut.result.now (omega arith) c.new-reader.ensures (c.deref_mut.ensures.value ∙ c.in_ok-words.ensures)) in
-    record { size = tt; words = tt; fault = c.in-Err.ensures c.args.frames.now held.out held.read }
+    let p = err_from_is_err_and c.from_residual-in_err-map_err.result c.from_residual-in_err-map_err.ensures.1 in
+    rw (p.1, p.2) (judged c.args.frames.now held.out c.end.result (Err _) c.in_err-map_err.ensures.cases (c.end.ensures c.args.frames.now held.out held.read))

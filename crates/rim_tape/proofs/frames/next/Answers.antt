@@ -9,8 +9,7 @@ returns-then-frames-place c = λ pairs read. trailer_ends c.args.frames.now c.ar
 
 pub returns-in_err-address : goal.returns-in_err-address
 returns-in_err-address c = λ pairs read.
-    let p = err_from_is_err_and c.from_residual.result c.from_residual.ensures.1 in
-    rw (p.1, p.2)
+    let p = err_from_is_err_and c.from_residual.result c.from_residual.ensures.1 in rw (p.1, p.2)
     (c.in_err-address.ensures.fault pairs [] read.is_open refl (omega arith)
     (λ is. elim c.else-place-frames.branch [
       | else-place-frames-via-then-place-frames+else-frames-place w ↦ absurd (w.if-frames-place.false is)
@@ -19,8 +18,7 @@ returns-in_err-address c = λ pairs read.
 
 pub returns-in_err-word : goal.returns-in_err-word
 returns-in_err-word c = λ pairs read.
-    let p = err_from_is_err_and c.from_residual-in_err-word.result c.from_residual-in_err-word.ensures.1 in
-    rw (p.1, p.2)
+    let p = err_from_is_err_and c.from_residual-in_err-word.result c.from_residual-in_err-word.ensures.1 in rw (p.1, p.2)
     (c.in_err-word.ensures.fault pairs _
     (address_part c.args.frames.now c.args.place c.in_ok-address.address pairs read.is_open c.in_ok-address.ensures.word)
     refl (omega arith) (λ _. omega arith))

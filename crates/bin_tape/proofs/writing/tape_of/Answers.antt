@@ -2,7 +2,7 @@ use Rattle.std.proofs.Common.{◌<◌, ◌≤◌, arith, ap, ◌∙◌, length, 
 use Rattle.std.proofs.lemmas.List.{take_all}
 use Rattle.bin_tape.specs.Writing.{items_of, tape_of, tape_with}
 use Rattle.bin_tape.proofs.WritingLemmas.{take_one, newest_one, are_pairs_one}
-use Rattle.bin_tape.proofs.writing.write_tape.Goals as goal
+use Rattle.bin_tape.proofs.writing.tape_of.Goals as goal
 
 pub loop-cell-preserved : goal.loop-cell-preserved
 loop-cell-preserved c =
