@@ -62,7 +62,6 @@ rewrite-requires-clause-sound g c =
     let lies : IsBegun d b = subst (λ (x : Listed). IsBegun x b) (ok-same (directory_of old.blocks) c.requires.begun.directory d c.requires.begun.read kept) c.requires.begun.lies in
     let list : c.in_ok-directory.directory ≡ relisted d (placed d.first (new_file d name info b.place b.written) d.entries) = (IfOk-at_ok _ c.in_ok-directory.ensures c.placed-placed.ensures.list) ∙ ap (λ (x : Begun). relisted d (placed d.first (new_file d name info x.place x.written) d.entries)) c.begun.view_is in
     let some : 0 < b.written = omega (arith, c.if-begun-eq0.false, ap (λ (x : Begun). x.written) c.begun.view_is) in
-    let free : IsFree old name = sym c.is_held.ensures ∙ c.if-is_held.false in
     subst (λ (x : Listed). IsDirectory (length old.blocks) x) (sym list) (c.file_placed.ensures.directory (length old.blocks) name b.place b.written info d is (subst IsNamed c.requires.names lies.named) some)
 
 pub returns : goal.returns
