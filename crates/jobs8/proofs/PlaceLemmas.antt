@@ -102,9 +102,6 @@ there_is places place it hold first inside is some = same (sym some ∙ is_there
 
 -- ## One hold more
 
-pub taken_none : (old : Mounted) (places : List (Option ℕ)) → names_of places ≡ [] → HasHeld old places old
-taken_none old places none = record { taken = λ name. omega (arith, ap (λ l. times name l) none); others = refl }
-
 times_set : (places : List (Option ℕ)) (place hold name : ℕ) → place < length places → get_or places place None ≡ None → times name (names_of (slice_set places place (Some hold))) ≡ times name (hold ∷ []) + times name (names_of places)
 times_set [] place hold name inside free = absurd (omega (arith, inside))
 times_set (None ∷ places) zero hold name inside free = omega arith

@@ -42,9 +42,6 @@ words_are m core jobs name words has = ap words_or has.1
 abbrev refusal : JobFault → Answer
 refusal why = Err why
 
-pub file_not_memory : (why : FileFault) → refusal (fault.File why) ≡ Err fault.Memory → ⊥
-file_not_memory why is = cc
-
 others : (old new : Mounted) (reads failed : ℕ) (holds : List ℕ) → new ≡ record old { reads = reads; failed_reads = failed; holds = holds } → new ≡ record old { reads = new.reads; failed_reads = new.failed_reads; holds = holds }
 others old new reads failed holds is = is ∙ ap (λ (m : Mounted). record old { reads = m.reads; failed_reads = m.failed_reads; holds = holds }) (sym is)
 

@@ -1,5 +1,6 @@
 -- How far a job is in the files that it reads.
 use Rattle.std.specs.Prelude.{◌≡◌, ℕ, ◌+◌, ◌*◌, ◌<◌, ◌≤◌, Some, List, ◌++◌, length, take}
+use Rattle.word12.specs.declared.sizes.TheConstants.{BLOCK}
 use Rattle.std.specs.FinMap.{get}
 use Rattle.char_pack.specs.Packing.{frames}
 use Rattle.bin_tape.specs.Items.{Item}
@@ -30,7 +31,7 @@ HasWords files name words = (info : List ℕ) × (get files name ≡ Some (info,
 -- A job that loads a file of these words stands so with so many turns left: it has read the beginning of the file, and it has
 -- found it to be a tape where one turn is left.
 pub record IsLoading (words : List ℕ) (job : Loading) (left : ℕ) : Type 0 where
-  pub whole : 256 * blocks_in words ≡ length words
+  pub whole : BLOCK * blocks_in words ≡ length words
   pub turns : job.done + left ≡ loading_turns (blocks_in words)
   pub more : 1 ≤ left
   pub offset : job.offset < 384

@@ -1,5 +1,6 @@
 -- What the small steps of a turn come to, for private clauses.
 use Rattle.std.specs.Prelude.{◌≡◌, ◌≤◌, ◌<◌, ◌⊎◌, ℕ, ◌+◌, ◌-◌, false, true, Bool, Option, Some, None, Result, Ok, Err, List, [], ◌∷◌, ◌++◌, take, ◌*◌, length, slice_set}
+use Rattle.word12.specs.declared.sizes.TheConstants.{BLOCK, MOST_BLOCKS}
 use Rattle.std.specs.FinMap.{get}
 use Rattle.os8_dir.specs.Files.{files_of, above_of, Files, FileData}
 use Rattle.os8_files.specs.Holds.{with_hold, without_hold, times}
@@ -123,15 +124,15 @@ pub record HoldsFirst (files : Files) (names : List ℕ) (places : List (Option 
   pub whole : AreFiles (words_in files names)
   pub each : blocks ≡ blocks_of_each (words_in files names)
   pub sum : total ≡ blocks_among (words_in files names)
-  pub most : total ≤ 4095 * length names
+  pub most : total ≤ MOST_BLOCKS * length names
 
 -- a file is held at a place, which was empty, and its blocks are counted
 pub record HoldsNext (files : Files) (name : ℕ) (old : List (Option ℕ)) (place : ℕ) (before : List ℕ) (count : ℕ) (new : List (Option ℕ)) (after : List ℕ) : Type 0 where
   pub file : FileData
   pub there : get files name ≡ Some file
-  pub whole : 256 * blocks_in file.1 ≡ length file.1
+  pub whole : BLOCK * blocks_in file.1 ≡ length file.1
   pub some : 0 < blocks_in file.1
-  pub most : blocks_in file.1 ≤ 4095
+  pub most : blocks_in file.1 ≤ MOST_BLOCKS
   pub counts : count ≡ blocks_in file.1
   pub places : new ≡ slice_set old place (Some name)
   pub blocks : after ≡ before ++ count ∷ []

@@ -11,6 +11,7 @@ use os8_files::laws::{counted_holds, failed_writes, kept_holds};
 use os8_files::{FileFault, FileService};
 use std::alloc::Global;
 use volume_image::BlockStore;
+use word12::BLOCK;
 
 /// A turn of a job that assembles, with so many turns left. It answers, and hands the job back where it isn't at its end. Each
 /// turn but the last reads a block by one read, and ends the job where the blocks so far show a fault (this project's profile).
@@ -75,7 +76,7 @@ fn target_turn<S: BlockStore>(
         Ok(words) => match files.put(alloc, job.to, &words) {
             Ok(()) => {
                 let name = job.to;
-                let blocks = words.len() / 256;
+                let blocks = words.len() / BLOCK;
                 job.let_go(files);
                 (Ok(Turned::Assembled { name, blocks }), None)
             }

@@ -14,7 +14,7 @@ use os8_files::{FileFault, FileService};
 use pal_blocks::{Assembling, Due};
 use std::alloc::Global;
 use volume_image::BlockStore;
-use word12::Word;
+use word12::{BLOCK, Word};
 
 /// What a job that assembles keeps between its turns.
 pub struct Assembly {
@@ -87,14 +87,10 @@ impl Assembly {
             block: number,
         } = self.assembling.due();
         let name = name_at(&self.holds, source);
-        let mut block = [Word::ZERO; 256];
-        match files.read_block(&name, number, &mut block) {
-            Err(fault) => Err(JobFault::from(fault)),
-            Ok(()) => match self.assembling.take(alloc, &block) {
-                Ok(()) => Ok(()),
-                Err(fault) => Err(JobFault::from(fault)),
-            },
-        }
+        let mut block = [Word::ZERO; BLOCK];
+        files.read_block(&name, number, &mut block)?;
+        self.assembling.take(alloc, &block)?;
+        Ok(())
     }
 
     /// Ends the job: its sources are held once less each.

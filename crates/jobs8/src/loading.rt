@@ -1,5 +1,6 @@
 //! A job that loads, a block a turn.
 ghost use Rattle.std.specs.Prelude.{◌≡◌, ◌+◌, ◌<◌, ◌≤◌, ◌++◌, ℕ, List, length, take, nat_eq, false, IsErrOf};
+ghost use Rattle.word12.specs.declared.sizes.TheConstants.{BLOCK};
 ghost use Rattle.char_pack.specs.Packing.{frames};
 ghost use Rattle.core_load.specs.Load.{IsLoaded};
 ghost use Rattle.os8_dir.specs.Files.{files_of};
@@ -20,7 +21,7 @@ use os8_dir::Name;
 use os8_files::{FileFault, FileService, Hold};
 use std::alloc::Global;
 use volume_image::BlockStore;
-use word12::Word;
+use word12::{BLOCK, Word};
 
 /// The frames of a block.
 const BLOCK_FRAMES: usize = 384;
@@ -79,11 +80,9 @@ impl Loading {
         ensures memory { IsErrOf result fault.Memory → self.new.done ≡ self.old.done }
     {
         let name = self.hold.name();
-        let mut block = [Word::ZERO; 256];
-        match files.read_block(&name, self.done, &mut block) {
-            Ok(()) => self.take_block(&block, left == 2),
-            Err(fault) => Err(JobFault::from(fault)),
-        }
+        let mut block = [Word::ZERO; BLOCK];
+        files.read_block(&name, self.done, &mut block)?;
+        self.take_block(&block, left == 2)
     }
 
     /// The last turn: the tape is laid over core, and the file is held once less.
@@ -118,7 +117,7 @@ impl Loading {
 
     /// Takes the next block of the file, where it is the last or not.
     fn take_block(&mut self, block: &[Word], last: bool) -> Result<(), JobFault>
-        requires block { length block.now ≡ 256 }
+        requires block { length block.now ≡ BLOCK }
         requires offset { self.old.offset ≤ 384 }
         requires done { self.old.done < 18446744073709551615 }
         ensures block { (words : List ℕ) (left : ℕ) → IsLoading words self.old left
@@ -130,17 +129,13 @@ impl Loading {
     {
         no_fault();
         one_fault();
-        match take_frames(&mut self.loader, block, &mut self.offset) {
-            Ok(()) => {
-                self.offset = 0;
-                self.done += 1;
-                if last {
-                    return self.end();
-                }
-                Ok(())
-            }
-            Err(fault) => Err(JobFault::from(fault)),
+        take_frames(&mut self.loader, block, &mut self.offset)?;
+        self.offset = 0;
+        self.done += 1;
+        if last {
+            return self.end();
         }
+        Ok(())
     }
 
     /// Whether the whole file is a tape.
@@ -207,17 +202,15 @@ pub(crate) fn loading_turn<S: BlockStore>(
 
 /// Takes the frames of a block from an offset on. Where memory runs out the offset tells how many were taken.
 fn take_frames(loader: &mut Loader, block: &[Word], offset: &mut usize) -> Result<(), TapeFault>
-    requires block { length block.now ≡ 256 }
+    requires block { length block.now ≡ BLOCK }
     requires offset { offset.old ≤ 384 }
     ensures takes { (before : List ℕ) → HasTaken loader.old (before ++ take offset.old (frames block.now))
         → TakesFrames before block.now result loader.new offset.new }
     ensures range { offset.new ≤ 384 }
 {
     while *offset < BLOCK_FRAMES {
-        match loader.push(frame_at(block, *offset)) {
-            Ok(()) => *offset += 1,
-            Err(fault) => return Err(fault),
-        }
+        loader.push(frame_at(block, *offset))?;
+        *offset += 1;
     }
     Ok(())
 }

@@ -37,10 +37,8 @@ pub(crate) fn hold_all<S: BlockStore>(
 {
     let mut total = 0;
     for place in 0..names.len() {
-        match hold_next(files, names[place], places, place, blocks) {
-            Ok(count) => total += count,
-            Err(fault) => return Err(fault),
-        }
+        let count = hold_next(files, names[place], places, place, blocks)?;
+        total += count;
     }
     Ok(total)
 }
@@ -63,16 +61,12 @@ fn hold_next<S: BlockStore>(
     ensures size { length places.new ≡ length places.old }
 {
     counted_holds();
-    match files.hold(&name) {
-        Err(fault) => Err(JobFault::from(fault)),
-        Ok(hold) => {
-            put_hold(places, place, hold);
-            let count = files.lookup(&name).unwrap_or(0);
-            blocks.reserve(1)?;
-            blocks.push_reserved(count);
-            Ok(count)
-        }
-    }
+    let hold = files.hold(&name)?;
+    put_hold(places, place, hold);
+    let count = files.lookup(&name).unwrap_or(0);
+    blocks.reserve(1)?;
+    blocks.push_reserved(count);
+    Ok(count)
 }
 
 fn put_hold(places: &mut [Option<Hold>], place: usize, hold: Hold)

@@ -52,14 +52,12 @@ impl Jobs {
         }
         match self.free_place() {
             None => Err(JobFault::TooManyJobs),
-            Some(place) => match Assembly::begin(alloc, files, to, from) {
-                Err(fault) => Err(fault),
-                Ok((assembly, left)) => {
-                    let work = Work::Assembling(assembly);
-                    self.put(place, Some(Job { work, left }));
-                    Ok(place as u32 + 1)
-                }
-            },
+            Some(place) => {
+                let (assembly, left) = Assembly::begin(alloc, files, to, from)?;
+                let work = Work::Assembling(assembly);
+                self.put(place, Some(Job { work, left }));
+                Ok(place as u32 + 1)
+            }
         }
     }
 
@@ -81,14 +79,12 @@ impl Jobs {
         }
         match self.free_place() {
             None => Err(JobFault::TooManyJobs),
-            Some(place) => match Loading::begin(alloc, files, name) {
-                Err(fault) => Err(JobFault::from(fault)),
-                Ok((loading, left)) => {
-                    let work = Work::Loading(loading);
-                    self.put(place, Some(Job { work, left }));
-                    Ok(place as u32 + 1)
-                }
-            },
+            Some(place) => {
+                let (loading, left) = Loading::begin(alloc, files, name)?;
+                let work = Work::Loading(loading);
+                self.put(place, Some(Job { work, left }));
+                Ok(place as u32 + 1)
+            }
         }
     }
 

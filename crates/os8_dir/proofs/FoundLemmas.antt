@@ -1,35 +1,15 @@
 -- Lists of entries, an entry at a time.
-use Rattle.std.proofs.Common.{◌≡◌, ℕ, zero, suc, ◌+◌, ◌<◌, ◌≤◌, Bool, true, false, cond, eqb, ltb, List, [], ◌∷◌, length, Option, Some, None, refl, ap, sym, ◌∙◌, arith, add-zero, inl, inr, ne_eqb}
+use Rattle.std.proofs.Common.{◌≡◌, ℕ, zero, suc, ◌+◌, ◌≤◌, Bool, true, false, cond, eqb, ltb, List, [], ◌∷◌, length, Option, Some, None, refl, ap, sym, ◌∙◌, arith, inl, inr, ne_eqb}
 use Rattle.std.proofs.Common.{max}
 use Rattle.std.proofs.Math.Nat.{max-zero, zero-max}
 use Rattle.std.proofs.lemmas.Bool.{lt-ltb, le-ltb, ltb-true, ltb-false}
 use Rattle.std.proofs.lemmas.Bool.Decides.{leb_tells}
 use Rattle.os8_dir.specs.declared.entries.DirEntry.{DirEntry}
 use Rattle.os8_dir.specs.declared.entries.DirEntry.TheVariants.{File, Empty}
-use Rattle.os8_dir.specs.Entries.{contains, size_of, total, names_of}
-use Rattle.os8_dir.specs.Found.{files_at, find, extent_of, rooms_at, largest, larger, size_or_zero, room_of, free_blocks, used_blocks}
-use Rattle.os8_dir.specs.Changes.{gap_below, swapped, lowest_above, fitting, smaller, smallest}
-use Rattle.os8_dir.specs.Steps.{is_named, is_gap, beats, better, best, or_better, with_room}
-
-pub contains-names_of-named : (name : ℕ) (e : DirEntry) (es : List DirEntry) → is_named name e ≡ true → contains (names_of (e ∷ es)) name ≡ true
-contains-names_of-named name (File other info zero) es named = cc
-contains-names_of-named name (File other info (suc n)) es named = rw named
-contains-names_of-named name (Empty size) es named = cc
-
-pub contains-names_of-other : (name : ℕ) (e : DirEntry) (es : List DirEntry) → is_named name e ≡ false → contains (names_of (e ∷ es)) name ≡ contains (names_of es) name
-contains-names_of-other name (File other info zero) es other_name = refl
-contains-names_of-other name (File other info (suc n)) es other_name = rw other_name
-contains-names_of-other name (Empty size) es other_name = refl
-
-pub find-named : (name place : ℕ) (e : DirEntry) (es : List DirEntry) → is_named name e ≡ true → extent_of (find name (files_at place (e ∷ es))) ≡ Some (place, size_of e)
-find-named name place (File other info zero) es named = cc
-find-named name place (File other info (suc n)) es named = rw named
-find-named name place (Empty size) es named = cc
-
-pub find-other : (name place : ℕ) (e : DirEntry) (es : List DirEntry) → is_named name e ≡ false → extent_of (find name (files_at place (e ∷ es))) ≡ extent_of (find name (files_at (place + size_of e) es))
-find-other name place (File other info zero) es other_name = rw add-zero
-find-other name place (File other info (suc n)) es other_name = rw other_name
-find-other name place (Empty size) es other_name = refl
+use Rattle.os8_dir.specs.Entries.{size_of, total}
+use Rattle.os8_dir.specs.Found.{files_at, rooms_at, largest, larger, size_or_zero, room_of, free_blocks, used_blocks}
+use Rattle.os8_dir.specs.Changes.{gap_below, lowest_above, fitting, smaller, smallest}
+use Rattle.os8_dir.specs.Steps.{beats, better, best, or_better, with_room}
 
 -- the blocks of the largest empty
 abbrev pub largest_size : List DirEntry → ℕ
@@ -57,38 +37,6 @@ used_blocks-free place (Empty size ∷ es) = omega (arith, used_blocks-free (pla
 abbrev pub lowest_with : ℕ → List DirEntry → Option (ℕ × ℕ)
 lowest_with zero es = lowest_above es
 lowest_with (suc below) es = lowest_above (Empty (suc below) ∷ es)
-
-pub lowest-file_none : (name : ℕ) (info : List ℕ) (size : ℕ) (es : List DirEntry) → lowest_with 0 (File name info size ∷ es) ≡ lowest_with 0 es
-lowest-file_none name info size es = refl
-
-pub lowest-file : (below name : ℕ) (info : List ℕ) (size : ℕ) (es : List DirEntry) → 0 < below → lowest_with below (File name info size ∷ es) ≡ Some (name, below)
-lowest-file zero name info size es some = absurd (omega arith)
-lowest-file (suc below) name info size es some = refl
-
-pub lowest-empty : (below size : ℕ) (es : List DirEntry) → 0 < size → lowest_with below (Empty size ∷ es) ≡ lowest_with size es
-lowest-empty below zero es some = absurd (omega arith)
-lowest-empty zero (suc size) es some = refl
-lowest-empty (suc below) (suc size) es some = refl
-
-pub lowest-end : (below : ℕ) → lowest_with below [] ≡ None
-lowest-end zero = refl
-lowest-end (suc below) = refl
-
--- Pairs of entries.
-pub swapped-other : (name : ℕ) (a b : DirEntry) (es : List DirEntry) → is_gap name a b ≡ false → swapped name (a ∷ b ∷ es) ≡ a ∷ swapped name (b ∷ es)
-swapped-other name (File other info size) b es none = refl
-swapped-other name (Empty gap) (Empty size) es none = refl
-swapped-other name (Empty gap) (File other info size) es none = rw none refl
-
-pub gap_below-other : (name : ℕ) (a b : DirEntry) (es : List DirEntry) → is_gap name a b ≡ false → gap_below name (a ∷ b ∷ es) ≡ gap_below name (b ∷ es)
-gap_below-other name (File other info size) b es none = refl
-gap_below-other name (Empty gap) (Empty size) es none = refl
-gap_below-other name (Empty gap) (File other info size) es none = rw none refl
-
-pub swapped-pair : (name : ℕ) (a b : DirEntry) (es : List DirEntry) → is_gap name a b ≡ true → swapped name (a ∷ b ∷ es) ≡ b ∷ a ∷ es
-swapped-pair name (File other info size) b es pair = cc
-swapped-pair name (Empty gap) (Empty size) es pair = cc
-swapped-pair name (Empty gap) (File other info size) es pair = rw pair refl
 
 pub gap_below-short : (name : ℕ) (es : List DirEntry) → length es ≤ 1 → gap_below name es ≡ 0
 gap_below-short name [] short = refl

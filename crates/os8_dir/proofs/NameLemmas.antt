@@ -85,9 +85,6 @@ pub parsed_name-joined : (text : List ℕ) → parsed_name text ≡ joined_name 
 parsed_name-joined text = rw (take-before_dot text, extension_from-drop text) (spelled-joined _ _)
 
 -- place values
-pub place-more : (n : ℕ) → 64 ^ suc n ≡ 64 ^ n * 64
-place-more n = pow-suc 64 n
-
 pub place-fits : (n : ℕ) → n ≤ 5 → 64 ^ n ≤ 1073741824
 place-fits zero small = lit≤ tt
 place-fits (suc zero) small = lit≤ tt

@@ -6,7 +6,7 @@ use Rattle.os8_dir.specs.declared.faults.DirFault.{DirFault}
 use Rattle.os8_dir.specs.declared.faults.DirFault.TheVariants.{BadLink, BadCount, EntryPastSegment, PastVolume, SameName, WrongFirstBlock, MixedInfo, Device, Memory}
 use Rattle.os8_dir.specs.Names.{padded}
 use Rattle.os8_dir.specs.Entries.{Listed, minus, size_of, end_of, names_of, tidy}
-use Rattle.os8_dir.specs.Reading.{word, entry_at, is_new, with_entry, with_entries, with_segment, head_of, MeetsFault, is_device, with_links, block, is_unread, directory_of}
+use Rattle.os8_dir.specs.Reading.{word, entry_at, is_new, with_entry, with_entries, with_segment, head_of, MeetsFault, with_links, block, is_unread, directory_of}
 use Rattle.os8_dir.specs.Steps.{FindsFault}
 
 -- one more word
@@ -49,18 +49,6 @@ meets-whole WrongFirstBlock read whole met up = up met
 meets-whole MixedInfo read whole met up = up met
 meets-whole Device read whole met up = tt
 meets-whole Memory read whole met up = tt
-
--- a step that reads no block does not answer that the device failed
-pub finds-device : (X : Type 0) {Y : Type 0} (fault : DirFault) (read : Result Y DirFault) → FindsFault fault read → is_device {X = X} (Err fault) ≡ false
-finds-device X (BadLink number) read found = refl
-finds-device X (BadCount number) read found = refl
-finds-device X EntryPastSegment read found = refl
-finds-device X PastVolume read found = refl
-finds-device X SameName read found = refl
-finds-device X WrongFirstBlock read found = refl
-finds-device X MixedInfo read found = refl
-finds-device X Device read found = absurd found
-finds-device X Memory read found = refl
 
 -- One more entry.
 pub with_entry-past : (volume : ℕ) (d : Listed) (e : DirEntry) → volume < end_of d + size_of e → with_entry volume d e ≡ Err PastVolume

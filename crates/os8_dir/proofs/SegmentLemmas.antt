@@ -1,7 +1,6 @@
 -- The words of segments as they are written, and as they are read back.
 use Rattle.std.proofs.Common.{◌≡◌, ℕ, zero, suc, ◌+◌, ◌-◌, ◌*◌, ◌<◌, ◌≤◌, List, [], ◌∷◌, ◌++◌, length, take, drop, get_or, set, refl, ap, sym, ◌∙◌, arith, add-zero, add-one, append_assoc, drop-cons}
 use Rattle.std.proofs.Common.{min}
-use Rattle.std.proofs.Math.ListN.{length-set}
 use Rattle.std.proofs.Math.Nat.{mul-le-mul_right, div-mul-le_self, zero-min}
 use Rattle.os8_dir.specs.declared.entries.DirEntry.{DirEntry}
 use Rattle.os8_dir.specs.declared.entries.DirEntry.TheVariants.{File, Empty}
@@ -13,10 +12,6 @@ use Rattle.os8_dir.specs.Steps.{written}
 use Rattle.os8_dir.proofs.LawLemmas.{append-nil}
 
 -- Words written over others.
-pub length-written : (segment : List ℕ) (at : ℕ) (words : List ℕ) → length (written segment at words) ≡ length segment
-length-written segment at [] = refl
-length-written segment at (w ∷ words) = length-written (set segment at w) (at + 1) words ∙ length-set segment at w
-
 pub written-append : (segment : List ℕ) (at : ℕ) (words more : List ℕ) → written segment at (words ++ more) ≡ written (written segment at words) (at + length words) more
 written-append segment at [] more = rw add-zero refl
 written-append segment at (w ∷ words) more =

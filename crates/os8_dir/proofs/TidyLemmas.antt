@@ -1,6 +1,5 @@
 -- Tidy lists of entries.
-use Rattle.std.proofs.Common.{◌≡◌, ℕ, zero, suc, ◌+◌, ◌<◌, ◌≤◌, Bool, true, false, cond, List, [], ◌∷◌, ◌++◌, length, refl, ap, sym, ◌∙◌, arith, append_assoc, subst, ◌-◌, take, get_or}
-use Rattle.std.specs.Bool.{OnTrue}
+use Rattle.std.proofs.Common.{◌≡◌, ℕ, zero, suc, ◌+◌, ◌<◌, ◌≤◌, List, [], ◌∷◌, ◌++◌, length, refl, ap, sym, ◌∙◌, arith, append_assoc, subst, ◌-◌, take, get_or}
 use Rattle.os8_dir.specs.Found.{room_of}
 use Rattle.os8_dir.specs.Steps.{last_room}
 use Rattle.os8_dir.specs.declared.entries.DirEntry.{DirEntry}
@@ -92,11 +91,11 @@ empties-behind size more (File other words length) apart = tt
 empties-behind size more (Empty length) apart = apart
 
 -- an entry of length 0 behind a tidy list
-pub tidy-file_zero : (es : List DirEntry) (name : ℕ) (info : List ℕ) → IsTidy es → tidy (es ++ File name info 0 ∷ []) ≡ es
-tidy-file_zero es name info neat = tidy-behind es [] (File name info 0 ∷ []) [] (neat-nil es neat) refl (λ x apart. apart) ∙ append-nil es
-
-pub tidy-empty_zero : (es : List DirEntry) → IsTidy es → tidy (es ++ Empty 0 ∷ []) ≡ es
-tidy-empty_zero es neat = tidy-behind es [] (Empty 0 ∷ []) [] (neat-nil es neat) refl (λ x apart. apart) ∙ append-nil es
+pub tidy-none : (es : List DirEntry) (e : DirEntry) → size_of e ≡ 0 → IsTidy es → tidy (es ++ e ∷ []) ≡ es
+tidy-none es (File name info zero) none neat = tidy-behind es [] (File name info 0 ∷ []) [] (neat-nil es neat) refl (λ x apart. apart) ∙ append-nil es
+tidy-none es (Empty zero) none neat = tidy-behind es [] (Empty 0 ∷ []) [] (neat-nil es neat) refl (λ x apart. apart) ∙ append-nil es
+tidy-none es (File name info (suc size)) none neat = absurd (omega (arith, none))
+tidy-none es (Empty (suc size)) none neat = absurd (omega (arith, none))
 
 -- a file behind a tidy list
 pub tidy-file : (es : List DirEntry) (name : ℕ) (info : List ℕ) (size : ℕ) → 0 < size → IsTidy es → tidy (es ++ File name info size ∷ []) ≡ es ++ File name info size ∷ []
@@ -184,21 +183,12 @@ last_room-total [] = omega arith
 last_room-total (e ∷ []) = omega (arith, room-le-size e)
 last_room-total (e ∷ f ∷ es) = omega (arith, last_room-total (f ∷ es))
 
--- what stands where there was memory
-pub on_true-if : (b : Bool) (new added old wanted : List DirEntry) → new ≡ cond b added old → added ≡ wanted → OnTrue b (new ≡ wanted)
-on_true-if true new added old wanted is same = is ∙ same
-on_true-if false new added old wanted is same = tt
-
 pub last_room-at : (es : List DirEntry) (d : DirEntry) → 0 < length es → last_room es ≡ room_of (get_or es (length es - 1) d)
 last_room-at [] d some = absurd (omega arith)
 last_room-at (e ∷ []) d some = refl
 last_room-at (e ∷ f ∷ es) d some =
     let more : length (e ∷ f ∷ es) - 1 ≡ suc (length (f ∷ es) - 1) = omega arith in
     rw more (last_room-at (f ∷ es) d (omega arith))
-
-pub on_true-same : (b : Bool) (new wanted : List DirEntry) → new ≡ wanted → OnTrue b (new ≡ wanted)
-on_true-same true new wanted same = same
-on_true-same false new wanted same = tt
 
 -- Tidy lists as they stand, and their prefixes.
 pub tidy-same : (es : List DirEntry) → IsTidy es → tidy es ≡ es

@@ -1,5 +1,6 @@
 -- What is found in a list of entries (OS/8 Software Support Manual: entries stand in order of their blocks).
 use Rattle.std.specs.Prelude.{◌≡◌, ℕ, suc, ◌+◌, ◌*◌, ◌/◌, ◌==◌, ◌<◌, ◌≤◌, nat_lt, if◌then◌else◌, List, [], ◌∷◌, Option, Some, None}
+use Rattle.word12.specs.declared.sizes.TheConstants.{FIRST_FILE_BLOCK}
 use Rattle.os8_dir.specs.declared.entries.DirEntry.{DirEntry}
 use Rattle.os8_dir.specs.declared.entries.DirEntry.TheVariants.{File, Empty}
 use Rattle.os8_dir.specs.Entries.{Listed, is_zero, total, names_of, AreDistinct, IsTidy, AreWritable}
@@ -100,7 +101,7 @@ AreApart from bound (f ∷ fs) = (from ≤ f.place) × (0 < f.size) × AreApart 
 
 -- a directory of a volume of so many blocks
 pub record IsDirectory (volume : ℕ) (d : Listed) : Type 0 where
-  pub starts : 7 ≤ d.first
+  pub starts : FIRST_FILE_BLOCK ≤ d.first
   pub few : d.info ≤ 10
   pub inside : d.first + total d.entries ≤ volume
   pub neat : IsTidy d.entries

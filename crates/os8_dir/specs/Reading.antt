@@ -1,6 +1,7 @@
 -- How the blocks of a volume are read as a directory, with the first fault (OS/8 Software Support Manual; the order of
 -- the faults is this project's profile).
 use Rattle.std.specs.Prelude.{◌≡◌, ℕ, zero, suc, ◌+◌, ◌==◌, Bool, true, false, not, ◌&&◌, ◌||◌, nat_lt, if◌then◌else◌, List, [], ◌∷◌, ◌++◌, length, take, drop, slice_index_or, Result, Ok, Err, is_ok}
+use Rattle.word12.specs.declared.sizes.TheConstants.{FIRST_FILE_BLOCK}
 use Rattle.os8_dir.specs.declared.entries.DirEntry.{DirEntry}
 use Rattle.os8_dir.specs.declared.entries.DirEntry.TheVariants.{File, Empty}
 use Rattle.os8_dir.specs.declared.faults.DirFault.{DirFault}
@@ -76,7 +77,7 @@ with_segment volume d number words = do
 
 -- the block number of a segment that was not read yet
 abbrev pub is_unread : List ℕ → ℕ → Bool
-is_unread read number = nat_lt number 7 && not (contains read number)
+is_unread read number = nat_lt number FIRST_FILE_BLOCK && not (contains read number)
 
 -- the segments from a link on, of which `left` may still come; the link stands in block `from`
 unfoldable pub with_links : ℕ → Listed → List (List ℕ) → List ℕ → ℕ → ℕ → Result Listed DirFault
@@ -89,7 +90,7 @@ with_links (suc left) d blocks read from (suc n) = do
 
 -- where the directory's first block may be
 abbrev pub is_first : ℕ → ℕ → Bool
-is_first volume first = not (nat_lt first 7) && not (nat_lt volume first)
+is_first volume first = not (nat_lt first FIRST_FILE_BLOCK) && not (nat_lt volume first)
 
 -- what the first segment says of the whole directory
 unfoldable pub head_of : ℕ → List ℕ → Result Listed DirFault

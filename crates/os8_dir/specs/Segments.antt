@@ -1,6 +1,7 @@
 -- The words of the segments that a directory is written to (OS/8 Software Support Manual; how entries are shared out
 -- among segments is this project's profile).
 use Rattle.std.specs.Prelude.{◌≡◌, ℕ, ◌+◌, ◌-◌, ◌*◌, ◌/◌, ◌<◌, nat_lt, if◌then◌else◌, List, [], ◌∷◌, ◌++◌, length, take, drop}
+use Rattle.word12.specs.declared.sizes.TheConstants.{BLOCK}
 use Rattle.os8_dir.specs.declared.entries.DirEntry.{DirEntry}
 use Rattle.os8_dir.specs.declared.entries.DirEntry.TheVariants.{File, Empty}
 use Rattle.os8_dir.specs.Names.{words_of_name, padded}
@@ -21,7 +22,7 @@ words_of_entries info (e ∷ es) = words_of_entry info e ++ words_of_entries inf
 -- the words of a segment: how many entries, where the first begins, the block of the next segment or 0, the flag word,
 -- how many information words, the entries, and zeros behind
 unfoldable pub words_of_segment : ℕ → ℕ → ℕ → List DirEntry → List ℕ
-words_of_segment first info link es = padded 256 (minus (length es) ∷ first ∷ link ∷ 0 ∷ minus info ∷ words_of_entries info es)
+words_of_segment first info link es = padded BLOCK (minus (length es) ∷ first ∷ link ∷ 0 ∷ minus info ∷ words_of_entries info es)
 
 -- how many segments the entries take; no entry takes one too
 abbrev pub segment_count : Listed → ℕ

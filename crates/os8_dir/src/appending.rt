@@ -1,5 +1,5 @@
-ghost use Rattle.std.specs.Prelude.{◌≡◌, ℕ, ◌+◌, ◌<◌, ◌≤◌, [], ◌∷◌, ◌++◌};
-ghost use Rattle.std.specs.Bool.{OnTrue};
+ghost use Rattle.std.specs.Prelude.{◌≡◌, ◌+◌, ◌<◌, ◌≤◌, [], ◌∷◌, ◌++◌, OnOk};
+ghost use Rattle.word12.specs.declared.sizes.TheConstants.{MOST_BLOCKS};
 ghost use Rattle.os8_dir.specs.Entries.{contains, names_of, total, tidy, size_of, IsTidy};
 ghost use Rattle.os8_dir.specs.Reading.{is_new as is_new_in};
 ghost use Rattle.os8_dir.specs.declared.entries.DirEntry.TheVariants.{Empty};
@@ -7,14 +7,17 @@ ghost use Rattle.os8_dir.specs.declared.entries.DirEntry.TheVariants.{Empty};
 use crate::DirEntry;
 use crate::found::last_room;
 use crate::items::{drop_last, push_item};
+use std::alloc::AllocError;
 
-/// Adds blocks of no file behind the others, and says whether there was memory for the entry.
-fn append_room(entries: &mut Vec<DirEntry>, length: usize) -> bool
+/// Adds blocks of no file behind the others; none are nothing.
+fn append_room(entries: &mut Vec<DirEntry>, length: usize) -> Result<(), AllocError>
     requires neat { IsTidy entries.old.items }
-    requires positive { 0 < length }
-    requires fits { total entries.old.items + length ≤ 4095 }
-    ensures { OnTrue result (entries.new.items ≡ tidy (entries.old.items ++ Empty length ∷ [])) }
+    requires fits { total entries.old.items + length ≤ MOST_BLOCKS }
+    ensures { OnOk result (entries.new.items ≡ tidy (entries.old.items ++ Empty length ∷ [])) }
 {
+    if length == 0 {
+        return Ok(());
+    }
     let before = last_room(entries.as_slice());
     let joined = before + length;
     if before > 0 {
@@ -24,29 +27,31 @@ fn append_room(entries: &mut Vec<DirEntry>, length: usize) -> bool
     push_item(entries, DirEntry::Empty { length })
 }
 
-/// Adds an entry behind the others, and says whether there was memory for it. One of length 0 is nothing, and empties
-/// that touch are one.
-pub fn append(entries: &mut Vec<DirEntry>, entry: DirEntry) -> bool
+/// Adds an entry behind the others. One of length 0 is nothing, and empties that touch are one.
+pub fn append(entries: &mut Vec<DirEntry>, entry: DirEntry) -> Result<(), AllocError>
     requires neat { IsTidy entries.old.items }
-    requires fits { total entries.old.items + size_of entry ≤ 4095 }
-    ensures { OnTrue result (entries.new.items ≡ tidy (entries.old.items ++ entry ∷ [])) }
+    requires fits { total entries.old.items + size_of entry ≤ MOST_BLOCKS }
+    ensures { OnOk result (entries.new.items ≡ tidy (entries.old.items ++ entry ∷ [])) }
 {
     match entry {
-        DirEntry::File { length, .. } => length == 0 || push_item(entries, entry),
-        DirEntry::Empty { length } => length == 0 || append_room(entries, length),
+        DirEntry::File { length, .. } => {
+            if length == 0 {
+                return Ok(());
+            }
+            push_item(entries, entry)
+        }
+        DirEntry::Empty { length } => append_room(entries, length),
     }
 }
 
-/// Adds entries behind the others, each as `append` does, and says whether there was memory for them.
-pub fn append_all(entries: &mut Vec<DirEntry>, more: &[DirEntry]) -> bool
+/// Adds entries behind the others, each as `append` does.
+pub fn append_all(entries: &mut Vec<DirEntry>, more: &[DirEntry]) -> Result<(), AllocError>
     requires neat { IsTidy entries.old.items }
-    requires fits { total entries.old.items + total more.now ≤ 4095 }
-    ensures { OnTrue result (entries.new.items ≡ tidy (entries.old.items ++ more.now)) }
+    requires fits { total entries.old.items + total more.now ≤ MOST_BLOCKS }
+    ensures { OnOk result (entries.new.items ≡ tidy (entries.old.items ++ more.now)) }
 {
     for entry in more {
-        if !append(entries, *entry) {
-            return false;
-        }
+        append(entries, *entry)?;
     }
-    true
+    Ok(())
 }

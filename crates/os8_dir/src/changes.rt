@@ -1,5 +1,5 @@
-ghost use Rattle.std.specs.Prelude.{◌≡◌, ◌+◌, ◌<◌, ◌≤◌, ◌++◌, IfOk, IfErr, IsSome};
-ghost use Rattle.std.specs.Bool.{OnTrue};
+ghost use Rattle.std.specs.Prelude.{◌≡◌, ◌+◌, ◌<◌, ◌≤◌, ◌++◌, OnOk, IfOk, IfErr, IsSome};
+ghost use Rattle.word12.specs.declared.sizes.TheConstants.{MOST_BLOCKS};
 ghost use Rattle.os8_dir.specs.Entries.{size_of, total, tidy, IsTidy, IsNamed};
 ghost use Rattle.os8_dir.specs.Found.{files_at, rooms_at, find as found, extent_of};
 ghost use Rattle.os8_dir.specs.Changes.{emptied_entry, removed as removed_of, laid, put, emptied as emptied_of, placed as placed_of, swapped, moved_down as moved_down_of, gap_below, LieIn, relisted, new_file};
@@ -9,7 +9,7 @@ use crate::appending::{append, append_all};
 use crate::found::gap_place;
 use crate::reading::information;
 use crate::{DirEntry, DirFault, Directory, Name};
-use std::alloc::Global;
+use std::alloc::{AllocError, Global};
 use word12::Word;
 
 /// An entry, or its blocks where it is the file of a name.
@@ -33,34 +33,30 @@ fn emptied(entry: &DirEntry, name: Name) -> DirEntry
 }
 
 /// The entries without the file of a name.
-fn without(alloc: Global, entries: &[DirEntry], name: Name) -> Result<Vec<DirEntry>, DirFault>
-    requires { total entries.now ≤ 4095 }
-    ensures list { IfOk result (λ kept. kept.items ≡ removed_of name entries.now) }
-    ensures err { IfErr result (λ fault. fault ≡ Memory) }
+fn without(alloc: Global, entries: &[DirEntry], name: Name) -> Result<Vec<DirEntry>, AllocError>
+    requires { total entries.now ≤ MOST_BLOCKS }
+    ensures { IfOk result (λ kept. kept.items ≡ removed_of name entries.now) }
 {
     let mut kept = Vec::new(alloc);
     for entry in entries {
-        if !append(&mut kept, emptied(entry, name)) {
-            return Err(DirFault::Memory);
-        }
+        append(&mut kept, emptied(entry, name))?;
     }
     Ok(kept)
 }
 
-/// Adds an entry that begins at `place`, or what is left of it beside a file that lies in it from `from` on. Says
-/// whether there was memory for them.
+/// Adds an entry that begins at `place`, or what is left of it beside a file that lies in it from `from` on.
 fn append_laid(
     kept: &mut Vec<DirEntry>,
     place: usize,
     from: usize,
     file: &DirEntry,
     entry: DirEntry,
-) -> bool
+) -> Result<(), AllocError>
     requires neat { IsTidy kept.old.items }
-    requires fits { total kept.old.items + size_of entry ≤ 4095 }
-    requires inside { place + size_of entry ≤ 4095 }
-    requires near { from + size_of file.now ≤ 4095 }
-    ensures { OnTrue result (kept.new.items ≡ tidy (kept.old.items ++ laid place from file.now entry)) }
+    requires fits { total kept.old.items + size_of entry ≤ MOST_BLOCKS }
+    requires inside { place + size_of entry ≤ MOST_BLOCKS }
+    requires near { from + size_of file.now ≤ MOST_BLOCKS }
+    ensures { OnOk result (kept.new.items ≡ tidy (kept.old.items ++ laid place from file.now entry)) }
 {
     match entry {
         DirEntry::File { .. } => append(kept, entry),
@@ -90,44 +86,36 @@ fn with_file(
     from: usize,
     name: Name,
     file: &DirEntry,
-) -> Result<Vec<DirEntry>, DirFault>
-    requires inside { first + total entries.now ≤ 4095 }
-    requires near { from + size_of file.now ≤ 4095 }
-    ensures list { IfOk result (λ kept. kept.items
+) -> Result<Vec<DirEntry>, AllocError>
+    requires inside { first + total entries.now ≤ MOST_BLOCKS }
+    requires near { from + size_of file.now ≤ MOST_BLOCKS }
+    ensures { IfOk result (λ kept. kept.items
         ≡ tidy (put first from file.now (emptied_of name entries.now))) }
-    ensures err { IfErr result (λ fault. fault ≡ Memory) }
 {
     let mut kept = Vec::new(alloc);
     let mut place = first;
     for entry in entries {
-        if !append_laid(&mut kept, place, from, file, emptied(entry, name)) {
-            return Err(DirFault::Memory);
-        }
+        append_laid(&mut kept, place, from, file, emptied(entry, name))?;
         place += entry.length();
     }
     Ok(kept)
 }
 
 /// The entries, where the file of a name stands below the empty that was directly below it.
-fn lowered(alloc: Global, entries: &[DirEntry], name: Name) -> Result<Vec<DirEntry>, DirFault>
+fn lowered(alloc: Global, entries: &[DirEntry], name: Name) -> Result<Vec<DirEntry>, AllocError>
     requires gap { 0 < gap_below name entries.now }
-    requires fits { total entries.now ≤ 4095 }
-    ensures list { IfOk result (λ kept. kept.items ≡ moved_down_of name entries.now) }
-    ensures err { IfErr result (λ fault. fault ≡ Memory) }
+    requires fits { total entries.now ≤ MOST_BLOCKS }
+    ensures { IfOk result (λ kept. kept.items ≡ moved_down_of name entries.now) }
 {
     let (prefix, rest) = entries.split_at(gap_place(entries, name));
     let (gap, rest) = rest.split_at(1);
     let (file, rest) = rest.split_at(1);
     let mut kept = Vec::new(alloc);
-    if append_all(&mut kept, prefix)
-        && append_all(&mut kept, file)
-        && append_all(&mut kept, gap)
-        && append_all(&mut kept, rest)
-    {
-        Ok(kept)
-    } else {
-        Err(DirFault::Memory)
-    }
+    append_all(&mut kept, prefix)?;
+    append_all(&mut kept, file)?;
+    append_all(&mut kept, gap)?;
+    append_all(&mut kept, rest)?;
+    Ok(kept)
 }
 
 impl Directory {

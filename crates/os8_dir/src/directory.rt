@@ -1,4 +1,5 @@
 ghost use Rattle.std.specs.Prelude.{◌≡◌, ℕ, ◌+◌, ◌<◌, ◌≤◌, length, IfOk, IfSome};
+ghost use Rattle.word12.specs.declared.sizes.TheConstants.{FIRST_FILE_BLOCK, MOST_BLOCKS};
 ghost use Rattle.os8_dir.specs.Entries.{Listed, minus as minus_of, size_of, total, IsTidy, capacity as capacity_of};
 ghost use Rattle.os8_dir.specs.Kept.{IsKept};
 ghost use Rattle.os8_dir.specs.Found.{files_at, rooms_at, find as found, extent_of, largest as largest_of, size_or_zero, free_blocks, used_blocks, count_files as count_of, limit as limit_of};
@@ -49,7 +50,7 @@ impl Directory {
     pub fn fitting(&self, wish: usize) -> Option<(usize, usize)>
         ensures room { result ≡ fitting_of wish (rooms_at self.now.first self.now.entries) }
         ensures low { IfSome result (λ room. self.now.first ≤ room.0) }
-        ensures high { IfSome result (λ room. room.0 + room.1 ≤ 4095) }
+        ensures high { IfSome result (λ room. room.0 + room.1 ≤ MOST_BLOCKS) }
     {
         fitting(self.entries.as_slice(), self.first, wish)
     }
@@ -82,8 +83,8 @@ impl Directory {
     /// The first block that the directory covers, 7 to 4095 (OS/8 Software Support Manual; 7 is this project's profile).
     pub fn first_block(&self) -> usize
         ensures value { result ≡ self.now.first }
-        ensures low { 7 ≤ result }
-        ensures high { result ≤ 4095 }
+        ensures low { FIRST_FILE_BLOCK ≤ result }
+        ensures high { result ≤ MOST_BLOCKS }
     {
         self.first
     }
@@ -100,7 +101,7 @@ impl Directory {
     /// How many blocks the directory covers, 0 to 4088 (OS/8 Software Support Manual).
     pub fn capacity(&self) -> usize
         ensures value { result ≡ capacity_of self.now }
-        ensures range { self.now.first + result ≤ 4095 }
+        ensures range { self.now.first + result ≤ MOST_BLOCKS }
     {
         self.end - self.first
     }
@@ -117,7 +118,7 @@ impl Directory {
     pub fn entries(&self) -> &[DirEntry]
         ensures list { result.now ≡ self.now.entries }
         ensures neat { IsTidy self.now.entries }
-        ensures blocks { self.now.first + total self.now.entries ≤ 4095 }
+        ensures blocks { self.now.first + total self.now.entries ≤ MOST_BLOCKS }
     {
         self.entries.as_slice()
     }

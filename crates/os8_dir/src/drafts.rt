@@ -1,4 +1,5 @@
 ghost use Rattle.std.specs.Prelude.{◌≡◌, ℕ, ◌+◌, ◌<◌, ◌≤◌, length};
+ghost use Rattle.word12.specs.declared.sizes.TheConstants.{MOST_BLOCKS};
 ghost use Rattle.os8_dir.specs.Entries.{size_of};
 ghost use Rattle.os8_dir.specs.Reading.{head_of, with_entry, with_entries, with_segment};
 ghost use Rattle.os8_dir.specs.Steps.{Leaves, Shows};
@@ -12,7 +13,7 @@ use std::alloc::Global;
 use std::collections::BTreeSet;
 use std::marker::Model;
 use volume_image::Block;
-use word12::Word;
+use word12::{FIRST_FILE_BLOCK, Word};
 
 /// A directory while its segments are read, with the names of its files.
 #[derive(Drop)]
@@ -38,7 +39,7 @@ impl Model for Draft {
 impl Draft {
     /// What the first segment says of the whole directory.
     pub fn head(alloc: Global, volume: usize, words: &Block) -> Result<Draft, DirFault>
-        requires { volume ≤ 4095 }
+        requires { volume ≤ MOST_BLOCKS }
         ensures reading { Shows (λ d. d) result (head_of volume words.now) }
     {
         let info = minus(words[4]);
@@ -46,7 +47,7 @@ impl Draft {
             return Err(DirFault::BadCount(1));
         }
         let first = usize::from(words[1].get());
-        if first < 7 || first > volume {
+        if first < FIRST_FILE_BLOCK || first > volume {
             return Err(DirFault::WrongFirstBlock);
         }
         Ok(Draft {
@@ -60,7 +61,7 @@ impl Draft {
 
     /// Adds an entry behind the others. Where there is no memory for it, no entry is left.
     fn add(&mut self, volume: usize, entry: DirEntry) -> Result<(), DirFault>
-        requires most { volume ≤ 4095 }
+        requires most { volume ≤ MOST_BLOCKS }
         requires small { size_of entry < 0o10000 }
         ensures reading { Leaves result self.new (with_entry volume self.old entry) }
     {
@@ -72,19 +73,23 @@ impl Draft {
         if !new {
             return Err(DirFault::SameName);
         }
-        if !append(&mut self.entries, entry) {
-            clear_items(&mut self.entries);
-            self.names.clear();
-            self.end = self.first;
-            return Err(DirFault::Memory);
+        match append(&mut self.entries, entry) {
+            Ok(()) => {
+                self.end += length;
+                Ok(())
+            }
+            Err(error) => {
+                clear_items(&mut self.entries);
+                self.names.clear();
+                self.end = self.first;
+                Err(DirFault::from(error))
+            }
         }
-        self.end += length;
-        Ok(())
     }
 
     /// Adds the entries that the words hold, so many.
     fn add_entries(&mut self, volume: usize, count: usize, words: &[Word]) -> Result<(), DirFault>
-        requires { volume ≤ 4095 }
+        requires { volume ≤ MOST_BLOCKS }
         ensures reading { Leaves result self.new (with_entries count volume self.old words.now) }
     {
         let mut rest = words;
@@ -108,7 +113,7 @@ impl Draft {
         number: usize,
         words: &Block,
     ) -> Result<(), DirFault>
-        requires { volume ≤ 4095 }
+        requires { volume ≤ MOST_BLOCKS }
         ensures reading { Leaves result self.new (with_segment volume self.old number words.now) }
     {
         let info = minus(words[4]);

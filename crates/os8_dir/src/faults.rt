@@ -1,4 +1,9 @@
+ghost use Rattle.std.specs.Prelude.{◌≡◌};
+ghost use Rattle.os8_dir.specs.declared.faults.DirFault.TheVariants.{Device, Memory};
+
+use std::alloc::AllocError;
 use thiserror::Error;
+use volume_image::DeviceFault;
 
 /// Why the blocks of a volume are no directory, or could not be read (this project's profile).
 ///
@@ -24,4 +29,20 @@ pub enum DirFault {
     Device,
     #[error("out of memory")]
     Memory,
+}
+
+impl From<AllocError> for DirFault {
+    ghost from_gives = { λ _ fault. fault ≡ Memory };
+
+    fn from(_error: AllocError) -> DirFault {
+        DirFault::Memory
+    }
+}
+
+impl From<DeviceFault> for DirFault {
+    ghost from_gives = { λ _ fault. fault ≡ Device };
+
+    fn from(_fault: DeviceFault) -> DirFault {
+        DirFault::Device
+    }
 }

@@ -1,4 +1,5 @@
 ghost use Rattle.std.specs.Prelude.{◌≡◌, ℕ, ◌+◌, ◌<◌, ◌≤◌, ◌++◌, length, take, drop};
+ghost use Rattle.word12.specs.declared.sizes.TheConstants.{MOST_BLOCKS};
 ghost use Rattle.os8_dir.specs.Entries.{total, IsTidy};
 ghost use Rattle.os8_dir.specs.Changes.{gap_below, swapped, lowest_above as lowest_above_of, fitting as fitting_of};
 ghost use Rattle.os8_dir.specs.Found.{files_at, rooms_at, find as found, extent_of, largest, size_or_zero, room_of, free_blocks as free_of, count_files as count_of};
@@ -42,7 +43,7 @@ fn is_named(entry: &DirEntry, name: Name) -> bool
 
 /// Where the file of a name begins, and its length, where the first entry begins at a block.
 pub fn find(entries: &[DirEntry], first: usize, name: Name) -> Option<(usize, usize)>
-    requires { first + total entries.now ≤ 4095 }
+    requires { first + total entries.now ≤ MOST_BLOCKS }
     ensures { result ≡ extent_of (found name (files_at first entries.now)) }
 {
     let mut place = first;
@@ -69,7 +70,7 @@ pub fn largest_room(entries: &[DirEntry]) -> usize
 
 /// The blocks of all empties.
 pub fn free_blocks(entries: &[DirEntry]) -> usize
-    requires { total entries.now ≤ 4095 }
+    requires { total entries.now ≤ MOST_BLOCKS }
     ensures { result ≡ free_of entries.now }
 {
     let mut free = 0;
@@ -185,7 +186,7 @@ fn with_room(
 
 /// The empty for a wish and how many blocks it has, where the first entry begins at a block.
 pub fn fitting(entries: &[DirEntry], first: usize, wish: usize) -> Option<(usize, usize)>
-    requires { first + total entries.now ≤ 4095 }
+    requires { first + total entries.now ≤ MOST_BLOCKS }
     ensures { result ≡ fitting_of wish (rooms_at first entries.now) }
 {
     let mut chosen = None;

@@ -1,15 +1,13 @@
-ghost use Rattle.std.specs.Bool.{OnFalse};
-ghost use Rattle.std.specs.Prelude.{◌≤◌, vec_capacity, ◌≡◌, [], ◌∷◌, ◌++◌, ◌-◌, take, vec_len, if◌then◌else◌};
+ghost use Rattle.std.specs.Prelude.{◌≡◌, [], ◌∷◌, ◌++◌, ◌-◌, take, vec_len, OnOk};
 
-/// Adds an item at the end, and says whether there was memory for it.
-pub fn push_item<T: Drop>(items: &mut Vec<T>, item: T) -> bool
-    ensures items { items.new.items ≡ (if result then items.old.items ++ item ∷ [] else items.old.items) }
-    ensures refused { OnFalse result (vec_capacity items.old ≤ vec_len items.old) }
+use std::alloc::AllocError;
+
+/// Adds an item at the end.
+pub fn push_item<T: Drop>(items: &mut Vec<T>, item: T) -> Result<(), AllocError>
+    ensures { OnOk result (items.new.items ≡ items.old.items ++ item ∷ []) }
 {
-    match items.push(item) {
-        Ok(()) => true,
-        Err(_) => false,
-    }
+    items.push(item)?;
+    Ok(())
 }
 
 /// Takes out the last item.

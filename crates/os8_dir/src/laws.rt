@@ -1,5 +1,6 @@
 //! What holds of every volume and its directory. Each function does nothing: its contract is the law.
 ghost use Rattle.std.specs.Prelude.{◌≡◌, ◌≢◌, ◌+◌, ◌-◌, ◌*◌, ◌<◌, ◌≤◌, ◌↔◌, ℕ, ◌⊎◌, List, [], length, take, Option, Some, None, Ok};
+ghost use Rattle.word12.specs.declared.sizes.TheConstants.{FIRST_FILE_BLOCK, MOST_BLOCKS};
 ghost use Rattle.std.specs.FinMap.{get, from_entries};
 ghost use Rattle.volume_image.specs.Image.{IsNewVolume};
 ghost use Rattle.os8_dir.specs.Names.{name_of, padded, IsFourWords, IsBefore};
@@ -36,14 +37,14 @@ pub fn sound_directory()
 /// A volume whose blocks 1, 2 and so on hold the segments of a directory is read as that directory, where six segments
 /// take its entries.
 pub fn read_back()
-    ensures { (blocks : List (List ℕ)) (d : Listed) → IsDirectory (length blocks) d → length blocks ≤ 4095
+    ensures { (blocks : List (List ℕ)) (d : Listed) → IsDirectory (length blocks) d → length blocks ≤ MOST_BLOCKS
         → length d.entries ≤ limit d → HoldsSegments blocks d → directory_of blocks ≡ Ok d }
 {}
 
 /// A volume is read as a directory by its number of blocks and blocks 1 to 6 alone.
 pub fn directory_blocks()
     ensures { (old new : List (List ℕ)) → length new ≡ length old
-        → ((k : ℕ) → k < 7 → block new k ≡ block old k) → directory_of new ≡ directory_of old }
+        → ((k : ℕ) → k < FIRST_FILE_BLOCK → block new k ≡ block old k) → directory_of new ≡ directory_of old }
 {}
 
 /// The map of a sound volume's files has, for each name, what the blocks hold of the file that is found under it.
@@ -81,7 +82,7 @@ pub fn new_volumes()
     ensures files { (count : ℕ) (blocks : List (List ℕ)) → IsNewVolume count blocks
         → files_of blocks ≡ from_entries [] }
     ensures free { (count : ℕ) (blocks : List (List ℕ)) → IsNewVolume count blocks
-        → capacity_of blocks ≡ count - 7 }
+        → capacity_of blocks ≡ count - FIRST_FILE_BLOCK }
 {}
 
 /// A volume that is not sound has no files, and none has an empty below it.

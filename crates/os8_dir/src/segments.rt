@@ -1,4 +1,5 @@
 ghost use Rattle.std.specs.Prelude.{◌≡◌, ◌+◌, ◌*◌, ◌<◌, ◌≤◌, length};
+ghost use Rattle.word12.specs.declared.sizes.TheConstants.{BLOCK, MOST_BLOCKS};
 ghost use Rattle.os8_dir.specs.Entries.{minus as minus_of, size_of, total};
 ghost use Rattle.os8_dir.specs.Found.{per_segment as per_segment_of, limit as limit_of};
 ghost use Rattle.os8_dir.specs.Segments.{words_of_entry, words_of_entries, words_of_segment, segment_count as segment_count_of, link_of, segment_of};
@@ -6,7 +7,7 @@ ghost use Rattle.os8_dir.specs.Steps.{written};
 
 use crate::{DirEntry, Directory};
 use volume_image::Block;
-use word12::Word;
+use word12::{BLOCK, Word};
 
 /// How many entries a segment takes.
 fn per_segment(info: usize) -> usize
@@ -27,7 +28,7 @@ fn minus_word(number: usize) -> Word
 
 /// The blocks of some entries.
 fn blocks_of(entries: &[DirEntry]) -> usize
-    requires { total entries.now ≤ 4095 }
+    requires { total entries.now ≤ MOST_BLOCKS }
     ensures { result ≡ total entries.now }
 {
     let mut blocks = 0;
@@ -39,7 +40,7 @@ fn blocks_of(entries: &[DirEntry]) -> usize
 
 /// Writes words into a segment from a place on.
 fn put_words(segment: &mut Block, at: usize, words: &[Word])
-    requires { at + length words.now ≤ 256 }
+    requires { at + length words.now ≤ BLOCK }
     ensures { segment.new ≡ written segment.old at words.now }
 {
     for k in 0..words.len() {
@@ -50,7 +51,7 @@ fn put_words(segment: &mut Block, at: usize, words: &[Word])
 /// Writes an entry into a segment from a place on, and gives the place behind it.
 fn put_entry(segment: &mut Block, at: usize, entry: &DirEntry, info: usize) -> usize
     requires few { info ≤ 10 }
-    requires fits { at + 5 + info ≤ 256 }
+    requires fits { at + 5 + info ≤ BLOCK }
     requires small { size_of entry.now < 0o10000 }
     ensures words { segment.new ≡ written segment.old at (words_of_entry info entry.now) }
     ensures place { result ≡ at + length (words_of_entry info entry.now) }
@@ -81,7 +82,7 @@ fn put_entry(segment: &mut Block, at: usize, entry: &DirEntry, info: usize) -> u
 fn put_entries(segment: &mut Block, entries: &[DirEntry], info: usize)
     requires few { info ≤ 10 }
     requires fits { length entries.now * (5 + info) ≤ 251 }
-    requires small { total entries.now ≤ 4095 }
+    requires small { total entries.now ≤ MOST_BLOCKS }
     ensures { segment.new ≡ written segment.old 5 (words_of_entries info entries.now) }
 {
     let mut at = 5;
@@ -94,11 +95,11 @@ fn put_entries(segment: &mut Block, entries: &[DirEntry], info: usize)
 fn put_segment(segment: &mut Block, entries: &[DirEntry], first: usize, info: usize, link: u16)
     requires few { info ≤ 10 }
     requires fits { length entries.now * (5 + info) ≤ 251 }
-    requires inside { first + total entries.now ≤ 4095 }
+    requires inside { first + total entries.now ≤ MOST_BLOCKS }
     requires near { link < 0o10000 }
     ensures { segment.new ≡ words_of_segment first info link entries.now }
 {
-    let blank = [Word::ZERO; 256];
+    let blank = [Word::ZERO; BLOCK];
     *segment = blank;
     put_entries(segment, entries, info);
     segment[0] = minus_word(entries.len());
@@ -109,7 +110,7 @@ fn put_segment(segment: &mut Block, entries: &[DirEntry], first: usize, info: us
 
 /// The block of the segment behind one that is counted from 0; 0 where that is the last.
 fn link_behind(count: usize, number: usize) -> u16
-    requires most { count ≤ 4095 }
+    requires most { count ≤ MOST_BLOCKS }
     requires inside { number < count }
     ensures value { result ≡ link_of count number }
     ensures range { result < 0o10000 }
@@ -127,7 +128,7 @@ impl Directory {
     pub fn segment_count(&self) -> usize
         ensures value { result ≡ segment_count_of self.now }
         ensures some { 1 ≤ result }
-        ensures most { result ≤ 4095 }
+        ensures most { result ≤ MOST_BLOCKS }
         ensures six { length self.now.entries ≤ limit_of self.now → result ≤ 6 }
     {
         self.entries().len().saturating_sub(1) / per_segment(self.information_words()) + 1

@@ -1,4 +1,5 @@
 ghost use Rattle.std.specs.Prelude.{◌≡◌, ℕ, ◌+◌, ◌<◌, ◌≤◌, [], ◌∷◌, length, is_ok, if◌then◌else◌, OnOk, IfOk, IfErr};
+ghost use Rattle.word12.specs.declared.sizes.TheConstants.{MOST_BLOCKS};
 ghost use Rattle.volume_image.specs.Volume.{counted};
 ghost use Rattle.os8_dir.specs.Reading.{GivesReading, word, block, directory_of, with_links, with_segment, is_device};
 ghost use Rattle.os8_dir.specs.Reads.{judged_from, segments_judged, ReadsSegments};
@@ -10,7 +11,7 @@ use crate::drafts::Draft;
 use crate::{DirFault, Directory};
 use std::alloc::Global;
 use volume_image::{Block, BlockStore};
-use word12::Word;
+use word12::{BLOCK, Word};
 
 /// Reads a block; the only fault is that the device failed.
 fn read_block<S: BlockStore>(
@@ -29,10 +30,8 @@ fn read_block<S: BlockStore>(
     ensures failed_writes { S.failed_writes store.new ≡ S.failed_writes store.old }
     ensures writes { S.writes store.new ≡ S.writes store.old }
 {
-    match store.read(number, words) {
-        Ok(()) => Ok(()),
-        Err(_) => Err(DirFault::Device),
-    }
+    store.read(number, words)?;
+    Ok(())
 }
 
 impl Directory {
@@ -52,7 +51,7 @@ impl Directory {
         ensures writes { S.writes store.new ≡ S.writes store.old }
     {
         let volume = store.blocks();
-        let mut words = [Word::ZERO; 256];
+        let mut words = [Word::ZERO; BLOCK];
         read_block(store, 1, &mut words)?;
         let mut draft = Draft::head(alloc, volume, &words)?;
         draft.add_segment(volume, 1, &words)?;
@@ -71,7 +70,7 @@ impl Draft {
         number: usize,
     ) -> Result<usize, DirFault>
         requires volume { volume ≡ length (S.contents store.old) }
-        requires most { volume ≤ 4095 }
+        requires most { volume ≤ MOST_BLOCKS }
         requires inside { number < volume }
         ensures reading { LeavesRead result self.new
             (with_segment volume self.old number (block (S.contents store.old) number)) }
@@ -84,7 +83,7 @@ impl Draft {
         ensures failed_writes { S.failed_writes store.new ≡ S.failed_writes store.old }
         ensures writes { S.writes store.new ≡ S.writes store.old }
     {
-        let mut words = [Word::ZERO; 256];
+        let mut words = [Word::ZERO; BLOCK];
         read_block(store, number, &mut words)?;
         self.add_segment(volume, number, &words)?;
         let link = usize::from(words[2].get());
@@ -100,7 +99,7 @@ impl Draft {
     ) -> Result<(), DirFault>
         requires volume { volume ≡ length (S.contents store.old) }
         requires least { 8 ≤ volume }
-        requires most { volume ≤ 4095 }
+        requires most { volume ≤ MOST_BLOCKS }
         ensures reading { LeavesRead result self.new
             (with_links 5 self.old (S.contents store.old) (1 ∷ []) 1 first_link) }
         ensures same { S.contents store.new ≡ S.contents store.old }

@@ -11,7 +11,7 @@ use Rattle.os8_dir.specs.Found.{Placed, IsDirectory, IsTight, files_at, rooms_at
 use Rattle.os8_dir.specs.Files.{files_of, held_of, run, limit_of, of_directory}
 use Rattle.os8_dir.specs.Changes.{placed, relisted, new_file, LieIn, IsRoom}
 use Rattle.os8_files.specs.Mounted.{Mounted, Begun, IsBegun}
-use Rattle.os8_files.specs.Calls.{IsFree, IsReady, HasClosed, HasWritten, HasEntered, IsOf, info_of, entries_with}
+use Rattle.os8_files.specs.Calls.{IsFree, IsReady, HasClosed, info_of, entries_with}
 use Rattle.os8_files.specs.Failed.{extent_or, with_list}
 use Rattle.os8_files.specs.WriteSteps.{HasDirectory}
 use Rattle.os8_files.proofs.MapLemmas.{files-inserted, files-same}
@@ -104,18 +104,3 @@ placed-file finds lie limits covers aboves there others covered tight old new d 
       writes = done.writes;
       others = done.others ∙ ap (λ (t : Option Begun). record old { blocks = new.blocks; writes = new.writes; tentative = t }) ready.none;
     }
-
--- The file that is being written stays the same where a block is written.
-pub written-of : (old new : Mounted) (words : List ℕ) (token : ℕ) → HasWritten old words new → IsOf old token → IsOf new token
-written-of old new words token done of = (
-  record { name = done.begun.name; place = done.begun.place; room = done.begun.room; written = done.begun.written + 1 },
-  ap (λ (m : Mounted). m.tentative) done.others,
-  ap (λ (b : Begun). b.name) (some-same done.begun of.0 (sym done.was ∙ of.1)) ∙ of.2,
-)
-
-pub entered-of : (old new : Mounted) (name wish token : ℕ) → HasEntered old name wish token new → IsOf new token
-entered-of old new name wish token done = (
-  record { name = name; place = done.place; room = done.room; written = 0 },
-  ap (λ (m : Mounted). m.tentative) done.others,
-  sym done.token,
-)

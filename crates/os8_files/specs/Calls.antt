@@ -1,6 +1,7 @@
 -- What each call of the file service does: one relation by cases on its answer (this project's profile).
 use lib.Pointwise.{pointwise}
 use Rattle.std.specs.Prelude.{nat_eq, if◌then◌else◌, ◌≡◌, ◌≢◌, ◌⊎◌, ◌-◌, ℕ, zero, suc, ◌+◌, ◌*◌, ◌/◌, ◌<◌, ◌≤◌, true, false, Some, None, List, [], ◌++◌, length, take, drop, slice_set, Result, Ok, Err}
+use Rattle.word12.specs.declared.sizes.TheConstants.{BLOCK, FIRST_FILE_BLOCK, MOST_BLOCKS}
 use Rattle.std.specs.Global.{Vec}
 use Rattle.std.specs.FinMap.{get, insert, remove}
 use Rattle.volume_image.specs.Volume.{counted}
@@ -82,10 +83,10 @@ pub record HasRead (old : Mounted) (name k : ℕ) (words : List ℕ) (new : Moun
   pub running : old.stopped ≡ false
   pub file : FileData
   pub there : get (files_of old.blocks) name ≡ Some file
-  pub whole : 256 * blocks_in file ≡ length file.1
+  pub whole : BLOCK * blocks_in file ≡ length file.1
   pub inside : k < blocks_in file
-  pub most : blocks_in file ≤ 4095
-  pub block : words ≡ take 256 (drop (256 * k) file.1)
+  pub most : blocks_in file ≤ MOST_BLOCKS
+  pub block : words ≡ take BLOCK (drop (BLOCK * k) file.1)
   pub others : new ≡ record old { reads = counted old.reads }
 
 abbrev pub ReadsBlock : Mounted → ℕ → ℕ → List ℕ → Result (Unit {0}) FileFault → Mounted → List ℕ → Type 0
@@ -107,9 +108,9 @@ pub record HasTaken (old : Mounted) (name hold : ℕ) (new : Mounted) : Type 0 w
   pub running : old.stopped ≡ false
   pub file : FileData
   pub there : get (files_of old.blocks) name ≡ Some file
-  pub whole : 256 * blocks_in file ≡ length file.1
+  pub whole : BLOCK * blocks_in file ≡ length file.1
   pub some : 0 < blocks_in file
-  pub most : blocks_in file ≤ 4095
+  pub most : blocks_in file ≤ MOST_BLOCKS
   pub names : hold ≡ name
   pub others : new ≡ record old { holds = with_hold name old.holds }
 
@@ -151,7 +152,7 @@ pub record IsOver (blocks : List (List ℕ)) (after : Files) : Type 0 where
 pub record KeepsBlocks (old new : List (List ℕ)) (place size : ℕ) : Type 0 where
   pub count : length new ≡ length old
   pub first : block new 0 ≡ block old 0
-  pub behind : (k : ℕ) → 7 ≤ k → (k < place) ⊎ (place + size ≤ k) → block new k ≡ block old k
+  pub behind : (k : ℕ) → FIRST_FILE_BLOCK ≤ k → (k < place) ⊎ (place + size ≤ k) → block new k ≡ block old k
 
 -- The directory stands as it is written: pieces of as many entries as a segment takes, in blocks 1, 2 and so on, each with a
 -- link to the block behind it, a flag word of 0, and zeros behind its entries. Blocks up to 6 that it does not need are as before.

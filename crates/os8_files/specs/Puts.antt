@@ -1,6 +1,7 @@
 -- What putting words under a name comes to: a file is begun, its blocks are written, and it is closed or given up (this
 -- project's profile).
 use Rattle.std.specs.Prelude.{◌≡◌, ◌⊎◌, ℕ, ◌+◌, ◌/◌, ◌<◌, ◌≤◌, Some, None, List, [], length, Result, Ok, Err}
+use Rattle.word12.specs.declared.sizes.TheConstants.{BLOCK}
 use Rattle.std.specs.FinMap.{get, insert}
 use Rattle.os8_dir.specs.Names.{padded}
 use Rattle.os8_dir.specs.Entries.{Listed}
@@ -17,7 +18,7 @@ use Rattle.os8_files.specs.declared.faults.FileFault.TheVariants.{NoRoom, Direct
 
 -- how many blocks words fill
 abbrev pub blocks_filled : List ℕ → ℕ
-blocks_filled words = length words / 256
+blocks_filled words = length words / BLOCK
 
 -- what a file of these words is: its information words are 0
 abbrev pub plain_file : Mounted → List ℕ → FileData

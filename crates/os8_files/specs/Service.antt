@@ -1,11 +1,12 @@
 -- What the file service answers, in terms of the map of the volume's files.
 use Rattle.std.specs.Prelude.{ℕ, ◌+◌, ◌/◌, Option, Some, None, List, [], ◌∷◌, map, length}
+use Rattle.word12.specs.declared.sizes.TheConstants.{BLOCK}
 use Rattle.std.specs.FinMap.{entries}
 use Rattle.os8_dir.specs.Files.{Files, FileData}
 
 -- the blocks of a file
 abbrev pub blocks_in : FileData → ℕ
-blocks_in held = length held.1 / 256
+blocks_in held = length held.1 / BLOCK
 
 -- the blocks of a file that may be there
 abbrev pub blocks_of : Option FileData → Option ℕ

@@ -1,6 +1,7 @@
 -- What the blocks are where a directory is written, for private clauses.
 use lib.Pointwise.{pointwise}
 use Rattle.std.specs.Prelude.{nat_eq, if◌then◌else◌, ◌≡◌, ◌⊎◌, ◌-◌, ◌≤◌, ◌<◌, take, ℕ, zero, suc, List, [], ◌∷◌, length, drop, slice_set, Result, Ok, Err}
+use Rattle.word12.specs.declared.sizes.TheConstants.{FIRST_FILE_BLOCK}
 use Rattle.os8_dir.specs.Entries.{Listed}
 use Rattle.os8_dir.specs.Reading.{directory_of, block}
 use Rattle.os8_dir.specs.Segments.{segment_of, segment_count, HoldsSegments}
@@ -21,7 +22,7 @@ changed (suc k) d blocks = if pointwise nat_eq (block blocks (suc k)) (segment_o
 
 -- another directory is written, which is read back as it
 pub record HasDirectory (old : Mounted) (d : Listed) (new : Mounted) : Type 0 where
-  pub high : drop 7 new.blocks ≡ drop 7 old.blocks
+  pub high : drop FIRST_FILE_BLOCK new.blocks ≡ drop FIRST_FILE_BLOCK old.blocks
   pub first : block new.blocks 0 ≡ block old.blocks 0
   pub size : length new.blocks ≡ length old.blocks
   pub read : directory_of new.blocks ≡ Ok d
@@ -32,7 +33,7 @@ pub record HasDirectory (old : Mounted) (d : Listed) (new : Mounted) : Type 0 wh
 
 -- of all blocks only 1 to 6 may differ
 pub record KeepsHigh (old new : List (List ℕ)) : Type 0 where
-  pub high : drop 7 new ≡ drop 7 old
+  pub high : drop FIRST_FILE_BLOCK new ≡ drop FIRST_FILE_BLOCK old
   pub first : block new 0 ≡ block old 0
   pub size : length new ≡ length old
 

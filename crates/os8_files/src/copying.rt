@@ -6,13 +6,13 @@ ghost use Rattle.os8_files.specs.WriteSteps.{with_run, HasBrokenOff};
 
 use std::alloc::{AllocError, Global};
 use volume_image::{Block, BlockStore, DeviceFault};
-use word12::Word;
+use word12::{BLOCK, Word};
 
 /// Room for so many blocks.
 pub(crate) fn blank_run(alloc: Global, size: usize) -> Result<Vec<Block>, AllocError>
     ensures { IfOk result (λ run. length run.items ≡ size) }
 {
-    vec![in alloc; [Word::ZERO; 256]; size]
+    vec![in alloc; [Word::ZERO; BLOCK]; size]
 }
 
 /// Reads a run of blocks.
@@ -35,11 +35,9 @@ pub(crate) fn read_run<S: BlockStore>(
 {
     let _blocks = store.blocks();
     for k in 0..run.len() {
-        let mut words = [Word::ZERO; 256];
-        match store.read(place + k, &mut words) {
-            Ok(()) => run[k] = words,
-            Err(fault) => return Err(fault),
-        }
+        let mut words = [Word::ZERO; BLOCK];
+        store.read(place + k, &mut words)?;
+        run[k] = words;
     }
     Ok(())
 }
@@ -66,10 +64,7 @@ pub(crate) fn write_run<S: BlockStore>(
     for k in 0..run.len() {
         let written = store.write(place + k, &run[k]);
         let _blocks = store.blocks();
-        match written {
-            Ok(()) => {}
-            Err(fault) => return Err(fault),
-        }
+        written?;
     }
     Ok(())
 }

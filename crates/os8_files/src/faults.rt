@@ -1,9 +1,10 @@
 ghost use Rattle.std.specs.Prelude.{◌≡◌};
-ghost use Rattle.os8_files.specs.declared.faults.FileFault.TheVariants.{Memory};
+ghost use Rattle.os8_files.specs.declared.faults.FileFault.TheVariants.{Device, Memory};
 
 use os8_dir::Name;
 use std::alloc::AllocError;
 use thiserror::Error;
+use volume_image::DeviceFault;
 
 /// What the file service refuses. The numbers are those of the lines that a session prints.
 #[derive(Clone, Copy, PartialEq, Eq, Debug, Error)]
@@ -58,5 +59,13 @@ impl From<AllocError> for FileFault {
 
     fn from(_error: AllocError) -> FileFault {
         FileFault::Memory
+    }
+}
+
+impl From<DeviceFault> for FileFault {
+    ghost from_gives = { λ _ fault. fault ≡ Device };
+
+    fn from(_fault: DeviceFault) -> FileFault {
+        FileFault::Device
     }
 }

@@ -1,5 +1,6 @@
 //! What holds of every call of the file service. Each function does nothing: its contract is the law.
 ghost use Rattle.std.specs.Prelude.{◌≡◌, ◌⊎◌, ◌+◌, ◌*◌, ◌<◌, ◌≤◌, ℕ, nat_lt, List, [], ◌∷◌, length, take, drop, None, Some, Ok, Result};
+ghost use Rattle.word12.specs.declared.sizes.TheConstants.{BLOCK, MOST_BLOCKS};
 ghost use Rattle.std.specs.FinMap.{get};
 ghost use Rattle.std.specs.Global.{Vec};
 ghost use Rattle.volume_image.specs.Volume.{IsVolume};
@@ -50,7 +51,7 @@ pub fn held_blocks()
     ensures { (name k : ℕ) (first last new : Mounted) (others : List Mounted) (before after : List ℕ)
         (file : FileData) → IsHeldThrough name first others last
         → get (files_of first.blocks) name ≡ Some file → ReadsBlock last name k before (Ok tt) new after
-        → after ≡ take 256 (drop (256 * k) file.1) }
+        → after ≡ take BLOCK (drop (BLOCK * k) file.1) }
 {}
 
 /// Calls that speak of no hold take and release none, and behind them files that are held have their words; so behind two
@@ -147,11 +148,11 @@ pub fn block_reads()
 /// A file has 256 words for each of its blocks, and 1 to 4095 blocks.
 pub fn whole_files()
     ensures whole { (blocks : List (List ℕ)) (name : ℕ) (file : FileData) → IsVolume blocks
-        → get (files_of blocks) name ≡ Some file → 256 * blocks_in file ≡ length file.1 }
+        → get (files_of blocks) name ≡ Some file → BLOCK * blocks_in file ≡ length file.1 }
     ensures some { (blocks : List (List ℕ)) (name : ℕ) (file : FileData) → IsVolume blocks
         → get (files_of blocks) name ≡ Some file → 0 < blocks_in file }
     ensures most { (blocks : List (List ℕ)) (name : ℕ) (file : FileData) → IsVolume blocks
-        → get (files_of blocks) name ≡ Some file → blocks_in file ≤ 4095 }
+        → get (files_of blocks) name ≡ Some file → blocks_in file ≤ MOST_BLOCKS }
 {
     files_found();
     sound_directory();

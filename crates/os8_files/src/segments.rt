@@ -11,7 +11,7 @@ ghost use Rattle.os8_files.specs.WriteSteps.{changed, with_segments, KeepsHigh};
 
 use os8_dir::Directory;
 use volume_image::{Block, BlockStore, DeviceFault};
-use word12::Word;
+use word12::{BLOCK, Word};
 
 /// Writes a segment, counted from 0, where its words differ from those that are kept, and keeps them.
 fn write_segment<S: BlockStore>(
@@ -41,13 +41,9 @@ fn write_segment<S: BlockStore>(
     }
     let written = store.write(number + 1, words);
     let _blocks = store.blocks();
-    match written {
-        Ok(()) => {
-            kept[number] = *words;
-            Ok(())
-        }
-        Err(fault) => Err(fault),
-    }
+    written?;
+    kept[number] = *words;
+    Ok(())
 }
 
 /// Writes the segments of a directory to blocks 1, 2 and so on, in rising order: just those whose words differ from the
@@ -77,12 +73,9 @@ pub(crate) fn write_segments<S: BlockStore>(
 {
     let _blocks = store.blocks();
     for number in 0..directory.segment_count() {
-        let mut words = [Word::ZERO; 256];
+        let mut words = [Word::ZERO; BLOCK];
         directory.segment(number, &mut words);
-        match write_segment(store, kept, number, &words) {
-            Ok(()) => {}
-            Err(fault) => return Err(fault),
-        }
+        write_segment(store, kept, number, &words)?;
     }
     Ok(())
 }

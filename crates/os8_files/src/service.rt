@@ -1,10 +1,12 @@
-ghost use Rattle.std.specs.Prelude.{◌≡◌, ℕ, ◌+◌, ◌<◌, ◌≤◌, ◌↔◌, List, [], true, false, Option, Some, None, Ok, IfOk, IfErr, OnErr};
+ghost use Rattle.std.specs.Prelude.{◌≡◌, ℕ, ◌+◌, ◌<◌, ◌≤◌, ◌↔◌, List, [], true, false, Option, Some, None, Ok, IfOk, IfErr, OnOk};
 ghost use Rattle.std.specs.FinMap.{get};
 ghost use Rattle.os8_dir.specs.Reading.{Sound, HasFault, MeetsFault, directory_of};
 ghost use Rattle.std.specs.Option.{is_some};
 ghost use Rattle.os8_dir.specs.Found.{free_blocks, count_files};
 ghost use Rattle.os8_dir.specs.Files.{files_of, capacity_of, above_of};
 ghost use Rattle.os8_dir.specs.declared.faults.DirFault.TheVariants.{Device};
+ghost use Rattle.volume_image.specs.Volume.{IsVolume};
+ghost use Rattle.os8_files.specs.Mounted.{AreSegments};
 ghost use Rattle.os8_files.specs.Service.{blocks_of, used_of, count_of};
 ghost use Rattle.os8_files.specs.Failed.{size_in};
 ghost use Rattle.os8_files.specs.Holds.{without_hold};
@@ -13,7 +15,7 @@ ghost use Rattle.os8_dir.specs.Entries.{Listed, contains};
 
 use crate::begun::Begun;
 use crate::copying::{blank_run, read_run};
-use crate::holds::{first_of, place_of};
+use crate::holds::{add_hold, first_of};
 use crate::lengths::files_by_name;
 use crate::{FileFault, Hold, Tentative};
 use os8_dir::laws::{directory_numbers, files_found, files_inside, files_made, sound_directory};
@@ -60,6 +62,30 @@ impl<S: BlockStore> Model for FileService<S> {
     ghost invariant = { λ s. IsMounted (S.contents s.store) s.segments.items s.directory s.stopped s.tentative };
 }
 
+/// The directory of a store, and the words of blocks 1 to 6.
+fn read_parts<S: BlockStore>(
+    alloc: Global,
+    store: &mut S,
+) -> Result<(Directory, Vec<Block>), DirFault>
+    ensures directory { IfOk result (λ parts. directory_of (S.contents store.old) ≡ Ok parts.0) }
+    ensures segments { IfOk result (λ parts. AreSegments (S.contents store.old) parts.1.items) }
+    ensures fault { IfErr result (λ fault. MeetsFault fault (directory_of (S.contents store.old))) }
+    ensures device { IfErr result (λ fault. (fault ≡ Device)
+        ↔ (S.failed_reads store.old < S.failed_reads store.new)) }
+    ensures failed_reads { OnOk result (S.failed_reads store.new ≡ S.failed_reads store.old) }
+    ensures volume { IsVolume (S.contents store.new) }
+    ensures same { S.contents store.new ≡ S.contents store.old }
+    ensures reads { S.reads store.new ≤ S.reads store.old + 12 }
+    ensures writes { S.writes store.new ≡ S.writes store.old }
+    ensures failed_writes { S.failed_writes store.new ≡ S.failed_writes store.old }
+{
+    let _blocks = store.blocks();
+    let directory = Directory::read(alloc, store)?;
+    let mut segments = blank_run(alloc, 6)?;
+    read_run(store, 1, &mut segments)?;
+    Ok((directory, segments))
+}
+
 impl<S: BlockStore> FileService<S> {
     /// The files of a sound volume, after at most twelve reads: those of its directory, and then those of blocks 1 to 6,
     /// whose words are kept. Another store is handed back with the first fault of its directory; so is any store with
@@ -77,22 +103,15 @@ impl<S: BlockStore> FileService<S> {
         ensures fault { IfErr result (λ e. MeetsFault e.1 (directory_of (S.contents store))) }
         ensures device { IfErr result (λ e. (e.1 ≡ Device) ↔ (S.failed_reads store < S.failed_reads e.0)) }
     {
-        let _blocks = store.blocks();
-        match Directory::read(alloc, &mut store) {
-            Ok(directory) => match blank_run(alloc, 6) {
-                Err(_) => Err((store, DirFault::Memory)),
-                Ok(mut segments) => match read_run(&mut store, 1, &mut segments) {
-                    Err(_) => Err((store, DirFault::Device)),
-                    Ok(()) => Ok(FileService {
-                        store,
-                        directory,
-                        segments,
-                        stopped: false,
-                        holds: Vec::new(alloc),
-                        tentative: None,
-                    }),
-                },
-            },
+        match read_parts(alloc, &mut store) {
+            Ok((directory, segments)) => Ok(FileService {
+                store,
+                directory,
+                segments,
+                stopped: false,
+                holds: Vec::new(alloc),
+                tentative: None,
+            }),
             Err(fault) => Err((store, fault)),
         }
     }
@@ -205,10 +224,10 @@ impl<S: BlockStore> FileService<S> {
         files_inside();
         match self.directory.find(name) {
             None => Err(FileFault::NotFound),
-            Some((place, _)) => match self.store.read(place + k, words) {
-                Ok(()) => Ok(()),
-                Err(_) => Err(FileFault::Device),
-            },
+            Some((place, _)) => {
+                self.store.read(place + k, words)?;
+                Ok(())
+            }
         }
     }
 
@@ -226,11 +245,8 @@ impl<S: BlockStore> FileService<S> {
         match self.directory.find(name) {
             None => Err(FileFault::NotFound),
             Some(_) => {
-                let place = place_of(&self.holds, *name);
-                match self.holds.insert(place, *name) {
-                    Ok(()) => Ok(Hold::new(*name)),
-                    Err(_) => Err(FileFault::Memory),
-                }
+                add_hold(&mut self.holds, *name)?;
+                Ok(Hold::new(*name))
             }
         }
     }

@@ -38,9 +38,6 @@ run_stopped [] rest (a ∷ answers) old mid entry run lack = absurd run
 run_stopped (e ∷ prefix) rest [] old mid entry run lack = absurd (true≢false (sym run.0))
 run_stopped (e ∷ prefix) rest (a ∷ answers) old mid entry run lack = (run.0, run.1, run.2, run_stopped prefix rest answers run.0 mid entry run.3 lack)
 
-pub memory_err : (a : Answer) → is_memory a ≡ true → IsErrOf a fault.Memory
-memory_err a is = subst (λ (x : Answer). IsErrOf x fault.Memory) (sym (memory_is a is)) refl
-
 pub not_first : (n : ℕ) → n + 1 ≡ 0 → ⊥
 not_first n is = omega (arith, is)
 

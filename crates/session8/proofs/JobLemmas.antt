@@ -1,5 +1,5 @@
 -- What the entries of jobs come to.
-use Rattle.std.proofs.Common.{◌≡◌, ◌≢◌, ◌⊎◌, inl, inr, arith, ℕ, zero, suc, Bool, true, false, List, [], ◌∷◌, ◌++◌, get_or, slice_set, length, ◌<◌, ◌≤◌, true≢false, IsErrOf, Option, Some, None, Ok, Err, refl, ap, sym, subst, ◌∙◌}
+use Rattle.std.proofs.Common.{Result, ◌≡◌, ◌≢◌, ◌⊎◌, inl, inr, arith, ℕ, zero, suc, Bool, true, false, List, [], ◌∷◌, ◌++◌, get_or, slice_set, length, ◌<◌, ◌≤◌, true≢false, IsErrOf, Option, Some, None, Ok, Err, refl, ap, sym, subst, ◌∙◌}
 use Rattle.os8_dir.specs.Names.{parsed_name}
 use Rattle.os8_files.specs.Mounted.{Mounted}
 use Rattle.os8_files.specs.declared.faults.FileFault.TheVariants as file
@@ -30,7 +30,7 @@ use Rattle.session8.specs.Session.{Seen, state_of, NoCallFailed, IsReply, TellsB
 use Rattle.session8.specs.SessionSteps.{DoesEntry}
 use Rattle.session8.specs.State.{State}
 use Rattle.session8.specs.System.{Answer, MayReply, MayAnswer}
-use Rattle.session8.specs.Work.{job_state, with_core, with_work, turn_reply, fault_of_job}
+use Rattle.session8.specs.Work.{job_reply, job_state, with_core, with_work, turn_reply, fault_of_job}
 use Rattle.session8.proofs.DoesLemmas.{IsSteady, replied, undone, behind_same, stopped}
 use Rattle.session8.proofs.SessionLemmas.{over_with}
 
@@ -112,14 +112,6 @@ lacks old after number turn = of_job (job_of number old.jobs) refl turn
     of_job (Some it) is turn = ((it, is), of_work it.work it.left turn)
 
 -- ## Answers
-
-file_fault : (why : JobFault) → why ≢ job.Memory → fault_of_job why ≢ fault.Memory
-file_fault job.NoJob other is = cc
-file_fault job.TooManyJobs other is = cc
-file_fault (job.File why) other is = cc
-file_fault (job.Asm why) other is = cc
-file_fault (job.Tape why) other is = cc
-file_fault job.Memory other is = absurd (other refl)
 
 refused_step : (e : Entry) (old new : State) (why : JobFault) → why ≢ job.Memory → MayRefuse old e (fault_of_job why) → new ≡ after_refusal old e → MayAnswer old e (Err (fault_of_job why)) new
 refused_step e old new job.NoJob other may after = (may, after)
@@ -363,14 +355,11 @@ start_refused it s v js js' why none for is over does = elim (bool_cases s.volum
 load_on : (s : Seen) (js : List (Option kept.Job)) (name : ℕ) (answer : Begun) (after : jobs.State) → s.jobs ≡ plain_jobs js → LoadStarts (state_over s.volume s.console.machine.core (plain_jobs js)) name answer after → LoadStarts (job_state (state_of s)) name answer after
 load_on s js name answer after is starts = subst (λ (l : List (Option Job)). LoadStarts (state_over s.volume s.console.machine.core l) name answer after) (sym is) starts
 
-pub load_begun : (s : Seen) (v : Mounted) (js js' : List (Option kept.Job)) (bytes : List ℕ) (name number : ℕ) → parsed_name bytes ≡ Some name → s.jobs ≡ plain_jobs js → StartsLoading s.volume js name (Ok number) v js'
-    → DoesEntry (entry.Jobs (order.Load bytes)) s (Ok (Line (line.Job number))) (over_with s v (plain_jobs js'))
-load_begun s v js js' bytes name number named is has =
+pub load_answered : (s : Seen) (v : Mounted) (js js' : List (Option kept.Job)) (bytes : List ℕ) (name : ℕ) (begun : Result ℕ JobFault) → parsed_name bytes ≡ Some name → s.jobs ≡ plain_jobs js → StartsLoading s.volume js name begun v js'
+    → DoesEntry (entry.Jobs (order.Load bytes)) s (job_reply begun) (over_with s v (plain_jobs js'))
+load_answered s v js js' bytes name (Ok number) named is has =
     start_begun _ s v js js' number has.over (λ running. (name, named, (_, load_on s js name (Ok number) _ is (has.step running s.console.machine.core), refl)))
-
-pub load_refused : (s : Seen) (v : Mounted) (js js' : List (Option kept.Job)) (bytes : List ℕ) (name : ℕ) (why : JobFault) → parsed_name bytes ≡ Some name → s.jobs ≡ plain_jobs js → StartsLoading s.volume js name (Err why) v js'
-    → DoesEntry (entry.Jobs (order.Load bytes)) s (Err (fault_of_job why)) (over_with s v (plain_jobs js'))
-load_refused s v js js' bytes name why named is has = start_refused (order.Load bytes) s v js js' why refl (name, named) is has.over (λ running. by_fault running why (load_on s js name (Err why) _ is (has.step running s.console.machine.core)))
+load_answered s v js js' bytes name (Err why) named is has = start_refused (order.Load bytes) s v js js' why refl (name, named) is has.over (λ running. by_fault running why (load_on s js name (Err why) _ is (has.step running s.console.machine.core)))
   where
     still : IsSteady s.volume v
     still = start_steady _ _ has.over.others
@@ -423,14 +412,11 @@ parsed_not (first ∷ prefix) bytes others none = rw (parsed_not prefix bytes ot
 assemble_on : (s : Seen) (js : List (Option kept.Job)) (target : ℕ) (from : List ℕ) (answer : Begun) (after : jobs.State) → s.jobs ≡ plain_jobs js → AssembleStarts (state_over s.volume s.console.machine.core (plain_jobs js)) target from answer after → AssembleStarts (job_state (state_of s)) target from answer after
 assemble_on s js target from answer after is starts = subst (λ (l : List (Option Job)). AssembleStarts (state_over s.volume s.console.machine.core l) target from answer after) (sym is) starts
 
-pub assemble_begun : (s : Seen) (v : Mounted) (js js' : List (Option kept.Job)) (to : List ℕ) (from : List (List ℕ)) (target : ℕ) (sources : List ℕ) (number : ℕ) → parsed_name to ≡ Some target → parsed_names from ≡ Some sources → s.jobs ≡ plain_jobs js
-    → StartsAssembling s.volume js target sources (Ok number) v js' → DoesEntry (entry.Jobs (order.Assemble to from)) s (Ok (Line (line.Job number))) (over_with s v (plain_jobs js'))
-assemble_begun s v js js' to from target sources number named are is has =
+pub assemble_answered : (s : Seen) (v : Mounted) (js js' : List (Option kept.Job)) (to : List ℕ) (from : List (List ℕ)) (target : ℕ) (sources : List ℕ) (begun : Result ℕ JobFault) → parsed_name to ≡ Some target → parsed_names from ≡ Some sources → s.jobs ≡ plain_jobs js
+    → StartsAssembling s.volume js target sources begun v js' → DoesEntry (entry.Jobs (order.Assemble to from)) s (job_reply begun) (over_with s v (plain_jobs js'))
+assemble_answered s v js js' to from target sources (Ok number) named are is has =
     start_begun _ s v js js' number has.over (λ running. (target, sources, named, are, (_, assemble_on s js target sources (Ok number) _ is (has.step running s.console.machine.core), refl)))
-
-pub assemble_refused : (s : Seen) (v : Mounted) (js js' : List (Option kept.Job)) (to : List ℕ) (from : List (List ℕ)) (target : ℕ) (sources : List ℕ) (why : JobFault) → parsed_name to ≡ Some target → parsed_names from ≡ Some sources → s.jobs ≡ plain_jobs js
-    → StartsAssembling s.volume js target sources (Err why) v js' → DoesEntry (entry.Jobs (order.Assemble to from)) s (Err (fault_of_job why)) (over_with s v (plain_jobs js'))
-assemble_refused s v js js' to from target sources why named are is has = start_refused (order.Assemble to from) s v js js' why refl (target, sources, named, are, tt) is has.over (λ running. by_fault running why (assemble_on s js target sources (Err why) _ is (has.step running s.console.machine.core)))
+assemble_answered s v js js' to from target sources (Err why) named are is has = start_refused (order.Assemble to from) s v js js' why refl (target, sources, named, are, tt) is has.over (λ running. by_fault running why (assemble_on s js target sources (Err why) _ is (has.step running s.console.machine.core)))
   where
     still : IsSteady s.volume v
     still = start_steady _ _ has.over.others
@@ -458,11 +444,9 @@ assemble_refused s v js js' to from target sources why named are is has = start_
 squeeze_on : (s : Seen) (js : List (Option kept.Job)) (answer : Begun) (after : jobs.State) → s.jobs ≡ plain_jobs js → SqueezeStarts (state_over s.volume s.console.machine.core (plain_jobs js)) answer after → SqueezeStarts (job_state (state_of s)) answer after
 squeeze_on s js answer after is starts = subst (λ (l : List (Option Job)). SqueezeStarts (state_over s.volume s.console.machine.core l) answer after) (sym is) starts
 
-pub squeeze_begun : (s : Seen) (v : Mounted) (js js' : List (Option kept.Job)) (number : ℕ) → s.jobs ≡ plain_jobs js → StartsSqueezing s.volume js (Ok number) v js' → DoesEntry (entry.Jobs order.Squeeze) s (Ok (Line (line.Job number))) (over_with s v (plain_jobs js'))
-squeeze_begun s v js js' number is has = start_begun _ s v js js' number has.over (λ running. (_, squeeze_on s js (Ok number) _ is (has.step running s.console.machine.core), refl))
-
-pub squeeze_refused : (s : Seen) (v : Mounted) (js js' : List (Option kept.Job)) (why : JobFault) → s.jobs ≡ plain_jobs js → StartsSqueezing s.volume js (Err why) v js' → DoesEntry (entry.Jobs order.Squeeze) s (Err (fault_of_job why)) (over_with s v (plain_jobs js'))
-squeeze_refused s v js js' why is has = start_refused order.Squeeze s v js js' why refl tt is has.over (λ running. by_fault running why (squeeze_on s js (Err why) _ is (has.step running s.console.machine.core)))
+pub squeeze_answered : (s : Seen) (v : Mounted) (js js' : List (Option kept.Job)) (begun : Result ℕ JobFault) → s.jobs ≡ plain_jobs js → StartsSqueezing s.volume js begun v js' → DoesEntry (entry.Jobs order.Squeeze) s (job_reply begun) (over_with s v (plain_jobs js'))
+squeeze_answered s v js js' (Ok number) is has = start_begun _ s v js js' number has.over (λ running. (_, squeeze_on s js (Ok number) _ is (has.step running s.console.machine.core), refl))
+squeeze_answered s v js js' (Err why) is has = start_refused order.Squeeze s v js js' why refl tt is has.over (λ running. by_fault running why (squeeze_on s js (Err why) _ is (has.step running s.console.machine.core)))
   where
     by_fault : s.volume.stopped ≡ false → (why : JobFault) → SqueezeStarts (job_state (state_of s)) (Err why) (state_over v s.console.machine.core (plain_jobs js')) → DoesEntry (entry.Jobs order.Squeeze) s (Err (fault_of_job why)) (over_with s v (plain_jobs js'))
     by_fault running job.TooManyJobs starts = declined _ _ _ job.TooManyJobs (λ same. cc) running (λ quiet. quiet) (start_steady _ _ has.over.others) starts.0 (ap (with_work (state_of s)) starts.1)

@@ -69,9 +69,6 @@ leaves_same e old new is = leaves_all e old new (is ∙ ap (λ (m : Mounted). re
 pub store_leaves : (bytes text : List ℕ) (old new : Seen) (name : ℕ) → parsed_name bytes ≡ Some name → new.volume.reads ≡ old.volume.reads → KeepsOtherPlaces name old.volume new.volume → LeavesAlone (entry.Files (filing.Store bytes text)) old new
 store_leaves bytes text old new name is same keeps = record { reads = same; places = subst (λ n. KeepsPlacesBut n old.volume new.volume) (sym is) keeps }
 
-pub delete_leaves : (bytes : List ℕ) (old new : Seen) (name : ℕ) → parsed_name bytes ≡ Some name → new.volume.reads ≡ old.volume.reads → KeepsOtherPlaces name old.volume new.volume → LeavesAlone (entry.Files (filing.Delete bytes)) old new
-delete_leaves bytes old new name is same keeps = record { reads = same; places = subst (λ n. KeepsPlacesBut n old.volume new.volume) (sym is) keeps }
-
 -- ## A job takes a turn
 
 -- the laws of jobs that turns rest on

@@ -97,22 +97,6 @@ pub up_to_stopped : (text rest : List ℕ) (is_end : Bool) (done : ℕ) (old mid
 up_to_stopped text rest is_end done old mid new w w1 w2 why back first next =
     prefix_stopped text rest is_end first.0 old mid new w w1 w2 why (subst (λ (l : List ℕ). StartsWithItems text is_end first.0 l) (sym back) first.1) first.2 next
 
--- a text that is run to its end
-pub runs_end : (text : List ℕ) (old new : State) (w w' : Option (List ℕ)) (why : Ending) → RunsPrefix text true old new w w' (Err why) → RunsItems (script_of text) old new w w' (Err why)
-runs_end text old new w w' ending.Memory run = run
-runs_end text old new w w' ending.Writer run = run
-runs_end text old new w w' ending.Reader run = absurd run
-
-pub runs_all : (text : List ℕ) (done : ℕ × ℕ) (old new : State) (w w' : Option (List ℕ)) → RunsPrefix text true old new w w' (Ok done) → WritesAnswers old (script_of text) new w w' []
-runs_all text done old new w w' run =
-    subst (λ (l : List Item). WritesAnswers old l new w w' []) (sym (run.1 ∙ ap (λ (l : List Item). run.0 ++ l) run.2.0 ∙ append-nil run.0)) run.3
-
--- the whole items of what a reader gave
-pub given_stopped : (text rest : List ℕ) (old new : State) (w w' : Option (List ℕ)) (why : Ending) → RunsPrefix text false old new w w' (Err why) → RunsGiven text rest old new w w' (Err why)
-given_stopped text rest old new w w' ending.Memory run = run
-given_stopped text rest old new w w' ending.Writer run = run
-given_stopped text rest old new w w' ending.Reader run = absurd run
-
 pub given_done : (text rest : List ℕ) (bytes lines : ℕ) (old new : State) (w w1 w2 : Option (List ℕ)) (r : Result (Unit {0}) Ending) → rest ≡ drop bytes text → RunsPrefix text false old new w w1 (Ok (bytes, lines))
     → OnOk r (Appends w1 w2 []) → IfErr r (λ e. e ≡ ending.Writer) → RunsGiven text rest old new w w2 r
 given_done text rest bytes lines old new w w1 w2 (Ok done) is run ok err =

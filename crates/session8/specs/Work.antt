@@ -1,5 +1,5 @@
 -- What jobs, and the entries that begin them, give them turns or change the files beside them, do to the state of the machine.
-use Rattle.std.specs.Prelude.{◌≡◌, ℕ, List}
+use Rattle.std.specs.Prelude.{◌≡◌, ℕ, List, Result, Ok, Err}
 use Rattle.jobs8.specs.State as jobs
 use Rattle.jobs8.specs.declared.faults.JobFault.{JobFault}
 use Rattle.jobs8.specs.declared.faults.JobFault.TheVariants as job
@@ -9,6 +9,8 @@ use Rattle.script8.specs.declared.faults.SessionFault.{SessionFault}
 use Rattle.script8.specs.declared.faults.SessionFault.TheVariants as fault
 use Rattle.script8.specs.declared.replies.LineReply.{LineReply}
 use Rattle.script8.specs.declared.replies.LineReply.TheVariants as line
+use Rattle.script8.specs.declared.replies.Reply.{Reply}
+use Rattle.script8.specs.declared.replies.Reply.TheVariants.{Line}
 use Rattle.session8.specs.State.{Console, State}
 
 -- what jobs do their work on: the files, core and the jobs
@@ -58,3 +60,8 @@ fault_of_job (job.File why) = fault.File why
 fault_of_job (job.Asm why) = fault.Asm why
 fault_of_job (job.Tape why) = fault.Tape why
 fault_of_job job.Memory = fault.Memory
+
+-- the reply to a job that was begun
+abbrev pub job_reply : Result ℕ JobFault → Result Reply SessionFault
+job_reply (Ok number) = Ok (Line (line.Job number))
+job_reply (Err why) = Err (fault_of_job why)

@@ -1,5 +1,6 @@
 //! The operator's console.
 ghost use Rattle.std.specs.Prelude.{◌≡◌, ◌≤◌, [], true, false, IfOk};
+ghost use Rattle.word12.specs.declared.sizes.TheConstants.{CORE};
 ghost use Rattle.core_load.specs.Core.{zeros};
 ghost use Rattle.cpu8.specs.State.{stopped, next_cell};
 ghost use Rattle.debug8.specs.Breaks.{no_breaks};
@@ -43,11 +44,10 @@ impl Console {
     /// A console with a stopped processor whose core is 0, no breaks, and nothing printed.
     pub(crate) fn new(alloc: Global) -> Result<Console, DebugFault>
         ensures { IfOk result (λ c. c
-            ≡ record { machine = stopped (zeros 0o100000); breaks = no_breaks 0o100000; printed = [] }) }
+            ≡ record { machine = stopped (zeros CORE); breaks = no_breaks CORE; printed = [] }) }
     {
-        let core = match Core::new(alloc) {
-            Ok(core) => core,
-            Err(_) => return Err(DebugFault::Memory),
+        let Ok(core) = Core::new(alloc) else {
+            return Err(DebugFault::Memory);
         };
         let debugger = Debugger::new(alloc)?;
         Ok(Console {

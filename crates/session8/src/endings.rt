@@ -1,7 +1,7 @@
 ghost use Rattle.std.specs.Prelude.{◌≡◌};
-ghost use Rattle.session8.specs.RunSteps.{fault_of};
 
 use script8::SessionFault;
+use std::alloc::AllocError;
 use std::io;
 
 /// Why a run of a script ends before its last item is answered.
@@ -17,16 +17,44 @@ pub(crate) enum Ending {
     Memory,
 }
 
-impl Ending {
-    /// The fault that is answered, and of whose line is written.
-    pub(crate) fn fault(self) -> SessionFault
-        ensures { result ≡ fault_of self }
-    {
-        match self {
+/// The fault that is answered, and of whose line is written.
+impl From<Ending> for SessionFault {
+    ghost use Rattle.session8.specs.RunSteps.{fault_of};
+
+    ghost from_gives = { λ ending fault. fault ≡ fault_of ending };
+
+    fn from(ending: Ending) -> SessionFault {
+        match ending {
             Ending::Reader => SessionFault::Reader,
             Ending::Writer => SessionFault::Writer,
             Ending::Memory => SessionFault::Memory,
         }
+    }
+}
+
+/// The calls of a run answer the reader's fault and want of memory.
+impl From<SessionFault> for Ending {
+    ghost use Rattle.script8.specs.declared.faults.SessionFault.TheVariants as fault;
+    ghost use Rattle.session8.specs.declared.endings.Ending.TheVariants.{Reader, Memory};
+
+    ghost from_gives = { λ why ending. (why ≡ fault.Reader → ending ≡ Reader)
+        × (why ≡ fault.Memory → ending ≡ Memory) };
+
+    fn from(fault: SessionFault) -> Ending {
+        match fault {
+            SessionFault::Reader => Ending::Reader,
+            _ => Ending::Memory,
+        }
+    }
+}
+
+impl From<AllocError> for Ending {
+    ghost use Rattle.session8.specs.declared.endings.Ending.TheVariants.{Memory};
+
+    ghost from_gives = { λ _ ending. ending ≡ Memory };
+
+    fn from(_error: AllocError) -> Ending {
+        Ending::Memory
     }
 }
 

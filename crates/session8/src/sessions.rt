@@ -1,4 +1,5 @@
 ghost use Rattle.std.specs.Prelude.{◌≡◌, ◌+◌, ◌<◌, ◌≤◌, ◌↔◌, [], false, true, None, OnOk, IfOk, IfErr, IsErrOf, vec_len, vec_capacity, Err};
+ghost use Rattle.word12.specs.declared.sizes.TheConstants.{CORE};
 ghost use Rattle.os8_dir.specs.Reading.{Sound, MeetsFault, directory_of};
 ghost use Rattle.os8_dir.specs.declared.faults.DirFault.TheVariants.{Device};
 ghost use Rattle.jobs8.specs.Jobs.{no_jobs};
@@ -70,7 +71,7 @@ impl<S: BlockStore> Session<S> {
         ensures fresh { IfOk result (λ s. (s.volume.stopped ≡ false) × (s.volume.holds ≡ [])
             × (s.volume.tentative ≡ None) × (s.jobs ≡ no_jobs)) }
         ensures console { IfOk result (λ s. s.console
-            ≡ record { machine = stopped (zeros 0o100000); breaks = no_breaks 0o100000; printed = [] }) }
+            ≡ record { machine = stopped (zeros CORE); breaks = no_breaks CORE; printed = [] }) }
         ensures reads { IfOk result (λ s. (s.volume.reads ≤ S.reads store + 12)
             × (s.volume.failed_reads ≡ S.failed_reads store)
             × (s.volume.failed_writes ≡ S.failed_writes store)) }
@@ -79,19 +80,16 @@ impl<S: BlockStore> Session<S> {
         ensures fault { IfErr result (λ e. MeetsFault e.1 (directory_of (S.contents store))) }
         ensures device { IfErr result (λ e. (e.1 ≡ Device) ↔ (S.failed_reads store < S.failed_reads e.0)) }
     {
-        let (line, console) = match parts(alloc) {
-            Ok(parts) => parts,
-            Err(_) => return Err((store, DirFault::Memory)),
+        let Ok((line, console)) = parts(alloc) else {
+            return Err((store, DirFault::Memory));
         };
-        match FileService::mount(alloc, store) {
-            Ok(files) => Ok(Session {
-                files,
-                jobs: Jobs::new(),
-                console,
-                line,
-            }),
-            Err(refused) => Err(refused),
-        }
+        let files = FileService::mount(alloc, store)?;
+        Ok(Session {
+            files,
+            jobs: Jobs::new(),
+            console,
+            line,
+        })
     }
 
     /// The store, whose blocks hold the files.
@@ -203,7 +201,7 @@ impl<S: BlockStore> Session<S> {
 fn parts(alloc: Global) -> Result<(Vec<u8>, Console), DebugFault>
     ensures line { IfOk result (λ parts. 80 ≤ vec_capacity parts.0) }
     ensures console { IfOk result (λ parts. parts.1
-        ≡ record { machine = stopped (zeros 0o100000); breaks = no_breaks 0o100000; printed = [] }) }
+        ≡ record { machine = stopped (zeros CORE); breaks = no_breaks CORE; printed = [] }) }
 {
     let line = Vec::with_capacity(alloc, LINE)?;
     let console = Console::new(alloc)?;

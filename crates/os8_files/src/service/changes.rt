@@ -1,5 +1,5 @@
 //! Changes of the directory.
-ghost use Rattle.std.specs.Prelude.{◌≡◌, ◌≤◌, false, None, length};
+ghost use Rattle.std.specs.Prelude.{◌≡◌, ◌≤◌, false, None, Ok, IfOk, length};
 ghost use Rattle.os8_dir.specs.Found.{IsDirectory, limit};
 ghost use Rattle.os8_files.specs.Calls.{DeletesFile};
 ghost use Rattle.os8_files.specs.WriteSteps.{RewritesDirectory};
@@ -10,9 +10,19 @@ use os8_dir::laws::{
     directory_numbers, entry_counts, file_removed, files_found, files_made, read_back,
     sound_directory,
 };
-use os8_dir::{Directory, Name};
-use std::alloc::Global;
+use os8_dir::{DirFault, Directory, Name};
+use std::alloc::{AllocError, Global};
 use volume_image::BlockStore;
+
+/// What a change of a directory made; it fails for want of memory alone.
+pub(crate) fn changed(made: Result<Directory, DirFault>) -> Result<Directory, AllocError>
+    ensures { IfOk result (λ directory. made ≡ Ok directory) }
+{
+    match made {
+        Ok(directory) => Ok(directory),
+        Err(_) => Err(AllocError),
+    }
+}
 
 impl<S: BlockStore> FileService<S> {
     /// Writes another directory.
@@ -60,14 +70,10 @@ impl<S: BlockStore> FileService<S> {
         file_removed();
         files_made();
         entry_counts();
-        match self.directory.removed(alloc, name) {
-            Err(_) => Err(FileFault::Memory),
-            Ok(directory) => {
-                if directory.entries().len() > directory.limit() {
-                    return Err(FileFault::DirectoryFull);
-                }
-                self.rewrite(directory)
-            }
+        let directory = changed(self.directory.removed(alloc, name))?;
+        if directory.entries().len() > directory.limit() {
+            return Err(FileFault::DirectoryFull);
         }
+        self.rewrite(directory)
     }
 }

@@ -1,5 +1,6 @@
 //! The putting of whole files.
 ghost use Rattle.std.specs.Prelude.{◌≡◌, ◌*◌, ◌<◌, length, None};
+ghost use Rattle.word12.specs.declared.sizes.TheConstants.{BLOCK};
 ghost use Rattle.os8_dir.specs.Entries.{IsNamed};
 ghost use Rattle.os8_files.specs.Puts.{PutsFile, blocks_filled};
 ghost use Rattle.os8_files.specs.Steps.{IsBeginning, FillsFile};
@@ -9,7 +10,7 @@ use os8_dir::Name;
 use os8_dir::laws::rooms;
 use std::alloc::Global;
 use volume_image::BlockStore;
-use word12::Word;
+use word12::{BLOCK, Word};
 
 impl<S: BlockStore> FileService<S> {
     /// Makes a file of whole blocks of words, at least one, whose information words are 0, in place of an older one of the name
@@ -19,12 +20,12 @@ impl<S: BlockStore> FileService<S> {
     pub fn put(&mut self, alloc: Global, name: Name, words: &[Word]) -> Result<(), FileFault>
         requires named { IsNamed name }
         requires some { 0 < blocks_filled words.now }
-        requires whole { 256 * blocks_filled words.now ≡ length words.now }
+        requires whole { BLOCK * blocks_filled words.now ≡ length words.now }
         requires none { self.old.tentative ≡ None }
         ensures call { PutsFile self.old name words.now result self.new }
         ensures none { self.new.tentative ≡ None }
     {
-        put_file(self, alloc, name, words, words.len() / 256)
+        put_file(self, alloc, name, words, words.len() / BLOCK)
     }
 }
 
@@ -38,24 +39,19 @@ fn put_file<S: BlockStore>(
 ) -> Result<(), FileFault>
     requires named { IsNamed name }
     requires some { 0 < blocks }
-    requires whole { 256 * blocks ≡ length words.now }
+    requires whole { BLOCK * blocks ≡ length words.now }
     requires count { blocks ≡ blocks_filled words.now }
     requires none { files.old.tentative ≡ None }
     ensures call { PutsFile files.old name words.now result files.new }
     ensures none { files.new.tentative ≡ None }
 {
     rooms();
-    match files.enter(name, blocks) {
-        Err(fault) => Err(fault),
-        Ok(token) => {
-            let mut tentative = token;
-            match fill(files, &mut tentative, words, blocks) {
-                Ok(()) => files.close(alloc, tentative, &[]),
-                Err(fault) => {
-                    files.give_up(tentative);
-                    Err(fault)
-                }
-            }
+    let mut tentative = files.enter(name, blocks)?;
+    match fill(files, &mut tentative, words, blocks) {
+        Ok(()) => files.close(alloc, tentative, &[]),
+        Err(fault) => {
+            files.give_up(tentative);
+            Err(fault)
         }
     }
 }
@@ -67,7 +63,7 @@ fn fill<S: BlockStore>(
     words: &[Word],
     blocks: usize,
 ) -> Result<(), FileFault>
-    requires whole { 256 * blocks ≡ length words.now }
+    requires whole { BLOCK * blocks ≡ length words.now }
     requires beginning { IsBeginning files.old tentative.old blocks }
     ensures call { FillsFile files.old words.now blocks result files.new }
     ensures token { tentative.new ≡ tentative.old }
@@ -75,16 +71,12 @@ fn fill<S: BlockStore>(
     let mut rest = words;
     let mut written = 0;
     while written < blocks {
-        let (prefix, behind) = rest.split_at(256);
-        let mut block = [Word::ZERO; 256];
+        let (prefix, behind) = rest.split_at(BLOCK);
+        let mut block = [Word::ZERO; BLOCK];
         block.copy_from_slice(prefix);
-        match files.write(tentative, &block) {
-            Ok(()) => {
-                rest = behind;
-                written += 1;
-            }
-            Err(fault) => return Err(fault),
-        }
+        files.write(tentative, &block)?;
+        rest = behind;
+        written += 1;
     }
     Ok(())
 }

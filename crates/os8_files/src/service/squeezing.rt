@@ -1,10 +1,12 @@
 //! The moving of files to lower blocks.
 ghost use Rattle.std.specs.Prelude.{◌≡◌, ◌+◌, ◌<◌, ◌≤◌, false, None, Some, length};
+ghost use Rattle.word12.specs.declared.sizes.TheConstants.{FIRST_FILE_BLOCK};
 ghost use Rattle.os8_files.specs.Calls.{Squeezes, IsReady};
 ghost use Rattle.os8_files.specs.Failed.{lowest_or};
 ghost use Rattle.os8_files.specs.WriteSteps.{CopiesBlocks};
 ghost use Rattle.os8_dir.specs.Reading.{directory_of};
 
+use super::changes::changed;
 use crate::copying::{blank_run, read_run, write_run};
 use crate::{FileFault, FileService, Squeezed};
 use os8_dir::laws::{
@@ -54,20 +56,16 @@ impl<S: BlockStore> FileService<S> {
         files_made();
         entry_counts();
         file_moved_down();
-        match self.directory.moved_down(alloc, &name) {
-            Err(_) => Err(FileFault::Memory),
-            Ok(directory) => {
-                if directory.entries().len() > directory.limit() {
-                    return Err(FileFault::DirectoryFull);
-                }
-                match self.directory.find(&name) {
-                    None => unreachable!(),
-                    Some((place, size)) => {
-                        self.copy_down(alloc, place, size, gap)?;
-                        self.rewrite(directory)?;
-                        Ok(Squeezed::Moved(name))
-                    }
-                }
+        let directory = changed(self.directory.moved_down(alloc, &name))?;
+        if directory.entries().len() > directory.limit() {
+            return Err(FileFault::DirectoryFull);
+        }
+        match self.directory.find(&name) {
+            None => unreachable!(),
+            Some((place, size)) => {
+                self.copy_down(alloc, place, size, gap)?;
+                self.rewrite(directory)?;
+                Ok(Squeezed::Moved(name))
             }
         }
     }
@@ -82,18 +80,13 @@ impl<S: BlockStore> FileService<S> {
     ) -> Result<(), FileFault>
         requires running { self.old.stopped ≡ false }
         requires none { self.old.tentative ≡ None }
-        requires high { 7 + gap ≤ place }
+        requires high { FIRST_FILE_BLOCK + gap ≤ place }
         requires inside { place + size ≤ length self.old.blocks }
         ensures { CopiesBlocks self.old place size gap result self.new }
     {
         directory_blocks();
-        let mut run = match blank_run(alloc, size) {
-            Ok(run) => run,
-            Err(_) => return Err(FileFault::Memory),
-        };
-        if read_run(&mut self.store, place, &mut run).is_err() {
-            return Err(FileFault::Device);
-        }
+        let mut run = blank_run(alloc, size)?;
+        read_run(&mut self.store, place, &mut run)?;
         match write_run(&mut self.store, place - gap, &run) {
             Ok(()) => Ok(()),
             Err(_) => {

@@ -3,6 +3,7 @@ ghost use Rattle.std.specs.Prelude.{◌≡◌, ◌/◌, ◌<◌, ◌+◌, nat_lt
 ghost use Rattle.os8_files.specs.Calls.{Enters, WritesBlock, ClosesFile, IsOf};
 ghost use Rattle.os8_files.specs.Steps.{IsPlaced, PlacesFile};
 
+use super::changes::changed;
 use crate::begun::Begun;
 use crate::{FileFault, FileService, Tentative};
 use os8_dir::Name;
@@ -167,17 +168,13 @@ impl<S: BlockStore> FileService<S> {
         files_made();
         entry_counts();
         rooms();
-        match self
+        let placed = self
             .directory
-            .placed(alloc, &name, info, begun.place, begun.written)
-        {
-            Err(_) => Err(FileFault::Memory),
-            Ok(directory) => {
-                if directory.entries().len() > directory.limit() {
-                    return Err(FileFault::DirectoryFull);
-                }
-                self.rewrite(directory)
-            }
+            .placed(alloc, &name, info, begun.place, begun.written);
+        let directory = changed(placed)?;
+        if directory.entries().len() > directory.limit() {
+            return Err(FileFault::DirectoryFull);
         }
+        self.rewrite(directory)
     }
 }

@@ -20,6 +20,7 @@ use os8_files::laws::{block_reads, file_places, kept_holds};
 use script8::{FileEntry, FileLengths, LineReply, Reply, Report, SessionFault};
 use std::alloc::Global;
 use volume_image::BlockStore;
+use word12::BLOCK;
 
 impl<S: BlockStore> Session<S> {
     /// Does an entry of files.
@@ -75,7 +76,7 @@ impl<S: BlockStore> Session<S> {
             Ok(words) => {
                 self.files.put(alloc, name, &words)?;
                 self.jobs.disturb();
-                let blocks = words.len() / 256;
+                let blocks = words.len() / BLOCK;
                 Ok(Reply::Line(LineReply::Stored { name, blocks }))
             }
         }

@@ -90,9 +90,7 @@ impl<S: BlockStore> Session<S> {
             × (count ≤ 16777217)
             × (count ≡ 16777217 → result ≡ Err ending.Reader) }
     {
-        let Ok(mut piece) = zero_bytes(alloc, PIECE) else {
-            return Err(Ending::Memory);
-        };
+        let mut piece = zero_bytes(alloc, PIECE)?;
         let mut pending = Pending::new(alloc);
         for _ in 0..u64::MAX {
             if pending.count == MOST {
@@ -101,12 +99,11 @@ impl<S: BlockStore> Session<S> {
                 }
                 return Err(Ending::Reader);
             }
-            match pending.read(reader, &mut piece) {
-                Ok(true) => return self.run_end(alloc, &pending.bytes, writer, watcher),
-                Ok(false) => self.run_given(alloc, &mut pending, writer, watcher)?,
-                Err(SessionFault::Reader) => return Err(Ending::Reader),
-                Err(_) => return Err(Ending::Memory),
+            let at_end = pending.read(reader, &mut piece)?;
+            if at_end {
+                return self.run_end(alloc, &pending.bytes, writer, watcher);
             }
+            self.run_given(alloc, &mut pending, writer, watcher)?;
         }
         Err(Ending::Reader)
     }
@@ -198,16 +195,15 @@ impl<S: BlockStore> Session<S> {
         ensures later { IsLater self.old self.new }
         ensures running { NoCallFailed self.old self.new → self.new.volume.stopped ≡ false }
     {
-        match next_item(alloc, text, is_end) {
-            Ok(Next::End(lines)) => Ok(Begun::Waiting(lines)),
-            Ok(Next::Blank(bytes)) => Ok(Begun::Ran(bytes)),
-            Ok(Next::Item { item, bytes }) => {
+        match next_item(alloc, text, is_end)? {
+            Next::End(lines) => Ok(Begun::Waiting(lines)),
+            Next::Blank(bytes) => Ok(Begun::Ran(bytes)),
+            Next::Item { item, bytes } => {
                 let (lines, _) = text.split_at(bytes);
                 watcher.begins(lines);
                 self.run_item(alloc, &item, writer, watcher)?;
                 Ok(Begun::Ran(bytes))
             }
-            Err(_) => Err(Ending::Memory),
         }
     }
 
@@ -346,16 +342,12 @@ impl<S: BlockStore> Session<S> {
         ensures same { self.new ≡ self.old }
     {
         let Err(ending) = run else {
-            return match flush(writer) {
-                Ok(()) => Ok(()),
-                Err(ending) => Err(ending.fault()),
-            };
+            flush(writer)?;
+            return Ok(());
         };
-        let why = ending.fault();
-        match self.end_with(ending, writer, watcher) {
-            Ok(()) => Err(why),
-            Err(ending) => Err(ending.fault()),
-        }
+        let why = SessionFault::from(ending);
+        self.end_with(ending, writer, watcher)?;
+        Err(why)
     }
 
     /// Writes the last line, that of a fault, but for the writer's.
@@ -373,7 +365,7 @@ impl<S: BlockStore> Session<S> {
         match why {
             Ending::Writer => Err(Ending::Writer),
             _ => {
-                self.refuse(why.fault(), writer, watcher)?;
+                self.refuse(SessionFault::from(why), writer, watcher)?;
                 flush(writer)
             }
         }
@@ -407,9 +399,7 @@ fn write_lines<W: Write>(
     ensures room { 80 ≤ vec_capacity line.new }
 {
     line.clear();
-    if put_reply(entry, answer, line).is_err() {
-        return Err(Ending::Memory);
-    }
+    put_reply(entry, answer, line)?;
     writer.write_all(line)?;
     Ok(())
 }

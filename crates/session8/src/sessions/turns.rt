@@ -7,7 +7,7 @@ ghost use Rattle.script8.specs.declared.faults.SessionFault.TheVariants.{Memory}
 ghost use Rattle.session8.specs.Files.{parsed_names};
 ghost use Rattle.session8.specs.Room.{EntryTellsRoom};
 ghost use Rattle.session8.specs.SessionSteps.{LeavesAlone, DoesEntry};
-ghost use Rattle.session8.specs.Work.{turn_reply, fault_of_job};
+ghost use Rattle.session8.specs.Work.{job_reply, turn_reply, fault_of_job};
 
 use super::Session;
 use jobs8::laws::{job_calls, job_numbers};
@@ -55,10 +55,7 @@ impl<S: BlockStore> Session<S> {
             return Err(SessionFault::File(FileFault::BadName));
         };
         let sources = &names[..from.len()];
-        match self.jobs.assemble(alloc, &mut self.files, target, sources) {
-            Ok(number) => Ok(Reply::Line(LineReply::Job(number))),
-            Err(fault) => Err(fault_of_job(fault)),
-        }
+        job_reply(self.jobs.assemble(alloc, &mut self.files, target, sources))
     }
 
     /// Begins a job that loads a file. It has a turn for each of its blocks, and one more.
@@ -69,10 +66,7 @@ impl<S: BlockStore> Session<S> {
         let Some(name) = Name::parse(name) else {
             return Err(SessionFault::File(FileFault::BadName));
         };
-        match self.jobs.load(alloc, &mut self.files, name) {
-            Ok(number) => Ok(Reply::Line(LineReply::Job(number))),
-            Err(fault) => Err(fault_of_job(fault)),
-        }
+        job_reply(self.jobs.load(alloc, &mut self.files, name))
     }
 
     /// Begins a job that squeezes. It has a turn for each file, and one more.
@@ -80,10 +74,7 @@ impl<S: BlockStore> Session<S> {
         ensures does { DoesEntry (entry.Jobs job.Squeeze) self.old result self.new }
         ensures leaves { LeavesAlone (entry.Jobs job.Squeeze) self.old self.new }
     {
-        match self.jobs.squeeze(&self.files) {
-            Ok(number) => Ok(Reply::Line(LineReply::Job(number))),
-            Err(fault) => Err(fault_of_job(fault)),
-        }
+        job_reply(self.jobs.squeeze(&self.files))
     }
 
     /// Lets the job of a number take a turn.
@@ -103,6 +94,16 @@ impl<S: BlockStore> Session<S> {
             Ok(turned) => Ok(Reply::Line(turn_reply(number, turned))),
             Err(fault) => Err(fault_of_job(fault)),
         }
+    }
+}
+
+/// The reply to a job that was begun.
+fn job_reply(begun: Result<u32, JobFault>) -> Result<Reply, SessionFault>
+    ensures { result ≡ job_reply begun }
+{
+    match begun {
+        Ok(number) => Ok(Reply::Line(LineReply::Job(number))),
+        Err(fault) => Err(fault_of_job(fault)),
     }
 }
 

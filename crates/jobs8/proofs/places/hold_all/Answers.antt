@@ -1,4 +1,5 @@
 use Rattle.std.proofs.Common.{◌∙◌, Ok, Err, ap, subst, arith}
+use Rattle.std.proofs.lemmas.Result.{err_from_is_err_and}
 use Rattle.os8_dir.specs.Files.{files_of}
 use Rattle.os8_files.specs.Mounted.{Mounted}
 use Rattle.jobs8.specs.Steps.{HoldsFirst, TakesNext}
@@ -22,20 +23,21 @@ pub loop-place-preserved : goal.loop-place-preserved
 loop-place-preserved g c =
     let i = c.loop-place.invariant in
     record {
-      size = c.in-Ok.ensures.size ∙ i.size;
-      first = held_next (files_of c.args.files.now.blocks) c.args.names.now c.index-names-place.result c.loop-place.places c.hold_next.new.places c.loop-place.blocks.items c.hold_next.new.blocks.items c.loop-place.place c.loop-place.total c.in-Ok.count i.first c.loop-place-test.true
+      size = c.in_ok-count.ensures.size ∙ i.size;
+      first = held_next (files_of c.args.files.now.blocks) c.args.names.now c.index-names-place.result c.loop-place.places c.hold_next.new.places c.loop-place.blocks.items c.hold_next.new.blocks.items c.loop-place.place c.loop-place.total c.in_ok-count.count i.first c.loop-place-test.true
           (omega (arith, c.loop-place-test.true, c.requires.few, i.size)) c.index-names-place.is
-          (subst (λ (m : Mounted). TakesNext (files_of m.blocks) c.index-names-place.result c.loop-place.places c.loop-place.place c.loop-place.blocks.items (Ok c.in-Ok.count) c.hold_next.new.places c.hold_next.new.blocks.items) i.held.others c.in-Ok.ensures.next);
-      held = c.in-Ok.ensures.held c.args.files.now i.held;
+          (subst (λ (m : Mounted). TakesNext (files_of m.blocks) c.index-names-place.result c.loop-place.places c.loop-place.place c.loop-place.blocks.items (Ok c.in_ok-count.count) c.hold_next.new.places c.hold_next.new.blocks.items) i.held.others c.in_ok-count.ensures.next);
+      held = c.in_ok-count.ensures.held c.args.files.now i.held;
     }
 
-pub returns-in-Err-clause-all : goal.returns-in-Err-clause-all
-returns-in-Err-clause-all g c =
-    not_held (files_of c.args.files.now.blocks) c.args.names.now c.index-names-place.result c.loop-place.places c.hold_next.new.places c.loop-place.blocks.items c.hold_next.new.blocks.items c.loop-place.place c.in-Err.fault c.loop-place-test.true c.index-names-place.is
-    (subst (λ (m : Mounted). TakesNext (files_of m.blocks) c.index-names-place.result c.loop-place.places c.loop-place.place c.loop-place.blocks.items (Err c.in-Err.fault) c.hold_next.new.places c.hold_next.new.blocks.items) c.loop-place.invariant.held.others c.in-Err.ensures.next)
+pub returns-in_err-count-clause-all : goal.returns-in_err-count-clause-all
+returns-in_err-count-clause-all g c =
+    let e = err_from_is_err_and c.from_residual.result c.from_residual.ensures.1 in
+    rw (e.1, e.2) (not_held (files_of c.args.files.now.blocks) c.args.names.now c.index-names-place.result c.loop-place.places c.hold_next.new.places c.loop-place.blocks.items c.hold_next.new.blocks.items c.loop-place.place c.in_err-count.field-0.0 c.loop-place-test.true c.index-names-place.is
+    (subst (λ (m : Mounted). TakesNext (files_of m.blocks) c.index-names-place.result c.loop-place.places c.loop-place.place c.loop-place.blocks.items (Err c.in_err-count.field-0.0) c.hold_next.new.places c.hold_next.new.blocks.items) c.loop-place.invariant.held.others c.in_err-count.ensures.next))
 
-pub returns-in-Err-clause-held : goal.returns-in-Err-clause-held
-returns-in-Err-clause-held g c = c.in-Err.ensures.held c.args.files.now c.loop-place.invariant.held
+pub returns-in_err-count-clause-held : goal.returns-in_err-count-clause-held
+returns-in_err-count-clause-held g c = c.in_err-count.ensures.held c.args.files.now c.loop-place.invariant.held
 
 pub returns-clause-all : goal.returns-clause-all
 returns-clause-all g c = subst (λ l. HoldsFirst (files_of c.args.files.now.blocks) l c.loop-place.places c.loop-place.blocks.items c.loop-place.total) (take_whole c.args.names.now c.loop-place.place c.loop-place-test.false) c.loop-place.invariant.first

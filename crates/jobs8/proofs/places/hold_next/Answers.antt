@@ -3,12 +3,12 @@ use Rattle.jobs8.specs.Steps.{HasHeld}
 use Rattle.jobs8.proofs.PlaceLemmas.{taken_more}
 use Rattle.jobs8.proofs.places.hold_next.Goals as goal
 
-pub returns-in_ok-reserve-in-Ok-clause-held : goal.returns-in_ok-reserve-in-Ok-clause-held
-returns-in_ok-reserve-in-Ok-clause-held g c = λ first held.
+pub returns-clause-held : goal.returns-clause-held
+returns-clause-held g c = λ first held.
     subst (λ l. HasHeld first l c.hold.new.self) (sym c.put_hold.ensures)
-    (taken_more c.counted_holds.ensures.taken first c.args.files.now c.hold.new.self c.args.places.now c.args.place c.args.name c.in-Ok.hold c.requires.inside c.requires.free c.in-Ok.ensures.names c.in-Ok.ensures.others held)
+    (taken_more c.counted_holds.ensures.taken first c.args.files.now c.hold.new.self c.args.places.now c.args.place c.args.name c.in_ok-hold.hold c.requires.inside c.requires.free c.in_ok-hold.ensures.names c.in_ok-hold.ensures.others held)
 
-pub returns-in_err-reserve-in-Ok-clause-held : goal.returns-in_err-reserve-in-Ok-clause-held
-returns-in_err-reserve-in-Ok-clause-held g c = λ first held.
+pub returns-in_err-reserve-clause-held : goal.returns-in_err-reserve-clause-held
+returns-in_err-reserve-clause-held g c = λ first held.
     subst (λ l. HasHeld first l c.hold.new.self) (sym c.put_hold.ensures)
-    (taken_more c.counted_holds.ensures.taken first c.args.files.now c.hold.new.self c.args.places.now c.args.place c.args.name c.in-Ok.hold c.requires.inside c.requires.free c.in-Ok.ensures.names c.in-Ok.ensures.others held)
+    (taken_more c.counted_holds.ensures.taken first c.args.files.now c.hold.new.self c.args.places.now c.args.place c.args.name c.in_ok-hold.hold c.requires.inside c.requires.free c.in_ok-hold.ensures.names c.in_ok-hold.ensures.others held)

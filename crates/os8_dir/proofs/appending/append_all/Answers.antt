@@ -22,7 +22,7 @@ loop-entry-preserved c =
     let old = c.args.entries.now.items in
     let k = c.loop-entry.entry-index in
     let next : (old ++ take k c.args.more.now) ++ c.entry-item.result ∷ [] ≡ old ++ take (k + 1) c.args.more.now = rw (take-item k c.args.more.now c.entry-item.result c.loop-entry-test.true c.entry-item.is, append_assoc) refl in
-    c.if-not-append.ensures ∙ tidy-more c.loop-entry.entries.items (old ++ take k c.args.more.now) (c.entry-item.result ∷ []) (old ++ take (k + 1) c.args.more.now) c.loop-entry.invariant next
+    c.in_ok-append.ensures ∙ tidy-more c.loop-entry.entries.items (old ++ take k c.args.more.now) (c.entry-item.result ∷ []) (old ++ take (k + 1) c.args.more.now) c.loop-entry.invariant next
 
 pub returns : goal.returns
 returns c = c.loop-entry.invariant ∙ rw (take_all c.loop-entry.entry-index c.args.more.now c.loop-entry-test.false) refl

@@ -27,6 +27,6 @@ loop-entry-preserved c =
     let k = c.loop-entry.entry-index in
     let es = c.args.entries.now in
     record {
-      list = c.if-not-append_laid.ensures ∙ rw c.emptied.ensures (tidy-more c.loop-entry.kept.items (put c.args.first c.args.from c.args.file.now (emptied c.args.name (take k es))) _ (put c.args.first c.args.from c.args.file.now (emptied c.args.name (take (k + 1) es))) c.loop-entry.invariant.list (put-item c.args.first c.args.from c.args.name k c.args.file.now es c.entry-item.result c.loop-entry.place c.loop-entry.invariant.place c.loop-entry-test.true c.entry-item.is));
+      list = c.in_ok-append_laid.ensures ∙ rw c.emptied.ensures (tidy-more c.loop-entry.kept.items (put c.args.first c.args.from c.args.file.now (emptied c.args.name (take k es))) _ (put c.args.first c.args.from c.args.file.now (emptied c.args.name (take (k + 1) es))) c.loop-entry.invariant.list (put-item c.args.first c.args.from c.args.name k c.args.file.now es c.entry-item.result c.loop-entry.place c.loop-entry.invariant.place c.loop-entry-test.true c.entry-item.is));
       place = omega (arith, c.loop-entry.invariant.place, c.length-place.ensures, total-take-item k es c.entry-item.result c.loop-entry-test.true c.entry-item.is);
     }

@@ -16,4 +16,4 @@ pub loop-entry-preserved : goal.loop-entry-preserved
 loop-entry-preserved c =
     let k = c.loop-entry.entry-index in
     let es = c.args.entries.now in
-    c.if-not-append.ensures ∙ rw c.emptied.ensures (tidy-more c.loop-entry.kept.items (emptied c.args.name (take k es)) _ (emptied c.args.name (take (k + 1) es)) c.loop-entry.invariant (emptied-item c.args.name k es c.entry-item.result c.loop-entry-test.true c.entry-item.is))
+    c.in_ok-append.ensures ∙ rw c.emptied.ensures (tidy-more c.loop-entry.kept.items (emptied c.args.name (take k es)) _ (emptied c.args.name (take (k + 1) es)) c.loop-entry.invariant (emptied-item c.args.name k es c.entry-item.result c.loop-entry-test.true c.entry-item.is))

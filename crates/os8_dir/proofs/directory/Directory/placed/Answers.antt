@@ -18,7 +18,7 @@ with_list-requires c =
     let d = c.args.self.now in
     let kept = c.in_ok-entries.entries.items in
     let laid = put c.first_block-first.result c.args.first_block (File c.args.name.now c.information.result c.args.length) (emptied c.args.name.now d.entries) in
-    let is : kept ≡ tidy laid = rw (← c.entries.ensures.list) c.in_ok-entries.ensures.list in
+    let is : kept ≡ tidy laid = rw (← c.entries.ensures.list) c.in_ok-entries.ensures in
     record {
       neat = tidied-neat kept laid is;
       same = tidied-total kept laid is ∙ total-put _ _ _ (emptied c.args.name.now d.entries) ∙ total-emptied c.args.name.now d.entries;
@@ -29,7 +29,7 @@ returns c =
     let d = c.args.self.now in
     let kept = c.in_ok-entries.entries.items in
     let words : c.information.result ≡ (new_file d c.args.name.now c.args.info.now c.args.first_block c.args.length).info = c.information.ensures ∙ rw (c.min.ensures, c.information_words-count.ensures.value, take-min-words d.info c.args.info.now) refl in
-    let is : kept ≡ placed d.first (new_file d c.args.name.now c.args.info.now c.args.first_block c.args.length) d.entries = c.in_ok-entries.ensures.list ∙ rw (words, c.entries.ensures.list, c.first_block-first.ensures.value) refl in
+    let is : kept ≡ placed d.first (new_file d c.args.name.now c.args.info.now c.args.first_block c.args.length) d.entries = c.in_ok-entries.ensures ∙ rw (words, c.entries.ensures.list, c.first_block-first.ensures.value) refl in
     record {
       list = c.with_list.ensures ∙ ap (relisted d) is;
       err = tt;

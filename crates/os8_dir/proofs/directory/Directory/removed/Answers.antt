@@ -7,7 +7,7 @@ pub with_list-requires : goal.with_list-requires
 with_list-requires c =
     let d = c.args.self.now in
     let kept = c.in_ok-entries.entries.items in
-    let is : kept ≡ removed c.args.name.now d.entries = rw (← c.entries.ensures.list) c.in_ok-entries.ensures.list in
+    let is : kept ≡ removed c.args.name.now d.entries = rw (← c.entries.ensures.list) c.in_ok-entries.ensures in
     record {
       neat = tidied-neat kept (emptied c.args.name.now d.entries) is;
       same = tidied-total kept (emptied c.args.name.now d.entries) is ∙ total-emptied c.args.name.now d.entries;
@@ -15,6 +15,6 @@ with_list-requires c =
 
 pub returns : goal.returns
 returns c = record {
-  list = c.with_list.ensures ∙ ap (relisted c.args.self.now) (rw (← c.entries.ensures.list) c.in_ok-entries.ensures.list);
+  list = c.with_list.ensures ∙ ap (relisted c.args.self.now) (rw (← c.entries.ensures.list) c.in_ok-entries.ensures);
   err = tt;
 }

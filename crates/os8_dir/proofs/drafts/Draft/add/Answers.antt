@@ -18,21 +18,21 @@ returns-then-not-new c =
       reading = rw (← c.self.view_is) (with_entry-same _ _ _ (omega (arith, c.if-self-length.false, c.self.invariant.kept.ends, c.length-length.ensures)) old);
     }
 
-pub invariant_of-self-2 : goal.invariant_of-self-2
-invariant_of-self-2 c = record {
+pub invariant_of-self-in-Ok : goal.invariant_of-self-in-Ok
+invariant_of-self-in-Ok c = record {
   kept = record {
     starts = c.self.invariant.kept.starts;
     few = c.self.invariant.kept.few;
-    ends = rw (c.if-not-append.ensures, total-tidy) (omega (arith, total-append c.self.inside.entries.items (c.args.entry ∷ []), c.self.invariant.kept.ends, c.length-length.ensures));
+    ends = rw (c.in-Ok.ensures, total-tidy) (omega (arith, total-append c.self.inside.entries.items (c.args.entry ∷ []), c.self.invariant.kept.ends, c.length-length.ensures));
     most = omega (arith, c.if-self-length.false, c.requires.most);
-    neat = rw c.if-not-append.ensures (IsTidy-tidy (c.self.inside.entries.items ++ c.args.entry ∷ []));
+    neat = rw c.in-Ok.ensures (IsTidy-tidy (c.self.inside.entries.items ++ c.args.entry ∷ []));
   };
-  known = λ q. rw c.if-not-append.ensures (has_key-more c.self.inside.entries.items c.self.inside.names c.add_name.new.names c.args.entry q (c.self.invariant.known q) (c.in_ok-new.ensures.names q));
+  known = λ q. rw c.in-Ok.ensures (has_key-more c.self.inside.entries.items c.self.inside.names c.add_name.new.names c.args.entry q (c.self.invariant.known q) (c.in_ok-new.ensures.names q));
 }
 
-pub returns : goal.returns
-returns c =
+pub returns-in-Ok : goal.returns-in-Ok
+returns-in-Ok c =
     let new : is_new (names_of c.self.inside.entries.items) c.args.entry ≡ true = sym (is_new_to-known c.self.inside.entries.items c.self.inside.names c.args.entry c.self.invariant.known) ∙ sym c.in_ok-new.ensures.new ∙ c.if-not-new.false in
     record {
-      reading = rw (← c.self.view_is, c.if-not-append.ensures) (with_entry-more _ _ _ (omega (arith, c.if-self-length.false, c.self.invariant.kept.ends, c.length-length.ensures)) new);
+      reading = rw (← c.self.view_is, c.in-Ok.ensures) (with_entry-more _ _ _ (omega (arith, c.if-self-length.false, c.self.invariant.kept.ends, c.length-length.ensures)) new);
     }

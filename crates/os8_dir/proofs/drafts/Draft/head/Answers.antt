@@ -11,14 +11,14 @@ returns-then-info-gt10 c =
     let info : c.minus-info.result ≡ minus (word words 4) = c.minus-info.ensures.value ∙ ap minus (get_or_default_zero words 4 c.index-words-4.result (omega arith)) in
     record { reading = head_of-count c.args.volume words (omega (arith, info, c.if-info-gt10.true)) }
 
-pub returns-then-first-lt7 : goal.returns-then-first-lt7
-returns-then-first-lt7 c =
+pub returns-then-first-lt-FIRST_FILE_BLOCK : goal.returns-then-first-lt-FIRST_FILE_BLOCK
+returns-then-first-lt-FIRST_FILE_BLOCK c =
     let words = c.args.words.now in
     let info : c.minus-info.result ≡ minus (word words 4) = c.minus-info.ensures.value ∙ ap minus (get_or_default_zero words 4 c.index-words-4.result (omega arith)) in
     let first : c.from-first.result ≡ word words 1 = c.from-first.ensures ∙ c.get.ensures.value ∙ get_or_default_zero words 1 c.index-words-1.result (omega arith) in
     let few : minus (word words 4) ≤ 10 = omega (arith, info, c.if-info-gt10.false) in
     record {
-      reading = elim c.then-first-lt7.either [
+      reading = elim c.then-first-lt-FIRST_FILE_BLOCK.either [
         | inl low ↦ head_of-low c.args.volume words few (omega (arith, first))
         | inr high ↦ head_of-high c.args.volume words few (omega (arith, first, high.0)) (omega (arith, first, high.1))
       ];
@@ -30,5 +30,5 @@ returns c =
     let info : c.minus-info.result ≡ minus (word words 4) = c.minus-info.ensures.value ∙ ap minus (get_or_default_zero words 4 c.index-words-4.result (omega arith)) in
     let first : c.from-first.result ≡ word words 1 = c.from-first.ensures ∙ c.get.ensures.value ∙ get_or_default_zero words 1 c.index-words-1.result (omega arith) in
     record {
-      reading = rw (c.new.ensures.items, info, first) (head_of-ok c.args.volume words (omega (arith, info, c.if-info-gt10.false)) (omega (arith, first, c.if-first-lt7.false)) (omega (arith, first, c.if-first-volume.false)));
+      reading = rw (c.new.ensures.items, info, first) (head_of-ok c.args.volume words (omega (arith, info, c.if-info-gt10.false)) (omega (arith, first, c.if-first-lt-FIRST_FILE_BLOCK.false)) (omega (arith, first, c.if-first-volume.false)));
     }

@@ -1,4 +1,5 @@
 use Rattle.std.proofs.Common.{List, All, ◌≡◌, ◌≤◌, ◌<◌, false, true, None, Some, Ok, length, refl, ap, sym, subst, ◌∙◌, arith}
+use Rattle.std.proofs.lemmas.Result.{err_from_is_err_and, IfOk-at_ok}
 use Rattle.std.specs.FinMap.{get, remove}
 use Rattle.volume_image.specs.Volume.{IsBlock}
 use Rattle.os8_dir.specs.Files.{files_of, held_of, of_directory}
@@ -38,8 +39,8 @@ rewrite-requires-clause-sound g c =
     let blocks = g.S.BlockStore.contents c.self.inside.store in
     let d = c.self.inside.directory in
     let kept = c.self.invariant.kept c.if-self.false in
-    subst (λ (m : Mounted). IsDirectory (length m.blocks) c.in-Ok.directory) c.self.view_is
-    (rw c.in-Ok.ensures.list (c.file_removed.ensures.directory (length blocks) c.args.name.now d (c.sound_directory.ensures blocks d kept)))
+    subst (λ (m : Mounted). IsDirectory (length m.blocks) c.in_ok-directory.directory) c.self.view_is
+    (rw (IfOk-at_ok _ c.in_ok-directory.ensures c.removed.ensures.list) (c.file_removed.ensures.directory (length blocks) c.args.name.now d (c.sound_directory.ensures blocks d kept)))
 
 pub returns-then-entries-limit : goal.returns-then-entries-limit
 returns-then-entries-limit g c =
@@ -52,8 +53,8 @@ returns-then-entries-limit g c =
     let is = c.sound_directory.ensures old.blocks d kept in
     let ready : IsReady old = subst (λ (m : Mounted). IsReady m) c.self.view_is (record { running = c.if-self.false; none = none-of c.self.inside.tentative (sym c.is_some.ensures ∙ c.if-is_some.false) }) in
     let each : All IsBlock old.blocks = subst (λ bs. All IsBlock bs) (sym same) c.self.invariant.volume.each in
-    let full : limit c.in-Ok.directory < length c.in-Ok.directory.entries = omega (arith, ap (λ (es : List DirEntry). length es) c.entries.ensures.list, c.limit.ensures.value, c.if-entries-limit.true) in
-    let more : limit d < length (removed name d.entries) = subst (λ (x : Listed). limit x < length x.entries) c.in-Ok.ensures.list full in
+    let full : limit c.in_ok-directory.directory < length c.in_ok-directory.directory.entries = omega (arith, ap (λ (es : List DirEntry). length es) c.entries.ensures.list, c.limit.ensures.value, c.if-entries-limit.true) in
+    let more : limit d < length (removed name d.entries) = subst (λ (x : Listed). limit x < length x.entries) (IfOk-at_ok _ c.in_ok-directory.ensures c.removed.ensures.list) full in
     let over = is-over c.directory_numbers.ensures.limit c.directory_numbers.ensures.above c.entry_counts.ensures.entries c.entry_counts.ensures.empties c.entry_counts.ensures.one
     old.blocks d (removed name d.entries) (remove (files_of old.blocks) name) each kept (c.files_made.ensures old.blocks d kept) is (c.file_removed.ensures.directory (length old.blocks) name d is)
     (removed-made c.files_found.ensures c.file_removed.ensures.gone c.file_removed.ensures.others old.blocks d name kept) (omega (arith, c.file_removed.ensures.entries name d.entries)) more in
@@ -62,8 +63,8 @@ returns-then-entries-limit g c =
     let f = found-some (find name (files_at d.first d.entries)) p.0.0 p.0.1 (sym c.find.ensures ∙ p.1) in
     (ready, (_, c.files_found.ensures old.blocks d name kept ∙ ap (held_of old.blocks d.info) f.1), sym c.is_held.ensures ∙ c.if-is_held.false, omega (arith, more, c.directory_numbers.ensures.limit old.blocks d kept, ap (of_directory (λ (x : Listed). length (removed name x.entries))) kept), over, refl)
 
-pub returns-else-entries-limit : goal.returns-else-entries-limit
-returns-else-entries-limit g c =
+pub returns : goal.returns
+returns g c =
     let blocks = g.S.BlockStore.contents c.self.inside.store in
     let d = c.self.inside.directory in
     let name = c.args.name.now in
@@ -74,10 +75,10 @@ returns-else-entries-limit g c =
     let p = some-of c.find.result there in
     let f = found-some (find name (files_at d.first d.entries)) p.0.0 p.0.1 (sym c.find.ensures ∙ p.1) in
     let ready : IsReady old = subst (λ (m : Mounted). IsReady m) c.self.view_is (record { running = c.if-self.false; none = none-of c.self.inside.tentative (sym c.is_some.ensures ∙ c.if-is_some.false) }) in
-    let list = c.in-Ok.ensures.list in
-    let full : length c.in-Ok.directory.entries ≤ limit c.in-Ok.directory = omega (arith, ap (λ (es : List DirEntry). length es) c.entries.ensures.list, c.limit.ensures.value, c.if-entries-limit.false) in
+    let list = IfOk-at_ok _ c.in_ok-directory.ensures c.removed.ensures.list in
+    let full : length c.in_ok-directory.directory.entries ≤ limit c.in_ok-directory.directory = omega (arith, ap (λ (es : List DirEntry). length es) c.entries.ensures.list, c.limit.ensures.value, c.if-entries-limit.false) in
     let fits : length (removed name d.entries) ≤ limit d = subst (λ (x : Listed). length x.entries ≤ limit x) list full in
-    by-rewrite old c.rewrite.new.self c.in-Ok.directory c.rewrite.result (λ r. DeletesFile old name r c.rewrite.new.self) c.rewrite.ensures
+    by-rewrite old c.rewrite.new.self c.in_ok-directory.directory c.rewrite.result (λ r. DeletesFile old name r c.rewrite.new.self) c.rewrite.ensures
     (λ done has. deleted c.files_found.ensures c.directory_numbers.ensures.limit c.directory_numbers.ensures.capacity c.file_removed.ensures.gone c.file_removed.ensures.others c.file_removed.ensures.covered
     old c.rewrite.new.self d name _ ready kept (c.sound_directory.ensures old.blocks d kept) (c.files_found.ensures old.blocks d name kept ∙ ap (held_of old.blocks d.info) f.1) (sym c.is_held.ensures ∙ c.if-is_held.false)
     fits (subst (λ (x : Listed). HasDirectory old x c.rewrite.new.self) list has))
@@ -97,8 +98,9 @@ returns-then-is_held g c =
     let f = found-some (find name (files_at d.first d.entries)) p.0.0 p.0.1 (sym c.find.ensures ∙ p.1) in
     (ready, (_, c.files_found.ensures old.blocks d name kept ∙ ap (held_of old.blocks d.info) f.1), refl, sym c.is_held.ensures ∙ c.if-is_held.true, refl)
 
-pub returns-in-Err : goal.returns-in-Err
-returns-in-Err g c =
+pub returns-in_err-directory : goal.returns-in_err-directory
+returns-in_err-directory g c =
+    let e = err_from_is_err_and c.from_residual.result c.from_residual.ensures.1 in
     let blocks = g.S.BlockStore.contents c.self.inside.store in
     let d = c.self.inside.directory in
     let name = c.args.name.now in
@@ -109,4 +111,4 @@ returns-in-Err g c =
     let there : is_some c.find.result ≡ true = c.is_none.ensures ∙ rw c.if-is_none.false refl in
     let p = some-of c.find.result there in
     let f = found-some (find name (files_at d.first d.entries)) p.0.0 p.0.1 (sym c.find.ensures ∙ p.1) in
-    (ready, (_, c.files_found.ensures old.blocks d name kept ∙ ap (held_of old.blocks d.info) f.1), sym c.is_held.ensures ∙ c.if-is_held.false, refl)
+    rw (e.1, e.2) (ready, (_, c.files_found.ensures old.blocks d name kept ∙ ap (held_of old.blocks d.info) f.1), sym c.is_held.ensures ∙ c.if-is_held.false, refl)

@@ -1,5 +1,5 @@
 use Rattle.std.proofs.Common.{All, ◌≡◌, ℕ, ◌-◌, ◌<◌, false, List, length, take, drop, Some, Ok, refl, ap, sym, subst, ◌∙◌, arith}
-use Rattle.std.proofs.lemmas.Result.{err_from_is_err_and}
+use Rattle.std.proofs.lemmas.Result.{err_from_is_err_and, IfOk-at_ok}
 use Rattle.os8_dir.specs.Entries.{Listed}
 use Rattle.os8_dir.specs.Reading.{directory_of}
 use Rattle.os8_dir.specs.declared.entries.DirEntry.{DirEntry}
@@ -98,13 +98,12 @@ rewrite-requires-clause-sound g c =
     let running : c.self.inside.stopped ≡ false = ap (λ (m : Mounted). m.stopped) c.self.view_is ∙ c.requires.ready.running in
     let kept : directory_of old.blocks ≡ Ok d = subst (λ bs. directory_of bs ≡ Ok d) (sym same) (c.self.invariant.kept running) in
     let is = c.sound_directory.ensures old.blocks d kept in
-    let low : lowest_above d.entries ≡ Some (name, gap) = sym (ap lowest_or kept) ∙ c.requires.lowest in
     let copied = c.in_ok-copy_down-in-Some.ensures in
     let long : length c.copy_down.new.self.blocks ≡ length old.blocks = ap (λ (bs : List (List ℕ)). length bs) copied.0 ∙ length-with_run old.blocks (c.in-Some.place - gap) (take c.in-Some.size (drop c.in-Some.place old.blocks)) in
-    subst (λ n. IsDirectory n c.in-Ok.directory) (sym long) (subst (λ (x : Listed). IsDirectory (length old.blocks) x) (sym c.in-Ok.ensures.list) (c.file_moved_down.ensures.directory (length old.blocks) name d is))
+    subst (λ n. IsDirectory n c.in_ok-directory.directory) (sym long) (subst (λ (x : Listed). IsDirectory (length old.blocks) x) (sym (IfOk-at_ok _ c.in_ok-directory.ensures c.moved_down.ensures.list)) (c.file_moved_down.ensures.directory (length old.blocks) name d is))
 
-pub returns-in_ok-rewrite-in-Some : goal.returns-in_ok-rewrite-in-Some
-returns-in_ok-rewrite-in-Some g c =
+pub returns : goal.returns
+returns g c =
     let blocks = g.S.BlockStore.contents c.self.inside.store in
     let old = c.args.self.now in
     let d = c.self.inside.directory in
@@ -117,8 +116,6 @@ returns-in_ok-rewrite-in-Some g c =
     let low : lowest_above d.entries ≡ Some (name, gap) = sym (ap lowest_or kept) ∙ c.requires.lowest in
     let r = lies-above c.lowest_file.ensures.gap c.file_moved_down.ensures.found (length old.blocks) name gap d is low in
     let at = extent-at r.0 c.in-Some.place c.in-Some.size (ap extent_of (sym r.1.0) ∙ sym c.find.ensures ∙ c.in-Some.is) in
-    let within = find_within name d.first (length old.blocks) (files_at d.first d.entries) r.0 is.apart r.1.0 in
-    let inside = room-inside (r.0.place - gap) gap d.first d.entries r.1.2 in
     let copied = c.in_ok-copy_down-in-Some.ensures in
     let mid = c.copy_down.new.self in
     let put : mid.blocks ≡ with_run old.blocks (r.0.place - gap) (take r.0.size (drop r.0.place old.blocks)) = copied.0
@@ -127,7 +124,7 @@ returns-in_ok-rewrite-in-Some g c =
     moved-file c.files_found.ensures c.rooms.ensures.lie c.rooms.ensures.outside c.directory_numbers.ensures.limit c.directory_numbers.ensures.capacity c.directory_numbers.ensures.above
     c.lowest_file.ensures.gap c.lowest_file.ensures.fewer c.file_moved_down.ensures.there c.file_moved_down.ensures.others c.file_moved_down.ensures.covered
     old mid c.rewrite.new.self d name gap c.requires.ready kept is low r put copied.1 (copied.3 ∙ ap (λ n. counted_more n old.reads) (sym at.1)) (copied.2 ∙ ap (λ n. counted_more n old.writes) (sym at.1))
-    (subst (λ (x : Listed). HasDirectory mid x c.rewrite.new.self) c.in-Ok.ensures.list c.in_ok-rewrite-in-Some.ensures)
+    (subst (λ (x : Listed). HasDirectory mid x c.rewrite.new.self) (IfOk-at_ok _ c.in_ok-directory.ensures c.moved_down.ensures.list) c.in_ok-rewrite-in-Some.ensures)
 
 pub returns-then-entries-limit : goal.returns-then-entries-limit
 returns-then-entries-limit g c =
@@ -142,8 +139,8 @@ returns-then-entries-limit g c =
     let is = c.sound_directory.ensures old.blocks d kept in
     let low : lowest_above d.entries ≡ Some (name, gap) = sym (ap lowest_or kept) ∙ c.requires.lowest in
     let some = some-above c.directory_numbers.ensures.above c.lowest_file.ensures.none old.blocks d name gap kept is low in
-    let full : limit c.in-Ok.directory < length c.in-Ok.directory.entries = omega (arith, ap (λ (es : List DirEntry). length es) c.entries.ensures.list, c.limit.ensures.value, c.if-entries-limit.true) in
-    let more : limit d < length (moved_down name d.entries) = subst (λ (x : Listed). limit x < length x.entries) c.in-Ok.ensures.list full in
+    let full : limit c.in_ok-directory.directory < length c.in_ok-directory.directory.entries = omega (arith, ap (λ (es : List DirEntry). length es) c.entries.ensures.list, c.limit.ensures.value, c.if-entries-limit.true) in
+    let more : limit d < length (moved_down name d.entries) = subst (λ (x : Listed). limit x < length x.entries) (IfOk-at_ok _ c.in_ok-directory.ensures c.moved_down.ensures.list) full in
     let long : limit_of old.blocks < entries_moved name old.blocks = omega (arith, more, c.directory_numbers.ensures.limit old.blocks d kept, ap (of_directory (λ (x : Listed). length (moved_down name x.entries))) kept) in
     let each : All IsBlock old.blocks = subst (λ bs. All IsBlock bs) (sym same) c.self.invariant.volume.each in
     let made = c.files_made.ensures old.blocks d kept in
@@ -164,7 +161,7 @@ returns-in_err-copy_down-in-Some g c =
     let is = c.sound_directory.ensures old.blocks d kept in
     let low : lowest_above d.entries ≡ Some (name, gap) = sym (ap lowest_or kept) ∙ c.requires.lowest in
     let some = some-above c.directory_numbers.ensures.above c.lowest_file.ensures.none old.blocks d name gap kept is low in
-    let p = err_from_is_err_and c.from_residual.result c.from_residual.ensures.1 in
+    let p = err_from_is_err_and c.from_residual-in_err-copy_down-in-Some.result c.from_residual-in_err-copy_down-in-Some.ensures.1 in
     let r = lies-above c.lowest_file.ensures.gap c.file_moved_down.ensures.found (length old.blocks) name gap d is low in
     let at = extent-at r.0 c.in-Some.place c.in-Some.size (ap extent_of (sym r.1.0) ∙ sym c.find.ensures ∙ c.in-Some.is) in
     let new = c.copy_down.new.self in
@@ -175,8 +172,9 @@ returns-in_err-copy_down-in-Some g c =
     (counts ∙ ap (λ n. counted_more n old.reads) (sym at.1)) failed)
     c.in_err-copy_down-in-Some.ensures)
 
-pub returns-in-Err : goal.returns-in-Err
-returns-in-Err g c =
+pub returns-in_err-directory : goal.returns-in_err-directory
+returns-in_err-directory g c =
+    let e = err_from_is_err_and c.from_residual.result c.from_residual.ensures.1 in
     let blocks = g.S.BlockStore.contents c.self.inside.store in
     let old = c.args.self.now in
     let d = c.self.inside.directory in
@@ -188,7 +186,7 @@ returns-in-Err g c =
     let is = c.sound_directory.ensures old.blocks d kept in
     let low : lowest_above d.entries ≡ Some (name, gap) = sym (ap lowest_or kept) ∙ c.requires.lowest in
     let some = some-above c.directory_numbers.ensures.above c.lowest_file.ensures.none old.blocks d name gap kept is low in
-    (c.requires.ready, some, refl)
+    rw (e.1, e.2) (c.requires.ready, some, refl)
 
 pub returns-in_err-rewrite-in-Some : goal.returns-in_err-rewrite-in-Some
 returns-in_err-rewrite-in-Some g c =
@@ -204,15 +202,13 @@ returns-in_err-rewrite-in-Some g c =
     let low : lowest_above d.entries ≡ Some (name, gap) = sym (ap lowest_or kept) ∙ c.requires.lowest in
     let r = lies-above c.lowest_file.ensures.gap c.file_moved_down.ensures.found (length old.blocks) name gap d is low in
     let at = extent-at r.0 c.in-Some.place c.in-Some.size (ap extent_of (sym r.1.0) ∙ sym c.find.ensures ∙ c.in-Some.is) in
-    let within = find_within name d.first (length old.blocks) (files_at d.first d.entries) r.0 is.apart r.1.0 in
-    let inside = room-inside (r.0.place - gap) gap d.first d.entries r.1.2 in
     let copied = c.in_ok-copy_down-in-Some.ensures in
     let mid = c.copy_down.new.self in
     let put : mid.blocks ≡ with_run old.blocks (r.0.place - gap) (take r.0.size (drop r.0.place old.blocks)) = copied.0
     ∙ ap (λ p. with_run old.blocks (p - gap) (take c.in-Some.size (drop p old.blocks))) (sym at.0)
     ∙ ap (λ n. with_run old.blocks (r.0.place - gap) (take n (drop r.0.place old.blocks))) (sym at.1) in
     let p = err_from_is_err_and c.from_residual-in_err-rewrite-in-Some.result c.from_residual-in_err-rewrite-in-Some.ensures.1 in
-    rw (p.1, p.2) (rewrite-refused old mid c.rewrite.new.self c.in-Ok.directory c.in_err-rewrite-in-Some.field-0.0
+    rw (p.1, p.2) (rewrite-refused old mid c.rewrite.new.self c.in_ok-directory.directory c.in_err-rewrite-in-Some.field-0.0
     (λ failed keeps part. move-failed c.directory_blocks.ensures c.files_found.ensures c.rooms.ensures.lie c.rooms.ensures.outside c.lowest_file.ensures.gap c.file_moved_down.ensures.there c.file_moved_down.ensures.others c.file_moved_down.ensures.directory
-    old mid c.rewrite.new.self d name gap c.requires.ready kept is low r put copied.1 (copied.3 ∙ ap (λ n. counted_more n old.reads) (sym at.1)) (copied.2 ∙ ap (λ n. counted_more n old.writes) (sym at.1)) failed keeps (subst (λ (x : Listed). StopsInPart mid.blocks c.rewrite.new.self.blocks x mid.writes c.rewrite.new.self.writes) c.in-Ok.ensures.list part))
+    old mid c.rewrite.new.self d name gap c.requires.ready kept is low r put copied.1 (copied.3 ∙ ap (λ n. counted_more n old.reads) (sym at.1)) (copied.2 ∙ ap (λ n. counted_more n old.writes) (sym at.1)) failed keeps (subst (λ (x : Listed). StopsInPart mid.blocks c.rewrite.new.self.blocks x mid.writes c.rewrite.new.self.writes) (IfOk-at_ok _ c.in_ok-directory.ensures c.moved_down.ensures.list) part))
     c.in_err-rewrite-in-Some.ensures)

@@ -1,4 +1,5 @@
 use Rattle.std.proofs.Common.{ℕ, List, ◌+◌, ◌≡◌, false, None, Ok, length, refl, ap, sym, subst, ◌∙◌, arith}
+use Rattle.std.proofs.lemmas.Result.{err_from_is_err_and}
 use Rattle.std.specs.FinMap.{get}
 use Rattle.os8_dir.specs.Files.{files_of}
 use Rattle.os8_dir.specs.Found.{files_at, find}
@@ -8,7 +9,6 @@ use Rattle.volume_image.specs.Volume.{IsVolume}
 use Rattle.os8_dir.specs.Reading.{directory_of}
 use Rattle.os8_files.proofs.CallLemmas.{held-none, read-inside, read-done}
 use Rattle.os8_files.proofs.service.FileService.read_block.Goals as goal
-use Rattle.os8_files.proofs.service.FileService.read_block.Goals.{in-Ok, in-Err}
 
 pub overflow_add-place : goal.overflow_add-place
 overflow_add-place g c =
@@ -41,8 +41,8 @@ returns-in-None g c =
     subst (λ (m : Mounted). (m.stopped ≡ false) × (get (files_of m.blocks) c.args.name.now ≡ None) × (m ≡ m) × (c.args.words.now ≡ c.args.words.now)) c.self.view_is
     (c.if-self.false, c.files_found.ensures blocks d c.args.name.now (c.self.invariant.kept c.if-self.false) ∙ held-none blocks d.info (find c.args.name.now (files_at d.first d.entries)) (sym c.find.ensures ∙ c.in-None.is), refl, refl)
 
-pub returns-after-read : goal.returns-after-read
-returns-after-read g c =
+pub returns-in_ok-read-in-Some : goal.returns-in_ok-read-in-Some
+returns-in_ok-read-in-Some g c =
     let blocks = g.S.BlockStore.contents c.self.inside.store in
     let d = c.self.inside.directory in
     let old = c.args.self.now in
@@ -50,9 +50,12 @@ returns-after-read g c =
     let same : old.blocks ≡ blocks = ap (λ (m : Mounted). m.blocks) (sym c.self.view_is) in
     let volume : IsVolume old.blocks = subst IsVolume (sym same) c.self.invariant.volume in
     let kept : directory_of old.blocks ≡ Ok d = subst (λ bs. directory_of bs ≡ Ok d) (sym same) (c.self.invariant.kept c.if-self.false) in
-    elim c.match-read.branch [
-      | in-Ok w ↦ rw w.result-is (read-done c.files_found.ensures old _ d c.args.name.now c.args.k c.in-Some.place c.in-Some.field-0-1 c.read.new.words volume running kept (c.sound_directory.ensures old.blocks d kept) (sym c.find.ensures ∙ c.in-Some.is) (c.requires running)
-          (ap (λ bs. slice_get bs (c.in-Some.place + c.args.k)) same ∙ w.in-Ok.ensures.ok)
-          (rw (← c.self.view_is, c.read.ensures.same, c.read.ensures.reads, c.read.ensures.writes, w.in-Ok.ensures.failed_reads, c.read.ensures.failed_writes) refl))
-      | in-Err w ↦ rw w.result-is (running, rw (← c.self.view_is, c.read.ensures.same, c.read.ensures.reads, c.read.ensures.writes, w.in-Err.ensures.failed_reads, c.read.ensures.failed_writes) refl, w.in-Err.ensures.err)
-    ]
+    read-done c.files_found.ensures old _ d c.args.name.now c.args.k c.in-Some.place c.in-Some.field-0-1 c.read.new.words volume running kept (c.sound_directory.ensures old.blocks d kept) (sym c.find.ensures ∙ c.in-Some.is) (c.requires running)
+    (ap (λ bs. slice_get bs (c.in-Some.place + c.args.k)) same ∙ c.in_ok-read-in-Some.ensures.ok)
+    (rw (← c.self.view_is, c.read.ensures.same, c.read.ensures.reads, c.read.ensures.writes, c.in_ok-read-in-Some.ensures.failed_reads, c.read.ensures.failed_writes) refl)
+
+pub returns-in_err-read-in-Some : goal.returns-in_err-read-in-Some
+returns-in_err-read-in-Some g c =
+    let p = err_from_is_err_and c.from_residual.result c.from_residual.ensures.1 in
+    let running = ap (λ (m : Mounted). m.stopped) (sym c.self.view_is) ∙ c.if-self.false in
+    rw (p.1, p.2) (running, rw (← c.self.view_is, c.read.ensures.same, c.read.ensures.reads, c.read.ensures.writes, c.in_err-read-in-Some.ensures.failed_reads, c.read.ensures.failed_writes) refl, c.in_err-read-in-Some.ensures.err)

@@ -1,9 +1,7 @@
-use Rattle.std.proofs.Common.{ℕ, ◌≡◌, ◌≤◌, ◌+◌, ◌++◌, ◌∙◌, ◌⊎◌, [], List, Option, Err, inl, inr, refl, sym, subst, Bool, true, false, Ok, arith, length}
+use Rattle.std.proofs.Common.{ℕ, ◌≡◌, ◌≤◌, ◌+◌, ◌++◌, ◌∙◌, [], List, Option, Err, inl, inr, refl, sym, subst, Bool, true, false, Ok, arith, length}
 use Rattle.std.proofs.lemmas.Result.{err_from_is_err_and}
 use Rattle.script8.specs.Items.{WaitsForLines}
 use Rattle.std.specs.Io.KnownBytes.{Consumes}
-use Rattle.script8.specs.declared.faults.SessionFault.{SessionFault}
-use Rattle.script8.specs.declared.faults.SessionFault.TheVariants as fault
 use Rattle.session8.specs.Reading.{IsRead, TakesBytes}
 use Rattle.session8.specs.ReadSteps.{ReadsPiece}
 use Rattle.session8.specs.RunSteps.{RunsGiven, IsRunTo}
@@ -26,19 +24,11 @@ more_read : (r r' : Option (List ℕ)) (before : List ℕ) (count : ℕ) (after 
     → (bytes : List ℕ) × Consumes r r' bytes × (after ≡ before ++ bytes) × (count' ≡ count + length bytes) × (count' ≤ 16777216) × WaitsForLines after lines'
 more_read r r' before count after lines' count' is fed = subst (λ b. ReadsPiece 16777216 r r' before count after lines' count' (Ok b)) is fed
 
--- a read that failed took nothing
-none_read : (r r' : Option (List ℕ)) (bytes : List ℕ) (e : SessionFault) → e ≡ fault.Reader → Consumes r r' bytes → ((e ≡ fault.Reader) × (bytes ≡ [])) ⊎ (e ≡ fault.Memory) → Consumes r r' []
-none_read r r' bytes e is taken why = elim why [
-  | inl none ↦ subst (λ (l : List ℕ). Consumes r r' l) none.1 taken
-  | inr other ↦ absurd (reader_memory (sym is ∙ other))
-]
-  where
-    reader_memory : ◌≡◌ {A = SessionFault} fault.Reader fault.Memory → ⊥
-    reader_memory same = cc
-
-pub returns-in_default-clause-told : goal.returns-in_default-clause-told
-returns-in_default-clause-told g c quiet =
-    run_unread 16777216 _ _ _ _ _ (g.W.Write.contents c.args.writer.now) _ 0 [] [] (none_run (state_of c.args.self.now) _ (g.W.Write.contents c.args.writer.now) [] refl) (consumes_none (g.R.Read.remaining c.args.reader.now)) (omega arith)
+pub returns-in_err-piece-clause-told : goal.returns-in_err-piece-clause-told
+returns-in_err-piece-clause-told g c quiet =
+    let p = err_from_is_err_and c.from_residual.result c.from_residual.ensures.1 in
+    rw (p.1, p.2)
+    (run_unread 16777216 _ _ _ _ _ (g.W.Write.contents c.args.writer.now) _ 0 [] [] (none_run (state_of c.args.self.now) _ (g.W.Write.contents c.args.writer.now) [] refl) (consumes_none (g.R.Read.remaining c.args.reader.now)) (omega arith))
 
 pub loop-init : goal.loop-init
 loop-init g c = record {
@@ -47,7 +37,7 @@ loop-init g c = record {
   waits = (c.new-pending.ensures.lines.0, subst (λ (l : List ℕ). WaitsForLines l c.new-pending.result.lines) (sym c.new-pending.ensures.bytes) c.new-pending.ensures.lines.1);
   taken = record { bytes = []; taken = consumes_none _; count_is = sym c.new-pending.ensures.count };
   within = omega (arith, c.new-pending.ensures.count);
-  piece = omega (arith, c.in-Ok.ensures);
+  piece = omega (arith, c.in_ok-piece.ensures);
   later = record { reads = omega arith; writes = omega arith };
   running = λ quiet. quiet.running;
 }
@@ -67,50 +57,45 @@ pub returns-then-pending-eq-MOST-clause-taken : goal.returns-then-pending-eq-MOS
 returns-then-pending-eq-MOST-clause-taken g c =
     (c.loop.pending.count + length c.if-ends.ensures.0, takes_more _ (g.R.Read.remaining c.loop.reader) _ c.loop.pending.count c.if-ends.ensures.0 c.loop.invariant.taken c.if-ends.ensures.1, omega (arith, c.loop.invariant.within, c.if-ends.ensures.2), λ last. refl)
 
-pub returns-in-Ok-true-clause-told : goal.returns-in-Ok-true-clause-told
-returns-in-Ok-true-clause-told g c quiet =
-    let read = at_end (g.R.Read.remaining c.loop.reader) (g.R.Read.remaining c.read.new.reader) _ _ _ _ _ c.in-Ok-true.field-0-test c.in-Ok-true.ensures in
-    let before = quiet_first _ c.loop.self _ quiet c.loop.invariant.later c.run_end-in-Ok-true.ensures.later in
-    let behind = quiet_second _ c.loop.self _ quiet c.loop.invariant.later c.run_end-in-Ok-true.ensures.later (c.loop.invariant.running before) in
-    run_over 16777216 _ (state_of c.loop.self) _ _ (g.R.Read.remaining c.loop.reader) _ _ (g.W.Write.contents c.loop.writer) _ c.loop.pending.count c.loop.pending.bytes.items c.deref-in-Ok-true.result.now c.run_end-in-Ok-true.result
-    (c.loop.invariant.told before) c.loop.invariant.within read.0 (c.deref-in-Ok-true.ensures.value ∙ read.1) (c.run_end-in-Ok-true.ensures.told behind)
+pub returns-then-at_end-clause-told : goal.returns-then-at_end-clause-told
+returns-then-at_end-clause-told g c quiet =
+    let read = at_end (g.R.Read.remaining c.loop.reader) (g.R.Read.remaining c.read.new.reader) _ _ _ _ _ c.if-at_end.true c.in_ok-at_end.ensures in
+    let before = quiet_first _ c.loop.self _ quiet c.loop.invariant.later c.run_end-then-at_end.ensures.later in
+    let behind = quiet_second _ c.loop.self _ quiet c.loop.invariant.later c.run_end-then-at_end.ensures.later (c.loop.invariant.running before) in
+    run_over 16777216 _ (state_of c.loop.self) _ _ (g.R.Read.remaining c.loop.reader) _ _ (g.W.Write.contents c.loop.writer) _ c.loop.pending.count c.loop.pending.bytes.items c.deref-then-at_end.result.now c.run_end-then-at_end.result
+    (c.loop.invariant.told before) c.loop.invariant.within read.0 (c.deref-then-at_end.ensures.value ∙ read.1) (c.run_end-then-at_end.ensures.told behind)
 
-pub returns-in-Ok-true-clause-taken : goal.returns-in-Ok-true-clause-taken
-returns-in-Ok-true-clause-taken g c =
-    let read = at_end (g.R.Read.remaining c.loop.reader) (g.R.Read.remaining c.read.new.reader) _ _ _ _ _ c.in-Ok-true.field-0-test c.in-Ok-true.ensures in
+pub returns-then-at_end-clause-taken : goal.returns-then-at_end-clause-taken
+returns-then-at_end-clause-taken g c =
+    let read = at_end (g.R.Read.remaining c.loop.reader) (g.R.Read.remaining c.read.new.reader) _ _ _ _ _ c.if-at_end.true c.in_ok-at_end.ensures in
     (c.loop.pending.count + 0, takes_more _ (g.R.Read.remaining c.loop.reader) _ c.loop.pending.count [] c.loop.invariant.taken read.0.taken, omega (arith, c.loop.invariant.within), λ last. absurd (not_past c.loop.pending.count c.loop.invariant.within (omega (arith, last))))
 
-pub returns-in_err-run_given-in-Ok-false-clause-told : goal.returns-in_err-run_given-in-Ok-false-clause-told
-returns-in_err-run_given-in-Ok-false-clause-told g c quiet =
-    let p = err_from_is_err_and c.from_residual.result c.from_residual.ensures.1 in
-    let read = more_read (g.R.Read.remaining c.loop.reader) (g.R.Read.remaining c.read.new.reader) _ _ _ _ _ c.in-Ok-false.field-0-test c.in-Ok-false.ensures in
+pub returns-in_err-run_given-clause-told : goal.returns-in_err-run_given-clause-told
+returns-in_err-run_given-clause-told g c quiet =
+    let p = err_from_is_err_and c.from_residual-in_err-run_given.result c.from_residual-in_err-run_given.ensures.1 in
+    let read = more_read (g.R.Read.remaining c.loop.reader) (g.R.Read.remaining c.read.new.reader) _ _ _ _ _ c.if-at_end.false c.in_ok-at_end.ensures in
     let before = quiet_first _ c.loop.self _ quiet c.loop.invariant.later c.run_given.ensures.later in
     let behind = quiet_second _ c.loop.self _ quiet c.loop.invariant.later c.run_given.ensures.later (c.loop.invariant.running before) in
     let fed = run_fed _ (state_of c.loop.self) _ (g.R.Read.remaining c.loop.reader) _ _ (g.W.Write.contents c.loop.writer) c.loop.pending.count c.loop.pending.bytes.items read.0 (c.loop.invariant.told before) read.1 in
-    rw (p.1, p.2) (run_stopped 16777216 _ (state_of c.loop.self) _ _ (g.R.Read.remaining c.read.new.reader) _ (g.W.Write.contents c.loop.writer) _ (c.loop.pending.count + length read.0) (c.loop.pending.bytes.items ++ read.0) c.run_given.new.pending.bytes.items c.in_err-run_given-in-Ok-false.field-0.0
+    rw (p.1, p.2) (run_stopped 16777216 _ (state_of c.loop.self) _ _ (g.R.Read.remaining c.read.new.reader) _ (g.W.Write.contents c.loop.writer) _ (c.loop.pending.count + length read.0) (c.loop.pending.bytes.items ++ read.0) c.run_given.new.pending.bytes.items c.in_err-run_given.field-0.0
     fed (omega (arith, read.3, read.4))
-    (subst (λ (l : List ℕ). RunsGiven l c.run_given.new.pending.bytes.items (state_of c.loop.self) (state_of c.run_given.new.self) (g.W.Write.contents c.loop.writer) (g.W.Write.contents c.run_given.new.writer) (Err c.in_err-run_given-in-Ok-false.field-0.0)) read.2 (c.in_err-run_given-in-Ok-false.ensures.told behind)))
+    (subst (λ (l : List ℕ). RunsGiven l c.run_given.new.pending.bytes.items (state_of c.loop.self) (state_of c.run_given.new.self) (g.W.Write.contents c.loop.writer) (g.W.Write.contents c.run_given.new.writer) (Err c.in_err-run_given.field-0.0)) read.2 (c.in_err-run_given.ensures.told behind)))
 
-pub returns-in_err-run_given-in-Ok-false-clause-taken : goal.returns-in_err-run_given-in-Ok-false-clause-taken
-returns-in_err-run_given-in-Ok-false-clause-taken g c =
-    let read = more_read (g.R.Read.remaining c.loop.reader) (g.R.Read.remaining c.read.new.reader) _ _ _ _ _ c.in-Ok-false.field-0-test c.in-Ok-false.ensures in
+pub returns-in_err-run_given-clause-taken : goal.returns-in_err-run_given-clause-taken
+returns-in_err-run_given-clause-taken g c =
+    let read = more_read (g.R.Read.remaining c.loop.reader) (g.R.Read.remaining c.read.new.reader) _ _ _ _ _ c.if-at_end.false c.in_ok-at_end.ensures in
     (c.loop.pending.count + length read.0, takes_more _ (g.R.Read.remaining c.loop.reader) _ c.loop.pending.count read.0 c.loop.invariant.taken read.1, omega (arith, read.3, read.4), λ last. absurd (not_past (c.loop.pending.count + length read.0) (omega (arith, read.3, read.4)) last))
 
-pub returns-in-Err-Reader-clause-told : goal.returns-in-Err-Reader-clause-told
-returns-in-Err-Reader-clause-told g c quiet =
-    let none = none_read (g.R.Read.remaining c.loop.reader) (g.R.Read.remaining c.read.new.reader) c.in-Err-Reader.ensures.0 _ c.in-Err-Reader.field-0-is c.in-Err-Reader.ensures.1 c.in-Err-Reader.ensures.3 in
-    run_cut 16777216 _ _ _ (g.R.Read.remaining c.loop.reader) _ _ _ c.loop.pending.count c.loop.pending.lines c.loop.pending.bytes.items [] (c.loop.invariant.told quiet) c.loop.invariant.waits.0 c.loop.invariant.waits.1 none c.loop.invariant.within (inl refl)
-
-pub returns-in-Err-Reader-clause-taken : goal.returns-in-Err-Reader-clause-taken
-returns-in-Err-Reader-clause-taken g c =
-    let none = none_read (g.R.Read.remaining c.loop.reader) (g.R.Read.remaining c.read.new.reader) c.in-Err-Reader.ensures.0 _ c.in-Err-Reader.field-0-is c.in-Err-Reader.ensures.1 c.in-Err-Reader.ensures.3 in
-    (c.loop.pending.count + 0, takes_more _ (g.R.Read.remaining c.loop.reader) _ c.loop.pending.count [] c.loop.invariant.taken none, omega (arith, c.loop.invariant.within), λ last. refl)
-
-pub returns-in-Err : goal.returns-in-Err
-returns-in-Err g c =
-    let lost = c.in-Err.ensures in
+pub returns-in_err-at_end : goal.returns-in_err-at_end
+returns-in_err-at_end g c =
+    let p = err_from_is_err_and c.from_residual-in_err-at_end.result c.from_residual-in_err-at_end.ensures.1 in
+    let lost = c.in_err-at_end.ensures in
     record {
-      told = λ quiet. run_unread 16777216 _ _ _ (g.R.Read.remaining c.loop.reader) _ _ _ c.loop.pending.count c.loop.pending.bytes.items lost.0 (c.loop.invariant.told quiet) lost.1 lost.2;
+      told = λ quiet. elim lost.3 [
+        | inl none ↦ rw (p.1, p.2.0 none.0) (run_cut 16777216 _ _ _ (g.R.Read.remaining c.loop.reader) _ _ _ c.loop.pending.count c.loop.pending.lines c.loop.pending.bytes.items [] (c.loop.invariant.told quiet) c.loop.invariant.waits.0 c.loop.invariant.waits.1
+            (subst (λ (l : List ℕ). Consumes (g.R.Read.remaining c.loop.reader) (g.R.Read.remaining c.read.new.reader) l) none.1 lost.1) c.loop.invariant.within (inl refl))
+        | inr lack ↦ rw (p.1, p.2.1 lack) (run_unread 16777216 _ _ _ (g.R.Read.remaining c.loop.reader) _ _ _ c.loop.pending.count c.loop.pending.bytes.items lost.0 (c.loop.invariant.told quiet) lost.1 lost.2)
+      ];
       later = c.loop.invariant.later;
       running = c.loop.invariant.running;
       taken = (c.loop.pending.count + length lost.0, takes_more _ (g.R.Read.remaining c.loop.reader) _ c.loop.pending.count lost.0 c.loop.invariant.taken lost.1, omega (arith, lost.2), λ last. absurd (not_past (c.loop.pending.count + length lost.0) lost.2 last));
@@ -118,7 +103,7 @@ returns-in-Err g c =
 
 pub loop-preserved : goal.loop-preserved
 loop-preserved g c =
-    let read = more_read (g.R.Read.remaining c.loop.reader) (g.R.Read.remaining c.read.new.reader) _ _ _ _ _ c.in-Ok-false.field-0-test c.in-Ok-false.ensures in
+    let read = more_read (g.R.Read.remaining c.loop.reader) (g.R.Read.remaining c.read.new.reader) _ _ _ _ _ c.if-at_end.false c.in_ok-at_end.ensures in
     record {
       told = λ quiet.
           let before = quiet_first _ c.loop.self _ quiet c.loop.invariant.later c.run_given.ensures.later in
@@ -127,8 +112,8 @@ loop-preserved g c =
           subst (λ n. IsRunTo (state_of c.args.self.now) (state_of c.run_given.new.self) (g.R.Read.remaining c.args.reader.now) (g.R.Read.remaining c.read.new.reader) (g.W.Write.contents c.args.writer.now) (g.W.Write.contents c.run_given.new.writer) n c.run_given.new.pending.bytes.items)
           (sym (c.run_given.ensures.count ∙ read.3))
           (run_on _ (state_of c.loop.self) _ _ (g.R.Read.remaining c.read.new.reader) _ (g.W.Write.contents c.loop.writer) _ (c.loop.pending.count + length read.0) (c.loop.pending.bytes.items ++ read.0) c.run_given.new.pending.bytes.items fed
-          (subst (λ (l : List ℕ). RunsGiven l c.run_given.new.pending.bytes.items (state_of c.loop.self) (state_of c.run_given.new.self) (g.W.Write.contents c.loop.writer) (g.W.Write.contents c.run_given.new.writer) (Ok tt)) read.2 (c.in_ok-run_given-in-Ok-false.ensures.told behind)));
-      waits = c.in_ok-run_given-in-Ok-false.ensures.waits;
+          (subst (λ (l : List ℕ). RunsGiven l c.run_given.new.pending.bytes.items (state_of c.loop.self) (state_of c.run_given.new.self) (g.W.Write.contents c.loop.writer) (g.W.Write.contents c.run_given.new.writer) (Ok tt)) read.2 (c.in_ok-run_given.ensures.told behind)));
+      waits = c.in_ok-run_given.ensures.waits;
       taken = subst (λ n. TakesBytes (g.R.Read.remaining c.args.reader.now) (g.R.Read.remaining c.read.new.reader) n) (sym (c.run_given.ensures.count ∙ read.3)) (takes_more _ (g.R.Read.remaining c.loop.reader) _ c.loop.pending.count read.0 c.loop.invariant.taken read.1);
       within = omega (arith, c.run_given.ensures.count, read.4);
       piece = c.loop.invariant.piece;
