@@ -6,8 +6,8 @@ use Rattle.std.proofs.lemmas.Bool.{cases_eq, cases_lt}
 use Rattle.std.proofs.Math.ListN.{get_or-eq_default}
 use Rattle.word12.specs.declared.sizes.TheConstants.{CORE}
 use Rattle.flow8.specs.Exits.{exits, IsExit}
-use Rattle.flow8.specs.Flow.{Gives, IsAmong, Reaches, start, goes, IsFlow}
-use Rattle.flow8.specs.FlowSteps.{AreUnmarked, Has, Marks, cells_behind, exit_list, unmarked}
+use Rattle.flow8.specs.Flow.{IsAmong, Reaches, start, goes, IsFlow, word_in}
+use Rattle.flow8.specs.FlowSteps.{AreUnmarked, Gives, Has, Marks, cells_behind, exit_list, unmarked}
 
 -- ## Lists of cells
 
@@ -195,7 +195,7 @@ among_exits words cell next is = given (slice_index_or words cell None) refl is
 -- What is so between two cells that wait: what is marked is reached, and each exit of what waits no more is marked.
 pub record IsOnTheWay (words : List (Option ℕ)) (starts : List ℕ) (reached : List Bool) (waiting : List ℕ) : Type 0 where
   pub size : length reached ≡ CORE
-  pub sound : (cell : ℕ) → Has reached cell → Reaches words starts cell
+  pub sound : (cell : ℕ) → Has reached cell → Reaches (word_in words) starts cell
   pub starts_are : (cell word : ℕ) → IsAmong cell starts → Gives words cell word → Has reached cell
   pub marked : (cell : ℕ) → IsAmong cell waiting → Has reached cell
   pub closed : (cell : ℕ) → Has reached cell → IsAmong cell waiting
@@ -267,7 +267,7 @@ goes_on words starts old new all rest waiting cell way is marks = record {
 pub ends : (words : List (Option ℕ)) (starts : List ℕ) (reached : List Bool) → IsOnTheWay words starts reached [] → IsFlow words starts reached
 ends words starts reached way = record { size = way.size; cells = λ cell. (way.sound cell, all cell) }
   where
-    all : (cell : ℕ) → Reaches words starts cell → Has reached cell
+    all : (cell : ℕ) → Reaches (word_in words) starts cell → Has reached cell
     all cell (start _ word among gives) = way.starts_are cell word among gives
     all cell (goes before word _ other reaches gives exit given) =
         elim (way.closed before (all before reaches)) [

@@ -1,7 +1,11 @@
 -- What marking comes to on the way, for private clauses.
 use Rattle.std.specs.Prelude.{◌≡◌, ◌⊎◌, ℕ, ◌+◌, ◌*◌, ◌≤◌, Bool, true, false, if◌then◌else◌, List, [], length, Option, Some, None, slice_index_or, ◌++◌, option_to_list, sum_by}
 use Rattle.flow8.specs.Exits.{exits}
-use Rattle.flow8.specs.Flow.{Gives, IsAmong}
+use Rattle.flow8.specs.Flow.{IsAmong, word_in}
+
+-- a list gives the cell this word
+abbrev pub Gives : List (Option ℕ) → ℕ → ℕ → Type 0
+Gives words cell word = word_in words cell ≡ Some word
 
 -- how many cells are not marked
 abbrev pub unmarked : List Bool → ℕ

@@ -8,7 +8,7 @@ use Rattle.pal_asm.specs.Places.{Source}
 use Rattle.pal_list.specs.References.{referred_cell}
 use Rattle.pal_list.specs.Tags.{tag_name, is_tagged}
 use Rattle.pal_list.specs.Named.{NamesThere, NamesTags}
-use Rattle.pal_list.specs.Lines.{source_of}
+use Rattle.pal_list.specs.Lines.{source_with}
 use Rattle.pal_list.specs.Sources.{with_word, words_below, words_of_tape}
 use Rattle.pal_list.specs.Defined.{tags_of, IsNoneOf, Differ, DefinesTags}
 use Rattle.pal_list.proofs.TagLemmas.{tags_rise}
@@ -75,16 +75,16 @@ tags_all_differ tagged items (suc count) enough =
     (tags_all_differ tagged items count (omega (arith, enough)))
     (tags_below tagged items count count (omega arith) (omega (arith, enough))))
 
-pub tape_tags : (items : List Item) → IsPrefix items → DefinesTags (source_of (words_of_tape items)) (words_of_tape items)
-tape_tags items prefix =
+pub tape_tags : (is_code : ℕ → Bool) (items : List Item) → IsPrefix items → DefinesTags is_code (source_with is_code (words_of_tape items)) (words_of_tape items)
+tape_tags is_code items prefix =
     let words = words_of_tape items in
-    source_tags words (are_shown (is_tagged words) words (below_pairs items 32768 prefix)) (tags_all_differ (is_tagged words) items 32768 (omega arith))
+    source_tags is_code words (are_shown is_code (is_tagged is_code words) words (below_pairs items 32768 prefix)) (tags_all_differ (is_tagged is_code words) items 32768 (omega arith))
 
-pub tape_names : (items : List Item) → IsPrefix items → NamesTags (source_of (words_of_tape items)) items
-tape_names items prefix = λ cell word there r g.
+pub tape_names : (is_code : ℕ → Bool) (items : List Item) → IsPrefix items → NamesTags is_code (source_with is_code (words_of_tape items)) items
+tape_names is_code items prefix = λ cell word there c r g.
     let words = words_of_tape items in
     let name = tag_name (referred_cell cell word) in
-    let whole = source_whole words (are_shown (is_tagged words) words (below_pairs items 32768 prefix)) in
+    let whole = source_whole is_code words (are_shown is_code (is_tagged is_code words) words (below_pairs items 32768 prefix)) in
     let last : last_word (reverse words) cell ≡ Some word = last_of_tape 32768 items (omega arith) prefix cell ∙ there in
     subst (λ (s : Source). NamesThere s cell word name) (sym whole.statements_are)
-    (names_older (Ok (statement_of whole.line true [] [] Nothing)) whole.lines cell word name (whole.stands.named_are cell word last r g))
+    (names_older (Ok (statement_of whole.line true [] [] Nothing)) whole.lines cell word name (whole.stands.named_are cell word last c r g))

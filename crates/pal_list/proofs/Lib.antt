@@ -13,3 +13,4 @@ pub mod NameLemmas
 pub mod FewestLemmas
 pub mod DefinedLemmas
 pub mod NamedLemmas
+pub mod FlowLemmas

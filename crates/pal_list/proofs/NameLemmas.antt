@@ -307,10 +307,10 @@ names_word tagged p (q ∷ others) word place e comes =
           ap (λ f. first_of f (terms_fault known place (or_parts (q ∷ others)))) (is.no_fault known knows.keeps place) ∙ rest.no_fault known knows.keeps place;
     }
 
-named : (tagged : ℕ → Bool) (cell word : ℕ) (list : List Pattern) → all_fit list ≡ true → or_behind 0 list ≡ word → 0 < word → is_reference (cell % 4096) word ≡ false
-    → IsShown tagged cell word (names list)
-named tagged cell word [] e comes some apart = absurd (omega (arith, comes, some))
-named tagged cell word (p ∷ others) e comes some apart = record {
+named : (is_code tagged : ℕ → Bool) (cell word : ℕ) (list : List Pattern) → all_fit list ≡ true → or_behind 0 list ≡ word → 0 < word → is_reference (cell % 4096) word ≡ false
+    → IsShown is_code tagged cell word (names list)
+named is_code tagged cell word [] e comes some apart = absurd (omega (arith, comes, some))
+named is_code tagged cell word (p ∷ others) e comes some apart = record {
   first = (shown_name p.2);
   others = names others;
   some = refl;
@@ -318,13 +318,13 @@ named tagged cell word (p ∷ others) e comes some apart = record {
   body = Word (all_parts p others);
   says = λ at. names_say p others at e;
   means = names_word tagged p others word (cell % 4096) e comes;
-  names = λ r g. absurd (true≢false (sym r ∙ apart));
+  names = λ c r g. absurd (true≢false (sym r ∙ apart));
 }
 
-pub shown_names : (tagged : ℕ → Bool) (cell word : ℕ) → is_reference (cell % 4096) word ≡ false → is_named word ≡ true → IsShown tagged cell word (names (chosen word patterns))
-shown_names tagged cell word apart shown =
+pub shown_names : (is_code tagged : ℕ → Bool) (cell word : ℕ) → is_reference (cell % 4096) word ≡ false → is_named word ≡ true → IsShown is_code tagged cell word (names (chosen word patterns))
+shown_names is_code tagged cell word apart shown =
     let split = both (nat_lt 3071 word) (nat_eq (or_behind 0 (chosen word patterns)) word) shown in
-    named tagged cell word (chosen word patterns) (chosen_fit word patterns table_fits) (equal (or_behind 0 (chosen word patterns)) word split.1) (some word split.0) apart
+    named is_code tagged cell word (chosen word patterns) (chosen_fit word patterns table_fits) (equal (or_behind 0 (chosen word patterns)) word split.1) (some word split.0) apart
   where
     some : (n : ℕ) → nat_lt 3071 n ≡ true → 0 < n
     some n e = grind (arith, nat_tests)

@@ -305,8 +305,8 @@ address_shown tagged cell word small = either (tagged (referred_cell cell word))
         (tag_address tagged (referred_cell cell word) (referred_inside cell word small) e)
     either false e = number_address tagged (referred_cell cell word) (referred (cell % 4096) word) e (address_small (cell % 4096) word (omega arith))
 
-pub shown_reference : (tagged : ℕ → Bool) (cell word : ℕ) → cell < 32768 → is_reference (cell % 4096) word ≡ true → IsShown tagged cell word (reference tagged cell word)
-shown_reference tagged cell word inside shown =
+pub shown_reference : (is_code tagged : ℕ → Bool) (cell word : ℕ) → cell < 32768 → is_reference (cell % 4096) word ≡ true → IsShown is_code tagged cell word (reference tagged cell word)
+shown_reference is_code tagged cell word inside shown =
     let at = cell % 4096 in
     let parts = both (nat_lt word 3072) (nat_eq (word / 128 % 2) 0 || nat_le 128 at) shown in
     let op = operation_at (word / 512) (operation_small word parts.0) in
@@ -329,7 +329,7 @@ shown_reference tagged cell word inside shown =
       body = Reference op.operation indirect (Some (term_parts is.t));
       says = λ place. reference_says tagged (referred_cell cell word) op.operation indirect named a place is;
       means = reference_word tagged (referred_cell cell word) op.operation indirect named at a word there.offset is small there.is (whole (word_of op.operation) (if indirect then 256 else 0) there.offset word v bit o);
-      names = λ r is_marked. record {
+      names = λ c r is_marked. record {
         operation = op.operation;
         is_operation = v;
         body_is = ap (λ t. Reference op.operation indirect (Some (term_parts t))) (is.is_name is_marked);

@@ -22,7 +22,7 @@ use Rattle.pal_asm.specs.Words.{pairs_by}
 use Rattle.pal_asm.specs.Faults.{no_end, fault_by}
 use Rattle.pal_list.specs.Statements.{statement}
 use Rattle.pal_list.specs.Tags.{tag, tag_name, is_given, is_referred, is_tagged}
-use Rattle.pal_list.specs.Lines.{led, line_end, field_line, origin_line, comment, tag_part, word_line, cell_lines, lines_of, source_of}
+use Rattle.pal_list.specs.Lines.{led, line_end, field_line, origin_line, comment, tag_part, word_line, cell_lines, lines_of, source_with}
 use Rattle.pal_list.specs.Defined.{tags_in, tags_of, Differ, DefinesTags}
 use Rattle.pal_list.specs.Sources.{IsReadAs}
 use Rattle.pal_list.proofs.ByteLemmas.{both, all_legal, legal_append, coded_are_legal, octal, coded4}
@@ -167,17 +167,17 @@ field_codes n small = record {
 -- ## Lines behind a text
 
 -- a text stands at the beginning of a line, and its statements say this
-pub record StandsAt (tagged : ℕ → Bool) (text : List ℕ) (place field : ℕ) (pairs : List (ℕ × ℕ)) : Type 0 where
+pub record StandsAt (is_code tagged : ℕ → Bool) (text : List ℕ) (place field : ℕ) (pairs : List (ℕ × ℕ)) : Type 0 where
   pub no_comment : in_comment text ≡ false
   pub not_over : is_over text ≡ false
   pub begins : stretch text ≡ []
-  pub stands : Stands tagged (statements text) place field pairs
+  pub stands : Stands is_code tagged (statements text) place field pairs
 
-line_step : (tagged : ℕ → Bool) (text code tags after : List ℕ) (place field : ℕ) (pairs : List (ℕ × ℕ)) (next_place next_field : ℕ) (next_pairs : List (ℕ × ℕ)) (body : Body)
-    → StandsAt tagged text place field pairs → Codes code tags body → Ends text code after
-    → ((line : ℕ) (tokens : List Token) → Stands tagged (Ok (statement_of line false tokens tags body) ∷ statements text) next_place next_field next_pairs)
-    → StandsAt tagged after next_place next_field next_pairs
-line_step tagged text code tags after place field pairs next_place next_field next_pairs body is codes ended step =
+line_step : (is_code tagged : ℕ → Bool) (text code tags after : List ℕ) (place field : ℕ) (pairs : List (ℕ × ℕ)) (next_place next_field : ℕ) (next_pairs : List (ℕ × ℕ)) (body : Body)
+    → StandsAt is_code tagged text place field pairs → Codes code tags body → Ends text code after
+    → ((line : ℕ) (tokens : List Token) → Stands is_code tagged (Ok (statement_of line false tokens tags body) ∷ statements text) next_place next_field next_pairs)
+    → StandsAt is_code tagged after next_place next_field next_pairs
+line_step is_code tagged text code tags after place field pairs next_place next_field next_pairs body is codes ended step =
     let statement : statements after ≡ Ok (statement_of ended.line false (codes.tokens_of (length text)) tags body) ∷ statements text =
     ended.statement
     ∙ ap (λ live. judged ended.line false (laid live (length text) code) (radix_after (statements text)) ∷ statements text) is.begins
@@ -187,7 +187,7 @@ line_step tagged text code tags after place field pairs next_place next_field ne
       no_comment = ended.no_comment;
       not_over = ended.not_over;
       begins = ended.begins;
-      stands = subst (λ s. Stands tagged s next_place next_field next_pairs) (sym statement) (step ended.line (codes.tokens_of (length text)));
+      stands = subst (λ s. Stands is_code tagged s next_place next_field next_pairs) (sym statement) (step ended.line (codes.tokens_of (length text)));
     }
 
 -- ## The lines of a cell
@@ -198,7 +198,7 @@ Behind None place field = (place ≡ 128) × (field ≡ 0)
 Behind (Some cell) place field = (place ≡ cell % 4096 + 1) × (field ≡ cell / 4096)
 
 -- the pieces of a statement are a word at a cell
-pub record IsShown (tagged : ℕ → Bool) (cell word : ℕ) (words : List (List ℕ)) : Type 0 where
+pub record IsShown (is_code tagged : ℕ → Bool) (cell word : ℕ) (words : List (List ℕ)) : Type 0 where
   pub first : List ℕ
   pub others : List (List ℕ)
   pub some : words ≡ first ∷ others
@@ -206,36 +206,36 @@ pub record IsShown (tagged : ℕ → Bool) (cell word : ℕ) (words : List (List
   pub body : Body
   pub says : (at : ℕ) → Say (tokens_at at (first ∷ others)) [] body
   pub means : IsWordOf tagged body (cell % 4096) word
-  pub names : NamesTag tagged cell word body
+  pub names : NamesTag is_code tagged cell word body
 
-field_part : (tagged : ℕ → Bool) (text : List ℕ) (before : Option ℕ) (cell place field : ℕ) (pairs : List (ℕ × ℕ)) → cell < 32768 → StandsAt tagged text place field pairs
+field_part : (is_code tagged : ℕ → Bool) (text : List ℕ) (before : Option ℕ) (cell place field : ℕ) (pairs : List (ℕ × ℕ)) → cell < 32768 → StandsAt is_code tagged text place field pairs
     → field ≡ field_behind before
-    → StandsAt tagged (text_from text (if nat_eq (cell / 4096) (field_behind before) then [] else field_line cell))
+    → StandsAt is_code tagged (text_from text (if nat_eq (cell / 4096) (field_behind before) then [] else field_line cell))
     (if nat_eq (cell / 4096) (field_behind before) then place else 128) (cell / 4096) pairs
-field_part tagged text before cell place field pairs small is behind =
+field_part is_code tagged text before cell place field pairs small is behind =
     elim (eqb_tells (cell / 4096) (field_behind before)) [
-      | inl same ↦ rw same.0 (subst (λ f. StandsAt tagged text place f pairs) (behind ∙ sym same.1) is)
+      | inl same ↦ rw same.0 (subst (λ f. StandsAt is_code tagged text place f pairs) (behind ∙ sym same.1) is)
       | inr other ↦
           let n = cell / 4096 in
           let code = codes "FIELD " ++ octal_digit n ∷ [] in
           let field_codes_here = field_codes n (omega (arith, small)) in
           rw other.0
-          (line_step tagged text code [] (text_from text (field_line cell)) place field pairs 128 n pairs (Field (number_parts n)) is field_codes_here
+          (line_step is_code tagged text code [] (text_from text (field_line cell)) place field pairs 128 n pairs (Field (number_parts n)) is field_codes_here
           (ends text code is.no_comment is.not_over field_codes_here.legal)
-          (λ line tokens. field_step tagged (statements text) place field pairs line tokens n (omega (arith, small)) is.stands))
+          (λ line tokens. field_step is_code tagged (statements text) place field pairs line tokens n (omega (arith, small)) is.stands))
     ]
 
-origin_part : (tagged : ℕ → Bool) (text : List ℕ) (next : Bool) (cell place : ℕ) (pairs : List (ℕ × ℕ)) → StandsAt tagged text place (cell / 4096) pairs
+origin_part : (is_code tagged : ℕ → Bool) (text : List ℕ) (next : Bool) (cell place : ℕ) (pairs : List (ℕ × ℕ)) → StandsAt is_code tagged text place (cell / 4096) pairs
     → (next ≡ true → place ≡ cell % 4096)
-    → StandsAt tagged (text_from text (if next then [] else origin_line cell)) (cell % 4096) (cell / 4096) pairs
-origin_part tagged text true cell place pairs is here = subst (λ p. StandsAt tagged text p (cell / 4096) pairs) (here refl) is
-origin_part tagged text false cell place pairs is here =
+    → StandsAt is_code tagged (text_from text (if next then [] else origin_line cell)) (cell % 4096) (cell / 4096) pairs
+origin_part is_code tagged text true cell place pairs is here = subst (λ p. StandsAt is_code tagged text p (cell / 4096) pairs) (here refl) is
+origin_part is_code tagged text false cell place pairs is here =
     let a = cell % 4096 in
     let code = 42 ∷ octal4 a in
     let codes_here = origin_codes a (omega arith) in
-    line_step tagged text code [] (text_from text (origin_line cell)) place (cell / 4096) pairs a (cell / 4096) pairs (Origin (number_parts a)) is codes_here
+    line_step is_code tagged text code [] (text_from text (origin_line cell)) place (cell / 4096) pairs a (cell / 4096) pairs (Origin (number_parts a)) is codes_here
     (ends text code is.no_comment is.not_over codes_here.legal)
-    (λ line tokens. origin_step tagged (statements text) place (cell / 4096) pairs line tokens a (omega arith) is.stands)
+    (λ line tokens. origin_step is_code tagged (statements text) place (cell / 4096) pairs line tokens a (omega arith) is.stands)
 
 no_return : (cell word : ℕ) → has_cr (octal_digit (cell / 4096) ∷ octal4 (cell % 4096) ++ 32 ∷ octal4 word) ≡ false
 no_return cell word =
@@ -250,10 +250,10 @@ no_return cell word =
     let h = octal word in
     rw (o.return, a.return, b.return, c.return, d.return, e.return, f.return, g.return, h.return) refl
 
-word_part : (tagged : ℕ → Bool) (text : List ℕ) (cell word : ℕ) (pairs : List (ℕ × ℕ)) → cell < 32768 → IsShown tagged cell word (statement tagged cell word)
-    → StandsAt tagged text (cell % 4096) (cell / 4096) pairs
-    → StandsAt tagged (text_from text (word_line tagged cell word)) (cell % 4096 + 1) (cell / 4096) (pairs ++ (cell, word) ∷ [])
-word_part tagged text cell word pairs small shown is =
+word_part : (is_code tagged : ℕ → Bool) (text : List ℕ) (cell word : ℕ) (pairs : List (ℕ × ℕ)) → cell < 32768 → IsShown is_code tagged cell word (statement is_code tagged cell word)
+    → StandsAt is_code tagged text (cell % 4096) (cell / 4096) pairs
+    → StandsAt is_code tagged (text_from text (word_line is_code tagged cell word)) (cell % 4096 + 1) (cell / 4096) (pairs ++ (cell, word) ∷ [])
+word_part is_code tagged text cell word pairs small shown is =
     let place = cell % 4096 in
     let field = cell / 4096 in
     let words = shown.first ∷ shown.others in
@@ -262,15 +262,15 @@ word_part tagged text cell word pairs small shown is =
     let tags = label (tagged cell) cell in
     let codes_here = labelled (tagged cell) cell shown.first shown.others shown.body shown.runs shown.says in
     let line = code ++ (47 ∷ ((octal_digit field ∷ octal4 place ++ 32 ∷ octal4 word) ++ 13 ∷ 10 ∷ [])) in
-    let shape : word_line tagged cell word ≡ line =
+    let shape : word_line is_code tagged cell word ≡ line =
     ap (λ w. prefix ++ led 9 w ++ 9 ∷ comment cell word ++ line_end) shown.some
     ∙ ap (λ l. prefix ++ l ++ 9 ∷ comment cell word ++ line_end) (led_spaced 9 shown.first shown.others)
     ∙ regroup prefix (spaced words) (47 ∷ octal_digit field ∷ octal4 place ++ 32 ∷ octal4 word) (13 ∷ 10 ∷ []) in
     let done =
-    line_step tagged text code tags (text_from text line) place field pairs (place + 1) field (pairs ++ (cell, word) ∷ []) shown.body is codes_here
+    line_step is_code tagged text code tags (text_from text line) place field pairs (place + 1) field (pairs ++ (cell, word) ∷ []) shown.body is codes_here
     (ends_commented text code (octal_digit field ∷ octal4 place ++ 32 ∷ octal4 word) is.no_comment is.not_over codes_here.legal (no_return cell word))
-    (λ line tokens. word_step tagged (statements text) pairs line tokens shown.body cell word small shown.means shown.names is.stands) in
-    subst (λ t. StandsAt tagged (text_from text t) (place + 1) field (pairs ++ (cell, word) ∷ [])) (sym shape) done
+    (λ line tokens. word_step is_code tagged (statements text) pairs line tokens shown.body cell word small shown.means shown.names is.stands) in
+    subst (λ t. StandsAt is_code tagged (text_from text t) (place + 1) field (pairs ++ (cell, word) ∷ [])) (sym shape) done
   where
     regroup : (p w c e : List ℕ) → ((p ++ (9 ∷ w)) ++ 9 ∷ c) ++ e ≡ (p ++ 9 ∷ (w ++ 9 ∷ [])) ++ (c ++ e)
     regroup p w c e =
@@ -298,63 +298,63 @@ field_then : (before : Option ℕ) (place field : ℕ) → Behind before place f
 field_then None place field behind = behind.1
 field_then (Some b) place field behind = behind.1
 
-cell_step : (tagged : ℕ → Bool) (text : List ℕ) (before : Option ℕ) (cell word place field : ℕ) (pairs : List (ℕ × ℕ)) → cell < 32768
-    → IsShown tagged cell word (statement tagged cell word) → Behind before place field → StandsAt tagged text place field pairs
-    → StandsAt tagged (text_from text (cell_lines tagged before cell word)) (cell % 4096 + 1) (cell / 4096) (pairs ++ (cell, word) ∷ [])
-cell_step tagged text before cell word place field pairs small shown behind is =
+cell_step : (is_code tagged : ℕ → Bool) (text : List ℕ) (before : Option ℕ) (cell word place field : ℕ) (pairs : List (ℕ × ℕ)) → cell < 32768
+    → IsShown is_code tagged cell word (statement is_code tagged cell word) → Behind before place field → StandsAt is_code tagged text place field pairs
+    → StandsAt is_code tagged (text_from text (cell_lines is_code tagged before cell word)) (cell % 4096 + 1) (cell / 4096) (pairs ++ (cell, word) ∷ [])
+cell_step is_code tagged text before cell word place field pairs small shown behind is =
     let a = if nat_eq (cell / 4096) (field_behind before) then [] else field_line cell in
     let b = if is_next before cell then [] else origin_line cell in
     let t = text_from text a in
     let u = text_from t b in
-    let first = field_part tagged text before cell place field pairs small is (field_then before place field behind) in
+    let first = field_part is_code tagged text before cell place field pairs small is (field_then before place field behind) in
     let second =
-    origin_part tagged t (is_next before cell) cell (if nat_eq (cell / 4096) (field_behind before) then place else 128) pairs first (next_place before cell place field behind) in
-    let whole : text_from text (cell_lines tagged before cell word) ≡ text_from u (word_line tagged cell word) =
-    text_append (a ++ b) (word_line tagged cell word) text ∙ ap (λ l. text_from l (word_line tagged cell word)) (text_append a b text) in
-    subst (λ l. StandsAt tagged l (cell % 4096 + 1) (cell / 4096) (pairs ++ (cell, word) ∷ [])) (sym whole) (word_part tagged u cell word pairs small shown second)
+    origin_part is_code tagged t (is_next before cell) cell (if nat_eq (cell / 4096) (field_behind before) then place else 128) pairs first (next_place before cell place field behind) in
+    let whole : text_from text (cell_lines is_code tagged before cell word) ≡ text_from u (word_line is_code tagged cell word) =
+    text_append (a ++ b) (word_line is_code tagged cell word) text ∙ ap (λ l. text_from l (word_line is_code tagged cell word)) (text_append a b text) in
+    subst (λ l. StandsAt is_code tagged l (cell % 4096 + 1) (cell / 4096) (pairs ++ (cell, word) ∷ [])) (sym whole) (word_part is_code tagged u cell word pairs small shown second)
 
 -- ## All lines
 
-pub record StandsBehind (tagged : ℕ → Bool) (text : List ℕ) (before : Option ℕ) (pairs : List (ℕ × ℕ)) : Type 0 where
+pub record StandsBehind (is_code tagged : ℕ → Bool) (text : List ℕ) (before : Option ℕ) (pairs : List (ℕ × ℕ)) : Type 0 where
   pub place : ℕ
   pub field : ℕ
   pub behind : Behind before place field
-  pub stands : StandsAt tagged text place field pairs
+  pub stands : StandsAt is_code tagged text place field pairs
 
 -- each cell's statement is its word
-abbrev pub AreShown : (ℕ → Bool) → List (ℕ × ℕ) → Type 0
-AreShown tagged [] = Unit {0}
-AreShown tagged (pair ∷ others) = (pair.0 < 32768) × IsShown tagged pair.0 pair.1 (statement tagged pair.0 pair.1) × AreShown tagged others
+abbrev pub AreShown : (ℕ → Bool) → (ℕ → Bool) → List (ℕ × ℕ) → Type 0
+AreShown is_code tagged [] = Unit {0}
+AreShown is_code tagged (pair ∷ others) = (pair.0 < 32768) × IsShown is_code tagged pair.0 pair.1 (statement is_code tagged pair.0 pair.1) × AreShown is_code tagged others
 
 newest_last : (pair : ℕ × ℕ) (pairs : List (ℕ × ℕ)) → reverse (pair ∷ pairs) ≡ reverse pairs ++ pair ∷ []
 newest_last pair pairs = reverse-append (pair ∷ []) pairs
 
-text_begun : (tagged : ℕ → Bool) → StandsAt tagged [] 128 0 []
+text_begun : (is_code tagged : ℕ → Bool) → StandsAt is_code tagged [] 128 0 []
 unfolding statements
-text_begun tagged = record { no_comment = refl; not_over = refl; begins = refl; stands = stands_first tagged }
+text_begun is_code tagged = record { no_comment = refl; not_over = refl; begins = refl; stands = stands_first is_code tagged }
 
-lines_stand : (tagged : ℕ → Bool) (pairs : List (ℕ × ℕ)) → AreShown tagged pairs → StandsBehind tagged (text_of (lines_of tagged pairs)) (newest_cell pairs) (reverse pairs)
-lines_stand tagged [] shown = record { place = 128; field = 0; behind = (refl, refl); stands = text_begun tagged }
-lines_stand tagged (pair ∷ older) shown =
-    let before = lines_stand tagged older shown.2 in
-    let lines = cell_lines tagged (newest_cell older) pair.0 pair.1 in
+lines_stand : (is_code tagged : ℕ → Bool) (pairs : List (ℕ × ℕ)) → AreShown is_code tagged pairs → StandsBehind is_code tagged (text_of (lines_of is_code tagged pairs)) (newest_cell pairs) (reverse pairs)
+lines_stand is_code tagged [] shown = record { place = 128; field = 0; behind = (refl, refl); stands = text_begun is_code tagged }
+lines_stand is_code tagged (pair ∷ older) shown =
+    let before = lines_stand is_code tagged older shown.2 in
+    let lines = cell_lines is_code tagged (newest_cell older) pair.0 pair.1 in
     let done =
-    cell_step tagged (text_of (lines_of tagged older)) (newest_cell older) pair.0 pair.1 before.place before.field (reverse older) shown.0 shown.1 before.behind before.stands in
+    cell_step is_code tagged (text_of (lines_of is_code tagged older)) (newest_cell older) pair.0 pair.1 before.place before.field (reverse older) shown.0 shown.1 before.behind before.stands in
     record {
       place = pair.0 % 4096 + 1;
       field = pair.0 / 4096;
       behind = (refl, refl);
       stands =
-          subst (λ t. StandsAt tagged t (pair.0 % 4096 + 1) (pair.0 / 4096) (reverse (pair ∷ older))) (sym (text_append (lines_of tagged older) lines []))
-          (subst (λ p. StandsAt tagged (text_from (text_of (lines_of tagged older)) lines) (pair.0 % 4096 + 1) (pair.0 / 4096) p) (sym (newest_last pair older)) done);
+          subst (λ t. StandsAt is_code tagged t (pair.0 % 4096 + 1) (pair.0 / 4096) (reverse (pair ∷ older))) (sym (text_append (lines_of is_code tagged older) lines []))
+          (subst (λ p. StandsAt is_code tagged (text_from (text_of (lines_of is_code tagged older)) lines) (pair.0 % 4096 + 1) (pair.0 / 4096) p) (sym (newest_last pair older)) done);
     }
 
 -- ## The whole source
 
-dollar : (tagged : ℕ → Bool) (text : List ℕ) (place field : ℕ) (pairs : List (ℕ × ℕ)) → StandsAt tagged text place field pairs
+dollar : (is_code tagged : ℕ → Bool) (text : List ℕ) (place field : ℕ) (pairs : List (ℕ × ℕ)) → StandsAt is_code tagged text place field pairs
     → (line : ℕ) × (statements (10 ∷ 13 ∷ 36 ∷ text) ≡ Ok (statement_of line true [] [] Nothing) ∷ statements text) × (is_over (10 ∷ 13 ∷ 36 ∷ text) ≡ true)
 unfolding statements
-dollar tagged text place field pairs is =
+dollar is_code tagged text place field pairs is =
     (line_after text, rw (is.no_comment, is.not_over, is.begins) refl, rw (is.no_comment, is.not_over) refl)
 
 some_reverse : (pair : ℕ × ℕ) (pairs : List (ℕ × ℕ)) → is_some_pair (reverse (pair ∷ pairs)) ≡ true
@@ -372,22 +372,22 @@ given_reverse (pair ∷ pairs) cell =
     ∙ ap (λ b. nat_eq pair.0 cell || b) (given_reverse pairs cell)
 
 -- The statements of a source's lines and its last one.
-pub record IsWhole (tagged : ℕ → Bool) (text : List ℕ) (pairs : List (ℕ × ℕ)) : Type 0 where
+pub record IsWhole (is_code tagged : ℕ → Bool) (text : List ℕ) (pairs : List (ℕ × ℕ)) : Type 0 where
   pub line : ℕ
   pub place : ℕ
   pub field : ℕ
   pub lines : Source
   pub statements_are : statements text ≡ Ok (statement_of line true [] [] Nothing) ∷ lines
   pub ended : no_end text ≡ None
-  pub stands : Stands tagged lines place field pairs
+  pub stands : Stands is_code tagged lines place field pairs
 
-pub source_whole : (pairs : List (ℕ × ℕ)) → AreShown (is_tagged pairs) pairs → IsWhole (is_tagged pairs) (text_of (source_of pairs)) (reverse pairs)
-source_whole pairs shown =
-    let tagged = is_tagged pairs in
-    let lines = lines_stand tagged pairs shown in
-    let text = text_of (lines_of tagged pairs) in
-    let whole : text_of (source_of pairs) ≡ 10 ∷ 13 ∷ 36 ∷ text = text_append (lines_of tagged pairs) (36 ∷ line_end) [] in
-    let end = dollar tagged text lines.place lines.field (reverse pairs) lines.stands in
+pub source_whole : (is_code : ℕ → Bool) (pairs : List (ℕ × ℕ)) → AreShown is_code (is_tagged is_code pairs) pairs → IsWhole is_code (is_tagged is_code pairs) (text_of (source_with is_code pairs)) (reverse pairs)
+source_whole is_code pairs shown =
+    let tagged = is_tagged is_code pairs in
+    let lines = lines_stand is_code tagged pairs shown in
+    let text = text_of (lines_of is_code tagged pairs) in
+    let whole : text_of (source_with is_code pairs) ≡ 10 ∷ 13 ∷ 36 ∷ text = text_append (lines_of is_code tagged pairs) (36 ∷ line_end) [] in
+    let end = dollar is_code tagged text lines.place lines.field (reverse pairs) lines.stands in
     record {
       line = end.0;
       place = lines.place;
@@ -399,28 +399,28 @@ source_whole pairs shown =
     }
 
 -- a tagged cell's tag stands for its address
-value_at_last : (pairs : List (ℕ × ℕ)) (cell : ℕ) → tag_value (is_tagged pairs) (reverse pairs) cell ≡ (if is_tagged pairs cell then Some (cell % 4096) else None)
-value_at_last pairs cell =
-    ap (λ g. if g && is_tagged pairs cell then Some (cell % 4096) else None) (given_reverse pairs cell) ∙ twice (is_given pairs cell) (is_referred pairs cell) (cell % 4096)
+value_at_last : (is_code : ℕ → Bool) (pairs : List (ℕ × ℕ)) (cell : ℕ) → tag_value (is_tagged is_code pairs) (reverse pairs) cell ≡ (if is_tagged is_code pairs cell then Some (cell % 4096) else None)
+value_at_last is_code pairs cell =
+    ap (λ g. if g && is_tagged is_code pairs cell then Some (cell % 4096) else None) (given_reverse pairs cell) ∙ twice (is_given pairs cell) (is_referred is_code pairs cell) (cell % 4096)
   where
     twice : (g r : Bool) (value : ℕ) → (if g && (g && r) then Some value else None) ≡ (if g && r then Some value else None)
     twice true r value = refl
     twice false r value = refl
 
-knows_at_last : (pairs : List (ℕ × ℕ)) (source : Source) (place field : ℕ) → Stands (is_tagged pairs) source place field (reverse pairs) → Knows (is_tagged pairs) (values source)
-knows_at_last pairs source place field is = record {
-  keeps = stands_keeps (is_tagged pairs) source place field (reverse pairs) is;
-  tags_are = λ cell small is_tagged_cell. is.values_are cell small ∙ value_at_last pairs cell ∙ ap (λ (b : Bool). if b then Some (cell % 4096) else None) is_tagged_cell;
+knows_at_last : (is_code : ℕ → Bool) (pairs : List (ℕ × ℕ)) (source : Source) (place field : ℕ) → Stands is_code (is_tagged is_code pairs) source place field (reverse pairs) → Knows (is_tagged is_code pairs) (values source)
+knows_at_last is_code pairs source place field is = record {
+  keeps = stands_keeps is_code (is_tagged is_code pairs) source place field (reverse pairs) is;
+  tags_are = λ cell small is_tagged_cell. is.values_are cell small ∙ value_at_last is_code pairs cell ∙ ap (λ (b : Bool). if b then Some (cell % 4096) else None) is_tagged_cell;
 }
 
-pub source_read : (pair : ℕ × ℕ) (older : List (ℕ × ℕ)) → AreShown (is_tagged (pair ∷ older)) (pair ∷ older) → IsReadAs (source_of (pair ∷ older)) (reverse (pair ∷ older))
-source_read pair older shown =
+pub source_read : (is_code : ℕ → Bool) (pair : ℕ × ℕ) (older : List (ℕ × ℕ)) → AreShown is_code (is_tagged is_code (pair ∷ older)) (pair ∷ older) → IsReadAs (source_with is_code (pair ∷ older)) (reverse (pair ∷ older))
+source_read is_code pair older shown =
     let all = pair ∷ older in
-    let whole = source_whole all shown in
+    let whole = source_whole is_code all shown in
     let stands = whole.stands in
-    let text = text_of (source_of all) in
+    let text = text_of (source_with is_code all) in
     let s = Ok (statement_of whole.line true [] [] Nothing) ∷ whole.lines in
-    let knows = knows_at_last all whole.lines whole.place whole.field stands in
+    let knows = knows_at_last is_code all whole.lines whole.place whole.field stands in
     record {
       no_fault =
           ap (λ x. fault_by x (no_end text)) whole.statements_are
@@ -431,15 +431,15 @@ source_read pair older shown =
 
 -- ## The tags of the whole source
 
-pub source_tags : (pairs : List (ℕ × ℕ)) → AreShown (is_tagged pairs) pairs → Differ (tags_of (is_tagged pairs) (reverse pairs)) → DefinesTags (source_of pairs) pairs
-source_tags pairs shown differ =
-    let whole = source_whole pairs shown in
-    let text = text_of (source_of pairs) in
+pub source_tags : (is_code : ℕ → Bool) (pairs : List (ℕ × ℕ)) → AreShown is_code (is_tagged is_code pairs) pairs → Differ (tags_of (is_tagged is_code pairs) (reverse pairs)) → DefinesTags is_code (source_with is_code pairs) pairs
+source_tags is_code pairs shown differ =
+    let whole = source_whole is_code pairs shown in
+    let text = text_of (source_with is_code pairs) in
     let stands = whole.stands in
-    let listed : tags_in (statements text) ≡ tags_of (is_tagged pairs) (reverse pairs) = ap tags_in whole.statements_are ∙ append-nil (tags_in whole.lines) ∙ stands.tags_are in
+    let listed : tags_in (statements text) ≡ tags_of (is_tagged is_code pairs) (reverse pairs) = ap tags_in whole.statements_are ∙ append-nil (tags_in whole.lines) ∙ stands.tags_are in
     record {
       tags_are = listed;
       once = subst Differ (sym listed) differ;
-      values_are = λ cell small. ap (λ x. values x (tag_name cell)) whole.statements_are ∙ stands.values_are cell small ∙ value_at_last pairs cell;
+      values_are = λ cell small. ap (λ x. values x (tag_name cell)) whole.statements_are ∙ stands.values_are cell small ∙ value_at_last is_code pairs cell;
       others_are = λ name free. ap (λ x. values x name) whole.statements_are ∙ stands.others_are name free;
     }

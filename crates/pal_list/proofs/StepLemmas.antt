@@ -58,19 +58,19 @@ pub record IsNamed (word name : ℕ) (body : Body) : Type 0 where
   pub is_operation : word_of operation ≡ 512 * (word / 512)
   pub body_is : body ≡ Reference operation (nat_eq (word / 256 % 2) 1) (Some (term_parts (Name name)))
 
--- the body of a memory reference whose cell has a tag is one by that tag's name
-abbrev pub NamesTag : (ℕ → Bool) → ℕ → ℕ → Body → Type 0
-NamesTag tagged cell word body =
-    is_reference (cell % 4096) word ≡ true → tagged (referred_cell cell word) ≡ true → IsNamed word (tag_name (referred_cell cell word)) body
+-- the body of an instruction that is a memory reference whose cell has a tag is one by that tag's name
+abbrev pub NamesTag : (ℕ → Bool) → (ℕ → Bool) → ℕ → ℕ → Body → Type 0
+NamesTag is_code tagged cell word body =
+    is_code cell ≡ true → is_reference (cell % 4096) word ≡ true → tagged (referred_cell cell word) ≡ true → IsNamed word (tag_name (referred_cell cell word)) body
 
 -- so it is with the statement there
-abbrev pub NamesTagThere : (ℕ → Bool) → Source → ℕ → ℕ → Type 0
-NamesTagThere tagged source cell word =
-    is_reference (cell % 4096) word ≡ true → tagged (referred_cell cell word) ≡ true → NamesThere source cell word (tag_name (referred_cell cell word))
+abbrev pub NamesTagThere : (ℕ → Bool) → (ℕ → Bool) → Source → ℕ → ℕ → Type 0
+NamesTagThere is_code tagged source cell word =
+    is_code cell ≡ true → is_reference (cell % 4096) word ≡ true → tagged (referred_cell cell word) ≡ true → NamesThere source cell word (tag_name (referred_cell cell word))
 
 -- Behind these statements the next word goes to this place of this field, and these words stand in cells; no statement has
 -- a fault, and names stand for their permanent values, but for the tags of these words' cells.
-pub record Stands (tagged : ℕ → Bool) (source : Source) (place field : ℕ) (pairs : List (ℕ × ℕ)) : Type 0 where
+pub record Stands (is_code tagged : ℕ → Bool) (source : Source) (place field : ℕ) (pairs : List (ℕ × ℕ)) : Type 0 where
   pub place_is : place_at source ≡ place
   pub field_is : field_at source ≡ field
   pub others_are : (name : ℕ) → IsNoTag name → values source name ≡ permanent name
@@ -81,7 +81,7 @@ pub record Stands (tagged : ℕ → Bool) (source : Source) (place field : ℕ) 
   pub no_word_fault : (last : Known) → Knows tagged last → words_fault last source ≡ None
   pub pairs_are : (last : Known) → Knows tagged last → pairs_by last source ≡ pairs
   pub word_is : has_word source ≡ is_some_pair pairs
-  pub named_are : (cell word : ℕ) → last_word pairs cell ≡ Some word → NamesTagThere tagged source cell word
+  pub named_are : (cell word : ℕ) → last_word pairs cell ≡ Some word → NamesTagThere is_code tagged source cell word
 
 not_some : (value : ℕ) → None ≡ Some value → ⊥
 not_some value e = cc
@@ -99,8 +99,8 @@ names_older s source cell word name is = record {
   body = is.body;
 }
 
-pub stands_first : (tagged : ℕ → Bool) → Stands tagged [] 128 0 []
-stands_first tagged = record {
+pub stands_first : (is_code tagged : ℕ → Bool) → Stands is_code tagged [] 128 0 []
+stands_first is_code tagged = record {
   place_is = refl;
   field_is = refl;
   others_are = λ name free. refl;
@@ -121,14 +121,14 @@ statement_of line last tokens tags body = record { line = line; tags = tags; bod
 permanent_is_no_tag : (name value : ℕ) → permanent name ≡ Some value → IsNoTag name
 permanent_is_no_tag name value e cell small same = not_some value (sym (tag_not_permanent cell) ∙ ap permanent same ∙ e)
 
-pub stands_keeps : (tagged : ℕ → Bool) (source : Source) (place field : ℕ) (pairs : List (ℕ × ℕ)) → Stands tagged source place field pairs → Keeps (values source)
-stands_keeps tagged source place field pairs is name value e = is.others_are name (permanent_is_no_tag name value e) ∙ e
+pub stands_keeps : (is_code tagged : ℕ → Bool) (source : Source) (place field : ℕ) (pairs : List (ℕ × ℕ)) → Stands is_code tagged source place field pairs → Keeps (values source)
+stands_keeps is_code tagged source place field pairs is name value e = is.others_are name (permanent_is_no_tag name value e) ∙ e
 
 -- ## An origin
 
-pub origin_step : (tagged : ℕ → Bool) (source : Source) (place field : ℕ) (pairs : List (ℕ × ℕ)) (line : ℕ) (tokens : List Token) (a : ℕ) → a < 4096
-    → Stands tagged source place field pairs → Stands tagged (Ok (statement_of line false tokens [] (Origin (number_parts a))) ∷ source) a field pairs
-origin_step tagged source place field pairs line tokens a small is = record {
+pub origin_step : (is_code tagged : ℕ → Bool) (source : Source) (place field : ℕ) (pairs : List (ℕ × ℕ)) (line : ℕ) (tokens : List Token) (a : ℕ) → a < 4096
+    → Stands is_code tagged source place field pairs → Stands is_code tagged (Ok (statement_of line false tokens [] (Origin (number_parts a))) ∷ source) a field pairs
+origin_step is_code tagged source place field pairs line tokens a small is = record {
   place_is = small_mod a small;
   field_is = is.field_is;
   others_are = is.others_are;
@@ -139,7 +139,7 @@ origin_step tagged source place field pairs line tokens a small is = record {
   no_word_fault = λ last knows. ap (λ f. first_of f None) (is.no_word_fault last knows);
   pairs_are = is.pairs_are;
   word_is = is.word_is;
-  named_are = λ cell word e r g. names_older _ source cell word (tag_name (referred_cell cell word)) (is.named_are cell word e r g);
+  named_are = λ cell word e c r g. names_older _ source cell word (tag_name (referred_cell cell word)) (is.named_are cell word e c r g);
 }
   where
     small_mod : (a : ℕ) → a < 4096 → (0 + a) % 4096 + 0 ≡ a
@@ -147,9 +147,9 @@ origin_step tagged source place field pairs line tokens a small is = record {
 
 -- ## A field
 
-pub field_step : (tagged : ℕ → Bool) (source : Source) (place field : ℕ) (pairs : List (ℕ × ℕ)) (line : ℕ) (tokens : List Token) (n : ℕ) → n < 8
-    → Stands tagged source place field pairs → Stands tagged (Ok (statement_of line false tokens [] (Field (number_parts n))) ∷ source) 128 n pairs
-field_step tagged source place field pairs line tokens n small is = record {
+pub field_step : (is_code tagged : ℕ → Bool) (source : Source) (place field : ℕ) (pairs : List (ℕ × ℕ)) (line : ℕ) (tokens : List Token) (n : ℕ) → n < 8
+    → Stands is_code tagged source place field pairs → Stands is_code tagged (Ok (statement_of line false tokens [] (Field (number_parts n))) ∷ source) 128 n pairs
+field_step is_code tagged source place field pairs line tokens n small is = record {
   place_is = refl;
   field_is = small_mod n small;
   others_are = is.others_are;
@@ -160,7 +160,7 @@ field_step tagged source place field pairs line tokens n small is = record {
   no_word_fault = λ last knows. ap (λ f. first_of f None) (is.no_word_fault last knows);
   pairs_are = is.pairs_are;
   word_is = is.word_is;
-  named_are = λ cell word e r g. names_older _ source cell word (tag_name (referred_cell cell word)) (is.named_are cell word e r g);
+  named_are = λ cell word e c r g. names_older _ source cell word (tag_name (referred_cell cell word)) (is.named_are cell word e c r g);
 }
   where
     small_mod : (a : ℕ) → a < 8 → (0 + a) % 4096 ≡ a
@@ -277,9 +277,9 @@ knows_there tagged there last keeps tags knows = record {
     first o later value (inl none) e = ap (λ o. if_none o later) none ∙ e
     first o later value (inr some) e = ap (λ o. if_none o later) some
 
-knows_here : (tagged : ℕ → Bool) (source : Source) (field : ℕ) (pairs : List (ℕ × ℕ)) (at word : ℕ) (last : Known) → at < 32768
-    → Stands tagged source (at % 4096) field pairs → Knows tagged last → Knows tagged (word_values last (label (tagged at) at) source)
-knows_here tagged source field pairs at word last small is knows =
+knows_here : (is_code tagged : ℕ → Bool) (source : Source) (field : ℕ) (pairs : List (ℕ × ℕ)) (at word : ℕ) (last : Known) → at < 32768
+    → Stands is_code tagged source (at % 4096) field pairs → Knows tagged last → Knows tagged (word_values last (label (tagged at) at) source)
+knows_here is_code tagged source field pairs at word last small is knows =
     subst (λ p. Knows tagged (λ name. if_none (with_tags (label (tagged at) at) p (values source) name) (last name))) (sym is.place_is)
     (knows_there tagged (with_tags (label (tagged at) at) (at % 4096) (values source)) last
     (λ name value e. other_name (tagged at) at (at % 4096) name (values source) small (permanent_is_no_tag name value e) ∙ is.others_are name (permanent_is_no_tag name value e) ∙ e)
@@ -329,10 +329,10 @@ listed_more tagged (pair ∷ pairs) cell word =
 again : (cell : ℕ) → 4096 * (cell / 4096) + cell % 4096 ≡ cell
 again cell = omega arith
 
-names_here : (tagged : ℕ → Bool) (source : Source) (pairs : List (ℕ × ℕ)) (s : Statement) (cell word : ℕ) → NamesTag tagged cell word s.body
-    → Stands tagged source (cell % 4096) (cell / 4096) pairs → NamesTagThere tagged (Ok s ∷ source) cell word
-names_here tagged source pairs s cell word names is r g =
-    let named = names r g in
+names_here : (is_code tagged : ℕ → Bool) (source : Source) (pairs : List (ℕ × ℕ)) (s : Statement) (cell word : ℕ) → NamesTag is_code tagged cell word s.body
+    → Stands is_code tagged source (cell % 4096) (cell / 4096) pairs → NamesTagThere is_code tagged (Ok s ∷ source) cell word
+names_here is_code tagged source pairs s cell word names is c r g =
+    let named = names c r g in
     record {
       newer = [];
       older = source;
@@ -347,30 +347,30 @@ names_here tagged source pairs s cell word names is r g =
 same_word : (a b : ℕ) → Some a ≡ Some b → a ≡ b
 same_word a b e = cc
 
-names_behind : (tagged : ℕ → Bool) (source : Source) (pairs : List (ℕ × ℕ)) (s : Statement) (cell word : ℕ) → NamesTag tagged cell word s.body
-    → Stands tagged source (cell % 4096) (cell / 4096) pairs
-    → (other there : ℕ) → last_word (pairs ++ (cell, word) ∷ []) other ≡ Some there → NamesTagThere tagged (Ok s ∷ source) other there
-names_behind tagged source pairs s cell word names is other there e =
+names_behind : (is_code tagged : ℕ → Bool) (source : Source) (pairs : List (ℕ × ℕ)) (s : Statement) (cell word : ℕ) → NamesTag is_code tagged cell word s.body
+    → Stands is_code tagged source (cell % 4096) (cell / 4096) pairs
+    → (other there : ℕ) → last_word (pairs ++ (cell, word) ∷ []) other ≡ Some there → NamesTagThere is_code tagged (Ok s ∷ source) other there
+names_behind is_code tagged source pairs s cell word names is other there e =
     let step = sym (last_append pairs cell word other) ∙ e in
     elim (eqb_tells cell other) [
       | inl same ↦
           let word_is = same_word word there (ap (λ (b : Bool). if b then Some word else last_word pairs other) (sym same.0) ∙ step) in
-          subst (λ (c : ℕ). NamesTagThere tagged (Ok s ∷ source) c there) same.1
-          (subst (λ (w : ℕ). NamesTagThere tagged (Ok s ∷ source) cell w) word_is (names_here tagged source pairs s cell word names is))
+          subst (λ (c : ℕ). NamesTagThere is_code tagged (Ok s ∷ source) c there) same.1
+          (subst (λ (w : ℕ). NamesTagThere is_code tagged (Ok s ∷ source) cell w) word_is (names_here is_code tagged source pairs s cell word names is))
       | inr apart ↦
-          λ r g. names_older (Ok s) source other there (tag_name (referred_cell other there))
-          (is.named_are other there (ap (λ (b : Bool). if b then Some word else last_word pairs other) (sym apart.0) ∙ step) r g)
+          λ c r g. names_older (Ok s) source other there (tag_name (referred_cell other there))
+          (is.named_are other there (ap (λ (b : Bool). if b then Some word else last_word pairs other) (sym apart.0) ∙ step) c r g)
     ]
 
-pub word_step : (tagged : ℕ → Bool) (source : Source) (pairs : List (ℕ × ℕ)) (line : ℕ) (tokens : List Token) (body : Body) (cell word : ℕ) → cell < 32768
-    → IsWordOf tagged body (cell % 4096) word → NamesTag tagged cell word body → Stands tagged source (cell % 4096) (cell / 4096) pairs
-    → Stands tagged (Ok (statement_of line false tokens (label (tagged cell) cell) body) ∷ source) (cell % 4096 + 1) (cell / 4096) (pairs ++ (cell, word) ∷ [])
-word_step tagged source pairs line tokens body cell word small means names is =
+pub word_step : (is_code tagged : ℕ → Bool) (source : Source) (pairs : List (ℕ × ℕ)) (line : ℕ) (tokens : List Token) (body : Body) (cell word : ℕ) → cell < 32768
+    → IsWordOf tagged body (cell % 4096) word → NamesTag is_code tagged cell word body → Stands is_code tagged source (cell % 4096) (cell / 4096) pairs
+    → Stands is_code tagged (Ok (statement_of line false tokens (label (tagged cell) cell) body) ∷ source) (cell % 4096 + 1) (cell / 4096) (pairs ++ (cell, word) ∷ [])
+word_step is_code tagged source pairs line tokens body cell word small means names is =
     let tags = label (tagged cell) cell in
     let place = cell % 4096 in
     let stated = word_stated source line tokens tags body means.is_word in
     let inside : place < 4096 = omega arith in
-    let here = λ (last : Known) (knows : Knows tagged last). knows_here tagged source (cell / 4096) pairs cell word last small is knows in
+    let here = λ (last : Known) (knows : Knows tagged last). knows_here is_code tagged source (cell / 4096) pairs cell word last small is knows in
     record {
       place_is = stated.place ∙ next (last_setting source) (words_since source) place is.place_is;
       field_is = stated.field ∙ is.field_is;
@@ -397,7 +397,7 @@ word_step tagged source pairs line tokens body cell word small means names is =
           ∙ ap (λ f. pairs ++ (4096 * f + place, word) ∷ []) is.field_is
           ∙ ap (λ c. pairs ++ (c, word) ∷ []) (again cell);
       word_is = stated.word_is ∙ one_more pairs (cell, word);
-      named_are = names_behind tagged source pairs (statement_of line false tokens tags body) cell word names is;
+      named_are = names_behind is_code tagged source pairs (statement_of line false tokens tags body) cell word names is;
     }
   where
     next : (a b c : ℕ) → a + b ≡ c → a + (1 + b) ≡ c + 1

@@ -15,7 +15,7 @@ use Rattle.bin_tape.specs.declared.faults.TapeFault.{TapeFault}
 use Rattle.pal_list.specs.declared.faults.ListFault.{ListFault}
 use Rattle.pal_list.specs.declared.faults.ListFault.TheVariants.{Tape}
 use Rattle.pal_list.specs.Sources.{IsListFault, with_word, words_below}
-use Rattle.pal_list.specs.Steps.{HoldsRead}
+use Rattle.pal_list.specs.Steps.{HoldsRead, tagged_in}
 
 -- ## The last word of a cell
 
@@ -55,6 +55,9 @@ hold_one words out index at word size is inside held cell within =
 
 pub hold_none : (count cell : ℕ) → cell < count → slice_index_or (replicate {A = Option ℕ} count None) cell None ≡ None
 hold_none count cell inside = get_or-replicate {A = Option ℕ} count cell None None inside
+
+pub told_all : (count cell : ℕ) → cell < count → tagged_in (replicate count true) cell ≡ true
+told_all count cell inside = get_or-replicate count cell true false inside
 
 -- what a slice of a whole vector leaves of it
 pub whole_written : {A : Type 0} (count : ℕ) (new old : List A) → length new ≡ count → take count (new ++ drop (length new) old) ≡ new
@@ -149,7 +152,7 @@ below items (suc n) cell low =
     under : (n cell : ℕ) → cell < suc n → cell ≢ n → cell < n
     under n cell low ne = omega (arith, low, ne)
 
-outside : (word : Option ℕ) (cell : ℕ) → Fits word cell → 32768 ≤ cell → None ≡ word
+pub outside : (word : Option ℕ) (cell : ℕ) → Fits word cell → 32768 ≤ cell → None ≡ word
 outside None cell fits high = refl
 outside (Some w) cell fits high = absurd (let small = fits.1 in omega (arith, small, high))
 

@@ -37,22 +37,23 @@ IsNoTag name = (cell : ℕ) → cell < CORE → tag_name cell ≢ name
 
 -- A text defines the tags of the tagged cells among these, the newest first, each once; they stand for the addresses of
 -- their cells, and other names for their permanent values.
-pub record DefinesTags (text : List ℕ) (pairs : List (ℕ × ℕ)) : Type 0 where
-  pub tags_are : tags_in (statements (text_of text)) ≡ tags_of (is_tagged pairs) (reverse pairs)
+pub record DefinesTags (is_code : ℕ → Bool) (text : List ℕ) (pairs : List (ℕ × ℕ)) : Type 0 where
+  pub tags_are : tags_in (statements (text_of text)) ≡ tags_of (is_tagged is_code pairs) (reverse pairs)
   pub once : Differ (tags_in (statements (text_of text)))
-  pub values_are : (cell : ℕ) → cell < CORE → values (statements (text_of text)) (tag_name cell) ≡ (if is_tagged pairs cell then Some (cell % FIELD) else None)
+  pub values_are : (cell : ℕ) → cell < CORE → values (statements (text_of text)) (tag_name cell) ≡ (if is_tagged is_code pairs cell then Some (cell % FIELD) else None)
   pub others_are : (name : ℕ) → IsNoTag name → values (statements (text_of text)) name ≡ permanent name
 
 -- ## Which cells are tagged, by the tape alone
 
--- a memory reference of a tape names this cell
-pub record Refers (items : List Item) (named : ℕ) : Type 0 where
+-- an instruction of a tape is a memory reference that names this cell
+pub record Refers (is_code : ℕ → Bool) (items : List Item) (named : ℕ) : Type 0 where
   pub cell : ℕ
   pub word : ℕ
   pub there : tape_map items cell ≡ Some word
+  pub code : is_code cell ≡ true
   pub reference : is_reference (cell % FIELD) word ≡ true
   pub names : referred_cell cell word ≡ named
 
--- Just the cells of a tape are tagged that a memory reference of the tape names.
-abbrev pub TagsWhatIsNamed : List Item → Type 0
-TagsWhatIsNamed items = (cell : ℕ) → cell < CORE → (is_tagged (words_of_tape items) cell ≡ true) ↔ ((tape_map items cell ≢ None) × Refers items cell)
+-- Just the cells of a tape are tagged that a memory reference among its instructions names.
+abbrev pub TagsWhatIsNamed : (ℕ → Bool) → List Item → Type 0
+TagsWhatIsNamed is_code items = (cell : ℕ) → cell < CORE → (is_tagged is_code (words_of_tape items) cell ≡ true) ↔ ((tape_map items cell ≢ None) × Refers is_code items cell)

@@ -1,5 +1,5 @@
 -- The lines of a source, by the words that it gives cells (PAL III Symbolic Assembler manual, and this project's profile).
-use Rattle.std.specs.Prelude.{ℕ, ◌/◌, ◌%◌, nat_eq, Bool, if◌then◌else◌, Option, List, [], ◌∷◌, ◌++◌, codes}
+use Rattle.std.specs.Prelude.{ℕ, ◌/◌, ◌%◌, nat_eq, Bool, true, if◌then◌else◌, Option, List, [], ◌∷◌, ◌++◌, codes}
 use Rattle.word12.specs.declared.sizes.TheConstants.{FIELD}
 use Rattle.word12.specs.Octal.{octal_digit, octal4}
 use Rattle.bin_tape.specs.Writing.{field_behind, is_next, newest_cell}
@@ -32,21 +32,29 @@ abbrev pub tag_part : (ℕ → Bool) → ℕ → List ℕ
 tag_part tagged cell = if tagged cell then tag cell ++ 0o54 ∷ [] else []
 
 -- the cell's tag, the statement of the word behind a tab, and behind another the comment
-abbrev pub word_line : (ℕ → Bool) → ℕ → ℕ → List ℕ
-word_line tagged cell word = tag_part tagged cell ++ led 9 (statement tagged cell word) ++ 0o11 ∷ comment cell word ++ line_end
+abbrev pub word_line : (ℕ → Bool) → (ℕ → Bool) → ℕ → ℕ → List ℕ
+word_line is_code tagged cell word = tag_part tagged cell ++ led 9 (statement is_code tagged cell word) ++ 0o11 ∷ comment cell word ++ line_end
 
 -- the lines of a cell's word behind a word for the cell before: the field where it changes, an origin where the cell isn't
 -- the next, and the word
-abbrev pub cell_lines : (ℕ → Bool) → Option ℕ → ℕ → ℕ → List ℕ
-cell_lines tagged before cell word =
+abbrev pub cell_lines : (ℕ → Bool) → (ℕ → Bool) → Option ℕ → ℕ → ℕ → List ℕ
+cell_lines is_code tagged before cell word =
     (if nat_eq (cell / FIELD) (field_behind before) then [] else field_line cell) ++ (if is_next before cell then [] else origin_line cell)
-    ++ word_line tagged cell word
+    ++ word_line is_code tagged cell word
 
 -- the lines of cells with their words, the newest first, where these cells are tagged
-abbrev pub lines_of : (ℕ → Bool) → List (ℕ × ℕ) → List ℕ
-lines_of tagged [] = []
-lines_of tagged (pair ∷ older) = lines_of tagged older ++ cell_lines tagged (newest_cell older) pair.0 pair.1
+abbrev pub lines_of : (ℕ → Bool) → (ℕ → Bool) → List (ℕ × ℕ) → List ℕ
+lines_of is_code tagged [] = []
+lines_of is_code tagged (pair ∷ older) = lines_of is_code tagged older ++ cell_lines is_code tagged (newest_cell older) pair.0 pair.1
 
--- the source of cells with their words, the newest first: their lines, with a tag for each cell that they refer to, and `$`
+-- the source of cells with their words, the newest first, of which these are instructions: their lines, with a tag for each cell
+-- that the instructions refer to, and `$`
+abbrev pub source_with : (ℕ → Bool) → List (ℕ × ℕ) → List ℕ
+source_with is_code pairs = lines_of is_code (is_tagged is_code pairs) pairs ++ 0o44 ∷ line_end
+
+-- all words are taken for instructions
+abbrev pub all_code : ℕ → Bool
+all_code cell = true
+
 abbrev pub source_of : List (ℕ × ℕ) → List ℕ
-source_of pairs = lines_of (is_tagged pairs) pairs ++ 0o44 ∷ line_end
+source_of pairs = source_with all_code pairs

@@ -1,5 +1,5 @@
 -- The statements of memory references whose cells have tags.
-use Rattle.std.specs.Prelude.{◌≡◌, ℕ, ◌+◌, ◌*◌, ◌/◌, ◌%◌, nat_eq, true, Some, Ok, List, [], ◌∷◌, ◌++◌}
+use Rattle.std.specs.Prelude.{◌≡◌, ℕ, ◌+◌, ◌*◌, ◌/◌, ◌%◌, nat_eq, Bool, true, Some, Ok, List, [], ◌∷◌, ◌++◌}
 use Rattle.word12.specs.declared.sizes.TheConstants.{FIELD}
 use Rattle.pal_lex.specs.Text.{text_of}
 use Rattle.pal_lex.specs.Language.{word_of}
@@ -26,8 +26,10 @@ pub record NamesThere (source : Source) (cell word name : ℕ) : Type 0 where
   pub is_operation : word_of operation ≡ 0o1000 * (word / 0o1000)
   pub body : statement.body ≡ Reference operation (nat_eq (word / 0o400 % 2) 1) (Some (record { joint = Add; term = Name name } ∷ []))
 
--- At each memory reference of a tape whose cell has a tag the statement of a text there is a reference by that tag's name.
-abbrev pub NamesTags : List ℕ → List Item → Type 0
-NamesTags text items =
-    (cell word : ℕ) → tape_map items cell ≡ Some word → is_reference (cell % FIELD) word ≡ true → is_tagged (words_of_tape items) (referred_cell cell word) ≡ true
+-- At each instruction of a tape that is a memory reference whose cell has a tag the statement of a text there is a reference by that
+-- tag's name.
+abbrev pub NamesTags : (ℕ → Bool) → List ℕ → List Item → Type 0
+NamesTags is_code text items =
+    (cell word : ℕ) → tape_map items cell ≡ Some word → is_code cell ≡ true → is_reference (cell % FIELD) word ≡ true
+    → is_tagged is_code (words_of_tape items) (referred_cell cell word) ≡ true
     → NamesThere (statements (text_of text)) cell word (tag_name (referred_cell cell word))

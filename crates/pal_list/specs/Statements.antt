@@ -20,8 +20,12 @@ reference tagged cell word =
 abbrev pub is_named : ℕ → Bool
 is_named word = nat_lt 3071 word && nat_eq (or_behind 0 (chosen word patterns)) word
 
--- the pieces of the statement of a cell's word: a memory reference or names where they come to the word, else its number
-abbrev pub statement : (ℕ → Bool) → ℕ → ℕ → List (List ℕ)
-statement tagged cell word =
+-- the pieces of an instruction: a memory reference or names where they come to the word, else its number
+abbrev pub instruction : (ℕ → Bool) → ℕ → ℕ → List (List ℕ)
+instruction tagged cell word =
     if is_reference (cell % FIELD) word then reference tagged cell word
     else (if is_named word then names (chosen word patterns) else octal4 word ∷ [])
+
+-- the pieces of the statement of a cell's word: an instruction where the cell is told to be one, else the word's number
+abbrev pub statement : (ℕ → Bool) → (ℕ → Bool) → ℕ → ℕ → List (List ℕ)
+statement is_code tagged cell word = if is_code cell then instruction tagged cell word else octal4 word ∷ []

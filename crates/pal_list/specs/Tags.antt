@@ -18,11 +18,11 @@ abbrev pub is_given : List (ℕ × ℕ) → ℕ → Bool
 is_given [] cell = false
 is_given (pair ∷ others) cell = nat_eq pair.0 cell || is_given others cell
 
--- one of the words is a memory reference that names this cell
-abbrev pub is_referred : List (ℕ × ℕ) → ℕ → Bool
-is_referred [] cell = false
-is_referred (pair ∷ others) cell = (is_reference (pair.0 % FIELD) pair.1 && nat_eq (referred_cell pair.0 pair.1) cell) || is_referred others cell
+-- one of the words is an instruction, a memory reference that names this cell
+abbrev pub is_referred : (ℕ → Bool) → List (ℕ × ℕ) → ℕ → Bool
+is_referred is_code [] cell = false
+is_referred is_code (pair ∷ others) cell = (is_code pair.0 && (is_reference (pair.0 % FIELD) pair.1 && nat_eq (referred_cell pair.0 pair.1) cell)) || is_referred is_code others cell
 
--- of cells with their words a source tags those that a memory reference among them names
-abbrev pub is_tagged : List (ℕ × ℕ) → ℕ → Bool
-is_tagged pairs cell = is_given pairs cell && is_referred pairs cell
+-- of cells with their words a source tags those that a memory reference among its instructions names
+abbrev pub is_tagged : (ℕ → Bool) → List (ℕ × ℕ) → ℕ → Bool
+is_tagged is_code pairs cell = is_given pairs cell && is_referred is_code pairs cell

@@ -4,6 +4,7 @@ ghost use Rattle.pal_list.specs.declared.faults.ListFault.TheVariants.{Memory};
 use bin_tape::TapeFault;
 use std::alloc::AllocError;
 use thiserror::Error;
+use word12::Cell;
 
 /// Why frames have no source, numbered from 1 in this order.
 #[derive(Clone, Copy, PartialEq, Eq, Debug, Error)]
@@ -15,6 +16,10 @@ pub enum ListFault {
     /// The tape gives no cell a word, and the assembler refuses a source of no word.
     #[error("no word")]
     NoWord,
+
+    /// The tape gives this cell no word, at which a program is to start.
+    #[error("no word at the start")]
+    NoStart(Cell),
 
     /// Memory ran out.
     #[error("out of memory")]

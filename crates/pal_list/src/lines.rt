@@ -9,22 +9,25 @@ use crate::tags::tag;
 use std::alloc::AllocError;
 use word12::{Cell, Word};
 
-/// Appends the lines of a cell's word behind a word for the cell before, where these cells are tagged.
+/// Appends the lines of a cell's word behind a word for the cell before, where these cells hold instructions and these are
+/// tagged.
 pub fn put_cell(
     text: &mut Vec<u8>,
+    code: &[bool],
     tags: &[bool],
     before: Option<Cell>,
     cell: Cell,
     word: Word,
 ) -> Result<(), AllocError>
-    requires { length tags.now ≡ CORE }
+    requires code { length code.now ≡ CORE }
+    requires tags { length tags.now ≡ CORE }
     ensures { OnOk result (text.new.items ≡ text.old.items
-        ++ cell_lines (tagged_in tags.now) before cell word) }
+        ++ cell_lines (tagged_in code.now) (tagged_in tags.now) before cell word) }
 {
     let again = before;
     put_field(text, before, cell)?;
     put_origin(text, again, cell)?;
-    put_word(text, tags, cell, word)?;
+    put_word(text, code, tags, cell, word)?;
     Ok(())
 }
 
@@ -58,12 +61,20 @@ fn put_origin(text: &mut Vec<u8>, before: Option<Cell>, cell: Cell) -> Result<()
 
 /// Appends the line of a cell's word: its tag, if it has one, its statement, and a comment with the cell and the word in
 /// octal.
-fn put_word(text: &mut Vec<u8>, tags: &[bool], cell: Cell, word: Word) -> Result<(), AllocError>
-    requires { length tags.now ≡ CORE }
-    ensures { OnOk result (text.new.items ≡ text.old.items ++ word_line (tagged_in tags.now) cell word) }
+fn put_word(
+    text: &mut Vec<u8>,
+    code: &[bool],
+    tags: &[bool],
+    cell: Cell,
+    word: Word,
+) -> Result<(), AllocError>
+    requires code { length code.now ≡ CORE }
+    requires tags { length tags.now ≡ CORE }
+    ensures { OnOk result (text.new.items ≡ text.old.items
+        ++ word_line (tagged_in code.now) (tagged_in tags.now) cell word) }
 {
     put_tag(text, tags, cell)?;
-    put_statement(text, tags, cell, word)?;
+    put_statement(text, code, tags, cell, word)?;
     put_comment(text, cell, word)?;
     Ok(())
 }

@@ -1,8 +1,9 @@
 ghost use Rattle.std.specs.Prelude.{◌≡◌, ℕ, ◌/◌, ◌%◌, ◌++◌, ◌∷◌, [], codes, nat_eq, if◌then◌else◌, length, OnOk};
 ghost use Rattle.word12.specs.declared.sizes.TheConstants.{CORE};
+ghost use Rattle.word12.specs.Octal.{octal4};
 ghost use Rattle.pal_list.specs.Lines.{led};
 ghost use Rattle.pal_list.specs.Steps.{tagged_in};
-ghost use Rattle.pal_list.specs.Statements.{address, reference, statement};
+ghost use Rattle.pal_list.specs.Statements.{address, instruction, reference, statement};
 
 use crate::patterns::{is_named, put_names};
 use crate::references::{is_reference, operation_name, referred, referred_cell};
@@ -13,8 +14,27 @@ use word12::{Cell, Word};
 /// The indirect bit of a memory reference.
 const INDIRECT: u16 = 0o400;
 
-/// Appends the statement of a cell's word, behind a tab, where these cells are tagged.
+/// Appends the statement of a cell's word, behind a tab, where these cells hold instructions and these are tagged.
 pub fn put_statement(
+    text: &mut Vec<u8>,
+    code: &[bool],
+    tags: &[bool],
+    cell: Cell,
+    word: Word,
+) -> Result<(), AllocError>
+    requires code { length code.now ≡ CORE }
+    requires tags { length tags.now ≡ CORE }
+    ensures { OnOk result (text.new.items ≡ text.old.items
+        ++ led 9 (statement (tagged_in code.now) (tagged_in tags.now) cell word)) }
+{
+    if code[cell.index()] {
+        return put_instruction(text, tags, cell, word);
+    }
+    put_number(text, word)
+}
+
+/// Appends a cell's instruction, behind a tab.
+fn put_instruction(
     text: &mut Vec<u8>,
     tags: &[bool],
     cell: Cell,
@@ -22,7 +42,7 @@ pub fn put_statement(
 ) -> Result<(), AllocError>
     requires { length tags.now ≡ CORE }
     ensures { OnOk result (text.new.items ≡ text.old.items
-        ++ led 9 (statement (tagged_in tags.now) cell word)) }
+        ++ led 9 (instruction (tagged_in tags.now) cell word)) }
 {
     if is_reference(cell.address(), word) {
         return put_reference(text, tags, cell, word);
@@ -30,6 +50,13 @@ pub fn put_statement(
     if is_named(word) {
         return put_names(text, word);
     }
+    put_number(text, word)
+}
+
+/// Appends a word's number, behind a tab.
+fn put_number(text: &mut Vec<u8>, word: Word) -> Result<(), AllocError>
+    ensures { OnOk result (text.new.items ≡ text.old.items ++ led 9 (octal4 word ∷ [])) }
+{
     put_piece(text, b'\t', &word.octal4())
 }
 

@@ -4,5 +4,5 @@ use Rattle.pal_list.proofs.DefinedLemmas.{tape_names}
 use Rattle.pal_list.proofs.laws.references_are_by_tags.Goals as goal
 
 pub returns : goal.returns
-returns c = λ frames text source.
-    subst (λ t. NamesTags t source.items) (sym source.lines) (tape_names source.items source.is_tape.is_prefix.3)
+returns c = λ is_code frames text source.
+    subst (λ t. NamesTags is_code t source.items) (sym source.lines) (tape_names is_code source.items source.is_tape.is_prefix.3)

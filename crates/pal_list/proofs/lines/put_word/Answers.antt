@@ -13,6 +13,7 @@ joined o t s x y z cell word e f g =
 
 pub returns : goal.returns
 returns c =
+    let is_code = tagged_in c.args.code.now in
     let tagged = tagged_in c.args.tags.now in
-    joined c.args.text.now.items (tag_part tagged c.args.cell) (led 9 (statement tagged c.args.cell c.args.word)) c.put_tag.new.text.items c.put_statement.new.text.items
+    joined c.args.text.now.items (tag_part tagged c.args.cell) (led 9 (statement is_code tagged c.args.cell c.args.word)) c.put_tag.new.text.items c.put_statement.new.text.items
     c.put_comment.new.text.items c.args.cell c.args.word c.in_ok-put_tag.ensures c.in_ok-put_statement.ensures c.in_ok-put_comment.ensures
