@@ -21,6 +21,7 @@ pub struct Debugger {
 
 impl Model for Debugger {
     ghost use Rattle.std.specs.Prelude.{◌≡◌, ◌≤◌, List, Bool, length};
+    ghost use Rattle.word12.specs.declared.sizes.TheConstants.{CORE};
     ghost use Rattle.debug8.specs.Breaks.{count_breaks};
 
     ghost Value = { List Bool };
