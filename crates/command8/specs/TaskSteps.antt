@@ -10,6 +10,7 @@ use Rattle.command8.specs.declared.kinds.TaskFault.TheVariants.{Words, Memory, L
 use Rattle.command8.specs.declared.verbs.Verb.{Verb}
 use Rattle.command8.specs.declared.verbs.Verb.TheVariants as verb
 use Rattle.word12.specs.Octal.{octal_of}
+use Rattle.word12.specs.declared.sizes.TheConstants.{MOST_BLOCKS}
 use Rattle.command8.specs.Tasks.{AsksBoth, AsksCrossAlone, AsksFor, AsksNoStart, AsksNoSwitches, HasFitBlocks, NamesInputTwice, most_steps, values_of}
 
 -- ## What it asks for
@@ -96,7 +97,7 @@ abbrev pub Has : Text → List Row → Type 0
 Has id values = is_some (first_of id values) ≡ true
 
 abbrev pub HasBlocks : List Row → Type 0
-HasBlocks values = (text : Text) × (one_of (codes "BLOCKS") values ≡ Some text) × IsUnsignedIn 8 4095 text
+HasBlocks values = (text : Text) × (one_of (codes "BLOCKS") values ≡ Some text) × IsUnsignedIn 8 MOST_BLOCKS text
 
 abbrev pub HasSources : List Row → Type 0
 HasSources values = (1 ≤ length (values_of (codes "FILE") values))

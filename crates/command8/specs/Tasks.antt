@@ -15,6 +15,7 @@ use Rattle.char_pack.specs.declared.forms.GetForm.TheVariants as get_as
 use Rattle.char_pack.specs.declared.forms.PutForm.{PutForm}
 use Rattle.char_pack.specs.declared.forms.PutForm.TheVariants as put_as
 use Rattle.word12.specs.Octal.{octal_of}
+use Rattle.word12.specs.declared.sizes.TheConstants.{MOST_BLOCKS}
 use Rattle.command8.specs.declared.kinds.AssembleForm.{AssembleForm}
 use Rattle.command8.specs.declared.kinds.TeletypeForm.{TeletypeForm}
 use Rattle.command8.specs.declared.kinds.RimForm.{RimForm}
@@ -59,7 +60,7 @@ image_rule = word_rule (codes "IMAGE")
 
 -- the number of blocks of a new volume, 8 to 4095, which must be given
 abbrev pub blocks_rule : Rule
-blocks_rule = record (word_rule (codes "BLOCKS")) { parser = Some (Unsigned 8 4095) }
+blocks_rule = record (word_rule (codes "BLOCKS")) { parser = Some (Unsigned 8 MOST_BLOCKS) }
 
 -- the name of a file of a volume, which must be given
 abbrev pub name_rule : Rule
@@ -277,7 +278,7 @@ HasFitBlocks Tape = ⊤
 HasFitBlocks (Rim form) = ⊤
 HasFitBlocks Source = ⊤
 HasFitBlocks (Run image form) = ⊤
-HasFitBlocks (Create image blocks) = (8 ≤ blocks) × (blocks ≤ 4095)
+HasFitBlocks (Create image blocks) = (8 ≤ blocks) × (blocks ≤ MOST_BLOCKS)
 HasFitBlocks (task.List image) = ⊤
 HasFitBlocks (Get image file form) = ⊤
 HasFitBlocks (GetBin image file) = ⊤

@@ -1,8 +1,10 @@
 ghost use Rattle.std.specs.Prelude.{◌≡◌, option_map};
+ghost use Rattle.command8.specs.TaskSteps.{IsFaultOf};
 ghost use Rattle.command8.specs.Usage.{usage_of};
 ghost use Rattle.command8.specs.declared.kinds.TaskFault.TheVariants.{Memory};
 
 use char_pack::{GetForm, PutForm};
+use clap::error::ErrorKind;
 use std::alloc::AllocError;
 use thiserror::Error;
 use word12::{Cell, Word};
@@ -172,5 +174,16 @@ impl From<AllocError> for TaskFault {
 
     fn from(_error: AllocError) -> TaskFault {
         TaskFault::Memory
+    }
+}
+
+impl From<clap::Error> for TaskFault {
+    ghost from_gives = { IsFaultOf };
+
+    fn from(error: clap::Error) -> TaskFault {
+        match error.kind() {
+            ErrorKind::OutOfMemory => TaskFault::Memory,
+            _ => TaskFault::Words(error),
+        }
     }
 }

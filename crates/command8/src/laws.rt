@@ -6,6 +6,7 @@ ghost use Rattle.command8.specs.declared.kinds.Saving.TheVariants.{AtEnd, Never,
 ghost use Rattle.char_pack.specs.declared.forms.GetForm.TheVariants as get_as;
 ghost use Rattle.char_pack.specs.declared.forms.PutForm.TheVariants as put_as;
 ghost use Rattle.word12.specs.Octal.{octal_of};
+ghost use Rattle.word12.specs.declared.sizes.TheConstants.{MOST_BLOCKS};
 ghost use Rattle.command8.specs.Tasks.{IsAssembleOf, IsCheckOf, IsCreateOf, IsGetBinOf, IsGetOf, IsListOf, IsPlain};
 ghost use Rattle.command8.specs.Tasks.{IsPutOf, IsRimOf, IsRunOf, IsSource, IsTakenAs, IsTape, IsTeletypeOf, number_of};
 
@@ -27,7 +28,7 @@ pub fn plain_words()
     ensures run_both { (name image : List ℕ) → IsPlain image
         → IsTakenAs (name ∷ codes "run" ∷ image ∷ codes "--look" ∷ codes "--keep" ∷ []) (λ task. ⊥) }
     ensures create { (name image blocks : List ℕ) → IsPlain image → IsPlain blocks
-        → IsUnsignedIn 8 4095 blocks
+        → IsUnsignedIn 8 MOST_BLOCKS blocks
         → IsTakenAs (name ∷ codes "create" ∷ image ∷ blocks ∷ []) (IsCreateOf image (number_of blocks)) }
     ensures list { (name image : List ℕ) → IsPlain image
         → IsTakenAs (name ∷ codes "list" ∷ image ∷ []) (IsListOf image) }

@@ -9,6 +9,7 @@ ghost use Rattle.command8.specs.Tasks.{steps_rule, words_rule};
 
 use clap::{Arg, ArgAction, Command};
 use std::alloc::{AllocError, Global};
+use word12::MOST_BLOCKS;
 
 /// A command, or want of the memory for it.
 pub type Draft<'a> = Result<Command<'a>, AllocError>;
@@ -34,10 +35,7 @@ pub fn with_argument<'a>(command: Draft<'a>, argument: Arg<'a>) -> Draft<'a>
     ensures { (app : App) (rule : Rule) → IsDraft command.entry app → IsArgument argument.entry rule
         → IsDraft result (with_rule app rule) }
 {
-    match command {
-        Ok(command) => command.arg(argument),
-        Err(error) => Err(error),
-    }
+    command?.arg(argument)
 }
 
 /// A command with one subcommand more.
@@ -45,20 +43,7 @@ pub fn with_leaf<'a>(command: Draft<'a>, leaf: Draft<'a>) -> Draft<'a>
     ensures { (app sub : App) → IsDraft command.entry app → IsDraft leaf.entry sub
         → IsDraft result (with_leaf app sub) }
 {
-    match command {
-        Ok(command) => match leaf {
-            Ok(leaf) => with_whole_leaf(command, leaf),
-            Err(error) => Err(error),
-        },
-        Err(error) => Err(error),
-    }
-}
-
-fn with_whole_leaf<'a>(command: Command<'a>, leaf: Command<'a>) -> Draft<'a>
-    ensures { (app sub : App) → IsCommand command.entry app → IsCommand leaf.entry sub
-        → IsDraft result (with_leaf app sub) }
-{
-    command.subcommand(leaf)
+    command?.subcommand(leaf?)
 }
 
 /// A command with the name of an image's file.
@@ -130,7 +115,7 @@ pub fn blocks<'a>(alloc: Global) -> Arg<'a>
     ensures { IsArgument result blocks_rule }
 {
     let word = must_have(may_have(alloc, "BLOCKS", "The number of blocks, 8 to 4095"));
-    word.value_parser(clap::value_parser!(usize).range(8..=4095))
+    word.value_parser(clap::value_parser!(usize).range(8..=MOST_BLOCKS as i64))
 }
 
 /// A limit of instructions.

@@ -1,7 +1,7 @@
 ghost use Rattle.std.specs.Prelude.{◌≡◌, ◌∷◌, [], true, codes, IfErr, IfOk, map};
 ghost use Rattle.clap.specs.Words.{App, found_of, new_app, rows_of, subcommand_rows_of, takes};
 ghost use Rattle.command8.specs.Tasks.{Answers, IsPastClap, bare_app, pdp8};
-ghost use Rattle.command8.specs.TaskSteps.{Gives, GivesMet, HasMet, IsFaultOf, IsWhole, Needs, word};
+ghost use Rattle.command8.specs.TaskSteps.{Gives, GivesMet, HasMet, IsWhole, Needs, word};
 ghost use Rattle.command8.specs.CommandSteps.{IsCommand, IsDraft};
 
 use crate::assembling::{assemble, assemble_asked};
@@ -13,7 +13,6 @@ use crate::teletypes::{teletype, teletype_asked};
 use crate::verbs::{Verb, verb_of};
 use crate::volumes::{create, create_asked};
 use crate::{Task, TaskFault};
-use clap::error::ErrorKind;
 use clap::{ArgMatches, Command};
 use std::alloc::Global;
 
@@ -30,10 +29,8 @@ pub fn task(alloc: Global, words: &[&str]) -> Result<Task, TaskFault>
         → IfErr result IsPastClap }
 {
     let command = command_line(alloc)?;
-    match command.try_get_matches_from(words) {
-        Ok(matches) => asked(alloc, &matches),
-        Err(error) => Err(fault_of(error)),
-    }
+    let matches = command.try_get_matches_from(words)?;
+    asked(alloc, &matches)
 }
 
 /// The command `pdp8` with its subcommands.
@@ -57,10 +54,8 @@ fn command_line<'a>(alloc: Global) -> Draft<'a>
 fn bare_command_line<'a>(alloc: Global) -> Draft<'a>
     ensures { IsDraft result bare_app }
 {
-    match named_command_line(alloc) {
-        Ok(command) => Ok(with_version(with_texts(command))),
-        Err(error) => Err(error),
-    }
+    let command = named_command_line(alloc)?;
+    Ok(with_version(with_texts(command)))
 }
 
 /// The command of the name `pdp8`, by which its texts call it, whatever the first word is.
@@ -84,16 +79,6 @@ fn with_version<'a>(command: Command<'a>) -> Command<'a>
     ensures { IsCommand command.entry (new_app (codes "pdp8")) → IsCommand result bare_app }
 {
     command.version("0.1.0").subcommand_required(true)
-}
-
-/// An error of `clap` as a fault.
-fn fault_of(error: clap::Error) -> TaskFault
-    ensures { IsFaultOf error result }
-{
-    match error.kind() {
-        ErrorKind::OutOfMemory => TaskFault::Memory,
-        _ => TaskFault::Words(error),
-    }
 }
 
 /// What the subcommand that was met comes to.
