@@ -7,6 +7,7 @@ use crate::{
     tape_text, task,
 };
 use command8::RimForm;
+use core_image::CoreFault;
 use host8::Unwritten;
 use script8::{SessionFault, put_reply};
 use session8::read_all;
@@ -105,6 +106,12 @@ impl From<RimTextFault> for Ended {
             RimTextFault::Rim(fault) => Ended::Line(ProgramLine::Rim(fault)),
             RimTextFault::Session(fault) => Ended::Fault(fault),
         }
+    }
+}
+
+impl From<CoreFault> for Ended {
+    fn from(fault: CoreFault) -> Ended {
+        Ended::Line(ProgramLine::Core(fault))
     }
 }
 

@@ -17,7 +17,7 @@ pub fn list_files<R: Files + Print + Eprint + AllocGlobal>(
     image: &str,
 ) -> Result<(), Ended> {
     let bytes = seen(rt, image)?;
-    let text = list(rt.alloc(), &bytes).map_err(|fault| ended(rt, bytes.len(), fault))?;
+    let text = made(rt, bytes.len(), list(rt.alloc(), &bytes))?;
     print_line(rt, &text)
 }
 
@@ -39,7 +39,8 @@ pub fn core_of_file<R: Files + Eprint + AllocGlobal>(
     name: &str,
 ) -> Result<(Vec<u8>, Cell), Ended> {
     let frames = bytes_of_file(rt, image, name, GetForm::Frames)?;
-    core_tape(rt.alloc(), &frames).map_err(|fault| Ended::Line(ProgramLine::Core(fault)))
+    let core = core_tape(rt.alloc(), &frames)?;
+    Ok(core)
 }
 
 /// What a file has on the volume in an image file.
@@ -50,7 +51,8 @@ pub fn bytes_of_file<R: Files + Eprint + AllocGlobal>(
     form: GetForm,
 ) -> Result<Vec<u8>, Ended> {
     let bytes = seen(rt, image)?;
-    get(rt.alloc(), &bytes, name.as_bytes(), form).map_err(|fault| ended(rt, bytes.len(), fault))
+    let given = get(rt.alloc(), &bytes, name.as_bytes(), form);
+    made(rt, bytes.len(), given)
 }
 
 /// Makes the bytes on standard input a file on the volume in an image file, and writes the image back.
@@ -66,7 +68,7 @@ pub fn put_file<R: Files<File = File> + Input + Print + Eprint + AllocGlobal>(
     if let Err(ArchiveFault::Refused(SessionFault::BadText)) = &done {
         tell_bad_text(rt, &given);
     }
-    let new = done.map_err(|fault| ended(rt, held.bytes().len(), fault))?;
+    let new = made(rt, held.bytes().len(), done)?;
     let stored = Reply::Line(LineReply::Stored {
         name: new.name,
         blocks: new.blocks,
@@ -84,15 +86,19 @@ pub fn check_volume<R: Files + Print + Eprint + AllocGlobal>(
     image: &str,
 ) -> Result<(), Ended> {
     let bytes = seen(rt, image)?;
-    let text = check(rt.alloc(), &bytes).map_err(|fault| ended(rt, bytes.len(), fault))?;
+    let text = made(rt, bytes.len(), check(rt.alloc(), &bytes))?;
     print_line(rt, &text)
 }
 
-/// How a command ends that was refused an image of so many bytes, or a file of it.
-fn ended<R: Eprint>(rt: &R, size: usize, fault: ArchiveFault) -> Ended {
-    match fault {
+/// What was made of an image of so many bytes. Where it or a file of it is refused, what may help is said.
+fn made<T: Drop, R: Eprint>(
+    rt: &R,
+    size: usize,
+    done: Result<T, ArchiveFault>,
+) -> Result<T, Ended> {
+    done.map_err(|fault| match fault {
         ArchiveFault::Image(fault) => refused_image(rt, size, ProgramLine::Image(fault)),
         ArchiveFault::Directory(fault) => refused_image(rt, size, ProgramLine::Directory(fault)),
         ArchiveFault::Refused(fault) => Ended::Fault(fault),
-    }
+    })
 }

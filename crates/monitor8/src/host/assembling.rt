@@ -32,9 +32,14 @@ pub fn assemble_files<R: Files<File = File> + Input + Print + Eprint + AllocGlob
         rt, form, &sources, fault,
     ))?;
     if let Some(name) = &form.list {
-        let listing = list_sources(rt.alloc(), &sources, listing_form(form)).map_err(
-            |fault| refused(rt, form, &sources, fault),
-        )?;
+        let shown = if form.is_cross {
+            ListingForm::Cross
+        } else {
+            ListingForm::Symbols
+        };
+        let listing = list_sources(rt.alloc(), &sources, shown).map_err(|fault| refused(
+            rt, form, &sources, fault,
+        ))?;
         write_to(rt, name, &listing, Content::Listing)?;
     }
     match &form.output {
@@ -89,14 +94,6 @@ fn write_to<R: Files<File = File> + Print + Eprint + AllocGlobal>(
         return print_data(rt, bytes);
     }
     make_file(rt, name, bytes, content)
-}
-
-fn listing_form(form: &AssembleForm) -> ListingForm {
-    if form.is_cross {
-        ListingForm::Cross
-    } else {
-        ListingForm::Symbols
-    }
 }
 
 /// How a command ends whose sources have a fault, which is told.

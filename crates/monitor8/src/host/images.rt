@@ -5,7 +5,6 @@ use crate::ProgramLine;
 use host8::{HeldFile, HoldFault, Unwritten, hold, look, make};
 use script8::SessionFault;
 use session8::MOST;
-use std::alloc::{AllocError, Global};
 use std::fs::{File, Files};
 use std::mem;
 
@@ -70,13 +69,6 @@ impl Image {
     /// What the image held when it was read or saved.
     pub fn bytes(&self) -> &[u8] {
         &self.bytes
-    }
-
-    /// Those bytes once more.
-    pub fn copy(&self, alloc: Global) -> Result<Vec<u8>, AllocError> {
-        let mut bytes = Vec::new(alloc);
-        bytes.extend_from_slice(&self.bytes)?;
-        Ok(bytes)
     }
 
     /// Has the file hold these bytes, and gives those that it held in their place. Where it holds them already, nothing is written. No
@@ -164,8 +156,10 @@ fn write<R: Files<File = File>>(
     bytes: &[u8],
     content: Content,
 ) -> Result<(), Ended> {
-    held.write(rt, bytes)
-        .map_err(|left| Ended::Unwritten(content, left))
+    if let Err(left) = held.write(rt, bytes) {
+        return Err(Ended::Unwritten(content, left));
+    }
+    Ok(())
 }
 
 fn tell_of_lock<R: Eprint>(rt: &R, held: &HeldFile, content: Content) {

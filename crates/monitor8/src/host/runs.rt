@@ -25,7 +25,7 @@ where
         Saving::Never => Image::look(rt, name)?,
         Saving::AtEnd | Saving::Always => Image::open(rt, name)?,
     };
-    let bytes = image.copy(rt.alloc())?;
+    let bytes = image.bytes().to_vec(rt.alloc())?;
     let mut writer = BufWriter::new(rt.alloc(), io::writer(rt))?;
     let mut session = mounted(rt, &bytes)?;
     let mut reader = rt.reader();
