@@ -1,6 +1,7 @@
 -- What a check of an image tells: its blocks, the segments of its directory, and what the directory covers, in order of blocks.
 use Rattle.std.specs.Prelude.{◌≡◌, ℕ, zero, suc, ◌+◌, ◌-◌, codes, decimal, nat_lt, if◌then◌else◌, Result, Ok, Err, List, [], ◌∷◌, ◌++◌, length}
 use Rattle.std.specs.Global.{Vec}
+use Rattle.word12.specs.declared.sizes.TheConstants.{FIRST_FILE_BLOCK}
 use Rattle.volume_image.specs.Image.{IsImageOf, minus}
 use Rattle.os8_dir.specs.Entries.{Listed, end_of, size_of}
 use Rattle.os8_dir.specs.Reading.{block, word, directory_of}
@@ -48,7 +49,7 @@ outside_line place (suc more) = codes "OUTSIDE " ++ extent_text place (suc more)
 abbrev pub check_lines : List (List ℕ) → Listed → List ℕ
 check_lines blocks d = blocks_line (length blocks)
     ++ segment_lines 6 blocks 1
-    ++ outside_line 7 (d.first - 7)
+    ++ outside_line FIRST_FILE_BLOCK (d.first - FIRST_FILE_BLOCK)
     ++ entry_lines d.first d.entries
     ++ outside_line (end_of d) (length blocks - end_of d)
 

@@ -3,6 +3,7 @@ use Rattle.std.specs.Prelude.{◌≡◌, ◌≢◌, ℕ, zero, suc, ◌+◌, ◌
 use Rattle.std.specs.Global.{Vec}
 use Rattle.char_pack.specs.Packing.{block_count, block_frames}
 use Rattle.char_pack.specs.Texts.{is_storable}
+use Rattle.word12.specs.declared.sizes.TheConstants.{FIRST_FILE_BLOCK}
 use Rattle.volume_image.specs.Image.{IsImageOf}
 use Rattle.os8_dir.specs.Names.{parsed_name}
 use Rattle.os8_dir.specs.Entries.{Listed, AreDistinct, end_of, size_of}
@@ -111,7 +112,7 @@ outside_extents place (suc more) = record { label = codes "OUTSIDE "; place = pl
 
 -- the extents of a volume of so many blocks with this directory
 abbrev pub extents : ℕ → Listed → List Extent
-extents count d = outside_extents 7 (d.first - 7) ++ entry_extents d.first d.entries ++ outside_extents (end_of d) (count - end_of d)
+extents count d = outside_extents FIRST_FILE_BLOCK (d.first - FIRST_FILE_BLOCK) ++ entry_extents d.first d.entries ++ outside_extents (end_of d) (count - end_of d)
 
 -- the lines of extents
 abbrev pub extent_lines : List Extent → List ℕ
@@ -140,8 +141,8 @@ pub record TellsEachBlock (image text : List ℕ) : Type 0 where
   pub directory : Listed
   pub read : directory_of blocks ≡ Ok directory
   pub lines : text ≡ blocks_line (length blocks) ++ segment_lines 6 blocks 1 ++ extent_lines (extents (length blocks) directory)
-  pub follow : FollowOneAnother 7 (length blocks) (extents (length blocks) directory)
-  pub once : (block : ℕ) → 7 ≤ block → block < length blocks → count_having block (extents (length blocks) directory) ≡ 1
+  pub follow : FollowOneAnother FIRST_FILE_BLOCK (length blocks) (extents (length blocks) directory)
+  pub once : (block : ℕ) → FIRST_FILE_BLOCK ≤ block → block < length blocks → count_having block (extents (length blocks) directory) ≡ 1
 
 -- a check tells each block from 7 on just once
 abbrev pub ChecksTellEachBlock : Type 0
@@ -153,7 +154,7 @@ ChecksTellEachBlock = (image : List ℕ) (text : Vec ℕ) → Checks image (Ok t
 -- the link 0 (OS/8 Software Support Manual).
 abbrev pub AreLinked : List (List ℕ) → ℕ → List ℕ → Type 0
 AreLinked blocks link [] = link ≡ 0
-AreLinked blocks link (number ∷ numbers) = (number ≡ link) × (0 < number) × (number < 7) × AreLinked blocks (word (block blocks number) 2) numbers
+AreLinked blocks link (number ∷ numbers) = (number ≡ link) × (0 < number) × (number < FIRST_FILE_BLOCK) × AreLinked blocks (word (block blocks number) 2) numbers
 
 -- what a directory is read as with the segments in these blocks behind one another
 abbrev pub read_on : List (List ℕ) → Listed → List ℕ → Result Listed DirFault

@@ -8,6 +8,7 @@ use Rattle.bin_tape.specs.Fault.{IsFault}
 use Rattle.bin_tape.specs.Progress.{Progress}
 use Rattle.bin_tape.specs.Reading.{HasRead, IsGoing}
 use Rattle.bin_tape.specs.declared.faults.TapeFault.{TapeFault}
+use Rattle.word12.specs.declared.sizes.TheConstants.{BLOCK}
 use Rattle.volume_image.specs.Image.{IsImageOf}
 use Rattle.char_pack.specs.Packing.{frames}
 use Rattle.char_pack.specs.Texts.{is_storable}
@@ -34,7 +35,7 @@ pub record IsWhole (m : Mounted) (name blocks : ℕ) : Type 0 where
   pub file : FileData
   pub there : get (files_of m.blocks) name ≡ Some file
   pub count : blocks ≡ blocks_in file
-  pub whole : 256 * blocks ≡ length file.1
+  pub whole : BLOCK * blocks ≡ length file.1
 
 -- the words of a file are read, or a read failed
 abbrev pub ReadsWords : Mounted → ℕ → Result (Vec ℕ) FileFault → Mounted → Type 0
@@ -86,7 +87,7 @@ FindsTape file (Err fault) = IsFault file fault
 -- at least one whole block of words
 pub record AreBlocks (words : List ℕ) : Type 0 where
   pub some : 0 < blocks_filled words
-  pub whole : 256 * blocks_filled words ≡ length words
+  pub whole : BLOCK * blocks_filled words ≡ length words
 
 -- the words of bytes in a file, or why there are none
 abbrev pub MakesWords : PutForm → List ℕ → Result (Vec ℕ) SessionFault → Type 0

@@ -1,5 +1,6 @@
 ghost use Rattle.std.specs.Prelude.{◌≡◌, ◌+◌, ◌≤◌, ◌++◌, length, OnOk};
 ghost use Rattle.arrayvec.specs.ArrayVec.{array_vec_len};
+ghost use Rattle.word12.specs.declared.sizes.TheConstants.{MOST_BLOCKS};
 ghost use Rattle.volume_image.specs.Volume.{IsVolume};
 ghost use Rattle.os8_dir.specs.Entries.{total};
 ghost use Rattle.os8_dir.specs.Found.{IsDirectory};
@@ -13,7 +14,7 @@ use script8::SessionFault;
 use script8::text_lines::{TextLine, put, put_name, put_number};
 use std::alloc::{AllocError, Global};
 use volume_image::{BlockStore, MemoryVolume};
-use word12::Word;
+use word12::{FIRST_FILE_BLOCK, Word};
 
 /// Tells of an image, that is accepted or refused as a mount does, its blocks, the segments of its directory, each file and empty
 /// with its first block and its length, and the blocks that the directory does not cover (OS/8 Software Support Manual; the lines
@@ -48,7 +49,7 @@ fn put_check(
     let blocks = volume.blocks();
     put_blocks(blocks, out)?;
     put_segments(volume, out)?;
-    put_outside(7, first - 7, out)?;
+    put_outside(FIRST_FILE_BLOCK, first - FIRST_FILE_BLOCK, out)?;
     put_entries(first, directory.entries(), out)?;
     put_outside(end, blocks - end, out)
 }
@@ -71,7 +72,7 @@ fn put_segments(volume: &MemoryVolume, out: &mut Vec<u8>) -> Result<(), AllocErr
 {
     let mut number = 1;
     let mut left: usize = 6;
-    while left > 0 && number > 0 && number < 7 {
+    while left > 0 && number > 0 && number < FIRST_FILE_BLOCK {
         let words = volume.block(number);
         put_segment(number, words[0], out)?;
         number = usize::from(words[2].get());
@@ -96,7 +97,7 @@ fn put_segment(number: usize, first: Word, out: &mut Vec<u8>) -> Result<(), Allo
 
 /// Appends the lines of entries, the first of which begins at a block.
 fn put_entries(first: usize, entries: &[DirEntry], out: &mut Vec<u8>) -> Result<(), AllocError>
-    requires { first + total entries.now ≤ 4095 }
+    requires { first + total entries.now ≤ MOST_BLOCKS }
     ensures { OnOk result (out.new.items ≡ out.old.items ++ spec.entry_lines first entries.now) }
 {
     let mut place = first;

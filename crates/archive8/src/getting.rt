@@ -14,7 +14,7 @@ use os8_files::{FileFault, FileService};
 use script8::SessionFault;
 use std::alloc::Global;
 use volume_image::{BlockStore, MemoryVolume};
-use word12::Word;
+use word12::{BLOCK, Word};
 
 /// What a file of an image has: its frames, its text, or the tape that it begins with (OS/8 Software Support Manual; PAL III
 /// Symbolic Assembler manual, BIN format; the faults and their order are this project's profile).
@@ -61,10 +61,8 @@ fn words_of(
 {
     let read = read_words(alloc, &mut files, name);
     let _volume = files.into_store();
-    match read {
-        Ok(words) => Ok(words),
-        Err(fault) => Err(SessionFault::from(fault)),
-    }
+    let words = read?;
+    Ok(words)
 }
 
 /// Reads the words of the file of a name.
@@ -96,7 +94,7 @@ fn read_blocks<S: BlockStore>(
     ensures { ReadsWords files.old name result files.new }
 {
     let mut words = Vec::new(alloc);
-    let mut block = [Word::ZERO; 256];
+    let mut block = [Word::ZERO; BLOCK];
     for k in 0..blocks {
         files.read_block(&name, k, &mut block)?;
         words.extend_from_slice(&block)?;

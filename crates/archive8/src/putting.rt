@@ -14,7 +14,7 @@ use os8_files::{FileFault, FileService};
 use script8::SessionFault;
 use std::alloc::Global;
 use volume_image::{ImageFault, MemoryVolume};
-use word12::Word;
+use word12::{BLOCK, Word};
 
 /// An image with a file that was put into it.
 #[derive(Debug, Drop)]
@@ -99,16 +99,14 @@ fn put_words(
 {
     let put = files.put(alloc, name, words);
     let volume = files.into_store();
-    match put {
-        Err(fault) => Err(SessionFault::from(fault)),
-        Ok(()) => match volume.to_bytes(alloc) {
-            Err(ImageFault::Memory) => Err(SessionFault::Memory),
-            Err(_) => unreachable!(),
-            Ok(bytes) => Ok(NewImage {
-                bytes,
-                name,
-                blocks: words.len() / 256,
-            }),
-        },
+    put?;
+    match volume.to_bytes(alloc) {
+        Err(ImageFault::Memory) => Err(SessionFault::Memory),
+        Err(_) => unreachable!(),
+        Ok(bytes) => Ok(NewImage {
+            bytes,
+            name,
+            blocks: words.len() / BLOCK,
+        }),
     }
 }

@@ -43,13 +43,11 @@ fn is_end(reader: &mut TapeReader, frame: u8) -> Result<bool, TapeFault>
     ensures { (frames : List ℕ) → IsReading reader.old frames → TakesFrame frames frame result reader.new }
 {
     no_fault();
-    match reader.push(frame) {
-        Ok(tape) => match tape {
-            Tape::End => Ok(true),
-            Tape::Nothing => Ok(false),
-            Tape::Word(_, _) => Ok(false),
-        },
-        Err(fault) => Err(fault),
+    let tape = reader.push(frame)?;
+    match tape {
+        Tape::End => Ok(true),
+        Tape::Nothing => Ok(false),
+        Tape::Word(_, _) => Ok(false),
     }
 }
 

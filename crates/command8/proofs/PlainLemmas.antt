@@ -12,6 +12,7 @@ use Rattle.char_pack.specs.declared.forms.GetForm.TheVariants as get_as
 use Rattle.char_pack.specs.declared.forms.PutForm.{PutForm}
 use Rattle.char_pack.specs.declared.forms.PutForm.TheVariants as put_as
 use Rattle.command8.specs.declared.kinds.AssembleForm.{AssembleForm}
+use Rattle.command8.specs.declared.kinds.SourceForm.{SourceForm}
 use Rattle.command8.specs.declared.kinds.TeletypeForm.{TeletypeForm}
 use Rattle.command8.specs.declared.kinds.RimForm.{RimForm}
 use Rattle.command8.specs.declared.kinds.RimForm.TheVariants.{Lines, Bin}
@@ -25,7 +26,7 @@ use Rattle.command8.specs.declared.verbs.Verb.{Verb}
 use Rattle.command8.specs.declared.verbs.Verb.TheVariants as verb
 use Rattle.word12.specs.Octal.{octal_from, octal_of}
 use Rattle.command8.specs.TaskSteps.{verb_of, word}
-use Rattle.command8.specs.Tasks.{Asks, AsksFor, IsAssembleOf, IsCheckOf, IsCreateOf, IsGetBinOf, IsGetOf, IsListOf, IsPlain, IsPutOf, IsRimOf, IsRunOf, IsSource, IsTakenAs, IsTape, IsTeletypeOf, assemble_app, check_app, create_app, flag_rule, get_app, get_form, is_set, leaves, list_app, number_of, option_rule, pdp8, pdp8_top, put_app, put_form, rim_app, rim_form, run_app, saving_of, source_app, tape_app, teletype_app}
+use Rattle.command8.specs.Tasks.{Asks, AsksFor, IsAssembleOf, IsCheckOf, IsCreateOf, IsGetBinOf, IsGetOf, IsListOf, IsPlain, IsPutOf, IsRimOf, IsRunOf, IsSourceOf, IsTakenAs, IsTape, IsTeletypeOf, assemble_app, check_app, create_app, flag_rule, get_app, get_form, is_set, leaves, list_app, number_of, option_rule, options_rule, pdp8, pdp8_top, put_app, put_form, rim_app, rim_form, run_app, saving_of, source_app, tape_app, teletype_app, values_of}
 use Rattle.command8.proofs.EnterLemmas.{Finds, asks_no_more, enter_met, enter_takes}
 use Rattle.command8.proofs.LeafLemmas.{below, blocks_built, files_built, image_built, name_built, tape_built}
 use Rattle.command8.proofs.NumberLemmas.{none_some}
@@ -51,7 +52,7 @@ word_read verb.Check = refl
 abbrev of : Task → Verb
 of Tape = verb.Tape
 of (Rim form) = verb.Rim
-of Source = verb.Source
+of (Source form) = verb.Source
 of (Assemble form) = verb.Assemble
 of (Teletype form) = verb.Teletype
 of (Run image form) = verb.Run
@@ -65,7 +66,7 @@ of (Check image) = verb.Check
 asked_word : (name : Text) (rows : List Row) (task : Task) → AsksFor name rows task → name ≡ word (of task)
 asked_word name rows Tape asks = asks
 asked_word name rows (Rim form) asks = asks.0
-asked_word name rows Source asks = asks
+asked_word name rows (Source form) asks = asks.0
 asked_word name rows (Assemble form) asks = asks.0
 asked_word name rows (Teletype form) asks = asks.0
 asked_word name rows (Run image form) asks = asks.0
@@ -80,7 +81,7 @@ asked_word name rows (Check image) asks = asks.0
 data Seen : Verb → Task → Type 0 where
   a_tape : Seen verb.Tape Tape
   a_rim : (form : RimForm) → Seen verb.Rim (Rim form)
-  a_source : Seen verb.Source Source
+  a_source : (form : SourceForm) → Seen verb.Source (Source form)
   a_assemble : (form : AssembleForm) → Seen verb.Assemble (Assemble form)
   a_teletype : (form : TeletypeForm) → Seen verb.Teletype (Teletype form)
   a_run : (image : _) (form : RunForm) → Seen verb.Run (Run image form)
@@ -94,7 +95,7 @@ data Seen : Verb → Task → Type 0 where
 seen : (task : Task) → Seen (of task) task
 seen Tape = a_tape
 seen (Rim form) = a_rim form
-seen Source = a_source
+seen (Source form) = a_source form
 seen (Assemble form) = a_assemble form
 seen (Teletype form) = a_teletype form
 seen (Run image form) = a_run image form
@@ -210,12 +211,6 @@ plain_tape name = entered_as verb.Tape [] IsTape (record { pass = tt; settles = 
   where
     asked : (task : Task) → Seen verb.Tape task → AsksFor (word verb.Tape) (found_by verb.Tape []) task → IsTape task
     asked task a_tape asks = tt
-
-pub plain_source : (name : Text) → IsTakenAs (name ∷ codes "source" ∷ []) IsSource
-plain_source name = entered_as verb.Source [] IsSource (record { pass = tt; settles = refl; defaults = refl; valid = refl }) name asked
-  where
-    asked : (task : Task) → Seen verb.Source task → AsksFor (word verb.Source) (found_by verb.Source []) task → IsSource task
-    asked task a_source asks = tt
 
 -- ## A RIM tape
 
@@ -594,3 +589,53 @@ plain_teletype_start name tape start cell plain octal =
       valid = refl;
     }) name
     (teletype_asked tape None (Some cell) (found_by verb.Teletype (at_place tape_built tape ∷ start_use start ∷ [])) refl refl (λ given is. read_given (octal_of 5 start) given is ∙ octal) (refl, refl, refl, refl))
+
+-- ## The source of a tape
+
+abbrev listed_use : Text → Use
+listed_use word = at_place (with_index 1 (filled (new_rule (codes "TAPE")))) word
+
+abbrev starts_use : Text → Use
+starts_use word = by_option (filled (options_rule (codes "start"))) (codes "start") word
+
+no_starts : (given : List ℕ) → [] ≡ map (λ start. Some start) given → given ≡ []
+no_starts [] is = refl
+no_starts (start ∷ given) is = absurd (cc)
+
+one_start : (start : ℕ) (given : List ℕ) → Some start ∷ [] ≡ map (λ cell. Some cell) given → given ≡ start ∷ []
+one_start start [] is = absurd (cc)
+one_start start (first ∷ []) is = cc
+one_start start (first ∷ other ∷ given) is = absurd (cc)
+
+source_asked : (file member : Option Text) (starts : List ℕ) (rows : List Row) → first_of (codes "TAPE") rows ≡ file → first_of (codes "NAME") rows ≡ member
+    → ((given : List ℕ) → map (octal_of 5) (values_of (codes "start") rows) ≡ map (λ start. Some start) given → given ≡ starts)
+    → (task : Task) → Seen verb.Source task → AsksFor (word verb.Source) rows task → IsSourceOf file member starts task
+source_asked file member starts rows file_is member_is starts_are task (a_source form) asks =
+    (sym asks.1.0 ∙ file_is, sym asks.1.1 ∙ member_is, starts_are form.starts.items asks.1.2)
+
+pub plain_source : (name : Text) → IsTakenAs (name ∷ codes "source" ∷ []) (IsSourceOf None None [])
+plain_source name =
+    entered_as verb.Source [] (IsSourceOf None None []) (record { pass = tt; settles = refl; defaults = refl; valid = refl }) name
+    (source_asked None None [] (found_by verb.Source []) refl refl no_starts)
+
+pub plain_source_file : (name tape : Text) → IsPlain tape → IsTakenAs (name ∷ codes "source" ∷ tape ∷ []) (IsSourceOf (Some tape) None [])
+plain_source_file name tape plain =
+    entered_as verb.Source (listed_use tape ∷ []) (IsSourceOf (Some tape) None []) (record {
+      pass = (no_option tape plain, record { found = refl; passes = refl; no_end = refl }, tt);
+      settles = refl;
+      defaults = refl;
+      valid = refl;
+    }) name
+    (source_asked (Some tape) None [] (found_by verb.Source (listed_use tape ∷ [])) refl refl no_starts)
+
+pub plain_source_start : (name start : Text) (cell : ℕ) → octal_of 5 start ≡ Some cell
+    → IsTakenAs (name ∷ codes "source" ∷ codes "--start" ∷ start ∷ []) (IsSourceOf None None (cell ∷ []))
+plain_source_start name start cell octal =
+    entered_as verb.Source (starts_use start ∷ []) (IsSourceOf None None (cell ∷ [])) (record {
+      pass = (no_option start (no_octal start cell octal), record { read = refl; found = refl; takes_value = refl }, record { own = refl; one = refl; passes = refl }, tt);
+      settles = refl;
+      defaults = refl;
+      valid = refl;
+    }) name
+    (source_asked None None (cell ∷ []) (found_by verb.Source (starts_use start ∷ [])) refl refl
+    (λ given is. one_start cell given (ap (λ o. o ∷ []) (sym octal) ∙ is)))

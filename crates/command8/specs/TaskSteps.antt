@@ -10,7 +10,8 @@ use Rattle.command8.specs.declared.kinds.TaskFault.TheVariants.{Words, Memory, L
 use Rattle.command8.specs.declared.verbs.Verb.{Verb}
 use Rattle.command8.specs.declared.verbs.Verb.TheVariants as verb
 use Rattle.word12.specs.Octal.{octal_of}
-use Rattle.command8.specs.Tasks.{AsksBoth, AsksCrossAlone, AsksFor, AsksNoStart, AsksNoSwitches, HasFitBlocks, NamesInputTwice, most_steps, values_of}
+use Rattle.word12.specs.declared.sizes.TheConstants.{MOST_BLOCKS}
+use Rattle.command8.specs.Tasks.{AsksBoth, AsksCrossAlone, AsksFor, AsksNoStart, AsksNoSwitches, HasFitBlocks, NamesInputTwice, first_no_octal, most_steps, values_of}
 
 -- ## What it asks for
 
@@ -54,6 +55,16 @@ IsNoStart values (Start text) = (first_of (codes "start") values ≡ Some text.b
     × (octal_of 5 text.bytes.items ≡ None)
 IsNoStart values (Switches text) = ⊥
 
+-- a value of `--start` is no cell, the first, or there was no memory
+abbrev pub IsNoStartOf : List Text → TaskFault → Type 0
+IsNoStartOf texts (Words error) = ⊥
+IsNoStartOf texts Memory = ⊤
+IsNoStartOf texts LookAndKeep = ⊥
+IsNoStartOf texts InputTwice = ⊥
+IsNoStartOf texts CrossAlone = ⊥
+IsNoStartOf texts (Start text) = first_no_octal 5 texts ≡ Some text.bytes.items
+IsNoStartOf texts (Switches text) = ⊥
+
 -- the value of `--switches` is no word, or there was no memory
 abbrev pub IsNoSwitches : List Row → TaskFault → Type 0
 IsNoSwitches values (Words error) = ⊥
@@ -96,7 +107,7 @@ abbrev pub Has : Text → List Row → Type 0
 Has id values = is_some (first_of id values) ≡ true
 
 abbrev pub HasBlocks : List Row → Type 0
-HasBlocks values = (text : Text) × (one_of (codes "BLOCKS") values ≡ Some text) × IsUnsignedIn 8 4095 text
+HasBlocks values = (text : Text) × (one_of (codes "BLOCKS") values ≡ Some text) × IsUnsignedIn 8 MOST_BLOCKS text
 
 abbrev pub HasSources : List Row → Type 0
 HasSources values = (1 ≤ length (values_of (codes "FILE") values))

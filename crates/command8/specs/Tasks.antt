@@ -1,6 +1,6 @@
 -- What a command line asks of the program. The words are read as the library `clap` reads them: its own definitions
 -- say which words a command takes, what they come to, and the kinds of error that others meet.
-use Rattle.std.specs.Prelude.{◌≡◌, ◌≢◌, ◌≤◌, ⊤, Bool, true, false, if◌then◌else◌, ℕ, codes, List, [], ◌∷◌, Option, None, Some, Result, Ok, Err}
+use Rattle.std.specs.Prelude.{◌≡◌, ◌≢◌, ◌≤◌, ◌⊎◌, ⊤, Bool, true, false, if◌then◌else◌, ℕ, codes, List, [], ◌∷◌, Option, None, Some, Result, Ok, Err}
 use Rattle.std.specs.Option.{option_map_or}
 use Rattle.std.specs.Str.{bytes_eq}
 use Rattle.std.specs.Str.Parse.{digits_value, without_leading_plus}
@@ -8,18 +8,20 @@ use Rattle.std.specs.Prelude.{◌+◌, ◌<◌, nat_le, is_some, length, map, op
 use Rattle.clap.specs.Simple.{new_shape}
 use Rattle.clap.specs.Words.{App, Row, Rule, Shape, Text, all_of, first_of, fault_of, kind_of, new_app, new_rule, one_of, subcommand_of, takes, IsAmong}
 use Rattle.clap.specs.declared.builder.value_parser.ValueParser.TheVariants.{Unsigned}
-use Rattle.clap.specs.declared.builder.action.ArgAction.TheVariants.{SetTrue}
+use Rattle.clap.specs.declared.builder.action.ArgAction.TheVariants.{Append, SetTrue}
 use Rattle.clap.specs.declared.error.kind.ErrorKind.TheVariants.{OutOfMemory}
 use Rattle.char_pack.specs.declared.forms.GetForm.{GetForm}
 use Rattle.char_pack.specs.declared.forms.GetForm.TheVariants as get_as
 use Rattle.char_pack.specs.declared.forms.PutForm.{PutForm}
 use Rattle.char_pack.specs.declared.forms.PutForm.TheVariants as put_as
 use Rattle.word12.specs.Octal.{octal_of}
+use Rattle.word12.specs.declared.sizes.TheConstants.{MOST_BLOCKS}
 use Rattle.command8.specs.declared.kinds.AssembleForm.{AssembleForm}
 use Rattle.command8.specs.declared.kinds.TeletypeForm.{TeletypeForm}
 use Rattle.command8.specs.declared.kinds.RimForm.{RimForm}
 use Rattle.command8.specs.declared.kinds.RimForm.TheVariants.{Lines, Bin}
 use Rattle.command8.specs.declared.kinds.RunForm.{RunForm}
+use Rattle.command8.specs.declared.kinds.SourceForm.{SourceForm}
 use Rattle.command8.specs.declared.kinds.Saving.{Saving}
 use Rattle.command8.specs.declared.kinds.Saving.TheVariants.{AtEnd, Never, Always}
 use Rattle.command8.specs.declared.kinds.Task.{Task}
@@ -47,6 +49,10 @@ flag_rule id = record (new_rule id) { long = Some id; action = Some SetTrue }
 abbrev pub option_rule : Text → Rule
 option_rule id = record (new_rule id) { long = Some id; value_names = 1 }
 
+-- an option with a value, which may be given several times
+abbrev pub options_rule : Text → Rule
+options_rule id = record (option_rule id) { action = Some Append }
+
 -- a subcommand of this name with these arguments
 abbrev pub subcommand : Text → List Rule → App
 subcommand name rules = record { top = record (new_shape name) { rules = rules }; subs = [] }
@@ -59,7 +65,7 @@ image_rule = word_rule (codes "IMAGE")
 
 -- the number of blocks of a new volume, 8 to 4095, which must be given
 abbrev pub blocks_rule : Rule
-blocks_rule = record (word_rule (codes "BLOCKS")) { parser = Some (Unsigned 8 4095) }
+blocks_rule = record (word_rule (codes "BLOCKS")) { parser = Some (Unsigned 8 MOST_BLOCKS) }
 
 -- the name of a file of a volume, which must be given
 abbrev pub name_rule : Rule
@@ -80,7 +86,8 @@ abbrev pub rim_app : App
 rim_app = subcommand (codes "rim") (flag_rule (codes "bin") ∷ [])
 
 abbrev pub source_app : App
-source_app = new_app (codes "source")
+source_app =
+    subcommand (codes "source") (new_rule (codes "TAPE") ∷ new_rule (codes "NAME") ∷ options_rule (codes "start") ∷ [])
 
 abbrev pub assemble_app : App
 assemble_app =
@@ -200,6 +207,17 @@ IsAssembleForm values form =
 abbrev pub IsOctalOf : ℕ → Option Text → Option ℕ → Type 0
 IsOctalOf count given number = option_map (octal_of count) given ≡ option_map Some number
 
+-- the first of the texts that is no octal number of so many digits
+abbrev pub first_no_octal : ℕ → List Text → Option Text
+first_no_octal count [] = None
+first_no_octal count (text ∷ texts) = if is_some (octal_of count text) then first_no_octal count texts else Some text
+
+-- the source of a tape is written so
+abbrev pub IsSourceForm : List Row → SourceForm → Type 0
+IsSourceForm values form = (first_of (codes "TAPE") values ≡ option_map (λ file. file.bytes.items) form.file)
+    × (first_of (codes "NAME") values ≡ option_map (λ name. name.bytes.items) form.name)
+    × (map (octal_of 5) (values_of (codes "start") values) ≡ map (λ start. Some start) form.starts.items)
+
 -- the Teletype is run so
 abbrev pub IsTeletypeForm : List Row → TeletypeForm → Type 0
 IsTeletypeForm values form = (first_of (codes "TAPE") values ≡ Some form.file.bytes.items)
@@ -219,7 +237,7 @@ is_limit steps = option_map_or (λ count. nat_le 1 count) steps true
 abbrev pub AsksFor : Text → List Row → Task → Type 0
 AsksFor name values Tape = name ≡ codes "tape"
 AsksFor name values (Rim form) = (name ≡ codes "rim") × (form ≡ rim_form values)
-AsksFor name values Source = name ≡ codes "source"
+AsksFor name values (Source form) = (name ≡ codes "source") × IsSourceForm values form
 AsksFor name values (Run image form) = (name ≡ codes "run") × (first_of (codes "IMAGE") values ≡ Some image.bytes.items)
     × IsRunForm values form
 AsksFor name values (Create image blocks) = (name ≡ codes "create")
@@ -257,11 +275,12 @@ AsksCrossAlone None = ⊥
 AsksCrossAlone (Some met) = (met.0 ≡ codes "assemble") × (input_count (values_of (codes "FILE") met.1) ≤ 1)
     × (is_set (codes "cross") met.1 ≡ true) × (first_of (codes "list") met.1 ≡ None)
 
--- the cell at which the processor is to start is no cell
+-- a cell at which the processor, or the program of a source, is to start is no cell
 abbrev pub AsksNoStart : Text → Option (Text × List Row) → Type 0
 AsksNoStart text None = ⊥
-AsksNoStart text (Some met) = (met.0 ≡ codes "teletype") × (first_of (codes "start") met.1 ≡ Some text)
-    × (octal_of 5 text ≡ None)
+AsksNoStart text (Some met) =
+    ((met.0 ≡ codes "teletype") × (first_of (codes "start") met.1 ≡ Some text) × (octal_of 5 text ≡ None))
+    ⊎ ((met.0 ≡ codes "source") × (first_no_octal 5 (values_of (codes "start") met.1) ≡ Some text))
 
 -- what the switches are to be set to is no word, where the cell is none that is refused
 abbrev pub AsksNoSwitches : Text → Option (Text × List Row) → Type 0
@@ -275,9 +294,9 @@ AsksNoSwitches text (Some met) = (met.0 ≡ codes "teletype")
 abbrev pub HasFitBlocks : Task → Type 0
 HasFitBlocks Tape = ⊤
 HasFitBlocks (Rim form) = ⊤
-HasFitBlocks Source = ⊤
+HasFitBlocks (Source form) = ⊤
 HasFitBlocks (Run image form) = ⊤
-HasFitBlocks (Create image blocks) = (8 ≤ blocks) × (blocks ≤ 4095)
+HasFitBlocks (Create image blocks) = (8 ≤ blocks) × (blocks ≤ MOST_BLOCKS)
 HasFitBlocks (task.List image) = ⊤
 HasFitBlocks (Get image file form) = ⊤
 HasFitBlocks (GetBin image file) = ⊤
@@ -329,9 +348,11 @@ abbrev pub IsRimOf : RimForm → Task → Type 0
 IsRimOf kind (Rim form) = form ≡ kind
 IsRimOf kind task = ⊥
 
-abbrev pub IsSource : Task → Type 0
-IsSource Source = ⊤
-IsSource task = ⊥
+-- of this file, or of standard input, and what it holds of a volume, from these cells
+abbrev pub IsSourceOf : Option Text → Option Text → List ℕ → Task → Type 0
+IsSourceOf file name starts (Source form) = (option_map (λ file. file.bytes.items) form.file ≡ file)
+    × (option_map (λ name. name.bytes.items) form.name ≡ name) × (form.starts.items ≡ starts)
+IsSourceOf file name starts task = ⊥
 
 abbrev pub IsRunOf : Text → Saving → Bool → Task → Type 0
 IsRunOf name saving is_strict (Run image form) = (image.bytes.items ≡ name) × (form.saving ≡ saving) × (form.is_strict ≡ is_strict)

@@ -1,6 +1,7 @@
 //! What `clap` found for an argument, by the kind of argument.
 ghost use Rattle.std.specs.Prelude.{◌≡◌, ◌≤◌, true, codes, is_some, map, option_map, IfOk, ℕ, List, Some};
 ghost use Rattle.clap.specs.Words.{first_of, found_of, one_of, rows_of};
+ghost use Rattle.word12.specs.declared.sizes.TheConstants.{MOST_BLOCKS};
 ghost use Rattle.command8.specs.Tasks.{number_of};
 ghost use Rattle.command8.specs.Tasks as spec;
 ghost use Rattle.command8.specs.TaskSteps.{HasBlocks, HasSteps};
@@ -83,7 +84,7 @@ pub fn blocks_of(found: &ArgMatches<'_>) -> usize
     requires { HasBlocks (rows_of (found_of found.now)) }
     ensures number { (text : List ℕ) → one_of (codes "BLOCKS") (rows_of (found_of found.now)) ≡ Some text
         → result ≡ number_of text }
-    ensures range { (8 ≤ result) × (result ≤ 4095) }
+    ensures range { (8 ≤ result) × (result ≤ MOST_BLOCKS) }
 {
     match found.get_one::<usize>("BLOCKS") {
         Some(blocks) => blocks,

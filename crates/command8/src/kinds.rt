@@ -1,8 +1,10 @@
 ghost use Rattle.std.specs.Prelude.{◌≡◌, option_map};
+ghost use Rattle.command8.specs.TaskSteps.{IsFaultOf};
 ghost use Rattle.command8.specs.Usage.{usage_of};
 ghost use Rattle.command8.specs.declared.kinds.TaskFault.TheVariants.{Memory};
 
 use char_pack::{GetForm, PutForm};
+use clap::error::ErrorKind;
 use std::alloc::AllocError;
 use thiserror::Error;
 use word12::{Cell, Word};
@@ -55,6 +57,19 @@ pub struct AssembleForm {
     pub is_cross: bool,
 }
 
+/// What a source is written of (PAL III manual, and this project's reading of a program's flow).
+#[derive(Drop)]
+pub struct SourceForm {
+    /// The file of the host, of a BIN tape, or of the image of a volume where a file of it is named; else it is standard input.
+    pub file: Option<String>,
+
+    /// The name of the file on the volume, if one is named.
+    pub name: Option<String>,
+
+    /// The cells at which the program starts, if any is given; else each word is taken for an instruction.
+    pub starts: Vec<Cell>,
+}
+
 /// How the processor runs with the Teletype that the terminal is (this project's profile).
 #[derive(Drop)]
 pub struct TeletypeForm {
@@ -86,8 +101,8 @@ pub enum Task {
     /// Write what the RIM tape on standard input loads.
     Rim(RimForm),
 
-    /// Write the PAL III source of the BIN tape on standard input.
-    Source,
+    /// Write the PAL III source of a BIN tape.
+    Source(SourceForm),
 
     /// Run the script on standard input, on the volume in the file of this name.
     Run(String, RunForm),
@@ -172,5 +187,16 @@ impl From<AllocError> for TaskFault {
 
     fn from(_error: AllocError) -> TaskFault {
         TaskFault::Memory
+    }
+}
+
+impl From<clap::Error> for TaskFault {
+    ghost from_gives = { IsFaultOf };
+
+    fn from(error: clap::Error) -> TaskFault {
+        match error.kind() {
+            ErrorKind::OutOfMemory => TaskFault::Memory,
+            _ => TaskFault::Words(error),
+        }
     }
 }

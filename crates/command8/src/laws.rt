@@ -6,8 +6,9 @@ ghost use Rattle.command8.specs.declared.kinds.Saving.TheVariants.{AtEnd, Never,
 ghost use Rattle.char_pack.specs.declared.forms.GetForm.TheVariants as get_as;
 ghost use Rattle.char_pack.specs.declared.forms.PutForm.TheVariants as put_as;
 ghost use Rattle.word12.specs.Octal.{octal_of};
+ghost use Rattle.word12.specs.declared.sizes.TheConstants.{MOST_BLOCKS};
 ghost use Rattle.command8.specs.Tasks.{IsAssembleOf, IsCheckOf, IsCreateOf, IsGetBinOf, IsGetOf, IsListOf, IsPlain};
-ghost use Rattle.command8.specs.Tasks.{IsPutOf, IsRimOf, IsRunOf, IsSource, IsTakenAs, IsTape, IsTeletypeOf, number_of};
+ghost use Rattle.command8.specs.Tasks.{IsPutOf, IsRimOf, IsRunOf, IsSourceOf, IsTakenAs, IsTape, IsTeletypeOf, number_of};
 
 /// A law: plain command lines are taken, and ask for what they say; a run that is both to look and to keep asks for no task (this
 /// project's profile). A word that names a file or gives a number is plain where it begins with no hyphen.
@@ -15,7 +16,11 @@ pub fn plain_words()
     ensures tape { (name : List ℕ) → IsTakenAs (name ∷ codes "tape" ∷ []) IsTape }
     ensures rim { (name : List ℕ) → IsTakenAs (name ∷ codes "rim" ∷ []) (IsRimOf Lines) }
     ensures rim_bin { (name : List ℕ) → IsTakenAs (name ∷ codes "rim" ∷ codes "--bin" ∷ []) (IsRimOf Bin) }
-    ensures source { (name : List ℕ) → IsTakenAs (name ∷ codes "source" ∷ []) IsSource }
+    ensures source { (name : List ℕ) → IsTakenAs (name ∷ codes "source" ∷ []) (IsSourceOf None None []) }
+    ensures source_file { (name tape : List ℕ) → IsPlain tape
+        → IsTakenAs (name ∷ codes "source" ∷ tape ∷ []) (IsSourceOf (Some tape) None []) }
+    ensures source_start { (name start : List ℕ) (cell : ℕ) → octal_of 5 start ≡ Some cell
+        → IsTakenAs (name ∷ codes "source" ∷ codes "--start" ∷ start ∷ []) (IsSourceOf None None (cell ∷ [])) }
     ensures run { (name image : List ℕ) → IsPlain image
         → IsTakenAs (name ∷ codes "run" ∷ image ∷ []) (IsRunOf image AtEnd false) }
     ensures run_look { (name image : List ℕ) → IsPlain image
@@ -27,7 +32,7 @@ pub fn plain_words()
     ensures run_both { (name image : List ℕ) → IsPlain image
         → IsTakenAs (name ∷ codes "run" ∷ image ∷ codes "--look" ∷ codes "--keep" ∷ []) (λ task. ⊥) }
     ensures create { (name image blocks : List ℕ) → IsPlain image → IsPlain blocks
-        → IsUnsignedIn 8 4095 blocks
+        → IsUnsignedIn 8 MOST_BLOCKS blocks
         → IsTakenAs (name ∷ codes "create" ∷ image ∷ blocks ∷ []) (IsCreateOf image (number_of blocks)) }
     ensures list { (name image : List ℕ) → IsPlain image
         → IsTakenAs (name ∷ codes "list" ∷ image ∷ []) (IsListOf image) }

@@ -6,6 +6,7 @@ mod file_commands;
 mod found;
 mod kinds;
 mod laws;
+mod listings;
 mod parts;
 mod runs;
 mod tapes;
@@ -14,7 +15,9 @@ mod teletypes;
 mod verbs;
 mod volumes;
 
-pub use kinds::{AssembleForm, RimForm, RunForm, Saving, Task, TaskFault, TeletypeForm};
+pub use kinds::{
+    AssembleForm, RimForm, RunForm, Saving, SourceForm, Task, TaskFault, TeletypeForm,
+};
 pub use laws::plain_words;
 pub use runs::SCRIPT_LINES;
 pub use tasks::task;

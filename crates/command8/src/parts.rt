@@ -4,11 +4,12 @@
 ghost use Rattle.std.specs.Prelude.{◌<◌, true, IfOk};
 ghost use Rattle.clap.specs.Words.{App, Rule, new_app, new_rule, with_rule};
 ghost use Rattle.command8.specs.CommandSteps.{IsArgument, IsCommand, IsDraft, with_leaf};
-ghost use Rattle.command8.specs.Tasks.{blocks_rule, flag_rule, image_rule, name_rule, option_rule};
+ghost use Rattle.command8.specs.Tasks.{blocks_rule, flag_rule, image_rule, name_rule, option_rule, options_rule};
 ghost use Rattle.command8.specs.Tasks.{steps_rule, words_rule};
 
 use clap::{Arg, ArgAction, Command};
 use std::alloc::{AllocError, Global};
+use word12::MOST_BLOCKS;
 
 /// A command, or want of the memory for it.
 pub type Draft<'a> = Result<Command<'a>, AllocError>;
@@ -34,10 +35,7 @@ pub fn with_argument<'a>(command: Draft<'a>, argument: Arg<'a>) -> Draft<'a>
     ensures { (app : App) (rule : Rule) → IsDraft command.entry app → IsArgument argument.entry rule
         → IsDraft result (with_rule app rule) }
 {
-    match command {
-        Ok(command) => command.arg(argument),
-        Err(error) => Err(error),
-    }
+    command?.arg(argument)
 }
 
 /// A command with one subcommand more.
@@ -45,20 +43,7 @@ pub fn with_leaf<'a>(command: Draft<'a>, leaf: Draft<'a>) -> Draft<'a>
     ensures { (app sub : App) → IsDraft command.entry app → IsDraft leaf.entry sub
         → IsDraft result (with_leaf app sub) }
 {
-    match command {
-        Ok(command) => match leaf {
-            Ok(leaf) => with_whole_leaf(command, leaf),
-            Err(error) => Err(error),
-        },
-        Err(error) => Err(error),
-    }
-}
-
-fn with_whole_leaf<'a>(command: Command<'a>, leaf: Command<'a>) -> Draft<'a>
-    ensures { (app sub : App) → IsCommand command.entry app → IsCommand leaf.entry sub
-        → IsDraft result (with_leaf app sub) }
-{
-    command.subcommand(leaf)
+    command?.subcommand(leaf?)
 }
 
 /// A command with the name of an image's file.
@@ -118,6 +103,13 @@ pub fn option<'a>(alloc: Global, id: &'a str, value: &'a str, help: &'a str) -> 
     may_have(alloc, id, help).long(id).value_name(value)
 }
 
+/// An option with a value of this name, which may be given several times.
+pub fn options<'a>(alloc: Global, id: &'a str, value: &'a str, help: &'a str) -> Arg<'a>
+    ensures { IsArgument result (options_rule id.entry.now) }
+{
+    option(alloc, id, value, help).action(ArgAction::Append)
+}
+
 /// An argument that help leaves out.
 pub fn hidden<'a>(argument: Arg<'a>) -> Arg<'a>
     ensures { (rule : Rule) → IsArgument argument.entry rule → IsArgument result rule }
@@ -130,7 +122,7 @@ pub fn blocks<'a>(alloc: Global) -> Arg<'a>
     ensures { IsArgument result blocks_rule }
 {
     let word = must_have(may_have(alloc, "BLOCKS", "The number of blocks, 8 to 4095"));
-    word.value_parser(clap::value_parser!(usize).range(8..=4095))
+    word.value_parser(clap::value_parser!(usize).range(8..=MOST_BLOCKS as i64))
 }
 
 /// A limit of instructions.

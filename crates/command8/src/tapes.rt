@@ -2,7 +2,7 @@
 ghost use Rattle.std.specs.Prelude.{◌≡◌, codes};
 ghost use Rattle.clap.specs.Words.{found_of, rows_of};
 ghost use Rattle.command8.specs.CommandSteps.{IsCommand, IsDraft};
-ghost use Rattle.command8.specs.Tasks.{rim_app, source_app, tape_app};
+ghost use Rattle.command8.specs.Tasks.{rim_app, tape_app};
 ghost use Rattle.command8.specs.Tasks as spec;
 ghost use Rattle.command8.specs.TaskSteps.{Gives};
 
@@ -51,15 +51,4 @@ fn rim_form(found: &ArgMatches<'_>) -> RimForm
         return RimForm::Bin;
     }
     RimForm::Lines
-}
-
-pub fn source<'a>(alloc: Global) -> Command<'a>
-    ensures { IsCommand result source_app }
-{
-    leaf(
-        alloc,
-        "source",
-        "Write the PAL III source of a BIN paper tape",
-        "Reads a BIN paper tape from standard input, and prints a PAL III source that assembles to the words{n}that it loads, one line a word, with the cell and the word in octal behind it. The line{n}of a fault goes to standard error.",
-    )
 }

@@ -1,23 +1,24 @@
 ghost use Rattle.std.specs.Prelude.{◌≡◌, ◌∷◌, [], true, codes, IfErr, IfOk, map};
 ghost use Rattle.clap.specs.Words.{App, found_of, new_app, rows_of, subcommand_rows_of, takes};
 ghost use Rattle.command8.specs.Tasks.{Answers, IsPastClap, bare_app, pdp8};
-ghost use Rattle.command8.specs.TaskSteps.{Gives, GivesMet, HasMet, IsFaultOf, IsWhole, Needs, word};
+ghost use Rattle.command8.specs.TaskSteps.{Gives, GivesMet, HasMet, IsWhole, Needs, word};
 ghost use Rattle.command8.specs.CommandSteps.{IsCommand, IsDraft};
 
 use crate::assembling::{assemble, assemble_asked};
 use crate::file_commands::{check, check_asked, get, get_asked, list, list_asked, put, put_asked};
+use crate::listings::{source, source_asked};
 use crate::parts::{Draft, with_leaf};
 use crate::runs::{run, run_asked};
-use crate::tapes::{rim, rim_asked, source, tape};
+use crate::tapes::{rim, rim_asked, tape};
 use crate::teletypes::{teletype, teletype_asked};
 use crate::verbs::{Verb, verb_of};
 use crate::volumes::{create, create_asked};
 use crate::{Task, TaskFault};
-use clap::error::ErrorKind;
 use clap::{ArgMatches, Command};
 use std::alloc::Global;
 
-/// What the words of a command line ask for, the program's own name first: `tape`, `rim` with `--bin`, `source`, `assemble FILE..` of 1
+/// What the words of a command line ask for, the program's own name first: `tape`, `rim` with `--bin`, `source` with or without `TAPE`, and with
+/// `NAME` behind it, and with `--start` and a cell of five octal digits several times, else `Start`, `assemble FILE..` of 1
 /// to 8 files, one of them at most `-`, else `InputTwice`, with `--output`, `--list` and `--cross`, which without a listing is `CrossAlone`, `teletype TAPE`
 /// or `teletype TAPE NAME` with `--start` and a cell of five octal digits, else `Start`, `--switches` and a word of four, else `Switches`,
 /// `--steps` and a number from 1 up, `--raw` and `--live`, `run IMAGE` with `--strict` and with `--look` or `--keep`, which together are
@@ -30,10 +31,8 @@ pub fn task(alloc: Global, words: &[&str]) -> Result<Task, TaskFault>
         → IfErr result IsPastClap }
 {
     let command = command_line(alloc)?;
-    match command.try_get_matches_from(words) {
-        Ok(matches) => asked(alloc, &matches),
-        Err(error) => Err(fault_of(error)),
-    }
+    let matches = command.try_get_matches_from(words)?;
+    asked(alloc, &matches)
 }
 
 /// The command `pdp8` with its subcommands.
@@ -42,7 +41,7 @@ fn command_line<'a>(alloc: Global) -> Draft<'a>
 {
     let line = with_leaf(bare_command_line(alloc), Ok(tape(alloc)));
     let line = with_leaf(line, rim(alloc));
-    let line = with_leaf(line, Ok(source(alloc)));
+    let line = with_leaf(line, source(alloc));
     let line = with_leaf(line, assemble(alloc));
     let line = with_leaf(line, teletype(alloc));
     let line = with_leaf(line, run(alloc));
@@ -57,10 +56,8 @@ fn command_line<'a>(alloc: Global) -> Draft<'a>
 fn bare_command_line<'a>(alloc: Global) -> Draft<'a>
     ensures { IsDraft result bare_app }
 {
-    match named_command_line(alloc) {
-        Ok(command) => Ok(with_version(with_texts(command))),
-        Err(error) => Err(error),
-    }
+    let command = named_command_line(alloc)?;
+    Ok(with_version(with_texts(command)))
 }
 
 /// The command of the name `pdp8`, by which its texts call it, whatever the first word is.
@@ -84,16 +81,6 @@ fn with_version<'a>(command: Command<'a>) -> Command<'a>
     ensures { IsCommand command.entry (new_app (codes "pdp8")) → IsCommand result bare_app }
 {
     command.version("0.1.0").subcommand_required(true)
-}
-
-/// An error of `clap` as a fault.
-fn fault_of(error: clap::Error) -> TaskFault
-    ensures { IsFaultOf error result }
-{
-    match error.kind() {
-        ErrorKind::OutOfMemory => TaskFault::Memory,
-        _ => TaskFault::Words(error),
-    }
 }
 
 /// What the subcommand that was met comes to.
@@ -126,7 +113,7 @@ fn asked_by(alloc: Global, verb: Verb, found: &ArgMatches<'_>) -> Result<Task, T
     match verb {
         Verb::Tape => Ok(Task::Tape),
         Verb::Rim => rim_asked(found),
-        Verb::Source => Ok(Task::Source),
+        Verb::Source => source_asked(alloc, found),
         Verb::Assemble => assemble_asked(alloc, found),
         Verb::Teletype => teletype_asked(alloc, found),
         Verb::Run => run_asked(alloc, found),

@@ -36,6 +36,11 @@ impl Besides {
         }
         Ok(self.name.as_str())
     }
+
+    /// The name that was given last.
+    pub fn last(&self) -> &str {
+        self.name.as_str()
+    }
 }
 
 /// The folder of a path, with the slash that ends it, or nothing.

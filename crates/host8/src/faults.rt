@@ -33,13 +33,14 @@ impl From<AllocError> for HoldFault {
     }
 }
 
-/// What a failed call of the host comes to.
-pub(crate) fn fault_of(error: &Error) -> HoldFault {
-    match error.kind() {
-        ErrorKind::OutOfMemory => HoldFault::Memory,
-        ErrorKind::NotFound => HoldFault::Absent,
-        ErrorKind::PermissionDenied | ErrorKind::ReadOnlyFilesystem => HoldFault::Unwritable,
-        _ => HoldFault::Unreadable,
+impl From<Error> for HoldFault {
+    fn from(error: Error) -> HoldFault {
+        match error.kind() {
+            ErrorKind::OutOfMemory => HoldFault::Memory,
+            ErrorKind::NotFound => HoldFault::Absent,
+            ErrorKind::PermissionDenied | ErrorKind::ReadOnlyFilesystem => HoldFault::Unwritable,
+            _ => HoldFault::Unreadable,
+        }
     }
 }
 

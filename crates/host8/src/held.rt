@@ -1,12 +1,12 @@
 //! Files that this program alone may write.
 
 use crate::besides::Besides;
-use crate::faults::fault_of;
 use crate::looking::bytes_of;
 use crate::{HoldFault, Unwritten};
 use std::fs::{self, File, Files, Metadata, OpenOptions, TryLockError};
 use std::io::{self, ErrorKind, Seek, SeekFrom, Write};
 use std::os::unix::fs::{FileTypeExt, MetadataExt, chown};
+use word12::{BLOCK, FIRST_FILE_BLOCK};
 
 /// How often a file is locked anew whose name led elsewhere meanwhile, and how many names beside it are tried.
 const TRIES: u16 = 1000;
@@ -26,19 +26,14 @@ pub fn hold<R: Files<File = File> + AllocGlobal>(
     rt: &R,
     name: &str,
 ) -> Result<HeldFile, HoldFault> {
-    let path = match fs::canonicalize(rt, name) {
-        Ok(path) => String::from_str(rt.alloc(), path.as_str())?,
-        Err(error) => return Err(fault_of(&error)),
-    };
+    let found = fs::canonicalize(rt, name)?;
+    let path = String::from_str(rt.alloc(), found.as_str())?;
     if is_pipe(rt, &path) {
         return Err(HoldFault::Unwritable);
     }
     let besides = Besides::new(rt.alloc(), &path)?;
     for _ in 0..TRIES {
-        let file = match opened(rt, &path) {
-            Ok(file) => file,
-            Err(error) => return Err(fault_of(&error)),
-        };
+        let file = opened(rt, &path)?;
         let has_lock = locked(&file)?;
         if leads_to(rt, &path, &file) {
             return Ok(HeldFile {
@@ -115,14 +110,8 @@ impl HeldFile {
 
     /// The bytes of the file, or one byte more than `most` where it has more than these.
     pub fn read<R: AllocGlobal>(&self, rt: &R, most: usize) -> Result<Vec<u8>, HoldFault> {
-        let found = match self.file.try_clone() {
-            Ok(file) => bytes_of(rt, file, most),
-            Err(error) => Err(error),
-        };
-        match found {
-            Ok(bytes) => Ok(bytes),
-            Err(error) => Err(fault_of(&error)),
-        }
+        let bytes = bytes_of(rt, self.file.try_clone()?, most)?;
+        Ok(bytes)
     }
 
     /// Has the file hold these bytes, and goes on holding it. No memory is taken.
@@ -133,75 +122,50 @@ impl HeldFile {
         if !stands_alone(&old) {
             return self.write_over(bytes);
         }
-        let Some((file, number)) = self.made_beside(rt) else {
+        let Ok(file) = made_beside(rt, &mut self.besides) else {
             return Err(Unwritten::AsItWas);
         };
-        self.put_beside(rt, file, number, &old, bytes)
+        self.put_beside(rt, file, &old, bytes)
     }
 
-    /// A new file beside this one, with its number.
-    fn made_beside<R: Files<File = File>>(&mut self, rt: &R) -> Option<(File, u16)> {
-        for number in 0..TRIES {
-            let name = self.besides.name(number).ok()?;
-            match created(rt, name) {
-                Ok(file) => return Some((file, number)),
-                Err(error) => match error.kind() {
-                    ErrorKind::AlreadyExists => {}
-                    _ => return None,
-                },
-            }
-        }
-        None
-    }
-
-    /// Writes a new file beside this one whole, and gives it this one's name, unless that leads to another file meanwhile.
+    /// Writes the file that was made beside this one whole, and gives it this one's name, unless that leads to another file meanwhile.
     fn put_beside<R: Files<File = File>>(
         &mut self,
         rt: &R,
         file: File,
-        number: u16,
         old: &Metadata,
         bytes: &[u8],
     ) -> Result<(), Unwritten> {
-        let Ok(beside) = self.besides.name(number) else {
-            return Err(Unwritten::AsItWas);
-        };
+        let beside = self.besides.last();
         let mut own = file;
         let is_whole = taken_over(rt, &own, beside, old).is_ok()
             && locked(&own).is_ok()
             && put_all(&mut own, bytes).is_ok()
             && leads_to(rt, self.path.as_str(), &self.file);
-        if is_whole {
-            match fs::rename(rt, beside, self.path.as_str()) {
-                Ok(()) => {
-                    self.file = own;
-                    return Ok(());
-                }
-                Err(error) => {
-                    let _ = fs::remove_file(rt, beside);
-                    return match error.kind() {
-                        ErrorKind::ResourceBusy => self.write_over(bytes),
-                        _ => Err(Unwritten::AsItWas),
-                    };
-                }
-            }
+        if !is_whole {
+            let _ = fs::remove_file(rt, beside);
+            return Err(Unwritten::AsItWas);
         }
+        let Err(error) = fs::rename(rt, beside, self.path.as_str()) else {
+            self.file = own;
+            return Ok(());
+        };
         let _ = fs::remove_file(rt, beside);
-        Err(Unwritten::AsItWas)
+        match error.kind() {
+            ErrorKind::ResourceBusy => self.write_over(bytes),
+            _ => Err(Unwritten::AsItWas),
+        }
     }
 
     /// Writes the file in its place: the blocks of files first, then those before them, with the directory.
     fn write_over(&mut self, bytes: &[u8]) -> Result<(), Unwritten> {
         let (directory, files) = bytes.split_at(bytes.len().min(DIRECTORY));
-        match put_over(&mut self.file, directory, files) {
-            Ok(()) => Ok(()),
-            Err(_) => Err(Unwritten::InPart),
-        }
+        put_over(&mut self.file, directory, files).map_err(|_| Unwritten::InPart)
     }
 }
 
 /// How many bytes of an image stand before the blocks of files.
-const DIRECTORY: usize = 7 * 512;
+const DIRECTORY: usize = FIRST_FILE_BLOCK * BLOCK * 2;
 
 fn stands_alone(own: &Metadata) -> bool {
     own.is_file() && own.nlink() == 1
@@ -257,13 +221,20 @@ pub fn make<R: Files<File = File> + AllocGlobal>(
         return made_through_link(rt, name, bytes);
     }
     let mut besides = Besides::new(rt.alloc(), name)?;
+    let file = made_beside(rt, &mut besides)?;
+    let done = named(rt, file, besides.last(), name, bytes);
+    let _ = fs::remove_file(rt, besides.last());
+    done
+}
+
+/// A new file of the first of these names that none has.
+fn made_beside<R: Files<File = File>>(rt: &R, besides: &mut Besides) -> Result<File, HoldFault> {
     for number in 0..TRIES {
-        let beside = besides.name(number)?;
-        match created(rt, beside) {
-            Ok(file) => return named(rt, file, beside, name, bytes),
+        match created(rt, besides.name(number)?) {
+            Ok(file) => return Ok(file),
             Err(error) => match error.kind() {
                 ErrorKind::AlreadyExists => {}
-                _ => return Err(fault_of(&error)),
+                _ => return Err(error.into()),
             },
         }
     }
@@ -276,14 +247,9 @@ fn made_through_link<R: Files<File = File>>(
     link: &str,
     bytes: &[u8],
 ) -> Result<(), HoldFault> {
-    let done = match OpenOptions::new().write(true).create(true).open(rt, link) {
-        Ok(file) => put_whole(file, bytes),
-        Err(error) => Err(error),
-    };
-    match done {
-        Ok(()) => Ok(()),
-        Err(error) => Err(fault_of(&error)),
-    }
+    let file = OpenOptions::new().write(true).create(true).open(rt, link)?;
+    put_whole(file, bytes)?;
+    Ok(())
 }
 
 /// Writes a new file whole, and gives it a name that none has.
@@ -294,24 +260,20 @@ fn named<R: Files<File = File>>(
     name: &str,
     bytes: &[u8],
 ) -> Result<(), HoldFault> {
-    let done = match put_whole(file, bytes) {
-        Ok(()) => linked(rt, beside, name),
-        Err(error) => Err(fault_of(&error)),
-    };
-    let _ = fs::remove_file(rt, beside);
-    done
+    put_whole(file, bytes)?;
+    linked(rt, beside, name)
 }
 
 /// Gives a file a further name that none has; where the file system has no further names, its own is changed.
 fn linked<R: Files<File = File>>(rt: &R, beside: &str, name: &str) -> Result<(), HoldFault> {
-    match fs::hard_link(rt, beside, name) {
-        Ok(()) => Ok(()),
-        Err(error) => match error.kind() {
-            ErrorKind::AlreadyExists => Err(HoldFault::Busy),
-            _ => match fs::rename(rt, beside, name) {
-                Ok(()) => Ok(()),
-                Err(error) => Err(fault_of(&error)),
-            },
-        },
+    let Err(error) = fs::hard_link(rt, beside, name) else {
+        return Ok(());
+    };
+    match error.kind() {
+        ErrorKind::AlreadyExists => Err(HoldFault::Busy),
+        _ => {
+            fs::rename(rt, beside, name)?;
+            Ok(())
+        }
     }
 }

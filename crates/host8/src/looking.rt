@@ -1,20 +1,14 @@
 //! Files that are only looked at: no lock is taken, and nothing is written.
 
 use crate::HoldFault;
-use crate::faults::fault_of;
 use std::fs::{self, Files};
 use std::io::{self, Read};
 
 /// The bytes of a file, or one byte more than `most` where it has more than these. A file that another program replaces meanwhile is
 /// read as it was.
 pub fn look<R: Files + AllocGlobal>(rt: &R, name: &str, most: usize) -> Result<Vec<u8>, HoldFault> {
-    match fs::open(rt, name) {
-        Ok(file) => match bytes_of(rt, file, most) {
-            Ok(bytes) => Ok(bytes),
-            Err(error) => Err(fault_of(&error)),
-        },
-        Err(error) => Err(fault_of(&error)),
-    }
+    let bytes = bytes_of(rt, fs::open(rt, name)?, most)?;
+    Ok(bytes)
 }
 
 /// The bytes that are left in an open file, or one byte more than are wanted.

@@ -1,11 +1,12 @@
 -- The lines that list the words of a tape.
 use Rattle.std.specs.Prelude.{ℕ, zero, suc, ◌/◌, ◌%◌, Option, None, Some, List, [], ◌∷◌, ◌++◌}
+use Rattle.word12.specs.declared.sizes.TheConstants.{FIELD}
 use Rattle.word12.specs.Octal.{octal_digit, octal4}
 use Rattle.bin_tape.specs.Items.{Item, tape_map}
 
 -- the line of a cell with its word: field, address and word in octal
 abbrev pub cell_line : ℕ → ℕ → List ℕ
-cell_line cell word = octal_digit (cell / 0o10000) ∷ 0o40 ∷ octal4 (cell % 0o10000) ++ 0o40 ∷ octal4 word ++ 0o12 ∷ []
+cell_line cell word = octal_digit (cell / FIELD) ∷ 0o40 ∷ octal4 (cell % FIELD) ++ 0o40 ∷ octal4 word ++ 0o12 ∷ []
 
 -- the line of a cell that a tape gives a word
 abbrev pub line_of : Option ℕ → ℕ → List ℕ

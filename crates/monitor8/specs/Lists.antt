@@ -1,6 +1,7 @@
 -- What listing a tape does to a reader and a writer.
 use Rattle.std.specs.Prelude.{◌≡◌, ℕ, Result, Ok, Err, Option, List}
 use Rattle.std.specs.Io.KnownBytes.{Appends, Keeps}
+use Rattle.word12.specs.declared.sizes.TheConstants.{CORE}
 use Rattle.bin_tape.specs.Items.{Item}
 use Rattle.bin_tape.specs.Tape.{IsTape}
 use Rattle.bin_tape.specs.Fault.{IsFault}
@@ -13,7 +14,7 @@ use Rattle.script8.specs.declared.faults.SessionFault.TheVariants.{Tape, Reader,
 pub record IsListed (frames text : List ℕ) : Type 0 where
   pub items : List Item
   pub is_tape : IsTape frames items
-  pub lines : text ≡ lines_below items 0o100000
+  pub lines : text ≡ lines_below items CORE
 
 -- What listing a reader's tape comes to: its lines are written and nothing else; on a fault of the tape, of the reader
 -- or of memory nothing is written.

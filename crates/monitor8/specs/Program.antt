@@ -1,5 +1,6 @@
 -- The lines that the program prints beside those of a session (this project's profile).
 use Rattle.std.specs.Prelude.{ℕ, ◌/◌, ◌%◌, codes, decimal, List, [], ◌∷◌, ◌++◌}
+use Rattle.word12.specs.declared.sizes.TheConstants.{FIELD}
 use Rattle.word12.specs.Octal.{octal_digit, octal4}
 use Rattle.core_image.specs.declared.faults.CoreFault.{CoreFault}
 use Rattle.core_image.specs.declared.faults.CoreFault.TheVariants as core
@@ -46,7 +47,7 @@ core_text core.Memory = codes "? 10 MEMORY"
 
 -- the field and the address of a cell
 abbrev pub cell_text : ℕ → List ℕ
-cell_text cell = octal_digit (cell / 0o10000) ∷ octal4 (cell % 0o10000)
+cell_text cell = octal_digit (cell / FIELD) ∷ octal4 (cell % FIELD)
 
 -- where a machine halted: the cell before which it stands, AC and L
 abbrev pub halted_text : ℕ → ℕ → ℕ → List ℕ

@@ -1,6 +1,7 @@
-ghost use Rattle.std.specs.Prelude.{MatchResult};
+ghost use Rattle.std.specs.Prelude.{◌≡◌, MatchResult};
 ghost use Rattle.char_pack.specs.Packing.{packed};
 ghost use Rattle.core_image.specs.Converted.{IsBinOf};
+ghost use Rattle.core_image.specs.declared.faults.CoreFault.TheVariants.{Memory};
 ghost use Rattle.monitor8.specs.Cores.{IsCoreFault};
 
 use char_pack::{PackFault, pack};
@@ -13,8 +14,15 @@ pub fn core_tape(alloc: Global, given: &[u8]) -> Result<(Vec<u8>, Cell), CoreFau
     ensures { MatchResult result (λ bin. IsBinOf (packed given.now) bin.0.items bin.1)
         (λ fault. IsCoreFault given.now fault) }
 {
-    match pack(alloc, given) {
-        Ok(words) => bin_tape(alloc, &words),
-        Err(PackFault::Memory) => Err(CoreFault::Memory),
+    let words = pack(alloc, given).map_err(want_of_memory)?;
+    bin_tape(alloc, &words)
+}
+
+/// Want of memory for words, as that for their tape.
+fn want_of_memory(fault: PackFault) -> CoreFault
+    ensures { result ≡ Memory }
+{
+    match fault {
+        PackFault::Memory => CoreFault::Memory,
     }
 }

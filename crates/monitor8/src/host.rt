@@ -1,11 +1,13 @@
 //! The program over the files and the streams of a host. What it does with bytes is in the functions that it calls; here
 //! files are read and written, and exit statuses are given.
 
+use crate::listings::write_out;
 use crate::{
     ProgramLine, RimTextFault, SourceFault, Task, TaskFault, put_program, rim_text, source_text,
     tape_text, task,
 };
 use command8::RimForm;
+use core_image::CoreFault;
 use host8::Unwritten;
 use script8::{SessionFault, put_reply};
 use session8::read_all;
@@ -24,9 +26,9 @@ mod runs;
 mod streams;
 mod teletypes;
 
-use archives::{check_volume, get_bin, get_file, list_files, put_file};
+use archives::{bytes_of_file, check_volume, get_bin, list_files, put_file};
 use assembling::assemble_files;
-use hints::is_rim;
+use hints::tell_rim;
 use images::{Content, make_file};
 use runs::run_image;
 use streams::Output;
@@ -40,10 +42,9 @@ const ABANDONED: u8 = 141;
 enum Ended {
     Line(ProgramLine),
     Fault(SessionFault),
-    Words(clap::Error),
     NoText,
 
-    /// Words that `clap` takes and the program refuses.
+    /// Words that `clap` or the program refuses.
     Refused(TaskFault),
     Told,
 
@@ -70,8 +71,63 @@ impl From<AllocError> for Ended {
 
     ghost from_gives = { λ _ ended. ended ≡ Fault Memory };
 
-    fn from(_error: AllocError) -> Ended {
-        Ended::Fault(SessionFault::Memory)
+    fn from(error: AllocError) -> Ended {
+        Ended::Fault(error.into())
+    }
+}
+
+impl From<SessionFault> for Ended {
+    fn from(fault: SessionFault) -> Ended {
+        Ended::Fault(fault)
+    }
+}
+
+impl From<TaskFault> for Ended {
+    fn from(fault: TaskFault) -> Ended {
+        match fault {
+            TaskFault::Memory => Ended::Fault(SessionFault::Memory),
+            _ => Ended::Refused(fault),
+        }
+    }
+}
+
+impl From<SourceFault> for Ended {
+    fn from(fault: SourceFault) -> Ended {
+        match fault {
+            SourceFault::NoWord => Ended::Line(ProgramLine::NoWord),
+            SourceFault::Session(fault) => Ended::Fault(fault),
+        }
+    }
+}
+
+impl From<RimTextFault> for Ended {
+    fn from(fault: RimTextFault) -> Ended {
+        match fault {
+            RimTextFault::Rim(fault) => Ended::Line(ProgramLine::Rim(fault)),
+            RimTextFault::Session(fault) => Ended::Fault(fault),
+        }
+    }
+}
+
+impl From<CoreFault> for Ended {
+    fn from(fault: CoreFault) -> Ended {
+        Ended::Line(ProgramLine::Core(fault))
+    }
+}
+
+impl From<ImageFault> for Ended {
+    fn from(fault: ImageFault) -> Ended {
+        Ended::Line(ProgramLine::Image(fault))
+    }
+}
+
+/// A failed call for what is read.
+impl From<io::Error> for Ended {
+    fn from(error: io::Error) -> Ended {
+        match error.kind() {
+            ErrorKind::OutOfMemory => Ended::Fault(SessionFault::Memory),
+            _ => Ended::Fault(SessionFault::Reader),
+        }
     }
 }
 
@@ -131,7 +187,7 @@ where
         Task::Run(image, form) => run_image(rt, &image, form),
         Task::Create(image, blocks) => create_image(rt, &image, blocks),
         Task::List(image) => list_files(rt, &image),
-        Task::Get(image, name, form) => get_file(rt, &image, &name, form),
+        Task::Get(image, name, form) => print_line(rt, &bytes_of_file(rt, &image, &name, form)?),
         Task::GetBin(image, name) => get_bin(rt, &image, &name),
         Task::Put(image, name, form) => put_file(rt, &image, &name, form),
         Task::Check(image) => check_volume(rt, &image),
@@ -145,13 +201,13 @@ fn told<R: Print + Eprint + AllocGlobal>(rt: &R, ended: Ended, is_data: bool) ->
         Ended::Line(text) => put_program(&text, &mut line),
         Ended::Fault(SessionFault::Writer) | Ended::Told => return ExitCode::FAILURE,
         Ended::Fault(fault) => put_reply(None, &Err(fault), &mut line),
-        Ended::Words(error) => {
-            let _ = error.print(rt);
-            return ExitCode::from(error.exit_code() as u8);
-        }
         Ended::NoText => {
             let _ = rt.eprint("error: a word of the command line is not UTF-8 text\n");
             return ExitCode::from(2);
+        }
+        Ended::Refused(TaskFault::Words(error)) => {
+            let _ = error.print(rt);
+            return ExitCode::from(error.exit_code() as u8);
         }
         Ended::Refused(fault) => {
             tell_refusal(rt, &fault);
@@ -181,11 +237,9 @@ fn told<R: Print + Eprint + AllocGlobal>(rt: &R, ended: Ended, is_data: bool) ->
 fn write_line<R: Print + Eprint>(rt: &R, line: &[u8], is_error: bool) {
     if is_error {
         tell_text(rt, line);
-        return;
+    } else {
+        let _ = print_line(rt, line);
     }
-    let mut writer = io::writer(rt);
-    let _ = writer.write_all(line);
-    let _ = writer.flush();
 }
 
 /// Says why words are refused, as `clap` says it of those that it refuses itself.
@@ -206,22 +260,10 @@ fn words_on(held: Unwritten) -> &'static str {
 
 /// What the words of the command line ask for.
 fn read_words<R: Env + AllocGlobal>(rt: &R) -> Result<Task, Ended> {
-    let words = match all_words(rt) {
-        Ok(words) => words,
-        Err(error) => return Err(no_words(&error)),
-    };
+    let words: Vec<String> = env::args(rt).map_err(no_words)?.collect(rt.alloc())?;
     let texts = texts_of(rt.alloc(), &words)?;
-    match task(rt.alloc(), &texts) {
-        Ok(task) => Ok(task),
-        Err(TaskFault::Words(error)) => Err(Ended::Words(error)),
-        Err(TaskFault::Memory) => Err(Ended::Fault(SessionFault::Memory)),
-        Err(fault) => Err(Ended::Refused(fault)),
-    }
-}
-
-fn all_words<R: Env + AllocGlobal>(rt: &R) -> io::Result<Vec<String>> {
-    let words: Vec<String> = env::args(rt)?.collect(rt.alloc())?;
-    Ok(words)
+    let task = task(rt.alloc(), &texts)?;
+    Ok(task)
 }
 
 fn texts_of(alloc: Global, words: &[String]) -> Result<Vec<&str>, AllocError> {
@@ -232,7 +274,7 @@ fn texts_of(alloc: Global, words: &[String]) -> Result<Vec<&str>, AllocError> {
     Ok(texts)
 }
 
-fn no_words(error: &io::Error) -> Ended {
+fn no_words(error: io::Error) -> Ended {
     match error.kind() {
         ErrorKind::OutOfMemory => Ended::Fault(SessionFault::Memory),
         _ => Ended::NoText,
@@ -241,46 +283,25 @@ fn no_words(error: &io::Error) -> Ended {
 
 /// Lists the tape on standard input.
 fn list_tape<R: Input + Print + Eprint + AllocGlobal>(rt: &R) -> Result<(), Ended> {
-    let frames = match read_all(rt.alloc(), &mut rt.reader()) {
-        Ok(frames) => frames,
-        Err(fault) => return Err(Ended::Fault(fault)),
-    };
-    match tape_text(rt.alloc(), &mut frames.as_slice(), &mut io::writer(rt)) {
-        Ok(()) => Ok(()),
-        Err(fault) => {
-            if is_tape_fault(&fault) && is_rim(&frames) {
-                let _ = rt.eprint(
-                    "note: the frames are a RIM tape: addresses and words in turn, and no check sum; a BIN tape is wanted\n",
-                );
-            }
-            Err(Ended::Fault(fault))
-        }
+    let frames = read_all(rt.alloc(), &mut rt.reader())?;
+    let listed = tape_text(rt.alloc(), &mut frames.as_slice(), &mut io::writer(rt));
+    if let Err(SessionFault::Tape(_)) = &listed {
+        tell_rim(rt, &frames);
     }
-}
-
-fn is_tape_fault(fault: &SessionFault) -> bool {
-    match fault {
-        SessionFault::Tape(_) => true,
-        _ => false,
-    }
+    listed?;
+    Ok(())
 }
 
 /// Writes the words of the RIM tape on standard input.
 fn write_rim<R: Input + Print + AllocGlobal>(rt: &R, form: RimForm) -> Result<(), Ended> {
-    match rim_text(rt.alloc(), &mut rt.reader(), &mut io::writer(rt), form) {
-        Ok(()) => Ok(()),
-        Err(RimTextFault::Rim(fault)) => Err(Ended::Line(ProgramLine::Rim(fault))),
-        Err(RimTextFault::Session(fault)) => Err(Ended::Fault(fault)),
-    }
+    rim_text(rt.alloc(), &mut rt.reader(), &mut io::writer(rt), form)?;
+    Ok(())
 }
 
 /// Writes the source of the tape on standard input.
 fn write_source<R: Input + Print + AllocGlobal>(rt: &R) -> Result<(), Ended> {
-    match source_text(rt.alloc(), &mut rt.reader(), &mut io::writer(rt)) {
-        Ok(()) => Ok(()),
-        Err(SourceFault::NoWord) => Err(Ended::Line(ProgramLine::NoWord)),
-        Err(SourceFault::Session(fault)) => Err(Ended::Fault(fault)),
-    }
+    source_text(rt.alloc(), &mut rt.reader(), &mut io::writer(rt))?;
+    Ok(())
 }
 
 /// Writes an empty volume to a file, in place of any file of that name.
@@ -289,38 +310,25 @@ fn create_image<R: Files<File = File> + Print + Eprint + AllocGlobal>(
     image: &str,
     blocks: usize,
 ) -> Result<(), Ended> {
-    let bytes = match empty_image(rt, blocks) {
-        Ok(bytes) => bytes,
-        Err(fault) => return Err(Ended::Line(ProgramLine::Image(fault))),
-    };
+    let bytes = MemoryVolume::create(rt.alloc(), blocks)?.to_bytes(rt.alloc())?;
     make_file(rt, image, &bytes, Content::Image)?;
     let mut line = Vec::new(rt.alloc());
-    match put_program(&ProgramLine::Created(blocks), &mut line) {
-        Ok(()) => print_line(rt, &line),
-        Err(fault) => Err(Ended::Fault(fault)),
-    }
-}
-
-fn empty_image<R: AllocGlobal>(rt: &R, blocks: usize) -> Result<Vec<u8>, ImageFault> {
-    let volume = MemoryVolume::create(rt.alloc(), blocks)?;
-    volume.to_bytes(rt.alloc())
+    put_program(&ProgramLine::Created(blocks), &mut line)?;
+    print_line(rt, &line)
 }
 
 fn print_line<R: Print>(rt: &R, line: &[u8]) -> Result<(), Ended> {
-    let mut writer = io::writer(rt);
-    if writer.write_all(line).is_err() || writer.flush().is_err() {
-        return Err(Ended::Fault(SessionFault::Writer));
-    }
+    write_out(&mut io::writer(rt), line)?;
     Ok(())
 }
 
 /// Writes data to standard output, and says why where that takes no more.
 fn print_data<R: Print>(rt: &R, data: &[u8]) -> Result<(), Ended> {
     let mut output = Output::new(rt);
-    match output.write_all(data) {
-        Ok(()) => Ok(()),
-        Err(_) => Err(unprinted(&output)),
+    if output.write_all(data).is_err() {
+        return Err(unprinted(&output));
     }
+    Ok(())
 }
 
 /// How a command ends that could not write its data.
@@ -334,10 +342,7 @@ fn unprinted<R>(output: &Output<'_, R>) -> Ended {
 /// Tells a line on standard error that is no fault.
 fn tell_line<R: Eprint + AllocGlobal>(rt: &R, line: &ProgramLine) -> Result<(), Ended> {
     let mut text = Vec::new(rt.alloc());
-    match put_program(line, &mut text) {
-        Ok(()) => {}
-        Err(fault) => return Err(Ended::Fault(fault)),
-    }
+    put_program(line, &mut text)?;
     tell_text(rt, &text);
     Ok(())
 }

@@ -1,6 +1,7 @@
 ghost use Rattle.std.specs.Prelude.{◌≡◌, ℕ, ◌≤◌, ◌++◌, List, Option, IfOk, OnOk, IfErr, MatchResult};
 ghost use Rattle.std.specs.Io.KnownBytes.{Appends};
 ghost use Rattle.bin_tape.specs.Map.{IsMapOf};
+ghost use Rattle.word12.specs.declared.sizes.TheConstants.{CORE};
 ghost use Rattle.session8.specs.Reading.{TakesBytes};
 ghost use Rattle.monitor8.specs.Listing.{cell_line, line_of, lines_below};
 ghost use Rattle.monitor8.specs.Lists.{IsListed, ListsTape};
@@ -12,7 +13,7 @@ use script8::SessionFault;
 use session8::read_all;
 use std::alloc::{AllocError, Global};
 use std::io::{Read, Write};
-use word12::{Cell, Word};
+use word12::{CORE, Cell, Word};
 
 /// Reads a BIN tape to the reader's end, and writes a line `F AAAA WWWW` for each cell that it gives a word, by rising
 /// field and address, with the last word that it gives it.
@@ -47,10 +48,10 @@ fn text_of(alloc: Global, frames: &[u8]) -> Result<Vec<u8>, SessionFault>
 /// The lines of the cells that have a word, by rising cell.
 pub(crate) fn listing(alloc: Global, map: &TapeMap) -> Result<Vec<u8>, AllocError>
     ensures { IfOk result (λ text. (frames : List ℕ) → (of : IsMapOf frames map.now)
-        → text.items ≡ lines_below of.items 0o100000) }
+        → text.items ≡ lines_below of.items CORE) }
 {
     let mut text = Vec::new(alloc);
-    for number in 0u32..32768 {
+    for number in 0..CORE as u32 {
         let cell = Cell::of(number);
         put_cell(&mut text, cell, map.get(cell))?;
     }

@@ -7,7 +7,7 @@ ghost use Rattle.rim_tape.specs.Fault.{IsFault};
 ghost use Rattle.rim_tape.specs.declared.faults.RimFault.TheVariants as rim;
 ghost use Rattle.monitor8.specs.Lists.{IsListed};
 ghost use Rattle.monitor8.specs.Rims.{IsRimWritten, WritesRim};
-ghost use Rattle.monitor8.specs.declared.rims.RimTextFault.TheVariants.{Session};
+ghost use Rattle.monitor8.specs.declared.rims.RimTextFault.TheVariants.{Rim, Session};
 
 use crate::listings::{listing, write_out};
 use bin_tape::laws::no_fault;
@@ -29,6 +29,22 @@ pub enum RimTextFault {
     Session(SessionFault),
 }
 
+impl From<SessionFault> for RimTextFault {
+    ghost from_gives = { λ session fault. fault ≡ Session session };
+
+    fn from(fault: SessionFault) -> RimTextFault {
+        RimTextFault::Session(fault)
+    }
+}
+
+impl From<RimFault> for RimTextFault {
+    ghost from_gives = { λ rim fault. fault ≡ Rim rim };
+
+    fn from(fault: RimFault) -> RimTextFault {
+        RimTextFault::Rim(fault)
+    }
+}
+
 /// Writes the BIN tape of the words of a reader's RIM tape, or their lines as those of that BIN tape (Small Computer Handbook,
 /// read-in mode loader; this project's profile). The whole reader is read, at most 16,777,217 bytes, before anything is written; where
 /// the last of these comes, the answer is `Reader`.
@@ -44,18 +60,10 @@ pub fn rim_text<R: Read, W: Write>(
         × (count ≤ 16777217)
         × (count ≡ 16777217 → result ≡ Err (Session fault.Reader)) }
 {
-    let frames = match read_all(alloc, reader) {
-        Ok(frames) => frames,
-        Err(fault) => return Err(RimTextFault::Session(fault)),
-    };
-    let bytes = match written(alloc, &frames, form) {
-        Ok(bytes) => bytes,
-        Err(fault) => return Err(RimTextFault::Rim(fault)),
-    };
-    match write_out(writer, &bytes) {
-        Ok(()) => Ok(()),
-        Err(fault) => Err(RimTextFault::Session(fault)),
-    }
+    let frames = read_all(alloc, reader)?;
+    let bytes = written(alloc, &frames, form)?;
+    write_out(writer, &bytes)?;
+    Ok(())
 }
 
 /// What is written of a RIM tape.

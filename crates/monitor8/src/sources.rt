@@ -2,7 +2,7 @@ ghost use Rattle.std.specs.Prelude.{◌≡◌, ℕ, ◌≤◌, Err};
 ghost use Rattle.session8.specs.Reading.{TakesBytes};
 ghost use Rattle.script8.specs.declared.faults.SessionFault.TheVariants as fault;
 ghost use Rattle.monitor8.specs.declared.sources.SourceFault.TheVariants.{Session};
-ghost use Rattle.monitor8.specs.Written.{WritesSource};
+ghost use Rattle.monitor8.specs.Written.{WritesSource, fault_of_list};
 
 use crate::listings::write_out;
 use pal_list::{ListFault, source_of};
@@ -21,6 +21,26 @@ pub enum SourceFault {
     Session(SessionFault),
 }
 
+impl From<SessionFault> for SourceFault {
+    ghost from_gives = { λ session fault. fault ≡ Session session };
+
+    fn from(fault: SessionFault) -> SourceFault {
+        SourceFault::Session(fault)
+    }
+}
+
+impl From<ListFault> for SourceFault {
+    ghost from_gives = { λ list fault. fault ≡ fault_of_list list };
+
+    fn from(fault: ListFault) -> SourceFault {
+        match fault {
+            ListFault::Tape(fault) => SourceFault::Session(SessionFault::Tape(fault)),
+            ListFault::NoWord => SourceFault::NoWord,
+            ListFault::Memory => SourceFault::Session(SessionFault::Memory),
+        }
+    }
+}
+
 /// Writes the PAL III source of the tape of a reader: it assembles without a fault to the last words that the tape gives its cells
 /// (PAL III Symbolic Assembler manual, and this project's profile of it). The whole reader is read, at most 16,777,217 bytes, before
 /// anything is written; where the last of these comes, the answer is `Reader`.
@@ -35,18 +55,8 @@ pub fn source_text<R: Read, W: Write>(
         × (count ≤ 16777217)
         × (count ≡ 16777217 → result ≡ Err (Session fault.Reader)) }
 {
-    let frames = match read_all(alloc, reader) {
-        Ok(frames) => frames,
-        Err(fault) => return Err(SourceFault::Session(fault)),
-    };
-    let text = match source_of(alloc, &frames) {
-        Ok(text) => text,
-        Err(ListFault::Tape(fault)) => return Err(SourceFault::Session(SessionFault::Tape(fault))),
-        Err(ListFault::NoWord) => return Err(SourceFault::NoWord),
-        Err(ListFault::Memory) => return Err(SourceFault::Session(SessionFault::Memory)),
-    };
-    match write_out(writer, &text) {
-        Ok(()) => Ok(()),
-        Err(fault) => Err(SourceFault::Session(fault)),
-    }
+    let frames = read_all(alloc, reader)?;
+    let text = source_of(alloc, &frames)?;
+    write_out(writer, &text)?;
+    Ok(())
 }

@@ -17,24 +17,8 @@ pub fn list_files<R: Files + Print + Eprint + AllocGlobal>(
     image: &str,
 ) -> Result<(), Ended> {
     let bytes = seen(rt, image)?;
-    match list(rt.alloc(), &bytes) {
-        Ok(text) => print_line(rt, &text),
-        Err(fault) => Err(ended(rt, bytes.len(), fault)),
-    }
-}
-
-/// Writes what a file has on the volume in an image file.
-pub fn get_file<R: Files + Print + Eprint + AllocGlobal>(
-    rt: &R,
-    image: &str,
-    name: &str,
-    form: GetForm,
-) -> Result<(), Ended> {
-    let bytes = seen(rt, image)?;
-    match get(rt.alloc(), &bytes, name.as_bytes(), form) {
-        Ok(given) => print_line(rt, &given),
-        Err(fault) => Err(ended(rt, bytes.len(), fault)),
-    }
+    let text = made(rt, bytes.len(), list(rt.alloc(), &bytes))?;
+    print_line(rt, &text)
 }
 
 /// Writes the BIN tape of a core image on the volume in an image file, and tells on standard error where its program starts.
@@ -54,28 +38,21 @@ pub fn core_of_file<R: Files + Eprint + AllocGlobal>(
     image: &str,
     name: &str,
 ) -> Result<(Vec<u8>, Cell), Ended> {
-    let bytes = seen(rt, image)?;
-    let frames = match get(rt.alloc(), &bytes, name.as_bytes(), GetForm::Frames) {
-        Ok(frames) => frames,
-        Err(fault) => return Err(ended(rt, bytes.len(), fault)),
-    };
-    match core_tape(rt.alloc(), &frames) {
-        Ok(core) => Ok(core),
-        Err(fault) => Err(Ended::Line(ProgramLine::Core(fault))),
-    }
+    let frames = bytes_of_file(rt, image, name, GetForm::Frames)?;
+    let core = core_tape(rt.alloc(), &frames)?;
+    Ok(core)
 }
 
-/// The frames of the BIN tape that a file begins with, on the volume in an image file.
-pub fn tape_of_file<R: Files + Eprint + AllocGlobal>(
+/// What a file has on the volume in an image file.
+pub fn bytes_of_file<R: Files + Eprint + AllocGlobal>(
     rt: &R,
     image: &str,
     name: &str,
+    form: GetForm,
 ) -> Result<Vec<u8>, Ended> {
     let bytes = seen(rt, image)?;
-    match get(rt.alloc(), &bytes, name.as_bytes(), GetForm::Tape) {
-        Ok(frames) => Ok(frames),
-        Err(fault) => Err(ended(rt, bytes.len(), fault)),
-    }
+    let given = get(rt.alloc(), &bytes, name.as_bytes(), form);
+    made(rt, bytes.len(), given)
 }
 
 /// Makes the bytes on standard input a file on the volume in an image file, and writes the image back.
@@ -86,29 +63,19 @@ pub fn put_file<R: Files<File = File> + Input + Print + Eprint + AllocGlobal>(
     form: PutForm,
 ) -> Result<(), Ended> {
     let mut held = Image::open(rt, image)?;
-    let given = match read_all(rt.alloc(), &mut rt.reader()) {
-        Ok(given) => given,
-        Err(fault) => return Err(Ended::Fault(fault)),
-    };
-    let new = match put(rt.alloc(), held.bytes(), name.as_bytes(), &given, form) {
-        Ok(new) => new,
-        Err(fault) => {
-            if is_bad_text(&fault) {
-                tell_bad_text(rt, &given);
-            }
-            return Err(ended(rt, held.bytes().len(), fault));
-        }
-    };
+    let given = read_all(rt.alloc(), &mut rt.reader())?;
+    let done = put(rt.alloc(), held.bytes(), name.as_bytes(), &given, form);
+    if let Err(ArchiveFault::Refused(SessionFault::BadText)) = &done {
+        tell_bad_text(rt, &given);
+    }
+    let new = made(rt, held.bytes().len(), done)?;
     let stored = Reply::Line(LineReply::Stored {
         name: new.name,
         blocks: new.blocks,
     });
     let mut bytes = new.bytes;
     let mut line = Vec::new(rt.alloc());
-    match put_reply(None, &Ok(stored), &mut line) {
-        Ok(()) => {}
-        Err(fault) => return Err(Ended::Fault(fault)),
-    }
+    put_reply(None, &Ok(stored), &mut line)?;
     held.save(rt, &mut bytes)?;
     print_line(rt, &line)
 }
@@ -119,24 +86,19 @@ pub fn check_volume<R: Files + Print + Eprint + AllocGlobal>(
     image: &str,
 ) -> Result<(), Ended> {
     let bytes = seen(rt, image)?;
-    match check(rt.alloc(), &bytes) {
-        Ok(text) => print_line(rt, &text),
-        Err(fault) => Err(ended(rt, bytes.len(), fault)),
-    }
+    let text = made(rt, bytes.len(), check(rt.alloc(), &bytes))?;
+    print_line(rt, &text)
 }
 
-fn is_bad_text(fault: &ArchiveFault) -> bool {
-    match fault {
-        ArchiveFault::Refused(SessionFault::BadText) => true,
-        _ => false,
-    }
-}
-
-/// How a command ends that was refused an image of so many bytes, or a file of it.
-fn ended<R: Eprint>(rt: &R, size: usize, fault: ArchiveFault) -> Ended {
-    match fault {
+/// What was made of an image of so many bytes. Where it or a file of it is refused, what may help is said.
+fn made<T: Drop, R: Eprint>(
+    rt: &R,
+    size: usize,
+    done: Result<T, ArchiveFault>,
+) -> Result<T, Ended> {
+    done.map_err(|fault| match fault {
         ArchiveFault::Image(fault) => refused_image(rt, size, ProgramLine::Image(fault)),
         ArchiveFault::Directory(fault) => refused_image(rt, size, ProgramLine::Directory(fault)),
         ArchiveFault::Refused(fault) => Ended::Fault(fault),
-    }
+    })
 }

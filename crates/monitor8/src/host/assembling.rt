@@ -10,7 +10,7 @@ use script8::SessionFault;
 use source_listing::{ListingForm, list_sources};
 use std::alloc::{AllocError, Global};
 use std::fs::{File, Files};
-use std::io::{ErrorKind, Input, Read};
+use std::io::{Input, Read};
 
 /// The name of a standard stream where a file's may stand.
 const STANDARD: &str = "-";
@@ -27,15 +27,19 @@ pub fn assemble_files<R: Files<File = File> + Input + Print + Eprint + AllocGlob
     refuse_clashes(rt, form)?;
     let texts = read_sources(rt, &form.sources)?;
     let sources = slices_of(rt.alloc(), &texts)?;
-    let tape = match assemble_sources(rt.alloc(), &sources) {
-        Ok(tape) => tape,
-        Err(fault) => return Err(refused(rt, form, &sources, fault)?),
-    };
+    let tape = assemble_sources(rt.alloc(), &sources).map_err(|fault| refused(
+        rt, form, &sources, fault,
+    ))?;
     if let Some(name) = &form.list {
-        match list_sources(rt.alloc(), &sources, listing_form(form)) {
-            Ok(listing) => write_to(rt, name, &listing, Content::Listing)?,
-            Err(fault) => return Err(refused(rt, form, &sources, fault)?),
-        }
+        let shown = if form.is_cross {
+            ListingForm::Cross
+        } else {
+            ListingForm::Symbols
+        };
+        let listing = list_sources(rt.alloc(), &sources, shown).map_err(|fault| refused(
+            rt, form, &sources, fault,
+        ))?;
+        write_to(rt, name, &listing, Content::Listing)?;
     }
     match &form.output {
         Some(name) => write_to(rt, name, &tape, Content::Tape),
@@ -91,23 +95,28 @@ fn write_to<R: Files<File = File> + Print + Eprint + AllocGlobal>(
     make_file(rt, name, bytes, content)
 }
 
-fn listing_form(form: &AssembleForm) -> ListingForm {
-    if form.is_cross {
-        ListingForm::Cross
-    } else {
-        ListingForm::Symbols
-    }
-}
-
-/// Tells the fault of sources on standard error, and further words that have one each.
+/// How a command ends whose sources have a fault, which is told.
 fn refused<R: Eprint + AllocGlobal>(
     rt: &R,
     form: &AssembleForm,
     sources: &[&[u8]],
     fault: SourceFault,
-) -> Result<Ended, Ended> {
+) -> Ended {
+    match tell_faults(rt, form, sources, fault) {
+        Ok(()) => Ended::Told,
+        Err(ended) => ended,
+    }
+}
+
+/// Tells the fault of sources on standard error, and further words that have one each.
+fn tell_faults<R: Eprint + AllocGlobal>(
+    rt: &R,
+    form: &AssembleForm,
+    sources: &[&[u8]],
+    fault: SourceFault,
+) -> Result<(), Ended> {
     match fault {
-        SourceFault::Memory => Ok(Ended::Fault(SessionFault::Memory)),
+        SourceFault::Memory => Err(Ended::Fault(SessionFault::Memory)),
         SourceFault::At(first) => {
             let names = texts_of(rt.alloc(), &form.sources)?;
             tell_text(rt, &fault_text(rt.alloc(), sources, &names, first)?);
@@ -121,11 +130,11 @@ fn tell_further<R: Eprint + AllocGlobal>(
     rt: &R,
     sources: &[&[u8]],
     names: &[&str],
-) -> Result<Ended, Ended> {
+) -> Result<(), Ended> {
     let further = match further_faults(rt.alloc(), sources, MOST_FURTHER) {
         Ok(further) => further,
         Err(SourceFault::Memory) => return Err(Ended::Fault(SessionFault::Memory)),
-        Err(SourceFault::At(_)) => return Ok(Ended::Told),
+        Err(SourceFault::At(_)) => return Ok(()),
     };
     if !further.is_empty() {
         tell_text(rt, b"note: these words have a fault too:\n");
@@ -134,7 +143,7 @@ fn tell_further<R: Eprint + AllocGlobal>(
         let text = fault_text(rt.alloc(), sources, names, *fault)?;
         tell_unnumbered(rt, &text);
     }
-    Ok(Ended::Told)
+    Ok(())
 }
 
 /// Tells the lines of a further fault without the numbered one, which is that of the first fault alone.
@@ -169,7 +178,9 @@ fn read_source<R: Files + Input + Eprint + AllocGlobal>(
     name: &str,
 ) -> Result<Vec<u8>, Ended> {
     if name == STANDARD {
-        return read_input(rt);
+        let mut bytes = Vec::new(rt.alloc());
+        rt.reader().read_to_end(&mut bytes)?;
+        return Ok(bytes);
     }
     match look(rt, name, usize::MAX) {
         Ok(bytes) => Ok(bytes),
@@ -178,18 +189,6 @@ fn read_source<R: Files + Input + Eprint + AllocGlobal>(
             let _ = eprintln!(rt; "error: the source {name} can't be read");
             Err(Ended::Line(ProgramLine::HostRead))
         }
-    }
-}
-
-/// All of standard input.
-fn read_input<R: Input + AllocGlobal>(rt: &R) -> Result<Vec<u8>, Ended> {
-    let mut bytes = Vec::new(rt.alloc());
-    match rt.reader().read_to_end(&mut bytes) {
-        Ok(_) => Ok(bytes),
-        Err(error) => match error.kind() {
-            ErrorKind::OutOfMemory => Err(Ended::Fault(SessionFault::Memory)),
-            _ => Err(Ended::Fault(SessionFault::Reader)),
-        },
     }
 }
 

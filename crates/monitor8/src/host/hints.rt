@@ -5,15 +5,17 @@ use crate::ProgramLine;
 use archive8::bad_text_at;
 use command8::SCRIPT_LINES;
 use os8_dir::DirFault;
+use rim_tape::RimFault;
+use word12::{BLOCK, MOST_BLOCKS};
 
 /// The bytes of a whole RK05 disk.
-const RK05: usize = 2 * 3248 * 512;
+const RK05: usize = 2 * 3248 * BLOCK * 2;
 
 /// The bytes of a DECtape, 1474 blocks of 129 words.
 const DECTAPE: usize = 1474 * 129 * 2;
 
 /// The most bytes that an image has.
-const IMAGE: usize = 4095 * 512;
+const IMAGE: usize = MOST_BLOCKS * BLOCK * 2;
 
 /// What is said of a line whose first word is no command.
 const COMMANDS: &str =
@@ -54,48 +56,15 @@ pub fn tell_bad_text<R: Eprint>(rt: &R, text: &[u8]) {
     }
 }
 
-/// What the next frame of a RIM tape is.
-#[derive(Clone, Copy)]
-enum Due {
-    /// A frame of the leader, or the first of an address.
-    Leader,
-
-    /// The first frame of an address, or the trailer.
-    Address,
-    AddressEnd,
-    Word,
-    WordEnd,
-
-    /// Anything: the trailer was there.
-    Nothing,
-}
-
-/// Whether frames are those of a RIM tape (Small Computer Handbook): behind the leader, an address and a word in turn, of two frames
-/// each, up to the trailer. Channel 7 marks the first frame of an address, and there is no check sum.
-pub fn is_rim(frames: &[u8]) -> bool {
-    let mut due = Due::Leader;
-    for frame in frames {
-        match due_behind(due, *frame) {
-            Some(next) => due = next,
-            None => return false,
+/// Says that frames which are no BIN tape are a RIM tape, where they are one.
+pub fn tell_rim<R: Eprint + AllocGlobal>(rt: &R, frames: &[u8]) {
+    match rim_tape::read(rt.alloc(), frames) {
+        Ok(_) | Err(RimFault::Memory) => {
+            let _ = rt.eprint(
+                "note: the frames are a RIM tape: addresses and words in turn, and no check sum; a BIN tape is wanted\n",
+            );
         }
-    }
-    match due {
-        Due::Nothing => true,
-        Due::Leader | Due::Address | Due::AddressEnd | Due::Word | Due::WordEnd => false,
-    }
-}
-
-/// What is due behind a frame of a RIM tape; nothing where the frame is not the one that was due.
-fn due_behind(due: Due, frame: u8) -> Option<Due> {
-    match (due, frame) {
-        (Due::Leader, 0o200) => Some(Due::Leader),
-        (Due::Leader | Due::Address, 0o100..=0o177) => Some(Due::AddressEnd),
-        (Due::Address, 0o200) | (Due::Nothing, _) => Some(Due::Nothing),
-        (Due::AddressEnd, 0..=0o77) => Some(Due::Word),
-        (Due::Word, 0..=0o77) => Some(Due::WordEnd),
-        (Due::WordEnd, 0..=0o77) => Some(Due::Address),
-        _ => None,
+        Err(_) => {}
     }
 }
 

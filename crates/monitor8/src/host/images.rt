@@ -5,7 +5,6 @@ use crate::ProgramLine;
 use host8::{HeldFile, HoldFault, Unwritten, hold, look, make};
 use script8::SessionFault;
 use session8::MOST;
-use std::alloc::{AllocError, Global};
 use std::fs::{File, Files};
 use std::mem;
 
@@ -44,19 +43,18 @@ impl Image {
         rt: &R,
         name: &str,
     ) -> Result<Image, Ended> {
-        match hold(rt, name) {
-            Ok(held) => {
-                tell_of_lock(rt, &held, Content::Image);
-                let bytes = taken(held.read(rt, MOST))?;
-                Ok(Image {
-                    held: Some(held),
-                    bytes,
-                    is_told: false,
-                })
-            }
-            Err(HoldFault::Unwritable) => Image::look(rt, name),
-            Err(fault) => Err(unread(fault)),
+        let found = hold(rt, name);
+        if let Err(HoldFault::Unwritable) = &found {
+            return Image::look(rt, name);
         }
+        let held = found.map_err(unread)?;
+        tell_of_lock(rt, &held, Content::Image);
+        let bytes = taken(held.read(rt, MOST))?;
+        Ok(Image {
+            held: Some(held),
+            bytes,
+            is_told: false,
+        })
     }
 
     /// Reads an image file, and holds nothing: it can't be saved.
@@ -73,13 +71,6 @@ impl Image {
         &self.bytes
     }
 
-    /// Those bytes once more.
-    pub fn copy(&self, alloc: Global) -> Result<Vec<u8>, AllocError> {
-        let mut bytes = Vec::new(alloc);
-        bytes.extend_from_slice(&self.bytes)?;
-        Ok(bytes)
-    }
-
     /// Has the file hold these bytes, and gives those that it held in their place. Where it holds them already, nothing is written. No
     /// memory is taken.
     pub fn save<R: Files<File = File> + Eprint>(
@@ -90,15 +81,13 @@ impl Image {
         if self.bytes.as_slice() == bytes.as_slice() {
             return Ok(());
         }
-        match &mut self.held {
-            None => return Err(Ended::Unwritten(Content::Image, Unwritten::AsItWas)),
-            Some(held) => {
-                if !self.is_told {
-                    tell_of_place(rt, held, Content::Image);
-                }
-                write(rt, held, bytes, Content::Image)?;
-            }
+        let Some(held) = &mut self.held else {
+            return Err(Ended::Unwritten(Content::Image, Unwritten::AsItWas));
+        };
+        if !self.is_told {
+            tell_of_place(rt, held, Content::Image);
         }
+        write(rt, held, bytes, Content::Image)?;
         self.is_told = true;
         mem::swap(&mut self.bytes, bytes);
         Ok(())
@@ -112,19 +101,14 @@ pub fn make_file<R: Files<File = File> + Eprint + AllocGlobal>(
     bytes: &[u8],
     content: Content,
 ) -> Result<(), Ended> {
-    match hold(rt, name) {
-        Ok(held) => {
-            tell_of_lock(rt, &held, content);
-            let mut own = held;
-            tell_of_place(rt, &own, content);
-            write(rt, &mut own, bytes, content)
-        }
-        Err(HoldFault::Absent) => match make(rt, name, bytes) {
-            Ok(()) => Ok(()),
-            Err(fault) => Err(unmade(fault, content)),
-        },
-        Err(fault) => Err(unmade(fault, content)),
+    let found = hold(rt, name);
+    if let Err(HoldFault::Absent) = &found {
+        return make(rt, name, bytes).map_err(|fault| unmade(fault, content));
     }
+    let mut held = found.map_err(|fault| unmade(fault, content))?;
+    tell_of_lock(rt, &held, content);
+    tell_of_place(rt, &held, content);
+    write(rt, &mut held, bytes, content)
 }
 
 /// The bytes of an image that is only looked at.
@@ -134,11 +118,11 @@ pub fn seen<R: Files + AllocGlobal>(rt: &R, name: &str) -> Result<Vec<u8>, Ended
 
 /// The bytes of an image file, if they are not too many.
 fn taken(found: Result<Vec<u8>, HoldFault>) -> Result<Vec<u8>, Ended> {
-    match found {
-        Ok(bytes) if bytes.len() <= MOST => Ok(bytes),
-        Ok(_) => Err(Ended::Line(ProgramLine::HostRead)),
-        Err(fault) => Err(unread(fault)),
+    let bytes = found.map_err(unread)?;
+    if bytes.len() > MOST {
+        return Err(Ended::Line(ProgramLine::HostRead));
     }
+    Ok(bytes)
 }
 
 fn unread(fault: HoldFault) -> Ended {
@@ -172,10 +156,10 @@ fn write<R: Files<File = File>>(
     bytes: &[u8],
     content: Content,
 ) -> Result<(), Ended> {
-    match held.write(rt, bytes) {
-        Ok(()) => Ok(()),
-        Err(left) => Err(Ended::Unwritten(content, left)),
+    if let Err(left) = held.write(rt, bytes) {
+        return Err(Ended::Unwritten(content, left));
     }
+    Ok(())
 }
 
 fn tell_of_lock<R: Eprint>(rt: &R, held: &HeldFile, content: Content) {

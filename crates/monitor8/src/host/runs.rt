@@ -25,10 +25,8 @@ where
         Saving::Never => Image::look(rt, name)?,
         Saving::AtEnd | Saving::Always => Image::open(rt, name)?,
     };
-    let bytes = image.copy(rt.alloc())?;
-    let Ok(mut writer) = BufWriter::new(rt.alloc(), io::writer(rt)) else {
-        return Err(Ended::Fault(SessionFault::Memory));
-    };
+    let bytes = image.bytes().to_vec(rt.alloc())?;
+    let mut writer = BufWriter::new(rt.alloc(), io::writer(rt))?;
     let mut session = mounted(rt, &bytes)?;
     let mut reader = rt.reader();
     let mut run = Run::new(rt, image, bytes, form.saving, reader.is_terminal());
@@ -42,14 +40,16 @@ where
 
 /// A session over the volume of an image.
 fn mounted<R: Eprint + AllocGlobal>(rt: &R, bytes: &[u8]) -> Result<Session<MemoryVolume>, Ended> {
-    let volume = match MemoryVolume::from_bytes(rt.alloc(), bytes) {
-        Ok(volume) => volume,
-        Err(fault) => return Err(refused_image(rt, bytes.len(), ProgramLine::Image(fault))),
-    };
-    match Session::mount(rt.alloc(), volume) {
-        Ok(session) => Ok(session),
-        Err((_, fault)) => Err(refused_image(rt, bytes.len(), ProgramLine::Directory(fault))),
-    }
+    let volume = MemoryVolume::from_bytes(rt.alloc(), bytes).map_err(|fault| refused_image(
+        rt,
+        bytes.len(),
+        ProgramLine::Image(fault),
+    ))?;
+    Session::mount(rt.alloc(), volume).map_err(|(_, fault)| refused_image(
+        rt,
+        bytes.len(),
+        ProgramLine::Directory(fault),
+    ))
 }
 
 /// What goes on beside a script: its image is written when it is to be, refusals are seen, and a person at a terminal is told the form of
@@ -91,10 +91,8 @@ impl<'a, R: Files<File = File> + Eprint> Run<'a, R> {
 
     /// Has the file hold the image of a store.
     fn save(&mut self, store: &MemoryVolume) -> Result<(), Ended> {
-        match store.put_bytes(&mut self.bytes) {
-            Ok(()) => self.image.save(self.rt, &mut self.bytes),
-            Err(fault) => Err(Ended::Line(ProgramLine::Image(fault))),
-        }
+        store.put_bytes(&mut self.bytes)?;
+        self.image.save(self.rt, &mut self.bytes)
     }
 
     /// Ends the run with the store that it leaves.
@@ -119,27 +117,15 @@ impl<'a, R: Files<File = File> + Eprint> Watcher<MemoryVolume> for Run<'a, R> {
     fn goes_on(&mut self, store: &MemoryVolume, answer: &Result<Reply, SessionFault>) -> bool {
         if let Err(fault) = answer {
             self.is_refused = true;
-            if self.is_terminal && is_bad_line(fault) {
+            if self.is_terminal && *fault == SessionFault::BadLine {
                 let _ = eprintln!(self.rt; "note: {}", self.hint);
             }
         }
         if self.saving != Saving::Always || !may_have_changed(answer) {
             return true;
         }
-        match self.save(store) {
-            Ok(()) => true,
-            Err(ended) => {
-                self.failed = Some(ended);
-                false
-            }
-        }
-    }
-}
-
-fn is_bad_line(fault: &SessionFault) -> bool {
-    match fault {
-        SessionFault::BadLine => true,
-        _ => false,
+        self.failed = self.save(store).err();
+        self.failed.is_none()
     }
 }
 

@@ -25,7 +25,7 @@ impl<'a, R: Print> Write for Output<'a, R> {
         match io::writer(self.to).write(buf) {
             Ok(count) => Ok(count),
             Err(error) => {
-                self.is_abandoned = is_broken_pipe(&error);
+                self.is_abandoned = error.kind() == ErrorKind::BrokenPipe;
                 Err(error)
             }
         }
@@ -33,12 +33,5 @@ impl<'a, R: Print> Write for Output<'a, R> {
 
     fn flush(&mut self) -> io::Result<()> {
         Ok(())
-    }
-}
-
-fn is_broken_pipe(error: &io::Error) -> bool {
-    match error.kind() {
-        ErrorKind::BrokenPipe => true,
-        _ => false,
     }
 }

@@ -1,10 +1,11 @@
 //! A program of a tape at the Teletype: standard input is the keyboard, and standard output the paper.
 
-use super::archives::{core_of_file, tape_of_file};
+use super::archives::{bytes_of_file, core_of_file};
 use super::images::seen;
 use super::streams::Output;
 use super::{Ended, tell_line, unprinted};
 use crate::{ProgramLine, first_cell};
+use archive8::GetForm;
 use command8::TeletypeForm;
 use core_load::{Core, load};
 use cpu8::Machine;
@@ -27,7 +28,7 @@ pub fn run_teletype<R: Files + Input + Print + Eprint + AllocGlobal>(
             let (frames, start) = core_of_file(rt, &form.file, name)?;
             (frames, Some(start))
         }
-        Some(name) => (tape_of_file(rt, &form.file, name)?, None),
+        Some(name) => (bytes_of_file(rt, &form.file, name, GetForm::Tape)?, None),
         None => (seen(rt, &form.file)?, None),
     };
     let mut machine = machine_of(rt, form, &frames, start)?;
@@ -60,13 +61,8 @@ fn machine_of<R: AllocGlobal>(
     frames: &[u8],
     start: Option<Cell>,
 ) -> Result<Machine, Ended> {
-    let mut core = match Core::new(rt.alloc()) {
-        Ok(core) => core,
-        Err(fault) => return Err(Ended::Fault(fault.into())),
-    };
-    if let Err(fault) = load(rt.alloc(), frames, &mut core) {
-        return Err(Ended::Fault(fault.into()));
-    }
+    let mut core = Core::new(rt.alloc()).map_err(SessionFault::from)?;
+    load(rt.alloc(), frames, &mut core).map_err(SessionFault::from)?;
     let Some(first) = first_cell(frames) else {
         return Err(Ended::Line(ProgramLine::NothingToRun));
     };

@@ -1,4 +1,4 @@
-use Rattle.command8.proofs.PlainLemmas.{plain_assemble, plain_assemble_input, plain_assemble_output, plain_assemble_two, plain_check, plain_create, plain_get_bin, plain_get_frames, plain_get_tape, plain_get_text, plain_list, plain_put_frames, plain_put_text, plain_rim, plain_rim_bin, plain_run, plain_run_both, plain_run_keep, plain_run_look, plain_run_strict, plain_source, plain_tape, plain_teletype, plain_teletype_file, plain_teletype_start}
+use Rattle.command8.proofs.PlainLemmas.{plain_assemble, plain_assemble_input, plain_assemble_output, plain_assemble_two, plain_check, plain_create, plain_get_bin, plain_get_frames, plain_get_tape, plain_get_text, plain_list, plain_put_frames, plain_put_text, plain_rim, plain_rim_bin, plain_run, plain_run_both, plain_run_keep, plain_run_look, plain_run_strict, plain_source, plain_source_file, plain_source_start, plain_tape, plain_teletype, plain_teletype_file, plain_teletype_start}
 use Rattle.command8.proofs.laws.plain_words.Goals as goal
 
 pub returns : goal.returns
@@ -7,6 +7,8 @@ returns c = record {
   rim = plain_rim;
   rim_bin = plain_rim_bin;
   source = plain_source;
+  source_file = plain_source_file;
+  source_start = plain_source_start;
   run = plain_run;
   run_look = plain_run_look;
   run_keep = plain_run_keep;

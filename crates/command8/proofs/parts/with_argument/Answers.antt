@@ -3,6 +3,6 @@ use Rattle.command8.specs.CommandSteps.{IsCommand}
 use Rattle.command8.proofs.CommandLemmas.{argument_draft}
 use Rattle.command8.proofs.parts.with_argument.Goals as goal
 
-pub returns-in-Ok : goal.returns-in-Ok
-returns-in-Ok c = λ app rule is of.
-    argument_draft c.in-Ok.command c.args.argument c.arg.result app rule (IfOk-at_ok (λ command. IsCommand command app) c.in-Ok.is is) of c.arg.ensures
+pub returns : goal.returns
+returns c = λ app rule is of.
+    argument_draft c.in_ok-command.field-0 c.args.argument c.arg.result app rule (IfOk-at_ok (λ command. IsCommand command app) c.in_ok-command.was is) of c.arg.ensures

@@ -1,4 +1,5 @@
 use Rattle.std.proofs.Common.{map, subst, sym}
+use Rattle.std.proofs.lemmas.Result.{err_from_is_err_and}
 use Rattle.clap.specs.Words.{app_of, subcommand_rows_of}
 use Rattle.command8.specs.TaskSteps.{HasMet}
 use Rattle.command8.proofs.TaskLemmas.{asked_answer, asked_kind, fault_answer, is_pdp8, met_rows, no_fault, taken_fault, task_whole}
@@ -7,26 +8,28 @@ use Rattle.command8.proofs.tasks.task.Goals as goal
 pub asked-requires : goal.asked-requires
 asked-requires c =
     let words = map (λ word. word.now) c.args.words.now in
-    let none = no_fault (app_of c.in_ok-command.command) words (is_pdp8 c.in_ok-command.command c.in_ok-command.ensures) c.in-Ok.ensures.kinds in
-    subst HasMet (sym (met_rows (app_of c.in_ok-command.command) words c.in-Ok.matches (is_pdp8 c.in_ok-command.command c.in_ok-command.ensures) c.in-Ok.ensures.matches))
+    let none = no_fault (app_of c.in_ok-command.command) words (is_pdp8 c.in_ok-command.command c.in_ok-command.ensures) c.in_ok-matches.ensures.kinds in
+    subst HasMet (sym (met_rows (app_of c.in_ok-command.command) words c.in_ok-matches.matches (is_pdp8 c.in_ok-command.command c.in_ok-command.ensures) c.in_ok-matches.ensures.matches))
     (task_whole words none)
 
-pub returns-in-Ok-clause-answer : goal.returns-in-Ok-clause-answer
-returns-in-Ok-clause-answer c =
+pub returns-clause-answer : goal.returns-clause-answer
+returns-clause-answer c =
     let words = map (λ word. word.now) c.args.words.now in
-    let none = no_fault (app_of c.in_ok-command.command) words (is_pdp8 c.in_ok-command.command c.in_ok-command.ensures) c.in-Ok.ensures.kinds in
-    let met = met_rows (app_of c.in_ok-command.command) words c.in-Ok.matches (is_pdp8 c.in_ok-command.command c.in_ok-command.ensures) c.in-Ok.ensures.matches in
-    asked_answer words (subcommand_rows_of c.in-Ok.matches) c.asked.result (sym met) none c.asked.ensures
+    let none = no_fault (app_of c.in_ok-command.command) words (is_pdp8 c.in_ok-command.command c.in_ok-command.ensures) c.in_ok-matches.ensures.kinds in
+    let met = met_rows (app_of c.in_ok-command.command) words c.in_ok-matches.matches (is_pdp8 c.in_ok-command.command c.in_ok-command.ensures) c.in_ok-matches.ensures.matches in
+    asked_answer words (subcommand_rows_of c.in_ok-matches.matches) c.asked.result (sym met) none c.asked.ensures
 
-pub returns-in-Ok-clause-taken : goal.returns-in-Ok-clause-taken
-returns-in-Ok-clause-taken c = λ takes. asked_kind _ c.asked.result c.asked.ensures
+pub returns-clause-taken : goal.returns-clause-taken
+returns-clause-taken c = λ takes. asked_kind _ c.asked.result c.asked.ensures
 
-pub returns-in-Err-clause-taken : goal.returns-in-Err-clause-taken
-returns-in-Err-clause-taken c =
-    taken_fault (app_of c.in_ok-command.command) (map (λ word. word.now) c.args.words.now) c.in-Err.error c.fault_of.result
-    (is_pdp8 c.in_ok-command.command c.in_ok-command.ensures) c.in-Err.ensures.passes c.fault_of.ensures
+pub returns-in_err-matches-clause-taken : goal.returns-in_err-matches-clause-taken
+returns-in_err-matches-clause-taken c = λ taken.
+    let p = err_from_is_err_and c.from_residual-in_err-matches.result c.from_residual-in_err-matches.ensures.1 in
+    rw p.1 (taken_fault (app_of c.in_ok-command.command) (map (λ word. word.now) c.args.words.now) c.in_err-matches.field-0.0 p.0
+    (is_pdp8 c.in_ok-command.command c.in_ok-command.ensures) c.in_err-matches.ensures.passes p.2 taken)
 
-pub returns-in-Err-clause-answer : goal.returns-in-Err-clause-answer
-returns-in-Err-clause-answer c =
-    fault_answer (app_of c.in_ok-command.command) (map (λ word. word.now) c.args.words.now) c.in-Err.error c.fault_of.result
-    (is_pdp8 c.in_ok-command.command c.in_ok-command.ensures) c.in-Err.ensures.kinds c.fault_of.ensures
+pub returns-in_err-matches-clause-answer : goal.returns-in_err-matches-clause-answer
+returns-in_err-matches-clause-answer c =
+    let p = err_from_is_err_and c.from_residual-in_err-matches.result c.from_residual-in_err-matches.ensures.1 in
+    rw p.1 (fault_answer (app_of c.in_ok-command.command) (map (λ word. word.now) c.args.words.now) c.in_err-matches.field-0.0 p.0
+    (is_pdp8 c.in_ok-command.command c.in_ok-command.ensures) c.in_err-matches.ensures.kinds p.2)

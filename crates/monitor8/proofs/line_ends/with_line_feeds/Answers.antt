@@ -1,4 +1,4 @@
-use Rattle.std.proofs.Common.{◌++◌, ◌∙◌, ap, sym, append-nil, refl}
+use Rattle.std.proofs.Common.{◌++◌, ◌∙◌, sym, append-nil, refl}
 use Rattle.std.proofs.lemmas.List.{at_drop_all}
 use Rattle.monitor8.specs.LineEnds.{lines_from}
 use Rattle.monitor8.proofs.LineEndLemmas.{lines_next}

@@ -1,20 +1,20 @@
 use Rattle.std.proofs.Common.{length, refl, arith}
 use Rattle.monitor8.proofs.sources.source_text.Goals as goal
 
-pub returns-in-Ok-write_out-clause-taken : goal.returns-in-Ok-write_out-clause-taken
-returns-in-Ok-write_out-clause-taken g c =
-    let within = c.in-Ok.ensures.within in (
-      length c.in-Ok.frames.items,
-      record { bytes = c.in-Ok.frames.items; taken = c.in-Ok.ensures.read.taken; count_is = refl },
+pub returns-in_err-write_out-clause-taken : goal.returns-in_err-write_out-clause-taken
+returns-in_err-write_out-clause-taken g c =
+    let within = c.in_ok-frames.ensures.within in (
+      length c.in_ok-frames.frames.items,
+      record { bytes = c.in_ok-frames.frames.items; taken = c.in_ok-frames.ensures.read.taken; count_is = refl },
       omega (arith, within),
       λ e. absurd (omega (arith, e, within)),
     )
 
 pub returns-clause-taken : goal.returns-clause-taken
 returns-clause-taken g c =
-    let within = c.in-Ok.ensures.within in (
-      length c.in-Ok.frames.items,
-      record { bytes = c.in-Ok.frames.items; taken = c.in-Ok.ensures.read.taken; count_is = refl },
+    let within = c.in_ok-frames.ensures.within in (
+      length c.in_ok-frames.frames.items,
+      record { bytes = c.in_ok-frames.frames.items; taken = c.in_ok-frames.ensures.read.taken; count_is = refl },
       omega (arith, within),
       λ e. absurd (omega (arith, e, within)),
     )
