@@ -17,9 +17,9 @@ use Rattle.clap.specs.declared.error.kind.ErrorKind.TheVariants.{OutOfMemory}
 use Rattle.command8.specs.CommandSteps.{IsCommand}
 use Rattle.command8.specs.declared.kinds.Task.{Task}
 use Rattle.command8.specs.declared.kinds.TaskFault.{TaskFault}
-use Rattle.command8.specs.declared.kinds.TaskFault.TheVariants.{Words, Memory, LookAndKeep, InputTwice, CrossAlone, Start, Switches}
+use Rattle.command8.specs.declared.kinds.TaskFault.TheVariants.{Words, Memory, LookAndKeep, InputTwice, CrossAlone, Start, Switches, SourceStart}
 use Rattle.command8.specs.declared.verbs.Verb.TheVariants as verb
-use Rattle.command8.specs.Tasks.{Answers, Asks, AsksBoth, AsksCrossAlone, AsksNoStart, AsksNoSwitches, IsPastClap, NamesInputTwice, assemble_app, check_app, create_app, get_app, list_app, pdp8, put_app, rim_app, run_app, source_app, tape_app, teletype_app}
+use Rattle.command8.specs.Tasks.{Answers, Asks, AsksBoth, AsksCrossAlone, AsksNoSourceStart, AsksNoStart, AsksNoSwitches, IsPastClap, NamesInputTwice, assemble_app, check_app, create_app, get_app, list_app, pdp8, put_app, rim_app, run_app, source_app, tape_app, teletype_app}
 use Rattle.command8.specs.TaskSteps.{GivesMet, HasMet, IsFaultOf, IsRefused, IsWhole}
 use Rattle.command8.proofs.LeafLemmas.{Faultless, IsLeaf, IsPart, a_flag, a_help, a_word, an_option, below, has_blocks, has_sources, has_steps, has_word, image_built, name_built, tape_built}
 use Rattle.command8.proofs.WalkLemmas.{IsNoHelp, TakesSome, level_stops}
@@ -180,6 +180,7 @@ memory_fault error InputTwice is memory = absurd is
 memory_fault error CrossAlone is memory = absurd is
 memory_fault error (Start text) is memory = absurd is
 memory_fault error (Switches text) is memory = absurd is
+memory_fault error (SourceStart text) is memory = absurd is
 
 -- words with no fault that ask for no task
 refused_answer : (words : List Text) (met : Option (Text × List Row)) (fault : TaskFault) → subcommand_of pdp8 words ≡ met → fault_of pdp8 words ≡ []
@@ -191,6 +192,7 @@ refused_answer words met InputTwice same none is = (none, subst NamesInputTwice 
 refused_answer words met CrossAlone same none is = (none, subst AsksCrossAlone (sym same) is)
 refused_answer words met (Start text) same none is = (none, subst (AsksNoStart text.bytes.items) (sym same) is)
 refused_answer words met (Switches text) same none is = (none, subst (AsksNoSwitches text.bytes.items) (sym same) is)
+refused_answer words met (SourceStart text) same none is = (none, subst (AsksNoSourceStart text.bytes.items) (sym same) is)
 
 refused_kind : (met : Option (Text × List Row)) (fault : TaskFault) → IsRefused met fault → IsPastClap fault
 refused_kind met (Words error) is = is
@@ -200,6 +202,7 @@ refused_kind met InputTwice is = tt
 refused_kind met CrossAlone is = tt
 refused_kind met (Start text) is = tt
 refused_kind met (Switches text) is = tt
+refused_kind met (SourceStart text) is = tt
 
 -- what is asked for is answered, or why it is refused
 pub asked_answer : (words : List Text) (met : Option (Text × List Row)) (asked : Result Task TaskFault) → subcommand_of pdp8 words ≡ met
@@ -228,6 +231,7 @@ fault_answer app words error InputTwice same kinds is = absurd is
 fault_answer app words error CrossAlone same kinds is = absurd is
 fault_answer app words error (Start text) same kinds is = absurd is
 fault_answer app words error (Switches text) same kinds is = absurd is
+fault_answer app words error (SourceStart text) same kinds is = absurd is
 fault_answer app words error (Words other) same kinds is =
     met (subst (λ (a : App). HasKind (fault_of a words) error) same (kinds (ap is_simple_and_free same ∙ is_free)))
   where

@@ -6,12 +6,12 @@ use Rattle.clap.specs.declared.error.Error.{Error}
 use Rattle.clap.specs.declared.error.kind.ErrorKind.TheVariants.{OutOfMemory}
 use Rattle.command8.specs.declared.kinds.Task.{Task}
 use Rattle.command8.specs.declared.kinds.TaskFault.{TaskFault}
-use Rattle.command8.specs.declared.kinds.TaskFault.TheVariants.{Words, Memory, LookAndKeep, InputTwice, CrossAlone, Start, Switches}
+use Rattle.command8.specs.declared.kinds.TaskFault.TheVariants.{Words, Memory, LookAndKeep, InputTwice, CrossAlone, Start, Switches, SourceStart}
 use Rattle.command8.specs.declared.verbs.Verb.{Verb}
 use Rattle.command8.specs.declared.verbs.Verb.TheVariants as verb
 use Rattle.word12.specs.Octal.{octal_of}
 use Rattle.word12.specs.declared.sizes.TheConstants.{MOST_BLOCKS}
-use Rattle.command8.specs.Tasks.{AsksBoth, AsksCrossAlone, AsksFor, AsksNoStart, AsksNoSwitches, HasFitBlocks, NamesInputTwice, first_no_octal, most_steps, values_of}
+use Rattle.command8.specs.Tasks.{AsksBoth, AsksCrossAlone, AsksFor, AsksNoSourceStart, AsksNoStart, AsksNoSwitches, HasFitBlocks, NamesInputTwice, first_no_octal, most_steps, values_of}
 
 -- ## What it asks for
 
@@ -24,6 +24,7 @@ IsFaultOf error InputTwice = ⊥
 IsFaultOf error CrossAlone = ⊥
 IsFaultOf error (Start text) = ⊥
 IsFaultOf error (Switches text) = ⊥
+IsFaultOf error (SourceStart text) = ⊥
 
 -- what was found asks for no task
 abbrev pub IsRefused : Option (Text × List Row) → TaskFault → Type 0
@@ -34,6 +35,7 @@ IsRefused met InputTwice = NamesInputTwice met
 IsRefused met CrossAlone = AsksCrossAlone met
 IsRefused met (Start text) = AsksNoStart text.bytes.items met
 IsRefused met (Switches text) = AsksNoSwitches text.bytes.items met
+IsRefused met (SourceStart text) = AsksNoSourceStart text.bytes.items met
 
 -- the subcommand of this name, with the values that were found for it, comes to this
 abbrev pub Gives : Text → List Row → Result Task TaskFault → Type 0
@@ -54,6 +56,7 @@ IsNoStart values CrossAlone = ⊥
 IsNoStart values (Start text) = (first_of (codes "start") values ≡ Some text.bytes.items)
     × (octal_of 5 text.bytes.items ≡ None)
 IsNoStart values (Switches text) = ⊥
+IsNoStart values (SourceStart text) = ⊥
 
 -- a value of `--start` is no cell, the first, or there was no memory
 abbrev pub IsNoStartOf : List Text → TaskFault → Type 0
@@ -62,8 +65,9 @@ IsNoStartOf texts Memory = ⊤
 IsNoStartOf texts LookAndKeep = ⊥
 IsNoStartOf texts InputTwice = ⊥
 IsNoStartOf texts CrossAlone = ⊥
-IsNoStartOf texts (Start text) = first_no_octal 5 texts ≡ Some text.bytes.items
+IsNoStartOf texts (Start text) = ⊥
 IsNoStartOf texts (Switches text) = ⊥
+IsNoStartOf texts (SourceStart text) = first_no_octal 5 texts ≡ Some text.bytes.items
 
 -- the value of `--switches` is no word, or there was no memory
 abbrev pub IsNoSwitches : List Row → TaskFault → Type 0
@@ -75,6 +79,7 @@ IsNoSwitches values CrossAlone = ⊥
 IsNoSwitches values (Start text) = ⊥
 IsNoSwitches values (Switches text) = (first_of (codes "switches") values ≡ Some text.bytes.items)
     × (octal_of 4 text.bytes.items ≡ None)
+IsNoSwitches values (SourceStart text) = ⊥
 
 -- ## The subcommands
 

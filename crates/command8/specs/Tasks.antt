@@ -1,6 +1,6 @@
 -- What a command line asks of the program. The words are read as the library `clap` reads them: its own definitions
 -- say which words a command takes, what they come to, and the kinds of error that others meet.
-use Rattle.std.specs.Prelude.{◌≡◌, ◌≢◌, ◌≤◌, ◌⊎◌, ⊤, Bool, true, false, if◌then◌else◌, ℕ, codes, List, [], ◌∷◌, Option, None, Some, Result, Ok, Err}
+use Rattle.std.specs.Prelude.{◌≡◌, ◌≢◌, ◌≤◌, ⊤, Bool, true, false, if◌then◌else◌, ℕ, codes, List, [], ◌∷◌, Option, None, Some, Result, Ok, Err}
 use Rattle.std.specs.Option.{option_map_or}
 use Rattle.std.specs.Str.{bytes_eq}
 use Rattle.std.specs.Str.Parse.{digits_value, without_leading_plus}
@@ -28,7 +28,7 @@ use Rattle.command8.specs.declared.kinds.Task.{Task}
 use Rattle.command8.specs.declared.kinds.Task.TheVariants.{Tape, Rim, Source, Run, Create, Get, GetBin, Put, Check, Assemble, Teletype}
 use Rattle.command8.specs.declared.kinds.Task.TheVariants as task
 use Rattle.command8.specs.declared.kinds.TaskFault.{TaskFault}
-use Rattle.command8.specs.declared.kinds.TaskFault.TheVariants.{Words, Memory, LookAndKeep, InputTwice, CrossAlone, Start, Switches}
+use Rattle.command8.specs.declared.kinds.TaskFault.TheVariants.{Words, Memory, LookAndKeep, InputTwice, CrossAlone, Start, Switches, SourceStart}
 
 -- ## The kinds of argument
 
@@ -275,12 +275,17 @@ AsksCrossAlone None = ⊥
 AsksCrossAlone (Some met) = (met.0 ≡ codes "assemble") × (input_count (values_of (codes "FILE") met.1) ≤ 1)
     × (is_set (codes "cross") met.1 ≡ true) × (first_of (codes "list") met.1 ≡ None)
 
--- a cell at which the processor, or the program of a source, is to start is no cell
+-- the cell at which the processor is to start is no cell
 abbrev pub AsksNoStart : Text → Option (Text × List Row) → Type 0
 AsksNoStart text None = ⊥
-AsksNoStart text (Some met) =
-    ((met.0 ≡ codes "teletype") × (first_of (codes "start") met.1 ≡ Some text) × (octal_of 5 text ≡ None))
-    ⊎ ((met.0 ≡ codes "source") × (first_no_octal 5 (values_of (codes "start") met.1) ≡ Some text))
+AsksNoStart text (Some met) = (met.0 ≡ codes "teletype") × (first_of (codes "start") met.1 ≡ Some text)
+    × (octal_of 5 text ≡ None)
+
+-- one at which the program of a source is to start is none, the first
+abbrev pub AsksNoSourceStart : Text → Option (Text × List Row) → Type 0
+AsksNoSourceStart text None = ⊥
+AsksNoSourceStart text (Some met) = (met.0 ≡ codes "source")
+    × (first_no_octal 5 (values_of (codes "start") met.1) ≡ Some text)
 
 -- what the switches are to be set to is no word, where the cell is none that is refused
 abbrev pub AsksNoSwitches : Text → Option (Text × List Row) → Type 0
@@ -322,6 +327,8 @@ Answers words (Err (Start text)) = (fault_of pdp8 words ≡ [])
     × AsksNoStart text.bytes.items (subcommand_of pdp8 words)
 Answers words (Err (Switches text)) = (fault_of pdp8 words ≡ [])
     × AsksNoSwitches text.bytes.items (subcommand_of pdp8 words)
+Answers words (Err (SourceStart text)) = (fault_of pdp8 words ≡ [])
+    × AsksNoSourceStart text.bytes.items (subcommand_of pdp8 words)
 
 -- a fault at words that `clap` takes
 abbrev pub IsPastClap : TaskFault → Type 0
@@ -332,6 +339,7 @@ IsPastClap InputTwice = ⊤
 IsPastClap CrossAlone = ⊤
 IsPastClap (Start text) = ⊤
 IsPastClap (Switches text) = ⊤
+IsPastClap (SourceStart text) = ⊤
 
 -- ## Plain command lines
 

@@ -162,6 +162,10 @@ pub enum TaskFault {
     /// 7: this is no word.
     #[error("invalid value '{0}' for '--switches <WWWW>': not four octal digits")]
     Switches(String),
+
+    /// 8: this is no cell, at which the program of a source is to start.
+    #[error("invalid value '{0}' for '--start <FAAAA>': not five octal digits, a field and an address")]
+    SourceStart(String),
 }
 
 impl TaskFault {
@@ -178,6 +182,7 @@ impl TaskFault {
             TaskFault::Start(_) | TaskFault::Switches(_) => {
                 Some("Usage: pdp8 teletype [OPTIONS] <TAPE> [NAME]")
             }
+            TaskFault::SourceStart(_) => Some("Usage: pdp8 source [OPTIONS] [TAPE] [NAME]"),
         }
     }
 }

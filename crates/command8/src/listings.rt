@@ -63,7 +63,7 @@ fn cells_of(alloc: Global, texts: &[&str]) -> Result<Vec<Cell>, TaskFault>
     let mut cells = Vec::new(alloc);
     for text in texts {
         let Some(cell) = octal_cell(text.as_bytes()) else {
-            return Err(TaskFault::Start(String::from_str(alloc, text)?));
+            return Err(TaskFault::SourceStart(String::from_str(alloc, text)?));
         };
         put_cell(&mut cells, cell)?;
     }

@@ -18,7 +18,7 @@ use clap::{ArgMatches, Command};
 use std::alloc::Global;
 
 /// What the words of a command line ask for, the program's own name first: `tape`, `rim` with `--bin`, `source` with or without `TAPE`, and with
-/// `NAME` behind it, and with `--start` and a cell of five octal digits several times, else `Start`, `assemble FILE..` of 1
+/// `NAME` behind it, and with `--start` and a cell of five octal digits several times, else `SourceStart`, `assemble FILE..` of 1
 /// to 8 files, one of them at most `-`, else `InputTwice`, with `--output`, `--list` and `--cross`, which without a listing is `CrossAlone`, `teletype TAPE`
 /// or `teletype TAPE NAME` with `--start` and a cell of five octal digits, else `Start`, `--switches` and a word of four, else `Switches`,
 /// `--steps` and a number from 1 up, `--raw` and `--live`, `run IMAGE` with `--strict` and with `--look` or `--keep`, which together are

@@ -5,7 +5,7 @@ use Rattle.word12.specs.Octal.{octal4}
 use Rattle.pal_list.specs.Patterns.{patterns, chosen, names}
 use Rattle.pal_list.specs.Fewest.{group_1, group_2}
 use Rattle.pal_list.specs.References.{operation_name, is_reference}
-use Rattle.pal_list.specs.Statements.{address, reference, is_named, statement}
+use Rattle.pal_list.specs.Statements.{address, reference, is_named, instruction}
 use Rattle.instructions8.specs.Instructions.{instructions, Each}
 use Rattle.instructions8.specs.Shown.{BeginsWith, field_pieces, IsShown, is_of_group_1, is_of_group_2, codes_where}
 use Rattle.instructions8.proofs.RowLemmas.{◌⊗◌, of_fields}
@@ -14,7 +14,7 @@ abbrev behind : (ℕ → Bool) → ℕ → ℕ → List (List ℕ)
 behind tagged cell word = (if nat_eq (word / 0o400 % 2) 1 then codes "I" ∷ [] else []) ++ address tagged cell word ∷ []
 
 begins : (digit : ℕ) (tagged : ℕ → Bool) (cell word : ℕ) → word / 0o1000 ≡ digit → is_reference (cell % 0o10000) word ≡ true
-    → BeginsWith (operation_name digit) (statement tagged cell word)
+    → BeginsWith (operation_name digit) (instruction tagged cell word)
 begins digit tagged cell word top refers = record {
   others = behind tagged cell word;
   pieces_are =
@@ -22,13 +22,13 @@ begins digit tagged cell word top refers = record {
       ∙ ap (λ d. operation_name d ∷ behind tagged cell word) top;
 }
 
-cdf_shown : (field : ℕ) → field < 8 → (tagged : ℕ → Bool) (cell : ℕ) → statement tagged cell (0o6201 + 0o10 * field) ≡ codes "CDF" ∷ field_pieces field
+cdf_shown : (field : ℕ) → field < 8 → (tagged : ℕ → Bool) (cell : ℕ) → instruction tagged cell (0o6201 + 0o10 * field) ≡ codes "CDF" ∷ field_pieces field
 unfolding patterns
-cdf_shown = of_fields (λ field. (tagged : ℕ → Bool) (cell : ℕ) → statement tagged cell (0o6201 + 0o10 * field) ≡ codes "CDF" ∷ field_pieces field) (λ tagged cell. refl, λ tagged cell. refl, λ tagged cell. refl, λ tagged cell. refl, λ tagged cell. refl, λ tagged cell. refl, λ tagged cell. refl, λ tagged cell. refl)
+cdf_shown = of_fields (λ field. (tagged : ℕ → Bool) (cell : ℕ) → instruction tagged cell (0o6201 + 0o10 * field) ≡ codes "CDF" ∷ field_pieces field) (λ tagged cell. refl, λ tagged cell. refl, λ tagged cell. refl, λ tagged cell. refl, λ tagged cell. refl, λ tagged cell. refl, λ tagged cell. refl, λ tagged cell. refl)
 
-cif_shown : (field : ℕ) → field < 8 → (tagged : ℕ → Bool) (cell : ℕ) → statement tagged cell (0o6202 + 0o10 * field) ≡ codes "CIF" ∷ field_pieces field
+cif_shown : (field : ℕ) → field < 8 → (tagged : ℕ → Bool) (cell : ℕ) → instruction tagged cell (0o6202 + 0o10 * field) ≡ codes "CIF" ∷ field_pieces field
 unfolding patterns
-cif_shown = of_fields (λ field. (tagged : ℕ → Bool) (cell : ℕ) → statement tagged cell (0o6202 + 0o10 * field) ≡ codes "CIF" ∷ field_pieces field) (λ tagged cell. refl, λ tagged cell. refl, λ tagged cell. refl, λ tagged cell. refl, λ tagged cell. refl, λ tagged cell. refl, λ tagged cell. refl, λ tagged cell. refl)
+cif_shown = of_fields (λ field. (tagged : ℕ → Bool) (cell : ℕ) → instruction tagged cell (0o6202 + 0o10 * field) ≡ codes "CIF" ∷ field_pieces field) (λ tagged cell. refl, λ tagged cell. refl, λ tagged cell. refl, λ tagged cell. refl, λ tagged cell. refl, λ tagged cell. refl, λ tagged cell. refl, λ tagged cell. refl)
 
 pub shown : Each IsShown instructions
 unfolding instructions patterns

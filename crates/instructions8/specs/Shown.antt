@@ -1,8 +1,8 @@
--- What the table of instructions says of the source of a tape: how the statement of a word is spelled.
+-- What the table of instructions says of the source of a tape: how the instruction of a word is spelled.
 use Rattle.std.specs.Prelude.{◌≡◌, ℕ, ◌+◌, ◌*◌, ◌/◌, ◌%◌, ◌<◌, nat_eq, Bool, true, false, if◌then◌else◌, List, [], ◌∷◌}
 use Rattle.word12.specs.Octal.{octal_digit}
 use Rattle.pal_list.specs.References.{is_reference}
-use Rattle.pal_list.specs.Statements.{statement}
+use Rattle.pal_list.specs.Statements.{instruction}
 use Rattle.instructions8.specs.Instructions.{Kind, Instruction}
 use Rattle.instructions8.specs.Instructions.Kind.{Reference, Group1, Group2, EitherGroup, Transfer, FieldTransfer, Keyboard, Printer, PaperTape}
 
@@ -20,16 +20,16 @@ field_pieces field = if nat_eq field 0 then [] else (octal_digit field ∷ 0o60 
 abbrev pub ShowsName : List ℕ → ℕ → Kind → Type 0
 ShowsName name code (Reference row) =
     (tagged : ℕ → Bool) (cell word : ℕ) → word / 0o1000 ≡ code / 0o1000 → is_reference (cell % 0o10000) word ≡ true
-    → BeginsWith name (statement tagged cell word)
+    → BeginsWith name (instruction tagged cell word)
 ShowsName name code (FieldTransfer row) =
-    (field : ℕ) → field < 8 → (tagged : ℕ → Bool) (cell : ℕ) → statement tagged cell (code + 0o10 * field) ≡ name ∷ field_pieces field
-ShowsName name code (Group1 bits) = (tagged : ℕ → Bool) (cell : ℕ) → statement tagged cell code ≡ name ∷ []
-ShowsName name code (Group2 bits) = (tagged : ℕ → Bool) (cell : ℕ) → statement tagged cell code ≡ name ∷ []
-ShowsName name code (EitherGroup bits) = (tagged : ℕ → Bool) (cell : ℕ) → statement tagged cell code ≡ name ∷ []
-ShowsName name code (Transfer row) = (tagged : ℕ → Bool) (cell : ℕ) → statement tagged cell code ≡ name ∷ []
-ShowsName name code (Keyboard pulses) = (tagged : ℕ → Bool) (cell : ℕ) → statement tagged cell code ≡ name ∷ []
-ShowsName name code (Printer pulses) = (tagged : ℕ → Bool) (cell : ℕ) → statement tagged cell code ≡ name ∷ []
-ShowsName name code PaperTape = (tagged : ℕ → Bool) (cell : ℕ) → statement tagged cell code ≡ name ∷ []
+    (field : ℕ) → field < 8 → (tagged : ℕ → Bool) (cell : ℕ) → instruction tagged cell (code + 0o10 * field) ≡ name ∷ field_pieces field
+ShowsName name code (Group1 bits) = (tagged : ℕ → Bool) (cell : ℕ) → instruction tagged cell code ≡ name ∷ []
+ShowsName name code (Group2 bits) = (tagged : ℕ → Bool) (cell : ℕ) → instruction tagged cell code ≡ name ∷ []
+ShowsName name code (EitherGroup bits) = (tagged : ℕ → Bool) (cell : ℕ) → instruction tagged cell code ≡ name ∷ []
+ShowsName name code (Transfer row) = (tagged : ℕ → Bool) (cell : ℕ) → instruction tagged cell code ≡ name ∷ []
+ShowsName name code (Keyboard pulses) = (tagged : ℕ → Bool) (cell : ℕ) → instruction tagged cell code ≡ name ∷ []
+ShowsName name code (Printer pulses) = (tagged : ℕ → Bool) (cell : ℕ) → instruction tagged cell code ≡ name ∷ []
+ShowsName name code PaperTape = (tagged : ℕ → Bool) (cell : ℕ) → instruction tagged cell code ≡ name ∷ []
 
 -- a word of an instruction is shown by its name
 abbrev pub IsShown : Instruction → Type 0

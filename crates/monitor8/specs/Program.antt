@@ -59,6 +59,7 @@ program_text line.HostRead = codes "? HOST READ"
 program_text line.HostWrite = codes "? HOST WRITE"
 program_text line.HostBusy = codes "? HOST BUSY"
 program_text line.NoWord = codes "? SOURCE 1 NO WORD"
+program_text (line.NoStart cell) = codes "? SOURCE 2 NO WORD AT " ++ cell_text cell
 program_text line.NothingToRun = codes "? TELETYPE 1 NO WORD"
 program_text (line.Halted cell ac l) = halted_text cell ac l
 program_text (line.Unassigned cell word) = codes "UNASSIGNED " ++ cell_text cell ++ codes " " ++ octal4 word

@@ -3,8 +3,7 @@
 
 use crate::listings::write_out;
 use crate::{
-    ProgramLine, RimTextFault, SourceFault, Task, TaskFault, put_program, rim_text, source_text,
-    tape_text, task,
+    ProgramLine, RimTextFault, SourceFault, Task, TaskFault, put_program, rim_text, tape_text, task,
 };
 use command8::RimForm;
 use core_image::CoreFault;
@@ -24,6 +23,7 @@ mod hints;
 mod images;
 mod runs;
 mod streams;
+mod tapes;
 mod teletypes;
 
 use archives::{bytes_of_file, check_volume, get_bin, list_files, put_file};
@@ -32,6 +32,7 @@ use hints::tell_rim;
 use images::{Content, make_file};
 use runs::run_image;
 use streams::Output;
+use tapes::write_source;
 use teletypes::run_teletype;
 
 /// The status that a shell tells of a program that SIGPIPE has ended.
@@ -95,6 +96,7 @@ impl From<SourceFault> for Ended {
     fn from(fault: SourceFault) -> Ended {
         match fault {
             SourceFault::NoWord => Ended::Line(ProgramLine::NoWord),
+            SourceFault::NoStart(start) => Ended::Line(ProgramLine::NoStart(start)),
             SourceFault::Session(fault) => Ended::Fault(fault),
         }
     }
@@ -156,7 +158,7 @@ where
 fn gives_data(task: &Task) -> bool {
     match task {
         Task::Rim(RimForm::Bin)
-        | Task::Source
+        | Task::Source(_)
         | Task::Assemble(_)
         | Task::Teletype(_)
         | Task::Get(..)
@@ -181,7 +183,7 @@ where
     match task {
         Task::Tape => list_tape(rt),
         Task::Rim(form) => write_rim(rt, form),
-        Task::Source => write_source(rt),
+        Task::Source(form) => write_source(rt, &form),
         Task::Assemble(form) => assemble_files(rt, &form),
         Task::Teletype(form) => run_teletype(rt, &form),
         Task::Run(image, form) => run_image(rt, &image, form),
@@ -295,12 +297,6 @@ fn list_tape<R: Input + Print + Eprint + AllocGlobal>(rt: &R) -> Result<(), Ende
 /// Writes the words of the RIM tape on standard input.
 fn write_rim<R: Input + Print + AllocGlobal>(rt: &R, form: RimForm) -> Result<(), Ended> {
     rim_text(rt.alloc(), &mut rt.reader(), &mut io::writer(rt), form)?;
-    Ok(())
-}
-
-/// Writes the source of the tape on standard input.
-fn write_source<R: Input + Print + AllocGlobal>(rt: &R) -> Result<(), Ended> {
-    source_text(rt.alloc(), &mut rt.reader(), &mut io::writer(rt))?;
     Ok(())
 }
 

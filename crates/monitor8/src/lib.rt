@@ -20,5 +20,5 @@ pub use programs::{ProgramLine, put_program};
 pub use rims::{RimTextFault, rim_text};
 pub use script8::SessionFault;
 pub use session8::{Ran, Session, laws};
-pub use sources::{SourceFault, source_text};
+pub use sources::{SourceFault, put_source, source_text};
 pub use starts::first_cell;

@@ -30,6 +30,9 @@ pub enum ProgramLine {
     /// The tape gives no cell a word, so it has no source.
     NoWord,
 
+    /// The tape gives this cell no word, at which the program of a source is to start.
+    NoStart(Cell),
+
     /// The tape gives no cell a word, so there is nothing to run.
     NothingToRun,
 
@@ -90,6 +93,10 @@ fn put_line(text: &mut TextLine, line: ProgramLine)
         ProgramLine::HostWrite => put(text, b"? HOST WRITE"),
         ProgramLine::HostBusy => put(text, b"? HOST BUSY"),
         ProgramLine::NoWord => put(text, b"? SOURCE 1 NO WORD"),
+        ProgramLine::NoStart(cell) => {
+            put(text, b"? SOURCE 2 NO WORD AT ");
+            put_cell(text, cell);
+        }
         ProgramLine::NothingToRun => put(text, b"? TELETYPE 1 NO WORD"),
         ProgramLine::Halted(cell, ac, l) => put_halted(text, cell, ac, l),
         ProgramLine::Unassigned(cell, word) => {

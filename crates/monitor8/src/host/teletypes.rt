@@ -1,11 +1,9 @@
 //! A program of a tape at the Teletype: standard input is the keyboard, and standard output the paper.
 
-use super::archives::{bytes_of_file, core_of_file};
-use super::images::seen;
 use super::streams::Output;
+use super::tapes::program_of;
 use super::{Ended, tell_line, unprinted};
 use crate::{ProgramLine, first_cell};
-use archive8::GetForm;
 use command8::TeletypeForm;
 use core_load::{Core, load};
 use cpu8::Machine;
@@ -15,22 +13,12 @@ use std::io::Input;
 use terminal8::{Form, Input as Keys, TerminalFault, Why, run};
 use word12::Cell;
 
-/// How the name of a core image ends.
-const CORE_IMAGE: &str = ".SV";
-
 /// Loads a tape or a core image into a new machine, and runs it at the Teletype.
 pub fn run_teletype<R: Files + Input + Print + Eprint + AllocGlobal>(
     rt: &R,
     form: &TeletypeForm,
 ) -> Result<(), Ended> {
-    let (frames, start) = match &form.name {
-        Some(name) if name.ends_with(CORE_IMAGE) => {
-            let (frames, start) = core_of_file(rt, &form.file, name)?;
-            (frames, Some(start))
-        }
-        Some(name) => (bytes_of_file(rt, &form.file, name, GetForm::Tape)?, None),
-        None => (seen(rt, &form.file)?, None),
-    };
+    let (frames, start) = program_of(rt, &form.file, &form.name)?;
     let mut machine = machine_of(rt, form, &frames, start)?;
     let struck = if form.is_raw { Form::Raw } else { Form::Text };
     let keys = if form.is_live {

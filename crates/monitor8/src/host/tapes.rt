@@ -1,0 +1,51 @@
+//! Programs in files, and the sources of tapes: a BIN tape is a file of the host, or what a file of a volume begins with; a core image
+//! is such a file whole.
+
+use super::Ended;
+use super::archives::{bytes_of_file, core_of_file};
+use super::images::seen;
+use crate::{put_source, source_text};
+use archive8::GetForm;
+use command8::SourceForm;
+use std::fs::Files;
+use std::io::{self, Input};
+use word12::Cell;
+
+/// How the name of a core image ends.
+const CORE_IMAGE: &str = ".SV";
+
+/// The BIN tape of a program, and the cell where it starts, if that is told.
+pub fn program_of<R: Files + Eprint + AllocGlobal>(
+    rt: &R,
+    file: &str,
+    name: &Option<String>,
+) -> Result<(Vec<u8>, Option<Cell>), Ended> {
+    match name {
+        Some(name) if name.ends_with(CORE_IMAGE) => {
+            let (frames, start) = core_of_file(rt, file, name)?;
+            Ok((frames, Some(start)))
+        }
+        Some(name) => Ok((bytes_of_file(rt, file, name, GetForm::Tape)?, None)),
+        None => Ok((seen(rt, file)?, None)),
+    }
+}
+
+/// Writes the source of a tape. The program of a core image starts where that tells, unless other cells are given.
+pub fn write_source<R: Files + Input + Print + Eprint + AllocGlobal>(
+    rt: &R,
+    form: &SourceForm,
+) -> Result<(), Ended> {
+    let mut writer = io::writer(rt);
+    let Some(file) = &form.file else {
+        source_text(rt.alloc(), &mut rt.reader(), &form.starts, &mut writer)?;
+        return Ok(());
+    };
+    let (frames, start) = program_of(rt, file, &form.name)?;
+    match start {
+        Some(start) if form.starts.is_empty() => {
+            put_source(rt.alloc(), &frames, &[start], &mut writer)?;
+        }
+        _ => put_source(rt.alloc(), &frames, &form.starts, &mut writer)?,
+    }
+    Ok(())
+}
