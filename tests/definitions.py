@@ -34,7 +34,7 @@ def read(crate, file):
 
 
 def types(crate, file, name):
-    """The Rust types that a definition names, by themselves or by a variant, each with its crate, module and name."""
+    """The Rust types that a definition names, by themselves or by a variant, and the constants, each with its crate, module and name."""
     path, text = f"{TOP}/crates/{crate}/specs/{file}.antt", read(crate, file)[0][name]
     return types_in(text, DECLARED.findall(open(path, encoding="utf-8").read()))
 
@@ -42,8 +42,13 @@ def types(crate, file, name):
 def types_in(text, imports):
     found = set()
     for below, module, named, parts, alias in imports:
+        if not os.path.isdir(f"{TOP}/crates/{below}"):
+            continue
+        if named == "TheConstants":
+            found |= {(below, module.replace(".", "/"), it) for it in parts.split(", ") if re.search(rf"(?<![\w.']){it}(?![\w'])", text)}
+            continue
         ours = "|".join(re.escape(it.split(" as ")[-1].strip()) for it in parts.split(",")) if parts else rf"{alias}(?=\.)"
-        if os.path.isdir(f"{TOP}/crates/{below}") and re.search(rf"(?<![\w.'])(?:{ours})(?![\w'])", text):
+        if re.search(rf"(?<![\w.'])(?:{ours})(?![\w'])", text):
             found.add((below, module.replace(".", "/"), named))
     return found
 

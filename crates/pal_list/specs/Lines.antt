@@ -55,6 +55,3 @@ source_with is_code pairs = lines_of is_code (is_tagged is_code pairs) pairs ++ 
 -- all words are taken for instructions
 abbrev pub all_code : ℕ → Bool
 all_code cell = true
-
-abbrev pub source_of : List (ℕ × ℕ) → List ℕ
-source_of pairs = source_with all_code pairs

@@ -3,7 +3,8 @@
 //! A line stands for each cell that the tape gives a word, by rising field and address (PAL III Symbolic Assembler manual,
 //! and this project's profile of it). It has a statement that is the word at that place, a memory reference or permanent
 //! names where they come to the word and else its number, and a comment with the cell and the word in octal. A cell that a
-//! memory reference of the tape names has a tag, which stands for its address there.
+//! memory reference of the tape names has a tag, which stands for its address there. Where a program's starts are told, just the words
+//! that it reaches are taken for instructions.
 #![tactic(auto)]
 
 mod faults;
@@ -16,4 +17,4 @@ mod statements;
 mod tags;
 
 pub use faults::ListFault;
-pub use sources::source_of;
+pub use sources::{source_from, source_of};

@@ -27,10 +27,10 @@ use Rattle.session8.specs.Files.{name_before, parsed_names}
 use Rattle.session8.specs.Refusals.{MayRefuse, after_refusal, jobs_without}
 use Rattle.session8.specs.Failing.{JobsStopFor}
 use Rattle.session8.specs.Session.{Seen, state_of, NoCallFailed, IsReply, TellsBlockCalls}
-use Rattle.session8.specs.SessionSteps.{DoesEntry}
+use Rattle.session8.specs.SessionSteps.{DoesEntry, job_reply}
 use Rattle.session8.specs.State.{State}
 use Rattle.session8.specs.System.{Answer, MayReply, MayAnswer}
-use Rattle.session8.specs.Work.{job_reply, job_state, with_core, with_work, turn_reply, fault_of_job}
+use Rattle.session8.specs.Work.{job_state, with_core, with_work, turn_reply, fault_of_job}
 use Rattle.session8.proofs.DoesLemmas.{IsSteady, replied, undone, behind_same, stopped}
 use Rattle.session8.proofs.SessionLemmas.{over_with}
 

@@ -2,9 +2,15 @@
 use Rattle.script8.specs.declared.entries.Entry.{Entry}
 use Rattle.session8.specs.Session.{Seen, state_of, NoCallFailed, IsLater, IsSame, TellsBlockCalls, IsReply, IsSteadied}
 use Rattle.session8.specs.Interleaving.{EntryReads, EntryPlaces}
-use Rattle.std.specs.Prelude.{◌≡◌, ◌<◌, true, false, OnOk, Err, Bool}
+use Rattle.std.specs.Prelude.{◌≡◌, ◌<◌, true, false, OnOk, Ok, Err, Bool, Result, ℕ}
 use Rattle.jobs8.specs.Calls.{Outlives}
+use Rattle.jobs8.specs.declared.faults.JobFault.{JobFault}
+use Rattle.script8.specs.declared.faults.SessionFault.{SessionFault}
 use Rattle.script8.specs.declared.faults.SessionFault.TheVariants.{Memory}
+use Rattle.script8.specs.declared.replies.LineReply.TheVariants as line
+use Rattle.script8.specs.declared.replies.Reply.{Reply}
+use Rattle.script8.specs.declared.replies.Reply.TheVariants.{Line}
+use Rattle.session8.specs.Work.{fault_of_job}
 use Rattle.session8.specs.Failing.{MayAnswerStopped}
 use Rattle.session8.specs.System.{Answer, MayAnswer}
 
@@ -30,6 +36,13 @@ pub record DoesEntry (entry : Entry) (old : Seen) (answer : Answer) (new : Seen)
   pub tells : old.volume.stopped ≡ false → TellsBlockCalls entry old answer new
   pub stopped : old.volume.stopped ≡ true → MayAnswerStopped (state_of old) entry answer (state_of new)
   pub done : OnOk answer (MayAnswer (state_of old) entry answer (state_of new) × IsSteadied entry old new)
+
+-- ## Jobs
+
+-- the reply to a job that was begun
+abbrev pub job_reply : Result ℕ JobFault → Result Reply SessionFault
+job_reply (Ok number) = Ok (Line (line.Job number))
+job_reply (Err why) = Err (fault_of_job why)
 
 -- ## System
 

@@ -60,8 +60,3 @@ fault_of_job (job.File why) = fault.File why
 fault_of_job (job.Asm why) = fault.Asm why
 fault_of_job (job.Tape why) = fault.Tape why
 fault_of_job job.Memory = fault.Memory
-
--- the reply to a job that was begun
-abbrev pub job_reply : Result ℕ JobFault → Result Reply SessionFault
-job_reply (Ok number) = Ok (Line (line.Job number))
-job_reply (Err why) = Err (fault_of_job why)

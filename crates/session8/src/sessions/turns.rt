@@ -6,8 +6,8 @@ ghost use Rattle.script8.specs.declared.entries.JobEntry.TheVariants as job;
 ghost use Rattle.script8.specs.declared.faults.SessionFault.TheVariants.{Memory};
 ghost use Rattle.session8.specs.Files.{parsed_names};
 ghost use Rattle.session8.specs.Room.{EntryTellsRoom};
-ghost use Rattle.session8.specs.SessionSteps.{LeavesAlone, DoesEntry};
-ghost use Rattle.session8.specs.Work.{job_reply, turn_reply, fault_of_job};
+ghost use Rattle.session8.specs.SessionSteps.{DoesEntry, LeavesAlone, job_reply};
+ghost use Rattle.session8.specs.Work.{turn_reply, fault_of_job};
 
 use super::Session;
 use jobs8::laws::{job_calls, job_numbers};
