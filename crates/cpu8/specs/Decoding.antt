@@ -1,5 +1,6 @@
 -- What an instruction is told by (Small Computer Handbook). A bit is called by what it is worth.
 use Rattle.std.specs.Prelude.{ℕ, ◌/◌, ◌%◌, Bool, nat_eq, if◌then◌else◌}
+use Rattle.word12.specs.declared.sizes.TheConstants.{PAGE}
 use Rattle.tty8.specs.Bits.{has}
 use Rattle.cpu8.specs.declared.decoding.Operation.{Operation}
 use Rattle.cpu8.specs.declared.decoding.Operation.TheVariants.{And, Tad, Isz, Dca, Jms, Jmp, Iot, Opr}
@@ -30,7 +31,7 @@ is_in_current_page w = has w 0o200
 
 -- the offset in the page: bits 5 to 11 of the word
 abbrev pub offset_of : ℕ → ℕ
-offset_of w = w % 0o200
+offset_of w = w % PAGE
 
 -- ## Operate instructions. Group 1 has 0400 clear; group 2 has it set and 0001 clear; group 3 has both set.
 

@@ -1,5 +1,6 @@
 -- Steps that a run makes with no look at the Teletype, for private clauses.
 use Rattle.std.specs.Prelude.{◌≡◌, ℕ, ◌<◌, ◌≤◌, Bool, true, false, ◌&&◌, not, nat_eq, if◌then◌else◌, List, length, None, slice_index_or}
+use Rattle.word12.specs.declared.sizes.TheConstants.{CORE}
 use Rattle.tty8.specs.Teletype.{is_requesting}
 use Rattle.cpu8.specs.State.{State, place, next_cell}
 use Rattle.cpu8.specs.Decoding.{is_group_1, is_group_2, has_hlt}
@@ -45,7 +46,7 @@ AreUnbroken breaks fields = (field : ℕ) → slice_index_or fields field false 
 
 -- breaks tell of each cell where they are minded, and else of none in this field
 abbrev pub AreMinded : List Bool → ℕ → Bool → Type 0
-AreMinded breaks field true = 0o100000 ≤ length breaks
+AreMinded breaks field true = CORE ≤ length breaks
 AreMinded breaks field false = IsUnbroken breaks field
 
 -- whether an operate instruction goes on

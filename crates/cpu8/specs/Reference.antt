@@ -1,6 +1,7 @@
 -- The instructions that refer to memory: AND, TAD, ISZ, DCA, JMS, JMP (Small Computer Handbook). PC is the address of
 -- the instruction, w its word.
 use Rattle.std.specs.Prelude.{ℕ, ◌+◌, ◌*◌, ◌/◌, ◌%◌, Bool, false, ◌&&◌, nat_eq, nat_le, if◌then◌else◌, bit_and, List, slice_index, slice_set}
+use Rattle.word12.specs.declared.sizes.TheConstants.{PAGE}
 use Rattle.cpu8.specs.State.{State, place}
 use Rattle.cpu8.specs.Decoding.{is_indirect, is_in_current_page, offset_of}
 
@@ -8,7 +9,7 @@ use Rattle.cpu8.specs.Decoding.{is_indirect, is_in_current_page, offset_of}
 
 -- the direct address: the offset in the page of the instruction, or in page zero
 abbrev pub direct_address : State → ℕ → ℕ
-direct_address s w = if is_in_current_page w then s.pc / 0o200 * 0o200 + offset_of w else offset_of w
+direct_address s w = if is_in_current_page w then s.pc / PAGE * PAGE + offset_of w else offset_of w
 
 -- where the pointer of an indirect reference stands: at the direct address in the instruction field
 abbrev pub pointer_place : State → ℕ → ℕ

@@ -1,5 +1,6 @@
 -- The state of a PDP-8/I with MC8 extended memory and a Teletype (Small Computer Handbook).
 use Rattle.std.specs.Prelude.{ℕ, ◌+◌, ◌*◌, ◌/◌, ◌%◌, Bool, true, false, ◌&&◌, not, List, slice_set}
+use Rattle.word12.specs.declared.sizes.TheConstants.{FIELD}
 use Rattle.tty8.specs.Teletype.{TeletypeState, idle, cleared, struck, finished, is_requesting}
 
 pub record State : Type 0 where
@@ -31,7 +32,7 @@ pub record State : Type 0 where
 
 -- the number of the cell of an address in a field
 abbrev pub place : ℕ → ℕ → ℕ
-place field address = 0o10000 * field + address
+place field address = FIELD * field + address
 
 -- the cell of the next instruction
 abbrev pub next_cell : State → ℕ
@@ -66,10 +67,10 @@ stopped core = record {
 -- fields are its field (this project's profile).
 abbrev pub started : State → ℕ → State
 started s cell = record (stopped s.core) {
-  pc = cell % 0o10000;
-  instruction_field = cell / 0o10000;
-  instruction_buffer = cell / 0o10000;
-  data_field = cell / 0o10000;
+  pc = cell % FIELD;
+  instruction_field = cell / FIELD;
+  instruction_buffer = cell / FIELD;
+  data_field = cell / FIELD;
   switches = s.switches;
   running = true;
   teletype = cleared s.teletype;

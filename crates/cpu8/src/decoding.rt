@@ -1,10 +1,11 @@
 //! What an instruction is told by (Small Computer Handbook).
 
 ghost use Rattle.std.specs.Prelude.{◌≡◌, ◌<◌, ◌%◌};
+ghost use Rattle.word12.specs.declared.sizes.TheConstants.{PAGE};
 ghost use Rattle.tty8.specs.Bits.{has};
 ghost use Rattle.cpu8.specs.Decoding.{operation_of, device_of, field_of, pulses_of};
 
-use word12::Word;
+use word12::{PAGE, Word};
 
 // Bits of a reference to memory.
 
@@ -13,9 +14,6 @@ pub(crate) const INDIRECT: u16 = 0o400;
 
 /// The offset is in the current page, else in page zero.
 pub(crate) const CURRENT_PAGE: u16 = 0o200;
-
-/// The number of offsets in a page.
-pub(crate) const PAGE: u16 = 0o200;
 
 // Bits of an operate instruction. Group 1 has `GROUP_2_OR_3` clear; group 3 has `GROUP_3` set too.
 
@@ -90,7 +88,7 @@ pub(crate) fn has(word: Word, bit: u16) -> bool
 /// The offset of a reference to memory in its page.
 #[inline(always)]
 pub(crate) fn offset_of(word: Word) -> u16
-    ensures { result ≡ word % 0o200 }
+    ensures { result ≡ word % PAGE }
 {
     word.get() % PAGE
 }

@@ -1,6 +1,7 @@
 //! The processor without core.
 
 ghost use Rattle.std.specs.Prelude.{◌≡◌, ◌<◌, []};
+ghost use Rattle.word12.specs.declared.sizes.TheConstants.{CORE};
 ghost use Rattle.cpu8.specs.State.{started, next_cell, stopped, grants_interrupt, with_core};
 ghost use Rattle.cpu8.specs.Step.{executed, interrupted, step};
 
@@ -121,7 +122,7 @@ impl Processor {
     #[inline(always)]
     pub(crate) fn next_cell(&self) -> Cell
         ensures value { result ≡ next_cell self.now }
-        ensures range { result < 0o100000 }
+        ensures range { result < CORE }
     {
         Cell::at(self.instruction_field, self.pc)
     }

@@ -1,4 +1,5 @@
 ghost use Rattle.std.specs.Prelude.{◌≡◌, ◌+◌, ◌<◌, ◌≤◌, ◌++◌, [], IfOk, IsOkUnless, slice_index, vec_len, vec_capacity, false};
+ghost use Rattle.word12.specs.declared.sizes.TheConstants.{CORE};
 ghost use Rattle.cpu8.specs.State.{deposited};
 ghost use Rattle.cpu8.specs.Go.{IsGo, after, printed_by};
 ghost use Rattle.debug8.specs.Breaks.{SetsBreak, break_cleared, no_breaks};
@@ -9,7 +10,7 @@ use cpu8::laws::unset_breaks;
 use cpu8::{Gone, Machine};
 use std::alloc::{AllocError, Global};
 use std::marker::Model;
-use word12::{Cell, Word};
+use word12::{CORE, Cell, Word};
 
 /// Breaks at cells of core, at most 64 of them (this project's profile).
 #[derive(Drop)]
@@ -20,26 +21,25 @@ pub struct Debugger {
 
 impl Model for Debugger {
     ghost use Rattle.std.specs.Prelude.{◌≡◌, ◌≤◌, List, Bool, length};
+    ghost use Rattle.word12.specs.declared.sizes.TheConstants.{CORE};
     ghost use Rattle.debug8.specs.Breaks.{count_breaks};
 
     ghost Value = { List Bool };
 
     ghost view = { λ d. d.breaks.items };
 
-    ghost invariant = { λ d. (length d.breaks.items ≡ 0o100000) × (d.count ≡ count_breaks d.breaks.items) × (d.count ≤ 64) };
+    ghost invariant = { λ d. (length d.breaks.items ≡ CORE) × (d.count ≡ count_breaks d.breaks.items) × (d.count ≤ 64) };
 }
-
-const CELLS: usize = 0o100000;
 
 const MOST_BREAKS: usize = 64;
 
 impl Debugger {
     /// A debugger with no break. It takes all its memory here, a flag for each of the 0o100000 cells.
     pub fn new(alloc: Global) -> Result<Debugger, DebugFault>
-        ensures breaks { IfOk result (λ d. d ≡ no_breaks 0o100000) }
+        ensures breaks { IfOk result (λ d. d ≡ no_breaks CORE) }
         ensures memory { IsOkUnless result Memory }
     {
-        let breaks = no_breaks_in(alloc, CELLS)?;
+        let breaks = no_breaks_in(alloc, CORE)?;
         Ok(Debugger { breaks, count: 0 })
     }
 

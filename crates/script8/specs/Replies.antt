@@ -2,6 +2,7 @@
 use Rattle.std.specs.Prelude.{ℕ, ◌/◌, ◌%◌, codes, decimal, Bool, true, false, Option, Some, None, List, [], ◌∷◌, ◌++◌, Result, Ok, Err}
 use Rattle.std.specs.List.{flat_map}
 use Rattle.word12.specs.Octal.{octal_digit, octal4}
+use Rattle.word12.specs.declared.sizes.TheConstants.{FIELD}
 use Rattle.script8.specs.Faults.{fault_text}
 use Rattle.script8.specs.Shown.{shown}
 use Rattle.script8.specs.declared.entries.Entry.{Entry}
@@ -47,7 +48,7 @@ job_text job text = codes "JOB " ++ decimal job ++ text
 
 -- the five octal digits of a cell: its field, and its address
 abbrev pub cell_text : ℕ → List ℕ
-cell_text cell = octal_digit (cell / 0o10000) ∷ octal4 (cell % 0o10000)
+cell_text cell = octal_digit (cell / FIELD) ∷ octal4 (cell % FIELD)
 
 -- the three octal digits of a character
 abbrev pub character_text : ℕ → List ℕ

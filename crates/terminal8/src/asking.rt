@@ -5,7 +5,7 @@ ghost use Rattle.terminal8.specs.Asks.{is_ksf, is_undisturbed, tests_keyboard, a
 ghost use Rattle.cpu8.specs.Step.{fetched};
 
 use cpu8::Machine;
-use word12::{Cell, Word};
+use word12::{Cell, PAGE, Word};
 
 /// Whether the program asks for a key, so many steps after it last asked: no key is unread, and the next step is a KSF (pulse 1
 /// of a keyboard instruction), or interrupts are on and the steps are 30,000 at least, a tenth of a second.
@@ -102,6 +102,3 @@ const DIRECT_JMP: u16 = 0o12;
 
 /// The bit of a reference to memory that is for the current page.
 const CURRENT_PAGE: u16 = 0o200;
-
-/// The number of offsets in a page.
-const PAGE: u16 = 0o200;

@@ -1,6 +1,7 @@
 //! The registers and flags, as a console shows them.
 
 ghost use Rattle.std.specs.Prelude.{◌≡◌, ◌<◌};
+ghost use Rattle.word12.specs.declared.sizes.TheConstants.{CORE};
 ghost use Rattle.cpu8.specs.State.{next_cell};
 
 use super::Machine;
@@ -36,7 +37,7 @@ impl Machine {
     #[inline]
     pub fn next_cell(&self) -> Cell
         ensures value { result ≡ next_cell self.now }
-        ensures range { result < 0o100000 }
+        ensures range { result < CORE }
     {
         self.processor.next_cell()
     }

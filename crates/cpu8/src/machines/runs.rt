@@ -1,13 +1,15 @@
 //! Runs of several steps.
 
 ghost use Rattle.std.specs.Prelude.{◌≡◌, ◌+◌, ◌≤◌, ◌++◌, [], true, length, vec_len, vec_capacity};
+ghost use Rattle.word12.specs.declared.sizes.TheConstants.{CORE};
 ghost use Rattle.cpu8.specs.QuietSteps.{AreQuiet, AreUnbroken, IsUnbroken, is_quiet, is_settled};
 ghost use Rattle.cpu8.specs.Unasked.{AreUnasked};
 ghost use Rattle.cpu8.specs.Go.{IsGo, after, break_ahead, character_of, printed_by, reason, printing_step};
 
 use super::Machine;
-use crate::processors::quiet::{FIELD, is_break};
+use crate::processors::quiet::is_break;
 use crate::{Gone, Stepped, Why};
+use word12::{CORE, FIELD};
 
 impl Machine {
     /// Makes steps, each an instruction or an interrupt (Small Computer Handbook), up to a HLT, an unassigned word or a
@@ -88,7 +90,7 @@ impl Machine {
         if unbroken[usize::from(self.processor.instruction_field)] {
             return self.run_without_breaks(n, quick, false, breaks);
         }
-        if breaks.len() >= CELLS {
+        if breaks.len() >= CORE {
             return self.run_with_breaks(n, quick, breaks);
         }
         0
@@ -118,7 +120,7 @@ impl Machine {
     fn run_with_breaks(&mut self, n: usize, quick: bool, breaks: &[bool]) -> usize
         requires quiet { is_quiet quick self.old ≡ true }
         requires settled { is_settled self.old ≡ true }
-        requires breaks { 0o100000 ≤ length breaks.now }
+        requires breaks { CORE ≤ length breaks.now }
         ensures within { result ≤ n }
         ensures state { self.new ≡ after quick result self.old }
         ensures quiet { AreQuiet quick breaks.now self.old result }
@@ -181,7 +183,7 @@ fn unbroken_fields(n: usize, breaks: &[bool]) -> [bool; FIELDS]
     ensures { AreUnbroken breaks.now result }
 {
     let mut unbroken = [breaks.is_empty(); FIELDS];
-    if n >= FIELD && breaks.len() >= CELLS {
+    if n >= FIELD && breaks.len() >= CORE {
         for field in 0..FIELDS {
             let first = FIELD * field;
             unbroken[field] = !breaks[first..first + FIELD].contains(&true);
@@ -191,5 +193,3 @@ fn unbroken_fields(n: usize, breaks: &[bool]) -> [bool; FIELDS]
 }
 
 const FIELDS: usize = 8;
-
-const CELLS: usize = FIELDS * FIELD;

@@ -15,7 +15,7 @@ use crate::decoding::{
     Device, GROUP_2_OR_3, Operation, device_of, field_of, has, operation_of, pulses_of,
 };
 use core_load::Core;
-use word12::{Cell, Word};
+use word12::{Cell, FIELD, Word};
 
 impl Processor {
     /// Whether the machine runs, no interrupt request can be granted, and a quick printer has no character to end.
@@ -282,6 +282,3 @@ pub(crate) fn is_break(breaks: &[bool], cell: Cell) -> bool
         None => false,
     }
 }
-
-/// The cells of a field.
-pub(crate) const FIELD: usize = 0o10000;

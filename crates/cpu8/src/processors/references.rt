@@ -1,13 +1,14 @@
 //! The instructions that refer to memory.
 
 ghost use Rattle.std.specs.Prelude.{◌≡◌, ◌<◌, false};
+ghost use Rattle.word12.specs.declared.sizes.TheConstants.{CORE};
 ghost use Rattle.cpu8.specs.State.{with_core};
 ghost use Rattle.cpu8.specs.Reference.{direct_address, indexed, effective_address, operand_place, advanced, and_row, tad_row, isz_row, dca_row, jms_row, jmp_row};
 
 use super::Processor;
-use crate::decoding::{CURRENT_PAGE, INDIRECT, PAGE, has, offset_of};
+use crate::decoding::{CURRENT_PAGE, INDIRECT, has, offset_of};
 use core_load::Core;
-use word12::{Cell, Word};
+use word12::{Cell, PAGE, Word};
 
 impl Processor {
     /// The direct address: the offset in the current page, which is that of the instruction, or in page zero.
@@ -51,7 +52,7 @@ impl Processor {
     fn operand_cell(&self, core: &mut Core, word: Word) -> Cell
         ensures value { result ≡ operand_place (with_core self.now core.old) word }
         ensures core { core.new ≡ indexed (with_core self.now core.old) word }
-        ensures range { result < 0o100000 }
+        ensures range { result < CORE }
     {
         let address = self.effective_address(core, word);
         let field = if has(word, INDIRECT) {
