@@ -19,8 +19,8 @@ use Rattle.command8.specs.declared.kinds.Task.{Task}
 use Rattle.command8.specs.declared.kinds.TaskFault.{TaskFault}
 use Rattle.command8.specs.declared.kinds.TaskFault.TheVariants.{Words, Memory, LookAndKeep, InputTwice, CrossAlone, Start, Switches, SourceStart}
 use Rattle.command8.specs.declared.verbs.Verb.TheVariants as verb
-use Rattle.command8.specs.Tasks.{Answers, Asks, AsksBoth, AsksCrossAlone, AsksNoSourceStart, AsksNoStart, AsksNoSwitches, IsPastClap, NamesInputTwice, assemble_app, check_app, create_app, get_app, list_app, pdp8, put_app, rim_app, run_app, source_app, tape_app, teletype_app}
-use Rattle.command8.specs.TaskSteps.{GivesMet, HasMet, IsFaultOf, IsRefused, IsWhole}
+use Rattle.command8.specs.Tasks.{Answers, Asks, AsksBoth, AsksCrossAlone, AsksNoSourceStart, AsksNoStart, AsksNoSwitches, IsFaultOf, IsPastClap, NamesInputTwice, assemble_app, check_app, create_app, get_app, list_app, pdp8, put_app, rim_app, run_app, source_app, tape_app, teletype_app}
+use Rattle.command8.specs.TaskSteps.{GivesMet, HasMet, IsRefused, IsWhole}
 use Rattle.command8.proofs.LeafLemmas.{Faultless, IsLeaf, IsPart, a_flag, a_help, a_word, an_option, below, has_blocks, has_sources, has_steps, has_word, image_built, name_built, tape_built}
 use Rattle.command8.proofs.WalkLemmas.{IsNoHelp, TakesSome, level_stops}
 

@@ -1,9 +1,7 @@
 -- What the parts of `task` come to, for private clauses.
-use Rattle.std.specs.Prelude.{◌≡◌, ◌≢◌, ◌≤◌, ⊤, true, codes, find, is_some, length, List, [], ◌∷◌, Option, None, Some, Result, Ok, Err}
+use Rattle.std.specs.Prelude.{◌≡◌, ◌≤◌, ⊤, true, codes, find, is_some, length, List, [], ◌∷◌, Option, None, Some, Result, Ok, Err}
 use Rattle.std.specs.Str.{bytes_eq}
-use Rattle.clap.specs.Words.{Row, Text, first_of, kind_of, one_of, IsUnsignedIn}
-use Rattle.clap.specs.declared.error.Error.{Error}
-use Rattle.clap.specs.declared.error.kind.ErrorKind.TheVariants.{OutOfMemory}
+use Rattle.clap.specs.Words.{Row, Text, first_of, one_of, IsUnsignedIn}
 use Rattle.command8.specs.declared.kinds.Task.{Task}
 use Rattle.command8.specs.declared.kinds.TaskFault.{TaskFault}
 use Rattle.command8.specs.declared.kinds.TaskFault.TheVariants.{Words, Memory, LookAndKeep, InputTwice, CrossAlone, Start, Switches, SourceStart}
@@ -14,17 +12,6 @@ use Rattle.word12.specs.declared.sizes.TheConstants.{MOST_BLOCKS}
 use Rattle.command8.specs.Tasks.{AsksBoth, AsksCrossAlone, AsksFor, AsksNoSourceStart, AsksNoStart, AsksNoSwitches, HasFitBlocks, NamesInputTwice, first_no_octal, most_steps, values_of}
 
 -- ## What it asks for
-
--- an error of `clap` as a fault: its want of memory is the program's
-abbrev pub IsFaultOf : Error → TaskFault → Type 0
-IsFaultOf error (Words same) = (same ≡ error) × (kind_of error ≢ OutOfMemory)
-IsFaultOf error Memory = kind_of error ≡ OutOfMemory
-IsFaultOf error LookAndKeep = ⊥
-IsFaultOf error InputTwice = ⊥
-IsFaultOf error CrossAlone = ⊥
-IsFaultOf error (Start text) = ⊥
-IsFaultOf error (Switches text) = ⊥
-IsFaultOf error (SourceStart text) = ⊥
 
 -- what was found asks for no task
 abbrev pub IsRefused : Option (Text × List Row) → TaskFault → Type 0

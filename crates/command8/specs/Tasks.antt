@@ -9,6 +9,7 @@ use Rattle.clap.specs.Simple.{new_shape}
 use Rattle.clap.specs.Words.{App, Row, Rule, Shape, Text, all_of, first_of, fault_of, kind_of, new_app, new_rule, one_of, subcommand_of, takes, IsAmong}
 use Rattle.clap.specs.declared.builder.value_parser.ValueParser.TheVariants.{Unsigned}
 use Rattle.clap.specs.declared.builder.action.ArgAction.TheVariants.{Append, SetTrue}
+use Rattle.clap.specs.declared.error.Error.{Error}
 use Rattle.clap.specs.declared.error.kind.ErrorKind.TheVariants.{OutOfMemory}
 use Rattle.char_pack.specs.declared.forms.GetForm.{GetForm}
 use Rattle.char_pack.specs.declared.forms.GetForm.TheVariants as get_as
@@ -311,6 +312,17 @@ HasFitBlocks (Assemble form) = (1 ≤ length form.sources.items) × (length form
     × (input_count (map (λ file. file.bytes.items) form.sources.items) ≤ 1)
     × (form.is_cross ≡ true → is_some form.list ≡ true)
 HasFitBlocks (Teletype form) = is_limit form.steps ≡ true
+
+-- an error of `clap` as a fault: its want of memory is the program's
+abbrev pub IsFaultOf : Error → TaskFault → Type 0
+IsFaultOf error (Words same) = (same ≡ error) × (kind_of error ≢ OutOfMemory)
+IsFaultOf error Memory = kind_of error ≡ OutOfMemory
+IsFaultOf error LookAndKeep = ⊥
+IsFaultOf error InputTwice = ⊥
+IsFaultOf error CrossAlone = ⊥
+IsFaultOf error (Start text) = ⊥
+IsFaultOf error (Switches text) = ⊥
+IsFaultOf error (SourceStart text) = ⊥
 
 -- The command line with these words, the program's own name first, is answered so: a task where `clap` finds no fault
 -- in the words and they ask for it, an error of `clap` of a kind that the words meet, a refusal of a run that is both to

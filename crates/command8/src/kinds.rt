@@ -1,5 +1,5 @@
 ghost use Rattle.std.specs.Prelude.{◌≡◌, option_map};
-ghost use Rattle.command8.specs.TaskSteps.{IsFaultOf};
+ghost use Rattle.command8.specs.Tasks.{IsFaultOf};
 ghost use Rattle.command8.specs.Usage.{usage_of};
 ghost use Rattle.command8.specs.declared.kinds.TaskFault.TheVariants.{Memory};
 

@@ -287,10 +287,13 @@ pub said_bad : (why : SessionFault) (command : List ℕ) → Parses (says comman
 said_bad why command (inl is) same = sym (ap Err same) ∙ is
 said_bad why command (inr is) same = absurd (err_err (sym (ap Err same) ∙ is.0))
 
--- a fault that is no bad line is that of a line with a name
-pub said_name : (why : SessionFault) (command : List ℕ) → Parses (says command) (Err why) → why ≢ BadLine → HasName (says command)
-said_name why command (inl is) other = absurd (other (says_err command why (sym is)))
-said_name why command (inr is) other = is.1
+memory_err : (why : SessionFault) → ◌≡◌ {A = LineReply} (Err why) (Err Memory) → why ≡ Memory
+memory_err why same = cc
+
+-- a fault that is no bad line is want of memory, at a line with a name
+pub said_other : (why : SessionFault) (command : List ℕ) → Parses (says command) (Err why) → why ≢ BadLine → (why ≡ Memory) × HasName (says command)
+said_other why command (inl is) other = absurd (other (says_err command why (sym is)))
+said_other why command (inr is) other = (memory_err why is.0, is.1)
 
 -- a text whose first line says a name begins with one
 pub begins_name : (text : List ℕ) (is_end : Bool) (said : Result Line SessionFault) (bytes : ℕ) → FirstLineSays text is_end said bytes → HasName said → BeginsWithName text

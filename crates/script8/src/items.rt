@@ -91,7 +91,7 @@ fn line_item(alloc: Global, text: &[u8], bytes: usize, is_end: bool) -> Result<N
                 item: Item::Refused(SessionFault::BadLine),
                 bytes,
             }),
-            _ => Err(SessionFault::Memory),
+            _ => Err(fault),
         },
     }
 }
@@ -112,13 +112,11 @@ fn store_item(
     match lines_length(behind, lines, is_end) {
         Ok(more) => {
             let (lines, _) = behind.split_at(more);
-            match ended_text(alloc, lines) {
-                Ok(text) => Ok(Next::Item {
-                    item: Item::Do(Entry::Files(FileEntry::Store { name, text })),
-                    bytes: bytes + more,
-                }),
-                Err(_) => Err(SessionFault::Memory),
-            }
+            let text = ended_text(alloc, lines)?;
+            Ok(Next::Item {
+                item: Item::Do(Entry::Files(FileEntry::Store { name, text })),
+                bytes: bytes + more,
+            })
         }
         Err(missing) => Ok(cut_off(text, missing, is_end)),
     }

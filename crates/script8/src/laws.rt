@@ -1,7 +1,7 @@
 //! What holds of names and numbers in lines. Each function does nothing: its contract is the law.
 ghost use Rattle.std.specs.Prelude.{◌≡◌, ◌<◌, ℕ, List, Option, Some, decimal};
-ghost use Rattle.word12.specs.declared.sizes.TheConstants.{CORE};
 ghost use Rattle.word12.specs.Octal.{octal4, octal_of};
+ghost use Rattle.word12.specs.declared.sizes.TheConstants.{CORE};
 ghost use Rattle.os8_dir.specs.Names.{parsed_name};
 ghost use Rattle.script8.specs.Lines.{number_of, cell_of, character_of};
 ghost use Rattle.script8.specs.Replies.{cell_text, character_text};

@@ -1,6 +1,6 @@
 use Rattle.std.proofs.Common.{refl}
 use Rattle.script8.proofs.CutLemmas.{some_line}
-use Rattle.script8.proofs.ItemLemmas.{opens, gives, said_ok, said_bad, said_name, begins_name}
+use Rattle.script8.proofs.ItemLemmas.{opens, gives, said_ok, said_bad, said_other, begins_name}
 use Rattle.script8.proofs.items.line_item.Goals as goal
 
 pub without_end-requires : goal.without_end-requires
@@ -22,4 +22,6 @@ pub returns-in-BadLine : goal.returns-in-BadLine
 returns-in-BadLine c = gives _ _ _ _ _ refl (λ short lines. refl) (opens _ _ _ _ _ _ c.requires c.split_at.ensures.front c.without_end.ensures (said_bad _ _ c.in-Err.ensures c.in-BadLine.is))
 
 pub returns-in_default : goal.returns-in_default
-returns-in_default c = (refl, begins_name _ _ _ _ (opens _ _ _ _ _ _ c.requires c.split_at.ensures.front c.without_end.ensures refl) (said_name _ _ c.in-Err.ensures c.in_default.not-BadLine))
+returns-in_default c =
+    let other = said_other _ _ c.in-Err.ensures c.in_default.not-BadLine in
+    (other.0, begins_name _ _ _ _ (opens _ _ _ _ _ _ c.requires c.split_at.ensures.front c.without_end.ensures refl) other.1)
