@@ -57,7 +57,8 @@ fn mark_starts(
 ) -> Result<(), AllocError>
     requires words { length words.now ≡ CORE }
     requires reached { length reached.old ≡ CORE }
-    ensures { OnOk result (Marks words.now reached.old reached.new waiting.old.items waiting.new.items starts.now) }
+    ensures { OnOk result (Marks words.now reached.old reached.new waiting.old.items waiting.new.items
+        starts.now) }
 {
     for start in starts {
         mark(words, reached, waiting, *start)?;

@@ -10,5 +10,6 @@ ghost use Rattle.flow8.specs.Laws.{IsTold};
 /// Behind an instruction that stays in its field, and is no jump through a pointer, a machine that runs on stands at one of the cells
 /// that the instruction's word tells.
 pub fn steps_are_told()
-    ensures { (s : State) → IsTold s → runs_on (step s).1 ≡ true → IsExit (next_cell s) (fetched s) (next_cell (step s).0) }
+    ensures { (s : State) → IsTold s → runs_on (step s).1 ≡ true
+        → IsExit (next_cell s) (fetched s) (next_cell (step s).0) }
 {}

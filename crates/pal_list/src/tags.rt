@@ -46,8 +46,9 @@ fn mark_all(tags: &mut [bool], words: &[Option<Word>], code: &[bool])
     requires size { length tags.old ≡ CORE }
     requires words { length words.now ≡ CORE }
     requires code { length code.now ≡ CORE }
-    ensures { (is_code : ℕ → Bool) (items : List Item) → HoldsMap items words.now → HoldsFlags is_code code.now
-        → HoldsFlags (tagged_below is_code items 0) tags.old → HoldsFlags (tagged_below is_code items CORE) tags.new }
+    ensures { (is_code : ℕ → Bool) (items : List Item) → HoldsMap items words.now
+        → HoldsFlags is_code code.now → HoldsFlags (tagged_below is_code items 0) tags.old
+        → HoldsFlags (tagged_below is_code items CORE) tags.new }
 {
     for number in 0u32..CORE as u32 {
         mark(tags, words, code, Cell::of(number));
@@ -66,8 +67,9 @@ fn mark(tags: &mut [bool], words: &[Option<Word>], code: &[bool], cell: Cell)
     requires size { length tags.old ≡ CORE }
     requires words { length words.now ≡ CORE }
     requires code { length code.now ≡ CORE }
-    ensures { (is_code : ℕ → Bool) (items : List Item) → HoldsMap items words.now → HoldsFlags is_code code.now
-        → HoldsFlags (tagged_below is_code items cell) tags.old → HoldsFlags (tagged_below is_code items (suc cell)) tags.new }
+    ensures { (is_code : ℕ → Bool) (items : List Item) → HoldsMap items words.now
+        → HoldsFlags is_code code.now → HoldsFlags (tagged_below is_code items cell) tags.old
+        → HoldsFlags (tagged_below is_code items (suc cell)) tags.new }
 {
     let held = words[cell.index()];
     if let Some(word) = held {
