@@ -76,7 +76,8 @@ impl Model for Processor {
       held_off = s.held_off;
     } };
 
-    ghost invariant = { λ p. (p.l < 2) × (p.instruction_field < 8) × (p.instruction_buffer < 8) × (p.data_field < 8) × (p.save_field < 0o100) };
+    ghost invariant = { λ p. (p.l < 2) × (p.instruction_field < 8) × (p.instruction_buffer < 8)
+        × (p.data_field < 8) × (p.save_field < 0o100) };
 }
 
 impl Processor {

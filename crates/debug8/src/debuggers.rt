@@ -28,7 +28,8 @@ impl Model for Debugger {
 
     ghost view = { λ d. d.breaks.items };
 
-    ghost invariant = { λ d. (length d.breaks.items ≡ CORE) × (d.count ≡ count_breaks d.breaks.items) × (d.count ≤ 64) };
+    ghost invariant = { λ d. (length d.breaks.items ≡ CORE)
+        × (d.count ≡ count_breaks d.breaks.items) × (d.count ≤ 64) };
 }
 
 const MOST_BREAKS: usize = 64;

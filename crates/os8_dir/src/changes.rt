@@ -156,7 +156,8 @@ impl Directory {
         requires some { 0 < length }
         requires room { LieIn first_block length (rooms_at self.now.first self.now.entries) }
         ensures list { IfOk result (λ d. d
-            ≡ relisted self.now (placed_of self.now.first (new_file self.now name.now info.now first_block length) self.now.entries)) }
+            ≡ relisted self.now (placed_of self.now.first
+            (new_file self.now name.now info.now first_block length) self.now.entries)) }
         ensures err { IfErr result (λ fault. fault ≡ Memory) }
     {
         let first = self.first_block();

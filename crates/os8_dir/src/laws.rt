@@ -37,8 +37,8 @@ pub fn sound_directory()
 /// A volume whose blocks 1, 2 and so on hold the segments of a directory is read as that directory, where six segments
 /// take its entries.
 pub fn read_back()
-    ensures { (blocks : List (List ℕ)) (d : Listed) → IsDirectory (length blocks) d → length blocks ≤ MOST_BLOCKS
-        → length d.entries ≤ limit d → HoldsSegments blocks d → directory_of blocks ≡ Ok d }
+    ensures { (blocks : List (List ℕ)) (d : Listed) → IsDirectory (length blocks) d
+        → length blocks ≤ MOST_BLOCKS → length d.entries ≤ limit d → HoldsSegments blocks d → directory_of blocks ≡ Ok d }
 {}
 
 /// A volume is read as a directory by its number of blocks and blocks 1 to 6 alone.

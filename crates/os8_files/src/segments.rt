@@ -28,7 +28,8 @@ fn write_segment<S: BlockStore>(
     ensures err { OnErr result (IsDamaged (S.contents store.old) (S.contents store.new) (number + 1)) }
     ensures volume { IsVolume (S.contents store.new) }
     ensures writes { OnOk result (S.writes store.new
-        ≡ (if pointwise nat_eq (block (S.contents store.old) (number + 1)) words.now then S.writes store.old else counted (S.writes store.old))) }
+        ≡ (if pointwise nat_eq (block (S.contents store.old) (number + 1)) words.now
+        then S.writes store.old else counted (S.writes store.old))) }
     ensures tried { OnErr result (S.writes store.new ≡ counted (S.writes store.old)) }
     ensures reads { S.reads store.new ≡ S.reads store.old }
     ensures failed_reads { S.failed_reads store.new ≡ S.failed_reads store.old }
@@ -65,7 +66,8 @@ pub(crate) fn write_segments<S: BlockStore>(
     ensures few { segment_count directory.now ≤ 6 }
     ensures volume { IsVolume (S.contents store.new) }
     ensures writes { OnOk result (S.writes store.new
-        ≡ counted_more (changed (segment_count directory.now) directory.now (S.contents store.old)) (S.writes store.old)) }
+        ≡ counted_more (changed (segment_count directory.now) directory.now (S.contents store.old))
+        (S.writes store.old)) }
     ensures reads { S.reads store.new ≡ S.reads store.old }
     ensures failed_reads { S.failed_reads store.new ≡ S.failed_reads store.old }
     ensures failed_writes { S.failed_writes store.new

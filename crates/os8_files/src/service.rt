@@ -59,7 +59,8 @@ impl<S: BlockStore> Model for FileService<S> {
       tentative = s.tentative;
     } };
 
-    ghost invariant = { λ s. IsMounted (S.contents s.store) s.segments.items s.directory s.stopped s.tentative };
+    ghost invariant = { λ s.
+        IsMounted (S.contents s.store) s.segments.items s.directory s.stopped s.tentative };
 }
 
 /// The directory of a store, and the words of blocks 1 to 6.

@@ -27,7 +27,9 @@ impl Model for Name {
 
     ghost inverse = { λ number. record { high = number / 4294967296; low = number % 4294967296 } };
 
-    ghost inverse_ok = { λ a h. ap (λ (n : ℕ). record { high = n; low = (a.high * 4294967296 + a.low) % 4294967296 }) (div-mul-add a.high 4294967296 a.low h) ∙ ap (λ (n : ℕ). record { high = a.high; low = n }) (mod-mul-add a.high 4294967296 a.low h) };
+    ghost inverse_ok = { λ a h. ap (λ (n : ℕ). record { high = n; low = (a.high * 4294967296 + a.low) % 4294967296 })
+        (div-mul-add a.high 4294967296 a.low h)
+        ∙ ap (λ (n : ℕ). record { high = a.high; low = n }) (mod-mul-add a.high 4294967296 a.low h) };
 }
 
 impl Name {

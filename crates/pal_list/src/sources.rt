@@ -168,7 +168,8 @@ fn put_next(
     requires code { length code.now ≡ CORE }
     requires tags { length tags.now ≡ CORE }
     ensures text { (older : List (ℕ × ℕ))
-        → text.old.items ≡ lines_of (tagged_in code.now) (tagged_in tags.now) older → before ≡ newest_cell older
+        → text.old.items ≡ lines_of (tagged_in code.now) (tagged_in tags.now) older
+        → before ≡ newest_cell older
         → OnOk result (text.new.items
         ≡ lines_of (tagged_in code.now) (tagged_in tags.now) (with_word word cell older)) }
     ensures cell { (older : List (ℕ × ℕ)) → before ≡ newest_cell older

@@ -34,7 +34,8 @@ pub fn run<R: Read, W: Write>(
     reader: &mut R,
     writer: &mut W,
 ) -> Result<Ended, TerminalFault>
-    ensures { RunsProgram form input n machine.old machine.new (R.remaining reader.old) (R.remaining reader.new)
+    ensures { RunsProgram form input n machine.old machine.new
+        (R.remaining reader.old) (R.remaining reader.new)
         (W.contents writer.old) (W.contents writer.new) result }
 {
     let mut paper = Paper::new();

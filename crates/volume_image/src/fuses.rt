@@ -128,7 +128,10 @@ impl BlockStore for FuseVolume {
         requires { number < length self.old.volume.blocks }
         ensures fails { is_err result ≡ fails_next self.old.writes_left }
         ensures ok { OnOk result (self.new.volume ≡
-            record self.old.volume { blocks = slice_set self.old.volume.blocks number words.now; writes = counted self.old.volume.writes }) }
+            record self.old.volume {
+              blocks = slice_set self.old.volume.blocks number words.now;
+              writes = counted self.old.volume.writes;
+            }) }
         ensures err { OnErr result (IsSpoilt self.old.volume self.new.volume number) }
         ensures after { self.new ≡ record self.old {
           volume = self.new.volume;

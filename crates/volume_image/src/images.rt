@@ -45,7 +45,8 @@ fn lay_words(bytes: &[u8], first: usize, words: &mut [Word])
 // A block of an image; of each word just the low twelve bits.
 fn block_at(bytes: &[u8], number: usize) -> Block
     requires { 512 * number + 512 ≤ length bytes.now }
-    ensures { (k : ℕ) → k < BLOCK → slice_index result k ≡ image_word bytes.now (BLOCK * number + k) % 0o10000 }
+    ensures { (k : ℕ) → k < BLOCK
+        → slice_index result k ≡ image_word bytes.now (BLOCK * number + k) % 0o10000 }
 {
     let mut words = [Word::ZERO; BLOCK];
     lay_words(bytes, BLOCK * number, &mut words);

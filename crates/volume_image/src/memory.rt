@@ -22,7 +22,11 @@ impl Model for MemoryVolume {
 
     ghost Value = { InMemory };
 
-    ghost view = { λ volume. record { blocks = volume.blocks.items; reads = volume.reads; writes = volume.writes } };
+    ghost view = { λ volume. record {
+      blocks = volume.blocks.items;
+      reads = volume.reads;
+      writes = volume.writes;
+    } };
 
     ghost invariant = { λ volume. IsVolume volume.blocks.items × AreWords volume.blocks.items };
 }

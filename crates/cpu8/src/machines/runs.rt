@@ -137,7 +137,8 @@ impl Machine {
         requires { vec_len printed.old + 1 ≤ vec_capacity printed.old }
         ensures state { self.new ≡ (printing_step quick self.old).0 }
         ensures reason { result ≡ reason breaks.now (printing_step quick self.old).1 self.new }
-        ensures printed { printed.new.items ≡ printed.old.items ++ character_of (printing_step quick self.old).1 }
+        ensures printed { printed.new.items
+            ≡ printed.old.items ++ character_of (printing_step quick self.old).1 }
         ensures len { vec_len printed.new ≤ vec_len printed.old + 1 }
         ensures capacity { vec_capacity printed.new ≡ vec_capacity printed.old }
     {

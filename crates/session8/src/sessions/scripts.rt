@@ -37,7 +37,8 @@ impl<S: BlockStore> Session<S> {
         reader: &mut R,
         writer: &mut W,
     ) -> Result<(), SessionFault>
-        ensures told { NoCallFailed self.old self.new → RunsText 16777216 (state_of self.old) (state_of self.new)
+        ensures told { NoCallFailed self.old self.new
+            → RunsText 16777216 (state_of self.old) (state_of self.new)
             (R.remaining reader.old) (R.remaining reader.new)
             (W.contents writer.old) (W.contents writer.new) result }
         ensures later { IsLater self.old self.new }
@@ -59,7 +60,8 @@ impl<S: BlockStore> Session<S> {
         writer: &mut W,
         watcher: &mut K,
     ) -> Result<(), SessionFault>
-        ensures told { NoCallFailed self.old self.new → RunsText 16777216 (state_of self.old) (state_of self.new)
+        ensures told { NoCallFailed self.old self.new
+            → RunsText 16777216 (state_of self.old) (state_of self.new)
             (R.remaining reader.old) (R.remaining reader.new)
             (W.contents writer.old) (W.contents writer.new) result }
         ensures later { IsLater self.old self.new }
@@ -81,7 +83,8 @@ impl<S: BlockStore> Session<S> {
         writer: &mut W,
         watcher: &mut K,
     ) -> Result<(), Ending>
-        ensures told { NoCallFailed self.old self.new → RunsRead 16777216 (state_of self.old) (state_of self.new)
+        ensures told { NoCallFailed self.old self.new
+            → RunsRead 16777216 (state_of self.old) (state_of self.new)
             (R.remaining reader.old) (R.remaining reader.new)
             (W.contents writer.old) (W.contents writer.new) result }
         ensures later { IsLater self.old self.new }
@@ -117,7 +120,8 @@ impl<S: BlockStore> Session<S> {
         watcher: &mut K,
     ) -> Result<(), Ending>
         requires { WaitsForLines pending.old.bytes.items pending.old.lines }
-        ensures told { NoCallFailed self.old self.new → RunsGiven pending.old.bytes.items pending.new.bytes.items
+        ensures told { NoCallFailed self.old self.new
+            → RunsGiven pending.old.bytes.items pending.new.bytes.items
             (state_of self.old) (state_of self.new) (W.contents writer.old) (W.contents writer.new) result }
         ensures waits { OnOk result ((0 < pending.new.lines)
             × WaitsForLines pending.new.bytes.items pending.new.lines) }
