@@ -1,7 +1,8 @@
 #!/usr/bin/env bash
 # Writes the source of a tape that gives each cell of core a word, and of one a tenth as long, and prints milliseconds of processor
 # time for each: where the time is linear in the words, the first is at most ten times the second. All words of the tapes are memory
-# references, so that each has a tag to be found.
+# references, so that each has a tag to be found. Then the same of the long tape from where a program starts in each field; the goal is
+# 100 ms.
 set -eu
 top=$(cd "$(dirname "${BASH_SOURCE[0]}")/.." && pwd)
 . "$top/bench/seconds.sh"
@@ -25,7 +26,7 @@ make_tape() {
 }
 
 write_sources() {
-    for _ in $(seq 50); do "$top/crates/pdp8/out/pdp8" source <"$1"; done
+    for _ in $(seq 50); do "$top/crates/pdp8/out/pdp8" source "${@:2}" <"$1"; done
 }
 
 make_tape 32768 >"$folder/long.bin"
@@ -34,3 +35,4 @@ make_tape 3277 >"$folder/short.bin"
 for tape in long short; do
     printf '%s %s\n' "$tape" "$(seconds write_sources "$folder/$tape.bin")"
 done | awk -v tags="$(cat "$folder/tags")" '{ printf "%5s tape: %.2f ms\n", $1, 1000 * $2 / 50 } END { printf "the short one has %d tags\n", tags }'
+seconds write_sources "$folder/long.bin" $(printf -- '--start %d0200 ' $(seq 0 7)) | awk '{ printf "from starts: %.2f ms\n", 1000 * $1 / 50 }'
