@@ -1,7 +1,8 @@
 #!/usr/bin/env bash
 # Puts a source on a volume, assembles it there, gets its tape, and compares its words with those of Debian's palbart on the same
-# source; puts and gets a file of 1,500 blocks, and prints the seconds that each command takes on a volume of 4095 blocks.
-# Takes palbart from Debian's packages where it is missing.
+# source; puts and gets a file of 1,500 blocks, and prints the seconds that each command takes on a volume of 4095 blocks. Then puts and
+# gets 240 files at once, and checks 1,000 images of 3248 blocks, one program after the other, one program for all and four side by side,
+# each beside cp or cat of the same bytes. Takes palbart from Debian's packages where it is missing.
 set -eu
 top=$(cd "$(dirname "${BASH_SOURCE[0]}")/.." && pwd)
 . "$top/bench/seconds.sh"
@@ -28,3 +29,27 @@ for command in put_bytes get_bytes "$program list V" "$program check V" "$progra
     printf '%s: %.3f seconds\n' "${command##*/}" "$(seconds $command)"
 done
 cmp bytes got
+
+mkdir files
+for k in $(seq 240); do head -c 6000 /dev/urandom >"files/F$k.BN"; done
+"$program" create M 4095 >/dev/null
+put_many() { "$program" put M files/* >/dev/null; }
+get_many() { "$program" get M --all --into got-files --force >/dev/null; }
+copy_files() { cp files/* got-files; }
+copy_image() { cp M N; }
+for command in put_many copy_image get_many copy_files; do
+    printf '%s: %.3f seconds\n' "$command" "$(seconds $command)"
+done
+for file in files/*; do cmp "$file" <(head -c 6000 "got-${file}"); done
+
+"$program" create I 3248 >/dev/null
+"$program" put I --files files/F1* >/dev/null
+mkdir images
+for k in $(seq 1000); do cp I "images/$k"; done
+check_each() { for image in images/*; do "$program" check "$image" >/dev/null; done; }
+check_all() { "$program" check images/* >/dev/null; }
+check_beside() { printf '%s\0' images/* | xargs -0 -P 4 -n 50 "$program" check >/dev/null; }
+copy_images() { cat images/* >/dev/null; }
+for command in check_each check_all check_beside copy_images; do
+    printf '%s of 1000 images: %.3f seconds\n' "$command" "$(seconds $command)"
+done

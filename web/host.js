@@ -1,6 +1,6 @@
 // What the program asks of its host: files, which lie in a map, and three streams. It decides nothing that the program decides.
 const utf8 = new TextEncoder(), text = new TextDecoder();
-const ENOENT = 2, EAGAIN = 11, EEXIST = 17, EINVAL = 22, ESPIPE = 29;
+const ENOENT = 2, EAGAIN = 11, EACCES = 13, EEXIST = 17, EINVAL = 22, ESPIPE = 29;
 const O_CREAT = 0o100, O_EXCL = 0o200, O_TRUNC = 0o1000;
 
 // A file: bytes that may grow. Each has a number, as a name may lead to another file meanwhile.
@@ -159,6 +159,8 @@ function imports(memory, files, words, host) {
             files.set(path(to), file);
             return 0;
         },
+        mkdir(at) { return files.make_folder?.(path(at)) === false ? fail(EACCES) : 0; },
+        clock_gettime: () => fail(EINVAL),
         flock(number) { return host.locked?.(open.get(number).name) ? fail(EAGAIN) : 0; },
         fchmod: () => 0, chown: () => 0, fsync: () => 0, fdatasync: () => 0, __sysv_signal: () => 0n,
     };

@@ -1,10 +1,11 @@
 """A machine at a terminal, by the definitions: keys are struck where the program asks for one, and what is printed is shown."""
 from dataclasses import dataclass
+from typing import Iterator, Optional
 from machine import HALT, LIMIT, UNASSIGNED, Machine
 from tape import TapeFault, meaning_of
 from words import octal
 
-KEYS = "KEYS END"
+KEYS = "KEYS"
 TENTH_OF_A_SECOND = 30000
 
 
@@ -52,41 +53,56 @@ def waits(machine: Machine) -> bool:
     return not machine.has_key and machine.core[machine.here] == 0o6031 and jump >> 8 == 0o12 and target == machine.pc and rests
 
 
-def sat(sitting: Sitting) -> tuple[bytes, bytes, int]:
-    """What goes to standard output and to standard error, and the status."""
+def begun(sitting: Sitting) -> tuple[Machine, dict[int, int], list[int]] | str:
+    """The machine that stands at the start of the program, the tape's words, and the keys; or the line of a fault."""
     meaning = meaning_of(sitting.frames)
     if isinstance(meaning, TapeFault):
-        return b"", meaning.line.encode() + b"\n", 1
+        return meaning.line + "\n"
     if not meaning:
-        return b"", b"? TELETYPE 1 NO WORD\n", 1
-    machine, keys = Machine(), keys_of(sitting.keys, sitting.is_raw)
+        return "? TELETYPE 1 NO WORD\n"
+    machine = Machine()
     for cell, word in meaning.items():
         machine.core[cell] = word
     machine.switches = sitting.switches
     machine.start(sitting.start if sitting.start >= 0 else first_cell(sitting.frames, meaning))
-    why = went(machine, keys, sitting.steps)
+    return machine, meaning, keys_of(sitting.keys, sitting.is_raw)
+
+
+def sat(sitting: Sitting) -> tuple[bytes, bytes, int]:
+    """What goes to standard output and to standard error, and the status."""
+    all_begun = begun(sitting)
+    if isinstance(all_begun, str):
+        return b"", all_begun.encode(), 1
+    machine, _, keys = all_begun
+    for *_, why in steps(machine, keys, sitting.steps):
+        pass
     shown = bytes(it % 128 for it in machine.printed if it % 128)
     here = octal(machine.here, 5)
     if why == HALT:
         return shown, f"HALT {here} AC {octal(machine.ac, 4)} L {machine.link}\n".encode(), 0
     if why == UNASSIGNED:
         return shown, f"UNASSIGNED {here} {octal(machine.core[machine.here], 4)}\n".encode(), 1
-    return shown, f"{why} {here}\n".encode(), 0 if why == KEYS else 1
+    return (shown, f"KEYS END {here}\n".encode(), 0) if why == KEYS else (shown, f"LIMIT {here}\n".encode(), 1)
 
 
-def went(machine: Machine, keys: list[int], steps: int) -> str:
-    """Makes so many steps, or as many as come before an end, and tells that."""
+def steps(machine: Machine, keys: list[int], most: int) -> Iterator[tuple[int, int, bool, Optional[str]]]:
+    """Each step: the cell and the word before it, whether it was an interrupt, and why it was the last; the end alone where no step is
+    made any more."""
     since = 0
-    for _ in range(steps):
+    for _ in range(most):
         if asks(machine, since):
             since = 0
             if keys:
                 machine.key(keys.pop(0))
         if not keys and waits(machine):
-            return KEYS
+            yield -1, 0, False, KEYS
+            return
+        cell, word = machine.here, machine.core[machine.here]
         machine.done()
+        is_interrupt = machine.is_on and not machine.is_waiting and not machine.is_held and (machine.has_key or machine.has_printed)
         why = machine.step()
         since += 1
+        yield cell, word, is_interrupt, why
         if why:
-            return why
-    return LIMIT
+            return
+    yield -1, 0, False, LIMIT

@@ -1,4 +1,6 @@
 """Volumes of OS/8: what the directory of an image says of its files, and images that are made for scripts."""
+import sys
+from array import array
 from dataclasses import dataclass
 from typing import Optional
 from words import BLOCK_WORDS, Name
@@ -58,6 +60,20 @@ class Volume:
         """The longest run of free blocks."""
         return max((blocks for name, blocks in self.runs if name is None), default=0)
 
+    @property
+    def places(self) -> dict[Name, int]:
+        """The first block of each file."""
+        found, place = {}, self.first
+        for name, blocks in self.runs:
+            if name is not None:
+                found[name] = place
+            place += blocks
+        return found
+
+    def name_at(self, place: int) -> Optional[Name]:
+        """The file whose first block this is."""
+        return next((name for name, first in self.places.items() if first == place), None)
+
     def without(self, name: Name) -> list[Run]:
         """The runs where the file of a name is gone."""
         return tidied([(None if it == name else it, blocks) for it, blocks in self.runs])
@@ -85,7 +101,10 @@ class Unsound(Exception):
 
 
 def words_of_image(image: bytes) -> list[int]:
-    return [low + 256 * high for low, high in zip(image[::2], image[1::2])]
+    words = array("H", image)
+    if sys.byteorder == "big":
+        words.byteswap()
+    return words.tolist()
 
 
 def read_entries(words: list[int]) -> tuple[int, int, list[tuple[Optional[Name], tuple[int, ...], int]]]:

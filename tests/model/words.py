@@ -47,13 +47,21 @@ def packed(frames: list[int]) -> list[int]:
     return words
 
 
-def stored_text(lines: bytes) -> Optional[list[int]]:
-    """The words of a host's text as a file: CR is dropped, LF becomes CR LF, control Z ends it. A byte above 0177, and control Z
-    itself, can't be kept."""
-    if any(byte > 0o177 or byte == 0o32 for byte in lines):
+def text_words(text: bytes) -> Optional[list[int]]:
+    """The words of a text as a file: control Z ends it. A byte above 0177, and control Z itself, can't be kept."""
+    if any(byte > 0o177 or byte == 0o32 for byte in text):
         return None
-    text = lines.replace(b"\r", b"").replace(b"\n", b"\r\n")
     return packed([0o200 + byte for byte in text] + [0o232])
+
+
+def stored_text(lines: bytes) -> Optional[list[int]]:
+    """The words of a script's text as a file: CR is dropped, LF becomes CR LF."""
+    return text_words(lines.replace(b"\r", b"").replace(b"\n", b"\r\n"))
+
+
+def stored_host_text(host: bytes) -> Optional[list[int]]:
+    """The words of a host's text as a file: each line end is CR LF, another CR stays."""
+    return text_words(host.replace(b"\r\n", b"\n").replace(b"\n", b"\r\n"))
 
 
 def text_of(words: list[int]) -> bytes:

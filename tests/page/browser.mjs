@@ -85,7 +85,7 @@ export class Browser {
     }
 
     // Waits until an expression holds, and gives its value.
-    async until(expression, milliseconds = Number(process.env.PATIENCE ?? 20000)) {
+    async until(expression, milliseconds = Number(process.env.PATIENCE ?? 60000)) {
         const end = Date.now() + milliseconds;
         for (;;) {
             const value = await this.look(expression);
@@ -102,18 +102,27 @@ export class Browser {
 
     text(id) { return this.look(`document.getElementById(${JSON.stringify(id)}).textContent`); }
 
-    // The middle of an element, brought into view.
-    async #middle(selector) {
-        const at = await this.until(`(() => { const it = document.querySelector(${JSON.stringify(selector)}); if (!it) return null;
+    // The middle of an element, brought into view, once it stays there from one picture to the next.
+    #middle(selector) {
+        return this.until(`(async () => { const it = document.querySelector(${JSON.stringify(selector)}); if (!it) return null;
             it.scrollIntoView({ block: 'center', inline: 'center' }); const box = it.getBoundingClientRect();
-            return box.width ? { x: box.x + box.width / 2, y: box.y + box.height / 2 } : null; })()`);
-        return at;
+            if (!box.width) return null;
+            await new Promise(go => { requestAnimationFrame(() => requestAnimationFrame(go)); setTimeout(go, 100); });
+            const again = it.getBoundingClientRect();
+            return again.x === box.x && again.y === box.y ? { x: box.x + box.width / 2, y: box.y + box.height / 2 } : null; })()`);
     }
 
+    // Clicks an element, once more where the page had moved by then and the click came to another place.
     async click(selector) {
-        const { x, y } = await this.#middle(selector);
-        for (const type of ['mouseMoved', 'mousePressed', 'mouseReleased'])
-            await this.call('Input.dispatchMouseEvent', { type, x, y, button: type === 'mouseMoved' ? 'none' : 'left', clickCount: 1 });
+        for (let tries = 1; tries <= 5; tries++) {
+            const { x, y } = await this.#middle(selector);
+            await this.look(`(() => { window.clickCame = document.querySelector(${JSON.stringify(selector)}).disabled === true;
+                document.addEventListener('click', ({ target }) => { window.clickCame ||= !!target.closest?.(${JSON.stringify(selector)}); }, { once: true, capture: true }); })()`);
+            for (const type of ['mouseMoved', 'mousePressed', 'mouseReleased'])
+                await this.call('Input.dispatchMouseEvent', { type, x, y, button: type === 'mouseMoved' ? 'none' : 'left', clickCount: 1 });
+            if (await this.look('window.clickCame')) return;
+        }
+        throw new Error(`no click comes to ${selector}`);
     }
 
     // Types into the element that has the focus.

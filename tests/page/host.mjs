@@ -1,5 +1,5 @@
 // A thread of server.mjs: runs the page's module as the page's worker does, over the files of a client's folder and the client's streams.
-import { closeSync, constants, existsSync, fstatSync, linkSync, openSync, readFileSync, readSync, statSync, unlinkSync, writeFileSync, writeSync } from 'node:fs';
+import { closeSync, constants, existsSync, fstatSync, linkSync, mkdirSync, openSync, readFileSync, readSync, statSync, unlinkSync, writeFileSync, writeSync } from 'node:fs';
 import { resolve } from 'node:path';
 import { parentPort, workerData } from 'node:worker_threads';
 import { command, Held } from '../../web/host.js';
@@ -43,6 +43,17 @@ class Folder {
         const path = resolve(this.folder, name);
         this.kept.delete(path);
         unlinkSync(path);
+    }
+
+    // Whether there is a folder of the name now.
+    make_folder(name) {
+        const path = resolve(this.folder, name);
+        try {
+            if (!existsSync(path)) mkdirSync(path);
+            return statSync(path).isDirectory();
+        } catch {
+            return false;
+        }
     }
 
     changed(file) { this.stale.add(file); }

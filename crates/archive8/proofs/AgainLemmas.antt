@@ -1,5 +1,5 @@
 -- What is got of one file twice is the same.
-use Rattle.std.proofs.Common.{◌≡◌, ◌∙◌, ◌⊎◌, ℕ, true, Some, None, Result, Ok, Err, is_ok, MatchResult, List, [], ◌∷◌, ◌++◌, refl, sym, ap, append_assoc, inl, inr}
+use Rattle.std.proofs.Common.{◌≡◌, ◌∙◌, ◌⊎◌, ℕ, true, Result, Ok, Err, is_ok, MatchResult, List, [], ◌∷◌, ◌++◌, refl, sym, ap, subst, append_assoc, inl, inr}
 use Rattle.std.specs.FinMap.{get}
 use Rattle.std.specs.Global.{Vec}
 use Rattle.volume_image.specs.Image.{WrittenIsReadBack}
@@ -14,6 +14,7 @@ use Rattle.os8_dir.specs.Entries.{Listed}
 use Rattle.os8_dir.specs.Reading.{directory_of}
 use Rattle.os8_dir.specs.Files.{FileData, files_of}
 use Rattle.os8_dir.specs.declared.faults.DirFault.{DirFault}
+use Rattle.archive8.specs.Asking.{Wanted, IsMissing}
 use Rattle.archive8.specs.Getting.{Gets, GetRefused, IsFile, IsNoFile, IsGiven, IsTapeOf}
 use Rattle.archive8.specs.declared.faults.ArchiveFault.{ArchiveFault}
 use Rattle.archive8.specs.declared.faults.ArchiveFault.TheVariants.{Image, Directory, Refused}
@@ -23,6 +24,7 @@ use Rattle.script8.specs.declared.faults.SessionFault.TheVariants as session
 use Rattle.os8_files.specs.declared.faults.FileFault.TheVariants.{NotFound, BadName}
 use Rattle.os8_files.specs.declared.faults.FileFault.TheVariants as file
 use Rattle.archive8.proofs.LawLemmas.{one_volume, some_eq}
+use Rattle.archive8.proofs.AskLemmas.{one_name, bad_named, there_missing}
 
 -- ## The first tape
 
@@ -82,11 +84,11 @@ tape_is_sound longer none file tape fault is has =
 -- ## Files
 
 -- an image has one file of a name
-pub one_file : WrittenIsReadBack → (image name words found : List ℕ) → IsFile image name words → IsFile image name found → found ≡ words
-one_file law image name words found a b = ap (λ (h : FileData). h.1) (some_eq (b.info, found) (a.info, words) (sym b.there ∙ same ∙ a.there))
+pub one_file : WrittenIsReadBack → (image : List ℕ) (wanted : Wanted) (words found : List ℕ) → IsFile image wanted words → IsFile image wanted found → found ≡ words
+one_file law image wanted words found a b = ap (λ (h : FileData). h.1) (some_eq (b.info, found) (a.info, words) (sym b.there ∙ same ∙ a.there))
   where
     number : b.number ≡ a.number
-    number = some_eq b.number a.number (sym b.named ∙ a.named)
+    number = one_name law image wanted a.blocks b.blocks a.number b.number a.opened.is_image b.opened.is_image a.named b.named
 
     volume : b.blocks ≡ a.blocks
     volume = one_volume law image a.blocks b.blocks a.opened.is_image b.opened.is_image
@@ -105,16 +107,11 @@ no_directory_fault : (read : Result Listed DirFault) (fault : DirFault) → is_o
 no_directory_fault (Ok d) fault sound is = cc
 no_directory_fault (Err other) fault sound is = cc
 
-none_some : {X : Type 0} (x : X) → None ≡ Some x → ⊥
-none_some x is = cc
-
 -- what is found is not missing
-not_missing : (image name words : List ℕ) → WrittenIsReadBack → IsFile image name words → IsNoFile image name → ⊥
-not_missing image name words law a b = none_some (a.info, words) (sym b.missing ∙ same ∙ a.there)
-  where
-    same : get (files_of b.blocks) b.number ≡ get (files_of a.blocks) a.number
-    same = ap (λ (n : ℕ). get (files_of b.blocks) n) (some_eq b.number a.number (sym b.named ∙ a.named))
-        ∙ ap (λ (blocks : List (List ℕ)). get (files_of blocks) a.number) (one_volume law image a.blocks b.blocks a.opened.is_image b.opened.is_image)
+not_missing : (image : List ℕ) (wanted : Wanted) (words : List ℕ) → WrittenIsReadBack → IsFile image wanted words → IsNoFile image wanted → ⊥
+not_missing image wanted words law a b =
+    let same : b.blocks ≡ a.blocks = one_volume law image a.blocks b.blocks a.opened.is_image b.opened.is_image in
+    there_missing a.blocks wanted a.number (a.info, words) (subst (λ (blocks : List (List ℕ)). IsMissing blocks blocks wanted) same b.missing) a.named a.there
 
 as_tape : (form : GetForm) (words bytes : List ℕ) → form ≡ Tape → IsGiven form words bytes → IsTapeOf (frames words) bytes
 as_tape Frames words bytes is given = cc
@@ -122,42 +119,42 @@ as_tape Text words bytes is given = cc
 as_tape Tape words bytes is given = given
 
 -- nothing but memory is refused for a file that could be got
-refused_again : WrittenIsReadBack → LongerTape → NoFault → (image name words bytes : List ℕ) (form : GetForm) (fault : SessionFault)
-    → IsFile image name words → IsGiven form words bytes → GetRefused image name form fault → fault ≡ Memory
-refused_again law longer none image name words bytes form (File BadName) found given gets = absurd (none_some found.number (sym gets.2 ∙ found.named))
-refused_again law longer none image name words bytes form (File NotFound) found given gets = absurd (not_missing image name words law found gets)
-refused_again law longer none image name words bytes form (session.Tape fault) found given gets =
+refused_again : WrittenIsReadBack → LongerTape → NoFault → (image : List ℕ) (wanted : Wanted) (words bytes : List ℕ) (form : GetForm) (fault : SessionFault)
+    → IsFile image wanted words → IsGiven form words bytes → GetRefused image wanted form fault → fault ≡ Memory
+refused_again law longer none image wanted words bytes form (File BadName) found given gets = absurd (bad_named found.blocks wanted found.number gets.2 found.named)
+refused_again law longer none image wanted words bytes form (File NotFound) found given gets = absurd (not_missing image wanted words law found gets)
+refused_again law longer none image wanted words bytes form (session.Tape fault) found given gets =
     absurd (tape_is_sound longer none (frames words) bytes fault (as_tape form words bytes gets.2 given)
-    (rw (← one_file law image name words gets.0 found gets.1) gets.3))
-refused_again law longer none image name words bytes form session.BadLine found given gets = gets.0
-refused_again law longer none image name words bytes form session.NoJob found given gets = gets.0
-refused_again law longer none image name words bytes form session.TooManyJobs found given gets = gets.0
-refused_again law longer none image name words bytes form (File (file.NoRoom largest)) found given gets = gets.0
-refused_again law longer none image name words bytes form (File file.DirectoryFull) found given gets = gets.0
-refused_again law longer none image name words bytes form (File (file.Busy other)) found given gets = gets.0
-refused_again law longer none image name words bytes form (File file.TooLong) found given gets = gets.0
-refused_again law longer none image name words bytes form (File file.TentativeOpen) found given gets = gets.0
-refused_again law longer none image name words bytes form (File file.Device) found given gets = gets.0
-refused_again law longer none image name words bytes form (File file.Stopped) found given gets = gets.0
-refused_again law longer none image name words bytes form (File file.Memory) found given gets = gets.0
-refused_again law longer none image name words bytes form (session.Asm fault) found given gets = gets.0
-refused_again law longer none image name words bytes form session.BadText found given gets = gets.0
-refused_again law longer none image name words bytes form session.Reader found given gets = gets.0
-refused_again law longer none image name words bytes form session.Writer found given gets = gets.0
-refused_again law longer none image name words bytes form Memory found given gets = gets.0
-refused_again law longer none image name words bytes form (File file.NothingWritten) found given gets = gets.0
-refused_again law longer none image name words bytes form session.TooManyBreaks found given gets = gets.0
+    (rw (← one_file law image wanted words gets.0 found gets.1) gets.3))
+refused_again law longer none image wanted words bytes form session.BadLine found given gets = gets.0
+refused_again law longer none image wanted words bytes form session.NoJob found given gets = gets.0
+refused_again law longer none image wanted words bytes form session.TooManyJobs found given gets = gets.0
+refused_again law longer none image wanted words bytes form (File (file.NoRoom largest)) found given gets = gets.0
+refused_again law longer none image wanted words bytes form (File file.DirectoryFull) found given gets = gets.0
+refused_again law longer none image wanted words bytes form (File (file.Busy other)) found given gets = gets.0
+refused_again law longer none image wanted words bytes form (File file.TooLong) found given gets = gets.0
+refused_again law longer none image wanted words bytes form (File file.TentativeOpen) found given gets = gets.0
+refused_again law longer none image wanted words bytes form (File file.Device) found given gets = gets.0
+refused_again law longer none image wanted words bytes form (File file.Stopped) found given gets = gets.0
+refused_again law longer none image wanted words bytes form (File file.Memory) found given gets = gets.0
+refused_again law longer none image wanted words bytes form (session.Asm fault) found given gets = gets.0
+refused_again law longer none image wanted words bytes form session.BadText found given gets = gets.0
+refused_again law longer none image wanted words bytes form session.Reader found given gets = gets.0
+refused_again law longer none image wanted words bytes form session.Writer found given gets = gets.0
+refused_again law longer none image wanted words bytes form Memory found given gets = gets.0
+refused_again law longer none image wanted words bytes form (File file.NothingWritten) found given gets = gets.0
+refused_again law longer none image wanted words bytes form session.TooManyBreaks found given gets = gets.0
 
 -- a file that could be got is got as before, or memory is wanted
-pub got_again : WrittenIsReadBack → LongerTape → NoFault → (image name words bytes : List ℕ) (form : GetForm) (answer : Result (Vec ℕ) ArchiveFault)
-    → IsFile image name words → IsGiven form words bytes → Gets image name form answer
+pub got_again : WrittenIsReadBack → LongerTape → NoFault → (image : List ℕ) (wanted : Wanted) (words bytes : List ℕ) (form : GetForm) (answer : Result (Vec ℕ) ArchiveFault)
+    → IsFile image wanted words → IsGiven form words bytes → Gets image wanted form answer
     → MatchResult answer (λ after. after.items ≡ bytes) (λ fault. fault ≡ Refused Memory)
-got_again law longer none image name words bytes form (Ok after) found given gets =
-    one_given longer form words bytes after.items given (rw (← one_file law image name words gets.0 found gets.1) gets.2)
-got_again law longer none image name words bytes form (Err (Image fault)) found given gets =
+got_again law longer none image wanted words bytes form (Ok after) found given gets =
+    one_given longer form words bytes after.items given (rw (← one_file law image wanted words gets.0 found gets.1) gets.2)
+got_again law longer none image wanted words bytes form (Err (Image fault)) found given gets =
     absurd (gets.0 (law image found.blocks (Err fault) found.opened.is_image gets.1))
-got_again law longer none image name words bytes form (Err (Directory fault)) found given gets =
+got_again law longer none image wanted words bytes form (Err (Directory fault)) found given gets =
     absurd (no_directory_fault (directory_of found.blocks) fault found.opened.sound
     (rw (← one_volume law image found.blocks gets.0 found.opened.is_image gets.1) gets.2))
-got_again law longer none image name words bytes form (Err (Refused fault)) found given gets =
-    ap Refused (refused_again law longer none image name words bytes form fault found given gets)
+got_again law longer none image wanted words bytes form (Err (Refused fault)) found given gets =
+    ap Refused (refused_again law longer none image wanted words bytes form fault found given gets)

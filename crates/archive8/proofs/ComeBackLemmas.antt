@@ -1,10 +1,11 @@
 -- What was put, as it comes back in each form.
-use Rattle.std.proofs.Common.{◌≡◌, ◌∙◌, ℕ, zero, suc, true, false, Bool, nat_eq, if◌then◌else◌, Ok, List, [], ◌∷◌, ◌++◌, replicate, refl, sym, ap, subst, append_assoc}
+use Rattle.std.proofs.Common.{◌≡◌, ◌∙◌, ℕ, zero, suc, true, false, Bool, nat_eq, if◌then◌else◌, Option, Ok, List, [], ◌∷◌, ◌++◌, replicate, refl, sym, ap, subst, append_assoc}
 use Rattle.std.specs.Global.{Vec}
 use Rattle.volume_image.specs.Image.{WrittenIsReadBack}
 use Rattle.char_pack.specs.Texts.{text, is_storable}
 use Rattle.char_pack.specs.declared.forms.GetForm.TheVariants.{Text}
 use Rattle.archive8.specs.declared.putting.NewImage.{NewImage}
+use Rattle.archive8.specs.Asking.{Wanted, OfName}
 use Rattle.archive8.specs.Getting.{IsFile, IsTapeOf, Gets, line_feeds, trailer}
 use Rattle.archive8.specs.HostTexts.{file_text, text_words}
 use Rattle.archive8.specs.Putting.{HasPutInto}
@@ -50,14 +51,14 @@ pub lines-back : CharactersReadBack → (host : List ℕ) → is_storable host �
 lines-back law host storable = ap line_feeds (law (file_text host) (storable-file host storable)) ∙ feeds-returns (line_feeds host)
 
 -- a text that was got and is put has its words again
-pub words-back : CharactersReadBack → WrittenIsReadBack → (image name again chars : List ℕ) (given : Vec ℕ) (other : List ℕ) (new : NewImage) → is_storable chars ≡ true
-    → HasLineEnds chars → IsFile image name (text_words chars) → Gets image name Text (Ok given)
-    → HasPutInto other again (text_words (file_text given.items)) new → IsFile new.bytes.items again (text_words chars)
-words-back read law image name again chars given other new storable ends file gets put =
-    subst (λ l. IsFile new.bytes.items again (text_words l)) same (put_file other again (text_words (file_text given.items)) new put)
+pub words-back : CharactersReadBack → WrittenIsReadBack → (image : List ℕ) (wanted : Wanted) (again chars : List ℕ) (info : Option (List ℕ)) (given : Vec ℕ) (other : List ℕ) (new : NewImage) → is_storable chars ≡ true
+    → HasLineEnds chars → IsFile image wanted (text_words chars) → Gets image wanted Text (Ok given)
+    → HasPutInto other again info (text_words (file_text given.items)) new → IsFile new.bytes.items (OfName again) (text_words chars)
+words-back read law image wanted again chars info given other new storable ends file gets put =
+    subst (λ l. IsFile new.bytes.items (OfName again) (text_words l)) same (put_file other again (text_words (file_text given.items)) info new put)
   where
     was : given.items ≡ line_feeds chars
-    was = gets.2 ∙ ap (λ words. line_feeds (text words)) (one_file law image name (text_words chars) gets.0 file gets.1) ∙ ap line_feeds (read chars storable)
+    was = gets.2 ∙ ap (λ words. line_feeds (text words)) (one_file law image wanted (text_words chars) gets.0 file gets.1) ∙ ap line_feeds (read chars storable)
 
     same : file_text given.items ≡ chars
     same = ap file_text was ∙ put-again chars ends

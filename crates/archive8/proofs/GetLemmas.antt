@@ -5,14 +5,14 @@ use Rattle.std.proofs.Math.Seq.{take-add}
 use Rattle.std.proofs.lemmas.List.{take_all}
 use Rattle.script8.specs.declared.faults.SessionFault.{SessionFault}
 use Rattle.script8.specs.declared.faults.SessionFault.TheVariants.{BadLine, NoJob, TooManyJobs, File, Asm, Tape, BadText, Reader, Writer, Memory, TooManyBreaks}
-use Rattle.os8_dir.specs.Names.{parsed_name}
 use Rattle.os8_dir.specs.Files.{FileData, files_of}
 use Rattle.volume_image.specs.Image.{IsImage}
 use Rattle.char_pack.specs.declared.forms.GetForm.{GetForm}
 use Rattle.os8_files.specs.Mounted.{Mounted}
 use Rattle.archive8.specs.Putting.{IsMounted}
+use Rattle.archive8.specs.Asking.{Wanted, asked_name}
 use Rattle.archive8.specs.Getting.{GetRefused, IsFile}
-use Rattle.archive8.specs.Steps.{GivesFile}
+use Rattle.archive8.specs.Parts.{GivesFile}
 
 -- the words of one block more
 pub block_more : (k : ℕ) (xs block : List ℕ) → block ≡ take 256 (drop (256 * k) xs) → take (256 * k) xs ++ block ≡ take (256 * (k + 1)) xs
@@ -36,9 +36,9 @@ pub words_all : (words : List ℕ) (k blocks : ℕ) → blocks ≤ k → k ≤ b
 words_all words k blocks high low whole = take_all (256 * k) words (omega (arith, high, whole))
 
 -- a file that was found
-pub file_is : (image name : List ℕ) (m : Mounted) (number : ℕ) (words : List ℕ) (file : FileData) → IsMounted image m → parsed_name name ≡ Some number
-    → get (files_of m.blocks) number ≡ Some file → words ≡ file.1 → IsFile image name words
-file_is image name m number words file mounted named there is = record {
+pub file_is : (image : List ℕ) (wanted : Wanted) (m : Mounted) (number : ℕ) (words : List ℕ) (file : FileData) → IsMounted image m → asked_name m.blocks wanted ≡ Some number
+    → get (files_of m.blocks) number ≡ Some file → words ≡ file.1 → IsFile image wanted words
+file_is image wanted m number words file mounted named there is = record {
   blocks = m.blocks;
   opened = mounted.opened;
   number = number;
@@ -48,16 +48,16 @@ file_is image name m number words file mounted named there is = record {
 }
 
 -- what is not given of a file that is there
-pub given_refused : (image name words : List ℕ) (form : GetForm) (fault : SessionFault) → IsImage image → IsFile image name words → GivesFile form words (Err fault)
-    → GetRefused image name form fault
-given_refused image name words form (Tape fault) opened file is = (words, file, is.0, is.1)
-given_refused image name words form (File fault) opened file is = absurd (cc)
-given_refused image name words form BadLine opened file is = (is, opened)
-given_refused image name words form NoJob opened file is = (is, opened)
-given_refused image name words form TooManyJobs opened file is = (is, opened)
-given_refused image name words form (Asm fault) opened file is = (is, opened)
-given_refused image name words form BadText opened file is = (is, opened)
-given_refused image name words form Reader opened file is = (is, opened)
-given_refused image name words form Writer opened file is = (is, opened)
-given_refused image name words form Memory opened file is = (is, opened)
-given_refused image name words form TooManyBreaks opened file is = (is, opened)
+pub given_refused : (image : List ℕ) (wanted : Wanted) (words : List ℕ) (form : GetForm) (fault : SessionFault) → IsImage image → IsFile image wanted words → GivesFile form words (Err fault)
+    → GetRefused image wanted form fault
+given_refused image wanted words form (Tape fault) opened file is = (words, file, is.0, is.1)
+given_refused image wanted words form (File fault) opened file is = absurd (cc)
+given_refused image wanted words form BadLine opened file is = (is, opened)
+given_refused image wanted words form NoJob opened file is = (is, opened)
+given_refused image wanted words form TooManyJobs opened file is = (is, opened)
+given_refused image wanted words form (Asm fault) opened file is = (is, opened)
+given_refused image wanted words form BadText opened file is = (is, opened)
+given_refused image wanted words form Reader opened file is = (is, opened)
+given_refused image wanted words form Writer opened file is = (is, opened)
+given_refused image wanted words form Memory opened file is = (is, opened)
+given_refused image wanted words form TooManyBreaks opened file is = (is, opened)

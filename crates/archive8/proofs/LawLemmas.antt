@@ -1,5 +1,5 @@
 -- What was put is got again.
-use Rattle.std.proofs.Common.{◌≡◌, ◌≢◌, ◌∙◌, ℕ, true, cond, Some, Result, Ok, Err, is_ok, List, refl, sym, ap, eqb, arith, inl, inr}
+use Rattle.std.proofs.Common.{◌≡◌, ◌≢◌, ◌∙◌, ℕ, true, false, cond, Option, Some, Result, Ok, Err, is_ok, List, refl, sym, ap, eqb, arith, inl, inr}
 use Rattle.std.specs.FinMap.{get, insert, get-insert}
 use Rattle.std.specs.Ordering.{nat_cmp, eq_by_cmp}
 use Rattle.std.proofs.lemmas.Cmp.{nat_cmp_total}
@@ -11,11 +11,14 @@ use Rattle.os8_dir.specs.Reading.{directory_of}
 use Rattle.os8_dir.specs.Files.{FileData, Files, files_of}
 use Rattle.os8_dir.specs.declared.faults.DirFault.{DirFault}
 use Rattle.os8_files.specs.Failed.{extent_or}
-use Rattle.os8_files.specs.Puts.{blocks_filled, plain_file}
+use Rattle.os8_files.specs.Mounted.{Mounted}
+use Rattle.os8_files.specs.Puts.{HasPutWith, blocks_filled, file_with}
 use Rattle.archive8.specs.declared.putting.NewImage.{NewImage}
+use Rattle.archive8.specs.Asking.{Wanted, OfName, asked_name}
 use Rattle.archive8.specs.Getting.{IsFile}
 use Rattle.archive8.specs.Opening.{IsOpened}
-use Rattle.archive8.specs.Putting.{HasPutInto}
+use Rattle.archive8.specs.Putting.{HasPutInto, HasPutUnder, information_for}
+use Rattle.archive8.proofs.FirstBlockLemmas.{DirectoryIs, asked-again}
 
 pub some_eq : {X : Type 0} (x y : X) → Some x ≡ Some y → x ≡ y
 some_eq x y same = cc
@@ -26,66 +29,65 @@ one_volume law bytes one two is also = law bytes one (Ok (record { blocks = two;
 
 -- ## Maps
 
-tied : (a b : ℕ) → eq_by_cmp nat_cmp b a ≡ eqb a b
+pub tied : (a b : ℕ) → eq_by_cmp nat_cmp b a ≡ eqb a b
 tied a b = grind (arith, nat_tests)
 
-get-with : (m : Files) (name : ℕ) (h : FileData) (q : ℕ) → get (insert m name h) q ≡ cond (eqb name q) (Some h) (get m q)
+pub get-with : (m : Files) (name : ℕ) (h : FileData) (q : ℕ) → get (insert m name h) q ≡ cond (eqb name q) (Some h) (get m q)
 get-with m name h q = get-insert nat_cmp_total m name h q ∙ ap (λ b. cond b (Some h) (get m q)) (tied name q)
 
-get-here : (m : Files) (name : ℕ) (h : FileData) → get (insert m name h) name ≡ Some h
+pub get-here : (m : Files) (name : ℕ) (h : FileData) → get (insert m name h) name ≡ Some h
 get-here m name h = elim (eqb_tells name name) [
   | inl p ↦ get-with m name h name ∙ ap (λ b. cond b (Some h) (get m name)) p.0
   | inr p ↦ absurd (p.1 refl)
 ]
 
-get-there : (m : Files) (name : ℕ) (h : FileData) (q : ℕ) → name ≢ q → get (insert m name h) q ≡ get m q
+pub get-there : (m : Files) (name : ℕ) (h : FileData) (q : ℕ) → name ≢ q → get (insert m name h) q ≡ get m q
 get-there m name h q other = elim (eqb_tells name q) [
   | inl p ↦ absurd (other p.1)
   | inr p ↦ get-with m name h q ∙ ap (λ b. cond b (Some h) (get m q)) p.0
 ]
 
--- the map of files keeps another name's file
-kept : (image name other words was : List ℕ) (new : NewImage) → parsed_name name ≢ parsed_name other → (put : HasPutInto image name words new)
-    → (before : IsFile image other was) → get (files_of put.after.blocks) before.number ≡ get (files_of put.before.blocks) before.number
-kept image name other words was new differ put before =
-    ap (λ (m : Files). get m before.number) put.put.files ∙ get-there (files_of put.before.blocks) new.name (plain_file put.before words) before.number apart
-  where
-    apart : new.name ≢ before.number
-    apart one = differ (put.named ∙ ap Some one ∙ sym before.named)
+-- a service goes on behind a file that was put
+pub goes-on : (name : ℕ) (given words : List ℕ) (old new : Mounted) → HasPutWith old name given words new → new.stopped ≡ false
+goes-on name given words old new is = ap (λ (m : Mounted). m.stopped) is.others ∙ is.ready.running
 
 -- a volume in whose directory a file is found is sound
 sound_volume : (name : ℕ) (read : Result Listed DirFault) (extent : ℕ × ℕ) → extent_or name read ≡ Some extent → is_ok read ≡ true
 sound_volume name (Ok d) extent found = refl
 sound_volume name (Err fault) extent found = cc
 
-new_image : (image name words : List ℕ) (new : NewImage) → (put : HasPutInto image name words new) → IsOpened new.bytes.items put.after.blocks
-new_image image name words new put = record {
+pub new_image : (image : List ℕ) (name : Option ℕ) (words : List ℕ) (info : Option (List ℕ)) (new : NewImage) → (put : HasPutUnder image name info words new) → IsOpened new.bytes.items put.after.blocks
+new_image image name words info new put = record {
   is_image = put.is_image;
   sound = sound_volume new.name (directory_of put.after.blocks) (put.put.place, blocks_filled words) put.put.extent;
 }
 
 -- the file that was put is there with its words
-pub put_file : (image name words : List ℕ) (new : NewImage) → (put : HasPutInto image name words new) → IsFile new.bytes.items name words
-put_file image name words new put = record {
+pub put_file : (image name words : List ℕ) (info : Option (List ℕ)) (new : NewImage) → (put : HasPutInto image name info words new) → IsFile new.bytes.items (OfName name) words
+put_file image name words info new put = record {
   blocks = put.after.blocks;
-  opened = new_image image name words new put;
+  opened = new_image image (parsed_name name) words info new put;
   number = new.name;
   named = put.named;
-  info = (plain_file put.before words).0;
-  there = ap (λ (m : Files). get m new.name) put.put.files ∙ get-here (files_of put.before.blocks) new.name (plain_file put.before words);
+  info = (file_with put.before (information_for put.before new.name info) words).0;
+  there = ap (λ (m : Files). get m new.name) put.put.files ∙ get-here (files_of put.before.blocks) new.name (file_with put.before (information_for put.before new.name info) words);
 }
 
 -- another file of an image is there in the new one, with the words that it had
-pub other_stays : WrittenIsReadBack → (image name other words was : List ℕ) (new : NewImage) → parsed_name name ≢ parsed_name other
-    → HasPutInto image name words new → IsFile image other was → IsFile new.bytes.items other was
-other_stays law image name other words was new differ put before = record {
-  blocks = put.after.blocks;
-  opened = new_image image name words new put;
-  number = before.number;
-  named = before.named;
-  info = before.info;
-  there = kept image name other words was new differ put before ∙ ap (λ (blocks : List (List ℕ)). get (files_of blocks) before.number) (sym old) ∙ before.there;
-}
-  where
-    old : before.blocks ≡ put.before.blocks
-    old = one_volume law image put.before.blocks before.blocks put.mounted.opened.is_image before.opened.is_image
+pub other_stays : WrittenIsReadBack → DirectoryIs → (image name words was : List ℕ) (one : Wanted) (info : Option (List ℕ)) (new : NewImage) (blocks : List (List ℕ)) → IsImageOf image blocks
+    → asked_name blocks one ≢ parsed_name name → HasPutInto image name info words new → IsFile image one was → IsFile new.bytes.items one was
+other_stays law is-directory image name words was one info new blocks own differ put before =
+    let old : before.blocks ≡ put.before.blocks = one_volume law image put.before.blocks before.blocks put.mounted.opened.is_image before.opened.is_image in
+    let first : asked_name put.before.blocks one ≡ Some before.number = ap (λ (b : List (List ℕ)). asked_name b one) (sym old) ∙ before.named in
+    let given = information_for put.before new.name info in
+    let apart : new.name ≢ before.number = λ same. differ (ap (λ (b : List (List ℕ)). asked_name b one) (one_volume law image put.before.blocks blocks put.mounted.opened.is_image own)
+    ∙ first ∙ ap Some (sym same) ∙ sym put.named) in
+    record {
+      blocks = put.after.blocks;
+      opened = new_image image (parsed_name name) words info new put;
+      number = before.number;
+      named = asked-again is-directory one put.before.blocks put.after.blocks before.number first (put.put.places before.number apart (goes-on new.name given words put.before put.after put.put));
+      info = before.info;
+      there = ap (λ (m : Files). get m before.number) put.put.files ∙ get-there (files_of put.before.blocks) new.name (file_with put.before given words) before.number apart
+          ∙ ap (λ (b : List (List ℕ)). get (files_of b) before.number) (sym old) ∙ before.there;
+    }

@@ -1,5 +1,5 @@
 -- What holds of a file that was put into an image and is got from the new one, and of what a check tells.
-use Rattle.std.specs.Prelude.{◌≡◌, ◌≢◌, ℕ, zero, suc, ◌+◌, ◌-◌, ◌*◌, ◌<◌, ◌≤◌, ◌&&◌, not, nat_eq, nat_le, nat_lt, Bool, true, false, if◌then◌else◌, Result, Ok, MatchResult, List, [], ◌∷◌, ◌++◌, All, codes, length, replicate}
+use Rattle.std.specs.Prelude.{◌≡◌, ◌≢◌, ℕ, zero, suc, ◌+◌, ◌-◌, ◌*◌, ◌<◌, ◌≤◌, ◌&&◌, not, nat_eq, nat_le, nat_lt, Bool, true, false, if◌then◌else◌, Option, Result, Ok, MatchResult, List, [], ◌∷◌, ◌++◌, All, codes, length, replicate}
 use Rattle.std.specs.Global.{Vec}
 use Rattle.char_pack.specs.Packing.{block_count, block_frames}
 use Rattle.char_pack.specs.Texts.{is_storable}
@@ -21,6 +21,7 @@ use Rattle.archive8.specs.declared.faults.ArchiveFault.{ArchiveFault}
 use Rattle.archive8.specs.declared.faults.ArchiveFault.TheVariants.{Refused}
 use Rattle.archive8.specs.declared.putting.NewImage.{NewImage}
 use Rattle.archive8.specs.Checking.{Checks, blocks_line, extent_text, segment_line, segment_lines}
+use Rattle.archive8.specs.Asking.{Wanted, OfName, asked_name}
 use Rattle.archive8.specs.Getting.{Gets, IsFile, IsTapeOf, line_feeds}
 use Rattle.archive8.specs.HostTexts.{is_unbroken, lines_text, text_words}
 use Rattle.archive8.specs.Putting.{PutsFile}
@@ -35,13 +36,13 @@ GivesOrLacks bytes answer = MatchResult answer (λ given. given.items ≡ bytes)
 
 -- bytes come back, with zeros behind them
 abbrev pub FramesComeBack : Type 0
-FramesComeBack = (image name bytes : List ℕ) (new : NewImage) (answer : Result (Vec ℕ) ArchiveFault) → All (λ byte. byte < 256) bytes
-    → PutsFile image name put_as.Frames bytes (Ok new) → Gets new.bytes.items name get_as.Frames answer → GivesOrLacks (filled_up bytes) answer
+FramesComeBack = (image name bytes : List ℕ) (info : Option (List ℕ)) (new : NewImage) (answer : Result (Vec ℕ) ArchiveFault) → All (λ byte. byte < 256) bytes
+    → PutsFile image name put_as.Frames bytes info (Ok new) → Gets new.bytes.items (OfName name) get_as.Frames answer → GivesOrLacks (filled_up bytes) answer
 
 -- the tape that bytes begin with comes back: all of them, where they end with its trailer
 abbrev pub TapeComesBack : Type 0
-TapeComesBack = (image name bytes tape : List ℕ) (new : NewImage) (answer : Result (Vec ℕ) ArchiveFault) → All (λ byte. byte < 256) bytes
-    → IsTapeOf bytes tape → PutsFile image name put_as.Frames bytes (Ok new) → Gets new.bytes.items name get_as.Tape answer → GivesOrLacks tape answer
+TapeComesBack = (image name bytes tape : List ℕ) (info : Option (List ℕ)) (new : NewImage) (answer : Result (Vec ℕ) ArchiveFault) → All (λ byte. byte < 256) bytes
+    → IsTapeOf bytes tape → PutsFile image name put_as.Frames bytes info (Ok new) → Gets new.bytes.items (OfName name) get_as.Tape answer → GivesOrLacks tape answer
 
 -- a CR stands in a text
 abbrev pub has_return : List ℕ → Bool
@@ -50,10 +51,10 @@ has_return (byte ∷ others) = if nat_eq byte 0o15 then true else has_return oth
 
 -- a text comes back with each of its line ends, LF or CR LF, as LF; so one without CR comes back as it is
 pub record LinesComeBack : Type 0 where
-  pub ends : (image name bytes : List ℕ) (new : NewImage) (answer : Result (Vec ℕ) ArchiveFault) → PutsFile image name put_as.Text bytes (Ok new)
-      → Gets new.bytes.items name get_as.Text answer → GivesOrLacks (line_feeds bytes) answer
-  pub plain : (image name bytes : List ℕ) (new : NewImage) (answer : Result (Vec ℕ) ArchiveFault) → has_return bytes ≡ false
-      → PutsFile image name put_as.Text bytes (Ok new) → Gets new.bytes.items name get_as.Text answer → GivesOrLacks bytes answer
+  pub ends : (image name bytes : List ℕ) (info : Option (List ℕ)) (new : NewImage) (answer : Result (Vec ℕ) ArchiveFault) → PutsFile image name put_as.Text bytes info (Ok new)
+      → Gets new.bytes.items (OfName name) get_as.Text answer → GivesOrLacks (line_feeds bytes) answer
+  pub plain : (image name bytes : List ℕ) (info : Option (List ℕ)) (new : NewImage) (answer : Result (Vec ℕ) ArchiveFault) → has_return bytes ≡ false
+      → PutsFile image name put_as.Text bytes info (Ok new) → Gets new.bytes.items (OfName name) get_as.Text answer → GivesOrLacks bytes answer
 
 -- no LF stands in a line, and no CR at its end
 abbrev pub is_line : List ℕ → Bool
@@ -75,15 +76,15 @@ pub record HasLineEnds (chars : List ℕ) : Type 0 where
 
 -- a text of a file with such line ends, that is got as a text and put as one again, has its words again, and so its frames
 abbrev pub TextComesBack : Type 0
-TextComesBack = (image name other again chars : List ℕ) (given : Vec ℕ) (new : NewImage) → is_storable chars ≡ true → HasLineEnds chars
-    → IsFile image name (text_words chars) → Gets image name get_as.Text (Ok given) → PutsFile other again put_as.Text given.items (Ok new)
-    → IsFile new.bytes.items again (text_words chars)
+TextComesBack = (image other again chars : List ℕ) (wanted : Wanted) (info : Option (List ℕ)) (given : Vec ℕ) (new : NewImage) → is_storable chars ≡ true → HasLineEnds chars
+    → IsFile image wanted (text_words chars) → Gets image wanted get_as.Text (Ok given) → PutsFile other again put_as.Text given.items info (Ok new)
+    → IsFile new.bytes.items (OfName again) (text_words chars)
 
 -- another file that could be got is got in the same form with the same bytes, or memory is wanted
 abbrev pub OthersStay : Type 0
-OthersStay = (image name other bytes : List ℕ) (kind : PutForm) (form : GetForm) (new : NewImage) (before : Vec ℕ)
-    (answer : Result (Vec ℕ) ArchiveFault) → parsed_name name ≢ parsed_name other → PutsFile image name kind bytes (Ok new)
-    → Gets image other form (Ok before) → Gets new.bytes.items other form answer
+OthersStay = (image name bytes : List ℕ) (one : Wanted) (info : Option (List ℕ)) (kind : PutForm) (form : GetForm) (new : NewImage) (before : Vec ℕ)
+    (answer : Result (Vec ℕ) ArchiveFault) (blocks : List (List ℕ)) → IsImageOf image blocks → asked_name blocks one ≢ parsed_name name → PutsFile image name kind bytes info (Ok new)
+    → Gets image one form (Ok before) → Gets new.bytes.items one form answer
     → GivesOrLacks before.items answer
 
 -- ## The extents that a check tells

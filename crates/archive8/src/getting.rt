@@ -1,13 +1,15 @@
 ghost use Rattle.std.specs.Prelude.{◌≡◌, false};
 ghost use Rattle.volume_image.specs.Volume.{IsVolume};
+ghost use Rattle.archive8.specs.Asking.{asked_for};
 ghost use Rattle.archive8.specs.Getting.{Gets};
-ghost use Rattle.archive8.specs.Steps.{FindsWords, GivesFile, IsWhole, ReadsWords};
+ghost use Rattle.archive8.specs.Parts.{FindsWords, GivesFile, ReadsWords};
+ghost use Rattle.archive8.specs.Steps.{IsWhole};
 
+use crate::asking::found;
 use crate::frames::frames_of;
-use crate::opening::mounted;
 use crate::tapes::tape_of;
 use crate::texts::host_text;
-use crate::{ArchiveFault, GetForm};
+use crate::{ArchiveFault, Asked, GetForm};
 use os8_dir::Name;
 use os8_files::laws::whole_files;
 use os8_files::{FileFault, FileService};
@@ -18,22 +20,23 @@ use word12::{BLOCK, Word};
 
 /// What a file of an image has: its frames, its text, or the tape that it begins with (OS/8 Software Support Manual; PAL III
 /// Symbolic Assembler manual, BIN format; the faults and their order are this project's profile).
-pub fn get(alloc: Global, image: &[u8], name: &[u8], form: GetForm) -> Result<Vec<u8>, ArchiveFault>
-    ensures { Gets image.now name.now form result }
+pub fn get(
+    alloc: Global,
+    image: &[u8],
+    asked: &Asked,
+    form: GetForm,
+) -> Result<Vec<u8>, ArchiveFault>
+    ensures { Gets image.now (asked_for asked.now) form result }
 {
-    let files = mounted(alloc, image)?;
-    match Name::parse(name) {
-        None => Err(ArchiveFault::Refused(SessionFault::File(FileFault::BadName))),
-        Some(name) => {
-            let words = words_of(alloc, files, name)?;
-            let bytes = given(alloc, &words, form)?;
-            Ok(bytes)
-        }
-    }
+    let (files, name) = found(alloc, image, asked)?;
+    let words = words_of(alloc, files, name)?;
+    let bytes = given(alloc, &words, form)?;
+    Ok(bytes)
 }
 
-/// What is given of a file of these words.
-fn given(alloc: Global, words: &[Word], form: GetForm) -> Result<Vec<u8>, SessionFault>
+/// What is given of a file of these words: their frames, their text, or the tape that they begin with (OS/8 Software Support Manual; PAL
+/// III Symbolic Assembler manual, BIN format).
+pub fn given(alloc: Global, words: &[Word], form: GetForm) -> Result<Vec<u8>, SessionFault>
     ensures { GivesFile form words.now result }
 {
     match form {
@@ -50,7 +53,7 @@ fn given(alloc: Global, words: &[Word], form: GetForm) -> Result<Vec<u8>, Sessio
 }
 
 /// The words of the file of a name.
-fn words_of(
+pub fn words_of(
     alloc: Global,
     mut files: FileService<MemoryVolume>,
     name: Name,
@@ -65,8 +68,8 @@ fn words_of(
     Ok(words)
 }
 
-/// Reads the words of the file of a name.
-fn read_words<S: BlockStore>(
+/// Reads the words of the file of a name, 256 for each of its blocks (OS/8 Software Support Manual).
+pub fn read_words<S: BlockStore>(
     alloc: Global,
     files: &mut FileService<S>,
     name: Name,

@@ -1,9 +1,11 @@
 //! What holds of a file that was put into an image and is got from the new one, and of what a check tells.
+ghost use Rattle.archive8.specs.AskLaws.{EachBeginsAtABlock, OneNameIsGotAlike, SpelledAreAsDirect, TypableIsSpelled, WhatBeginsIsThere};
+ghost use Rattle.archive8.specs.ChangeLaws.{CopyHasItsName, CopyIsTheSame, CopyLeavesOthers, DeletedAreGone, DeletedLeaveOthers, DeletedLeaveWhatIsGot, PutAnewHasZeros, PutGivesInformation, PutKeepsInformation, RenamedBackIsAsBefore, RenamedBeginsThere, RenamedIsGone, RenamedIsThere, RenamedLeavesOthers, SqueezedAreGot, SqueezedAreThere, SqueezedKeepNames};
 ghost use Rattle.archive8.specs.Laws.{ChecksTellEachBlock, ChecksTellEachSegment, FramesComeBack, LinesComeBack, OthersStay, TapeComesBack, TextComesBack};
 
 use bin_tape::laws::{longer_tape, no_fault};
 use char_pack::laws::{packed_bytes, stored_text};
-use os8_dir::laws::sound_directory;
+use os8_dir::laws::{file_information, file_renamed, files_found, sound_directory};
 use volume_image::image_round_trip;
 
 /// A law: what was put is got again, or memory is wanted: the bytes with zeros behind them to the end of their last block, the tape
@@ -21,6 +23,7 @@ pub fn put_is_got()
     no_fault();
     packed_bytes();
     stored_text();
+    sound_directory();
 }
 
 /// A law: the extents of files, of empties and of what the directory does not cover, that a check tells, follow one another from
@@ -35,3 +38,87 @@ pub fn each_block_is_told()
 pub fn each_segment_is_told()
     ensures { ChecksTellEachSegment }
 {}
+
+/// A law: a file that is asked for by its first block is got with just the words that it is got with by its name, where a text spells
+/// that. Each file of a sound volume is asked for by a block, and what is asked for by a block is a file.
+pub fn asked_files()
+    ensures alike { OneNameIsGotAlike }
+    ensures each { EachBeginsAtABlock }
+    ensures there { WhatBeginsIsThere }
+{
+    image_round_trip();
+    files_found();
+    sound_directory();
+}
+
+/// A law: the names that a list takes for names that a text spells are just those, and the lines of their files are those of `DIRECT`.
+pub fn typable_names()
+    ensures spelled { TypableIsSpelled }
+    ensures direct { SpelledAreAsDirect }
+{}
+
+/// A law: behind a deletion the volume has none of the files that were named, and each other file as it was, with its words and its
+/// information words, which is got as before, in each form, with the same bytes, or memory is wanted.
+pub fn deleted_files()
+    ensures gone { DeletedAreGone }
+    ensures others { DeletedLeaveOthers }
+    ensures got { DeletedLeaveWhatIsGot }
+{
+    image_round_trip();
+    longer_tape();
+    no_fault();
+    sound_directory();
+}
+
+/// A law: a squeezed volume has each file as it was, with its words and its information words, which is got as before, in each form,
+/// with the same bytes, or memory is wanted.
+pub fn squeezed_files()
+    ensures names { SqueezedKeepNames }
+    ensures there { SqueezedAreThere }
+    ensures got { SqueezedAreGot }
+{
+    image_round_trip();
+    longer_tape();
+    no_fault();
+}
+
+/// A law: behind a renaming the volume has the file under the new name as it was under the old one, with its words and its
+/// information words, at the same first block, none of the old name, and each other file as it was. With its old name again the directory's list and the
+/// files are those that they were, and so are the words of block 0 and of all blocks from 7 on.
+pub fn renamed_file()
+    ensures there { RenamedIsThere }
+    ensures begins { RenamedBeginsThere }
+    ensures gone { RenamedIsGone }
+    ensures others { RenamedLeavesOthers }
+    ensures back { RenamedBackIsAsBefore }
+{
+    image_round_trip();
+    files_found();
+    sound_directory();
+    file_renamed();
+}
+
+/// A law: a file that is put over another keeps the information words of that, one that is put anew has zeros, and where some are
+/// given it has the first of those, with zeros for missing ones: as many as the volume's files have.
+pub fn put_information()
+    ensures keeps { PutKeepsInformation }
+    ensures anew { PutAnewHasZeros }
+    ensures gives { PutGivesInformation }
+{
+    image_round_trip();
+    files_found();
+    sound_directory();
+    file_information();
+}
+
+/// A law: a copy has the words of the file that was copied, and its first information words, as many as the files of its volume have,
+/// with zeros for missing ones, and the name that was typed for it, or else that of the file, which may be one that no text spells.
+/// Each other file of the image that it is put into is there as it was.
+pub fn copied_file()
+    ensures same { CopyIsTheSame }
+    ensures name { CopyHasItsName }
+    ensures others { CopyLeavesOthers }
+{
+    image_round_trip();
+    sound_directory();
+}

@@ -4,22 +4,36 @@
 //! each contract an image is the list of its bytes, and a file is the list of its words.
 #![tactic(auto)]
 
+mod asking;
 mod checking;
+mod copying;
+mod deleting;
 mod faults;
 mod frames;
 mod getting;
 pub mod laws;
 mod listing;
+mod long_listing;
 mod opening;
+pub mod parts;
 mod places;
 mod putting;
+mod renaming;
+mod spelling;
+mod squeezing;
 mod tapes;
 mod texts;
 
+pub use asking::Asked;
 pub use char_pack::{GetForm, PutForm};
 pub use checking::check;
-pub use faults::ArchiveFault;
+pub use copying::copy;
+pub use deleting::{DeletedImage, delete};
+pub use faults::{ArchiveFault, CopyFault, DeleteFault, RenameFault};
 pub use getting::get;
 pub use listing::list;
+pub use long_listing::list_long;
 pub use places::{TextPlace, bad_text_at};
 pub use putting::{NewImage, put};
+pub use renaming::{RenamedImage, rename};
+pub use squeezing::{SqueezedImage, squeeze};

@@ -1,6 +1,7 @@
 ghost use Rattle.std.specs.Prelude.{◌≡◌, ◌≤◌, ℕ, List, length};
 ghost use Rattle.archive8.specs.Getting.{trailer};
-ghost use Rattle.archive8.specs.Steps.{FindsTape, GivesFile, IsReading, TakesFrame};
+ghost use Rattle.archive8.specs.Parts.{GivesFile};
+ghost use Rattle.archive8.specs.Steps.{FindsTape, IsReading, TakesFrame};
 ghost use Rattle.char_pack.specs.declared.forms.GetForm.TheVariants as form;
 
 use crate::frames::frames_of;

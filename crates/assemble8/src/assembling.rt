@@ -13,7 +13,7 @@ use crate::locating::{fault_end, fault_place};
 use crate::places::place_of;
 use crate::unknowns::name_told;
 use crate::{Fault, Place, SourceFault};
-use bin_tape::{TapeFault, write_tape};
+use bin_tape::tape_of;
 use pal_asm::laws::has_words;
 use pal_asm::{AsmFault, Code, assemble};
 use std::alloc::Global;
@@ -53,11 +53,8 @@ pub fn assemble_sources(alloc: Global, sources: &[&[u8]]) -> Result<Vec<u8>, Sou
 {
     has_words();
     let assembly = assembly_of(alloc, sources)?;
-    match write_tape(alloc, &assembly.pairs) {
-        Ok(frames) => Ok(frames),
-        Err(TapeFault::Memory) => Err(SourceFault::Memory),
-        Err(_) => unreachable!(),
-    }
+    let frames = tape_of(alloc, &assembly.pairs)?;
+    Ok(frames)
 }
 
 /// A fault of a join of sources, with the place of the statement that has it and the name that it is about.

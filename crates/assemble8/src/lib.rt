@@ -5,7 +5,8 @@
 //! those of a volume (PAL III Symbolic Assembler manual, and this project's profile of it). In each contract a text has its newest byte
 //! first.
 //!
-//! What stands on it reads an [`Assembly`]: the text that sources join to, its words, its statements and its names.
+//! What stands on it reads an [`Assembly`]: the text that sources join to, its words, its statements and its names. It puts numbers as
+//! faults have them.
 #![tactic(auto)]
 
 mod assembling;
@@ -33,4 +34,4 @@ pub use joins::Join;
 pub use names::{Names, names_of, value_by_number};
 pub use reading::statement_ended;
 pub use spelling::name_text;
-pub use telling::fault_text;
+pub use telling::{fault_text, put_number};

@@ -113,7 +113,7 @@ fn put_numbered(text: &mut Vec<u8>, fault: Fault) -> Result<(), AllocError>
 }
 
 /// Puts a number in decimal, without leading zeros.
-fn put_number(text: &mut Vec<u8>, number: u64) -> Result<(), AllocError>
+pub fn put_number(text: &mut Vec<u8>, number: u64) -> Result<(), AllocError>
     ensures { OnOk result (text.new.items ≡ text.old.items ++ decimal number) }
 {
     let mut digits = itoa::Buffer::new();

@@ -25,7 +25,7 @@ pub fn pack(alloc: Global, bytes: &[u8]) -> Result<Vec<Word>, PackFault>
 /// The words of bytes in whole blocks of 256 words, zeros behind the last byte (OS/8 Software Support Manual).
 ///
 /// They are the fewest blocks whose frames begin with the bytes, none for no byte.
-pub fn pack_blocks(alloc: Global, bytes: &[u8]) -> Result<Vec<Word>, PackFault>
+pub fn pack_blocks(alloc: Global, bytes: &[u8]) -> Result<Vec<Word>, AllocError>
     ensures words { IfOk result (λ words. words.items ≡ packed_blocks bytes.now) }
     ensures length { IfOk result (λ words. vec_len words ≡ BLOCK * block_count (length bytes.now)) }
     ensures packing { IfOk result (λ words. IsBlockPacking bytes.now words.items) }

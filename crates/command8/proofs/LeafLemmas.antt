@@ -7,21 +7,22 @@ use Rattle.std.proofs.lemmas.Bool.Decides.{nat_tests}
 use Rattle.clap.proofs.ValueTestLemmas.{accepts-Accepts}
 use Rattle.clap.proofs.WalkLemmas.{both}
 use Rattle.clap.specs.Facts.{parser_of_value, unwrap_or_range}
-use Rattle.clap.specs.Values.{read_as, refused_kind}
+use Rattle.clap.specs.Values.{read_as, reading_of, refused_kind}
 use Rattle.clap.specs.ValueTests.{accepts}
-use Rattle.clap.specs.Walk.{Held, Row, Rule, Text, action_of, arg_by_id, arg_by_long, arg_by_short, has_long, has_short, long_met, most_values, nothing_held, reacted, reading_by, row_text, rows_after, settled, takes_values, values_or_missing}
-use Rattle.clap.specs.Simple.{Shape, built_leaf, filled, help_rule, inherited, marked_built, with_index}
+use Rattle.clap.specs.Walk.{Held, Row, Rule, Text, action_of, arg_by_id, arg_by_long, arg_by_short, has_long, has_short, long_met, most_values, nothing_held, one_of, reacted, reading_by, row_text, rows_after, settled, takes_values, values_or_missing}
+use Rattle.clap.specs.Simple.{Shape, built_leaf, filled, help_rule, inherited, marked_built, new_rule, with_index}
 use Rattle.clap.specs.Takes.{is_given}
 use Rattle.clap.specs.Words.{Accepts, IsUnsignedIn}
 use Rattle.clap.specs.Kinds.{Kinds, range_kinds, value_kinds}
 use Rattle.clap.specs.Faults.{action_fault, level_fault, long_fault, react_fault, settle_fault, short_fault, use_fault, values_fault}
-use Rattle.clap.specs.declared.builder.action.ArgAction.TheVariants.{Set, SetTrue}
+use Rattle.clap.specs.declared.builder.action.ArgAction.TheVariants.{Append, Set, SetTrue}
 use Rattle.clap.specs.declared.builder.value_parser.ValueParser.{ValueParser}
 use Rattle.clap.specs.declared.builder.value_parser.ValueParser.TheVariants.{Unsigned}
-use Rattle.clap.specs.declared.error.kind.ErrorKind.TheVariants.{DisplayHelp, InvalidValue, TooFewValues, TooManyValues, UnknownArgument}
-use Rattle.command8.specs.Tasks.{blocks_rule, image_rule, most_steps, name_rule, pdp8_top, steps_rule, word_rule, words_rule}
-use Rattle.command8.specs.TaskSteps.{Has, HasBlocks, HasSources, HasSteps}
-use Rattle.command8.proofs.WalkLemmas.{FitDefaults, Fits, HeldGood, IsPlainLeaf, IsUsage, TakesSome, flag_met_good, given_row, leaf_given, leaf_good, no_values, not_none, option_met_good, or_first, or_second, row_good, some_eq}
+use Rattle.clap.specs.declared.error.kind.ErrorKind.TheVariants.{DisplayHelp, InvalidValue, TooFewValues, TooManyValues, UnknownArgument, WrongNumberOfValues}
+use Rattle.command8.specs.Tasks.{blocks_rule, image_rule, may_words_rule, most_steps, pdp8_top, steps_rule, word_rule, words_rule}
+use Rattle.command8.specs.TaskSteps.{Has, HasBlocks, HasSome, HasSources, HasSteps}
+use Rattle.word12.specs.declared.sizes.TheConstants.{MOST_BLOCKS}
+use Rattle.command8.proofs.WalkLemmas.{Acts, FitDefaults, Fits, HeldGood, IsPlainLeaf, IsUsage, TakesSome, append_met_good, flag_met_good, given_row, leaf_given, leaf_good, no_values, not_none, option_met_good, or_first, or_second, row_good, some_eq}
 
 -- a subcommand as clap builds it, below the program
 abbrev pub below : Shape → Shape
@@ -33,8 +34,25 @@ image_built = with_index 1 (filled image_rule)
 abbrev pub tape_built : Rule
 tape_built = with_index 1 (filled (word_rule (codes "TAPE")))
 
+abbrev pub images_built : Rule
+images_built = with_index 1 (filled (words_rule (codes "IMAGE") MOST_BLOCKS))
+
 abbrev pub name_built : Rule
-name_built = with_index 2 (filled name_rule)
+name_built = with_index 2 (filled (new_rule (codes "NAME")))
+
+-- where several may be given
+abbrev pub names_built : Rule
+names_built = with_index 2 (filled (may_words_rule (codes "NAME") MOST_BLOCKS))
+
+-- and where one must
+abbrev pub put_built : Rule
+put_built = with_index 2 (filled (words_rule (codes "NAME") MOST_BLOCKS))
+
+abbrev pub new_built : Rule
+new_built = with_index 3 (filled (new_rule (codes "NEW")))
+
+abbrev pub to_built : Rule
+to_built = with_index 3 (filled (new_rule (codes "TO")))
 
 abbrev pub blocks_built : Rule
 blocks_built = with_index 2 (filled blocks_rule)
@@ -80,6 +98,14 @@ pub record IsOption (c : List Rule) (a : Rule) : Type 0 where
   pub own : arg_by_id c a.id ≡ Some a
   pub no_letter : (x : ℕ) → has_short a x ≡ false
 
+-- an option whose values are put together, known by its long name alone
+pub record IsAppending (c : List Rule) (a : Rule) : Type 0 where
+  pub takes : takes_values a ≡ true
+  pub appends : action_of a ≡ Append
+  pub bare : a.defaults ≡ []
+  pub own : arg_by_id c a.id ≡ Some a
+  pub no_letter : (x : ℕ) → has_short a x ≡ false
+
 -- an option without a value, known by its long name alone
 pub record IsFlag (c : List Rule) (a : Rule) : Type 0 where
   pub bare : takes_values a ≡ false
@@ -90,6 +116,7 @@ pub record IsFlag (c : List Rule) (a : Rule) : Type 0 where
 pub data IsPart (c : List Rule) (a : Rule) : Type 0 where
   a_word : IsWord c a → IsPart c a
   an_option : IsOption c a → IsPart c a
+  an_appending : IsAppending c a → IsPart c a
   a_flag : IsFlag c a → IsPart c a
   a_help : a ≡ help_built → IsPart c a
 
@@ -108,10 +135,11 @@ part_found c p (x ∷ xs) a all is = go (λ later. part_found c p xs a all.1 lat
 parts_usage : (c : List Rule) → AllParts c c → IsUsage c
 parts_usage c all id a again vs rows is none = by_part (part_found c (λ r. bytes_eq r.id id) c a all is).0
   where
-    by_part : IsPart c a → (TakesSome a ⊎ (action_of a ≡ SetTrue)) × (arg_by_id c a.id ≡ Some a)
+    by_part : IsPart c a → Acts a × (arg_by_id c a.id ≡ Some a)
     by_part (a_word part) = (inl part.some, part.own)
     by_part (an_option part) = (inl part.some, part.own)
-    by_part (a_flag part) = (inr part.set, part.own)
+    by_part (an_appending part) = (inr (inr part.appends), part.own)
+    by_part (a_flag part) = (inr (inl part.set), part.own)
     by_part (a_help part) = absurd (help_asked again vs rows (subst (λ (x : Rule). use_fault again x vs rows ≡ []) part none))
 
 -- an argument with a place is found by no name
@@ -127,6 +155,7 @@ parts_long c all again once name v h none good = go (arg_by_long c name) refl no
         → HeldGood c (long_met c (Some a) v h).0
     by_part a (a_word part) named none = absurd (unnamed (is_some a.index) (has_long a name) part.placed named)
     by_part a (an_option part) named none = option_met_good c (parts_usage c all) again a v h once part.takes part.some part.own none good
+    by_part a (an_appending part) named none = append_met_good c (parts_usage c all) again a v h once part.takes part.appends part.own none good
     by_part a (a_flag part) named none = flag_met_good c (parts_usage c all) again a v h once part.bare part.set part.own none good
     by_part a (a_help part) named none = absurd (long_help c again v h (subst (λ (x : Rule). long_fault c again (Some x) v h ≡ []) part none))
 
@@ -146,6 +175,7 @@ parts_short c all again x rest h following none = go (arg_by_short c x) refl non
     by_part : (a : Rule) → IsPart c a → (not (is_some a.index) && has_short a x) ≡ true → short_fault c again (Some a) rest h following ≡ [] → ⊥
     by_part a (a_word part) named none = unnamed (is_some a.index) (has_short a x) part.placed named
     by_part a (an_option part) named none = true≢false (sym (both _ _ named).1 ∙ part.no_letter x)
+    by_part a (an_appending part) named none = true≢false (sym (both _ _ named).1 ∙ part.no_letter x)
     by_part a (a_flag part) named none = true≢false (sym (both _ _ named).1 ∙ part.no_letter x)
     by_part a (a_help part) named none = help_short (subst (λ (y : Rule). short_fault c again (Some y) rest h following ≡ []) part none)
 
@@ -170,6 +200,7 @@ parts_fit c (a ∷ rest) all = (by_part all.0, parts_fit c rest all.1)
     by_part : IsPart c a → (a.defaults ≡ []) ⊎ ((action_of a ≡ SetTrue) × (arg_by_id c a.id ≡ Some a))
     by_part (a_word part) = inl part.bare
     by_part (an_option part) = inl part.bare
+    by_part (an_appending part) = inl part.bare
     by_part (a_flag part) = inr (part.set, part.own)
     by_part (a_help part) = inl (ap (λ (x : Rule). x.defaults) part)
 
@@ -251,43 +282,66 @@ passed parser text none = accepts-Accepts false parser text (taken (accepts fals
     taken true none = refl
     taken false none = absurd (not_none (refused_kind parser) [] none)
 
+-- a number that is given is within the limits of its argument
+has_number : (s : Shape) → IsLeaf s → (a : Rule) → arg_by_id s.rules a.id ≡ Some a → action_of a ≡ Set
+    → nat_lt 0 (unwrap_or_range a.range).start_inclusive ≡ true → (low high : ℕ) → a.ignore_case ≡ false
+    → parser_of_value a.parser ≡ Unsigned low high → (words : List Text) → Faultless s words → (text : Text)
+    → one_of a.id (rows_after s.rules [] words) ≡ Some text → IsUnsignedIn low high text
+has_number s leaf a own set some low high cased parser words none text is =
+    go (find (λ x. bytes_eq x.id a.id) (rows_after s.rules [] words)) refl is
+  where
+    go : (o : Option Row) → find (λ x. bytes_eq x.id a.id) (rows_after s.rules [] words) ≡ o → option_and_then row_text o ≡ Some text
+        → IsUnsignedIn low high text
+    go None found is = absurd (cc)
+    go (Some r) found is =
+        let fits = fit s leaf a own set words none r found in
+        let first = first_value a r.values some fits.0 in
+        let read : Some text ≡ Some first.0 =
+        sym is ∙ (ap (option_map (read_as r.reading)) first.1 ∙ (ap (λ how. Some (read_as how first.0)) fits.1
+        ∙ ap (λ p. Some (read_as (reading_of p) first.0)) parser)) in
+        let took : value_kinds false (Unsigned low high) first.0 ≡ [] =
+        subst (λ b. value_kinds b (Unsigned low high) first.0 ≡ []) cased (subst (λ p. value_kinds a.ignore_case p first.0 ≡ []) parser first.2) in
+        subst (λ (t : Text). IsUnsignedIn low high t) (sym (some_eq text first.0 read)) (passed (Unsigned low high) first.0 took)
+
+-- a number of blocks that is given is 8 to 4095
 pub has_blocks : (s : Shape) → IsLeaf s → arg_by_id s.rules (codes "BLOCKS") ≡ Some blocks_built → (words : List Text) → Faultless s words
     → HasBlocks (rows_after s.rules [] words)
-has_blocks s leaf own words none =
-    let found = given s leaf blocks_built own refl refl words none in
-    let first = first_value blocks_built found.0.values refl found.2 in (
-      first.0,
-      ap (option_and_then row_text) found.1 ∙ (ap (option_map (read_as found.0.reading)) first.1 ∙ ap (λ how. Some (read_as how first.0)) found.3),
-      passed (Unsigned 8 4095) first.0 first.2,
-    )
+has_blocks s leaf own words none = has_number s leaf blocks_built own refl refl 8 MOST_BLOCKS refl refl words none
 
 -- a limit that is given is a number from 1 up
 pub has_steps : (s : Shape) → IsLeaf s → arg_by_id s.rules (codes "steps") ≡ Some steps_built → (words : List Text) → Faultless s words
     → HasSteps (rows_after s.rules [] words)
-has_steps s leaf own words none text is = go (find (λ x. bytes_eq x.id (codes "steps")) (rows_after s.rules [] words)) refl is
-  where
-    go : (o : Option Row) → find (λ x. bytes_eq x.id (codes "steps")) (rows_after s.rules [] words) ≡ o → option_and_then row_text o ≡ Some text
-        → IsUnsignedIn 1 most_steps text
-    go None found is = absurd (cc)
-    go (Some r) found is =
-        let fits = fit s leaf steps_built own refl words none r found in
-        let first = first_value steps_built r.values refl fits.0 in
-        let read : Some text ≡ Some first.0 = sym is ∙ (ap (option_map (read_as r.reading)) first.1 ∙ ap (λ how. Some (read_as how first.0)) fits.1) in
-        subst (λ (t : Text). IsUnsignedIn 1 most_steps t) (sym (some_eq text first.0 read)) (passed (Unsigned 1 most_steps) first.0 first.2)
+has_steps s leaf own words none = has_number s leaf steps_built own refl refl 1 most_steps refl refl words none
 
-up_to_eight : (n : ℕ) → range_kinds 1 8 n ≡ [] → (1 ≤ n) × (n ≤ 8)
-up_to_eight n none = go (n == 0) (nat_lt n 1) (nat_lt 8 n) refl refl none
+one_up_to : (most n : ℕ) → range_kinds 1 most n ≡ [] → (1 ≤ n) × (n ≤ most)
+one_up_to most n none = go (n == 0) (1 == most) (1 == n) (nat_lt n 1) (nat_lt most n) refl refl refl refl none
   where
-    go : (empty few many : Bool) → nat_lt n 1 ≡ few → nat_lt 8 n ≡ many
-        → (if empty then InvalidValue ∷ [] else (if few then TooFewValues ∷ [] else (if many then TooManyValues ∷ [] else []))) ≡ [] → (1 ≤ n) × (n ≤ 8)
-    go true few many low high none = absurd (not_none InvalidValue [] none)
-    go false true many low high none = absurd (not_none TooFewValues [] none)
-    go false false true low high none = absurd (not_none TooManyValues [] none)
-    go false false false low high none = (grind (arith, nat_tests), grind (arith, nat_tests))
+    go : (empty fixed one few many : Bool) → (1 == most) ≡ fixed → (1 == n) ≡ one → nat_lt n 1 ≡ few → nat_lt most n ≡ many
+        → if◌then◌else◌ {A = Kinds} empty (InvalidValue ∷ [])
+        (if◌then◌else◌ {A = Kinds} fixed (if◌then◌else◌ {A = Kinds} one [] (WrongNumberOfValues ∷ []))
+        (if◌then◌else◌ {A = Kinds} few (TooFewValues ∷ []) (if◌then◌else◌ {A = Kinds} many (TooManyValues ∷ []) []))) ≡ []
+        → (1 ≤ n) × (n ≤ most)
+    go true fixed one few many is same low high none = absurd (not_none InvalidValue [] none)
+    go false true true few many is same low high none = (grind (arith, nat_tests), grind (arith, nat_tests))
+    go false true false few many is same low high none = absurd (not_none WrongNumberOfValues [] none)
+    go false false one true many is same low high none = absurd (not_none TooFewValues [] none)
+    go false false one false true is same low high none = absurd (not_none TooManyValues [] none)
+    go false false one false false is same low high none = (grind (arith, nat_tests), grind (arith, nat_tests))
 
 pub has_sources : (s : Shape) → IsLeaf s → arg_by_id s.rules (codes "FILE") ≡ Some files_built → (words : List Text) → Faultless s words
     → HasSources (rows_after s.rules [] words)
 has_sources s leaf own words none =
     let found = given s leaf files_built own refl refl words none in
     let values = ap (λ o. unwrap_or (option_map (λ (r : Row). r.values) o) []) found.1 in
-    subst (λ (vs : List Text). (1 ≤ length vs) × (length vs ≤ 8)) (sym values) (up_to_eight (length found.0.values) found.2.0)
+    subst (λ (vs : List Text). (1 ≤ length vs) × (length vs ≤ 8)) (sym values) (one_up_to 8 (length found.0.values) found.2.0)
+
+-- so many values that must be given in one place are 1 to 4095
+pub has_some : (s : Shape) → IsLeaf s → (a : Rule) → arg_by_id s.rules a.id ≡ Some a → a.required ≡ true → action_of a ≡ Set
+    → (unwrap_or_range a.range).start_inclusive ≡ 1 → most_values a ≡ MOST_BLOCKS → (words : List Text) → Faultless s words
+    → HasSome a.id (rows_after s.rules [] words)
+has_some s leaf a own needed set least most words none =
+    let found = given s leaf a own needed set words none in
+    let values = ap (λ o. unwrap_or (option_map (λ (r : Row). r.values) o) []) found.1 in
+    let range : range_kinds 1 MOST_BLOCKS (length found.0.values) ≡ [] =
+    subst (λ n. range_kinds 1 n (length found.0.values) ≡ []) most (subst (λ n. range_kinds n (most_values a) (length found.0.values) ≡ []) least found.2.0) in
+    subst (λ (vs : List Text). (1 ≤ length vs) × (length vs ≤ MOST_BLOCKS)) (sym values) (one_up_to MOST_BLOCKS (length found.0.values) range)

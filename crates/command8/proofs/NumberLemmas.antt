@@ -1,6 +1,6 @@
 -- A text that clap took as a number is read as that number.
-use Rattle.std.proofs.Common.{◌≡◌, ◌∙◌, ◌≤◌, ℕ, List, Option, Some, None, Result, Ok, Err, ap, arith, refl, sym, true, option_map}
-use Rattle.std.specs.Prelude.{nat_le}
+use Rattle.std.proofs.Common.{◌≡◌, ◌∙◌, ◌≤◌, ◌<◌, ◌*◌, ℕ, zero, suc, List, Option, Some, None, Result, Ok, Err, ap, arith, refl, subst, sym, true, option_map}
+use Rattle.std.specs.Prelude.{IfSome, nat_le}
 use Rattle.std.proofs.lemmas.Bool.Decides.{nat_tests}
 use Rattle.std.specs.Str.Parse.{ParsesUnsigned}
 use Rattle.clap.specs.Words.{IsUnsignedIn, ReadsOne, Text}
@@ -28,8 +28,32 @@ limit_given (Some t) r none some =
     leb-true : (n : ℕ) → 1 ≤ n → nat_le 1 n ≡ true
     leb-true n lt = grind (arith, nat_tests)
 
+-- the same, within limits
+pub bounded_given : (low high : ℕ) (given : Option Text) (r : Option ℕ) → (given ≡ None → r ≡ None)
+    → ((t : Text) → given ≡ Some t → (n : ℕ) × (r ≡ Some n) × (n ≡ number_of t) × (low ≤ n) × (n ≤ high))
+    → (option_map number_of given ≡ r) × IfSome r (λ n. (low ≤ n) × (n ≤ high))
+bounded_given low high None r none some =
+    let is = none refl in
+    (sym is, subst (λ (o : Option ℕ). IfSome o (λ n. (low ≤ n) × (n ≤ high))) (sym is) tt)
+bounded_given low high (Some t) r none some =
+    let had = some t refl in
+    (ap Some (sym had.2) ∙ sym had.1, subst (λ (o : Option ℕ). IfSome o (λ n. (low ≤ n) × (n ≤ high))) (sym had.1) (had.3, had.4))
+
 pub same_some : {X : Type 0} (x y : X) → Some x ≡ Some y → x ≡ y
 same_some x y same = cc
 
 pub none_some : {X : Type 0} (x : X) → None ≡ Some x → ⊥
 none_some x same = cc
+
+-- decimal numbers of so many digits are below
+abbrev pub limit : ℕ → ℕ
+limit zero = 1
+limit (suc count) = 10 * limit count
+
+-- before the last of four digits
+pub three_digits : (count value : ℕ) → count < 4 → value < limit count → value < 1000
+three_digits zero value short small = omega (arith, small)
+three_digits (suc zero) value short small = omega (arith, small)
+three_digits (suc (suc zero)) value short small = omega (arith, small)
+three_digits (suc (suc (suc zero))) value short small = omega (arith, small)
+three_digits (suc (suc (suc (suc n)))) value short small = omega (arith, short)

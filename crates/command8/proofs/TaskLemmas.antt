@@ -9,7 +9,7 @@ use Rattle.clap.specs.Simple.{App, Shape, argument_words, built, entered, label_
 use Rattle.clap.specs.Kinds.{HasKind, IsAmong}
 use Rattle.clap.specs.Faults.{entered_fault, fault_of, level_fault}
 use Rattle.clap.specs.Words.{HasMatchesOf, is_simple, is_simple_and_free, kind_of, subcommand_rows_of, app_of, takes}
-use Rattle.clap.specs.declared.builder.action.ArgAction.TheVariants.{SetTrue}
+use Rattle.clap.specs.declared.builder.action.ArgAction.TheVariants.{Append, SetTrue}
 use Rattle.clap.specs.declared.builder.command.Command.{Command}
 use Rattle.clap.specs.declared.parser.matches.ArgMatches.{ArgMatches}
 use Rattle.clap.specs.declared.error.Error.{Error}
@@ -17,12 +17,12 @@ use Rattle.clap.specs.declared.error.kind.ErrorKind.TheVariants.{OutOfMemory}
 use Rattle.command8.specs.CommandSteps.{IsCommand}
 use Rattle.command8.specs.declared.kinds.Task.{Task}
 use Rattle.command8.specs.declared.kinds.TaskFault.{TaskFault}
-use Rattle.command8.specs.declared.kinds.TaskFault.TheVariants.{Words, Memory, LookAndKeep, InputTwice, CrossAlone, Start, Switches, SourceStart}
+use Rattle.command8.specs.declared.kinds.TaskFault.TheVariants.{Words, Memory, LookAndKeep, InputTwice, CrossAlone, Start, Switches, SourceStart, Refused}
 use Rattle.command8.specs.declared.verbs.Verb.TheVariants as verb
-use Rattle.command8.specs.Tasks.{Answers, Asks, AsksBoth, AsksCrossAlone, AsksNoSourceStart, AsksNoStart, AsksNoSwitches, IsFaultOf, IsPastClap, NamesInputTwice, assemble_app, check_app, create_app, get_app, list_app, pdp8, put_app, rim_app, run_app, source_app, tape_app, teletype_app}
+use Rattle.command8.specs.Tasks.{Answers, Asks, AsksBoth, AsksCrossAlone, AsksNoSourceStart, AsksNoStart, AsksNoSwitches, IsFaultOf, IsPastClap, IsRefusal, NamesInputTwice, assemble_app, check_app, copy_app, create_app, delete_app, get_app, list_app, pdp8, profile_app, put_app, rename_app, rim_app, run_app, source_app, squeeze_app, tape_app, teletype_app, trace_app}
 use Rattle.command8.specs.TaskSteps.{GivesMet, HasMet, IsRefused, IsWhole}
-use Rattle.command8.proofs.LeafLemmas.{Faultless, IsLeaf, IsPart, a_flag, a_help, a_word, an_option, below, has_blocks, has_sources, has_steps, has_word, image_built, name_built, tape_built}
-use Rattle.command8.proofs.WalkLemmas.{IsNoHelp, TakesSome, level_stops}
+use Rattle.command8.proofs.LeafLemmas.{Faultless, IsLeaf, IsPart, a_flag, a_help, a_word, an_appending, an_option, below, has_blocks, has_some, has_sources, has_steps, has_word, image_built, images_built, put_built, tape_built}
+use Rattle.command8.proofs.WalkLemmas.{IsNoHelp, TakesSome, level_stops, some_eq}
 
 -- ## The subcommands
 
@@ -37,29 +37,51 @@ option_part : (c : List Rule) (a : Rule) → takes_values a ≡ true → TakesSo
     → ((x : ℕ) → has_short a x ≡ false) → IsPart c a
 option_part c a takes some bare own no_letter = an_option (record { takes = takes; some = some; bare = bare; own = own; no_letter = no_letter })
 
+appending_part : (c : List Rule) (a : Rule) → takes_values a ≡ true → action_of a ≡ Append → a.defaults ≡ [] → arg_by_id c a.id ≡ Some a
+    → ((x : ℕ) → has_short a x ≡ false) → IsPart c a
+appending_part c a takes appends bare own no_letter = an_appending (record { takes = takes; appends = appends; bare = bare; own = own; no_letter = no_letter })
+
 assemble_leaf : IsLeaf (below assemble_app.top)
 assemble_leaf = record { parts = (word_part _ _ refl (refl, refl) refl refl, (option_part _ _ refl (refl, refl) refl refl (λ x. refl), (option_part _ _ refl (refl, refl) refl refl (λ x. refl), (flag_part _ _ refl refl refl (λ x. refl), (a_help refl, tt))))); negates = refl; once = refl }
 
 teletype_leaf : IsLeaf (below teletype_app.top)
 teletype_leaf = record { parts = (word_part _ _ refl (refl, refl) refl refl, (word_part _ _ refl (refl, refl) refl refl, (option_part _ _ refl (refl, refl) refl refl (λ x. refl), (option_part _ _ refl (refl, refl) refl refl (λ x. refl), (option_part _ _ refl (refl, refl) refl refl (λ x. refl), (flag_part _ _ refl refl refl (λ x. refl), (flag_part _ _ refl refl refl (λ x. refl), (a_help refl, tt)))))))); negates = refl; once = refl }
 
+trace_leaf : IsLeaf (below trace_app.top)
+trace_leaf = record { parts = (word_part _ _ refl (refl, refl) refl refl, (word_part _ _ refl (refl, refl) refl refl, (option_part _ _ refl (refl, refl) refl refl (λ x. refl), (option_part _ _ refl (refl, refl) refl refl (λ x. refl), (option_part _ _ refl (refl, refl) refl refl (λ x. refl), (option_part _ _ refl (refl, refl) refl refl (λ x. refl), (a_help refl, tt))))))); negates = refl; once = refl }
+
+profile_leaf : IsLeaf (below profile_app.top)
+profile_leaf = record { parts = (word_part _ _ refl (refl, refl) refl refl, (word_part _ _ refl (refl, refl) refl refl, (option_part _ _ refl (refl, refl) refl refl (λ x. refl), (option_part _ _ refl (refl, refl) refl refl (λ x. refl), (option_part _ _ refl (refl, refl) refl refl (λ x. refl), (option_part _ _ refl (refl, refl) refl refl (λ x. refl), (a_help refl, tt))))))); negates = refl; once = refl }
+
 run_leaf : IsLeaf (below run_app.top)
-run_leaf = record { parts = (word_part _ _ refl (refl, refl) refl refl, (flag_part _ _ refl refl refl (λ x. refl), (flag_part _ _ refl refl refl (λ x. refl), (flag_part _ _ refl refl refl (λ x. refl), (a_help refl, tt))))); negates = refl; once = refl }
+run_leaf = record { parts = (word_part _ _ refl (refl, refl) refl refl, (flag_part _ _ refl refl refl (λ x. refl), (flag_part _ _ refl refl refl (λ x. refl), (flag_part _ _ refl refl refl (λ x. refl), (option_part _ _ refl (refl, refl) refl refl (λ x. refl), (flag_part _ _ refl refl refl (λ x. refl), (a_help refl, tt))))))); negates = refl; once = refl }
 
 create_leaf : IsLeaf (below create_app.top)
-create_leaf = record { parts = (word_part _ _ refl (refl, refl) refl refl, (word_part _ _ refl (refl, refl) refl refl, (a_help refl, tt))); negates = refl; once = refl }
+create_leaf = record { parts = (word_part _ _ refl (refl, refl) refl refl, (word_part _ _ refl (refl, refl) refl refl, (flag_part _ _ refl refl refl (λ x. refl), (a_help refl, tt)))); negates = refl; once = refl }
 
 list_leaf : IsLeaf (below list_app.top)
-list_leaf = record { parts = (word_part _ _ refl (refl, refl) refl refl, (a_help refl, tt)); negates = refl; once = refl }
+list_leaf = record { parts = (word_part _ _ refl (refl, refl) refl refl, (flag_part _ _ refl refl refl (λ x. refl), (option_part _ _ refl (refl, refl) refl refl (λ x. refl), (flag_part _ _ refl refl refl (λ x. refl), (a_help refl, tt))))); negates = refl; once = refl }
 
 get_leaf : IsLeaf (below get_app.top)
-get_leaf = record { parts = (word_part _ _ refl (refl, refl) refl refl, (word_part _ _ refl (refl, refl) refl refl, (flag_part _ _ refl refl refl (λ x. refl), (flag_part _ _ refl refl refl (λ x. refl), (flag_part _ _ refl refl refl (λ x. refl), (a_help refl, tt)))))); negates = refl; once = refl }
+get_leaf = record { parts = (word_part _ _ refl (refl, refl) refl refl, (word_part _ _ refl (refl, refl) refl refl, (appending_part _ _ refl refl refl refl (λ x. refl), (flag_part _ _ refl refl refl (λ x. refl), (flag_part _ _ refl refl refl (λ x. refl), (flag_part _ _ refl refl refl (λ x. refl), (option_part _ _ refl (refl, refl) refl refl (λ x. refl), (flag_part _ _ refl refl refl (λ x. refl), (flag_part _ _ refl refl refl (λ x. refl), (appending_part _ _ refl refl refl refl (λ x. refl), (flag_part _ _ refl refl refl (λ x. refl), (option_part _ _ refl (refl, refl) refl refl (λ x. refl), (flag_part _ _ refl refl refl (λ x. refl), (a_help refl, tt)))))))))))))); negates = refl; once = refl }
 
 put_leaf : IsLeaf (below put_app.top)
-put_leaf = record { parts = (word_part _ _ refl (refl, refl) refl refl, (word_part _ _ refl (refl, refl) refl refl, (flag_part _ _ refl refl refl (λ x. refl), (a_help refl, tt)))); negates = refl; once = refl }
+put_leaf = record { parts = (word_part _ _ refl (refl, refl) refl refl, (word_part _ _ refl (refl, refl) refl refl, (flag_part _ _ refl refl refl (λ x. refl), (appending_part _ _ refl refl refl refl (λ x. refl), (flag_part _ _ refl refl refl (λ x. refl), (appending_part _ _ refl refl refl refl (λ x. refl), (option_part _ _ refl (refl, refl) refl refl (λ x. refl), (flag_part _ _ refl refl refl (λ x. refl), (a_help refl, tt))))))))); negates = refl; once = refl }
+
+delete_leaf : IsLeaf (below delete_app.top)
+delete_leaf = record { parts = (word_part _ _ refl (refl, refl) refl refl, (word_part _ _ refl (refl, refl) refl refl, (appending_part _ _ refl refl refl refl (λ x. refl), (option_part _ _ refl (refl, refl) refl refl (λ x. refl), (flag_part _ _ refl refl refl (λ x. refl), (a_help refl, tt)))))); negates = refl; once = refl }
+
+rename_leaf : IsLeaf (below rename_app.top)
+rename_leaf = record { parts = (word_part _ _ refl (refl, refl) refl refl, (word_part _ _ refl (refl, refl) refl refl, (word_part _ _ refl (refl, refl) refl refl, (option_part _ _ refl (refl, refl) refl refl (λ x. refl), (option_part _ _ refl (refl, refl) refl refl (λ x. refl), (flag_part _ _ refl refl refl (λ x. refl), (a_help refl, tt))))))); negates = refl; once = refl }
+
+copy_leaf : IsLeaf (below copy_app.top)
+copy_leaf = record { parts = (word_part _ _ refl (refl, refl) refl refl, (word_part _ _ refl (refl, refl) refl refl, (word_part _ _ refl (refl, refl) refl refl, (word_part _ _ refl (refl, refl) refl refl, (option_part _ _ refl (refl, refl) refl refl (λ x. refl), (option_part _ _ refl (refl, refl) refl refl (λ x. refl), (flag_part _ _ refl refl refl (λ x. refl), (option_part _ _ refl (refl, refl) refl refl (λ x. refl), (flag_part _ _ refl refl refl (λ x. refl), (a_help refl, tt)))))))))); negates = refl; once = refl }
+
+squeeze_leaf : IsLeaf (below squeeze_app.top)
+squeeze_leaf = record { parts = (word_part _ _ refl (refl, refl) refl refl, (option_part _ _ refl (refl, refl) refl refl (λ x. refl), (flag_part _ _ refl refl refl (λ x. refl), (a_help refl, tt)))); negates = refl; once = refl }
 
 check_leaf : IsLeaf (below check_app.top)
-check_leaf = record { parts = (word_part _ _ refl (refl, refl) refl refl, (a_help refl, tt)); negates = refl; once = refl }
+check_leaf = record { parts = (word_part _ _ refl (refl, refl) refl refl, (flag_part _ _ refl refl refl (λ x. refl), (option_part _ _ refl (refl, refl) refl refl (λ x. refl), (flag_part _ _ refl refl refl (λ x. refl), (a_help refl, tt))))); negates = refl; once = refl }
 
 -- a subcommand that is entered with no fault has what it needs
 abbrev Whole : Shape → Type 0
@@ -81,6 +103,14 @@ teletype_whole : Whole (below teletype_app.top)
 teletype_whole words none =
     (verb.Teletype, refl, (has_word _ teletype_leaf tape_built refl refl (refl, refl) words none, has_steps _ teletype_leaf refl words none))
 
+trace_whole : Whole (below trace_app.top)
+trace_whole words none =
+    (verb.Trace, refl, (has_word _ trace_leaf tape_built refl refl (refl, refl) words none, has_steps _ trace_leaf refl words none))
+
+profile_whole : Whole (below profile_app.top)
+profile_whole words none =
+    (verb.Profile, refl, (has_word _ profile_leaf tape_built refl refl (refl, refl) words none, has_steps _ profile_leaf refl words none))
+
 run_whole : Whole (below run_app.top)
 run_whole words none = (verb.Run, refl, has_word _ run_leaf image_built refl refl (refl, refl) words none)
 
@@ -92,15 +122,26 @@ list_whole : Whole (below list_app.top)
 list_whole words none = (verb.List, refl, has_word _ list_leaf image_built refl refl (refl, refl) words none)
 
 get_whole : Whole (below get_app.top)
-get_whole words none =
-    (verb.Get, refl, (has_word _ get_leaf image_built refl refl (refl, refl) words none, has_word _ get_leaf name_built refl refl (refl, refl) words none))
+get_whole words none = (verb.Get, refl, has_word _ get_leaf image_built refl refl (refl, refl) words none)
 
 put_whole : Whole (below put_app.top)
 put_whole words none =
-    (verb.Put, refl, (has_word _ put_leaf image_built refl refl (refl, refl) words none, has_word _ put_leaf name_built refl refl (refl, refl) words none))
+    (verb.Put, refl, (has_word _ put_leaf image_built refl refl (refl, refl) words none, has_word _ put_leaf put_built refl refl (refl, refl) words none, has_some _ put_leaf put_built refl refl refl refl refl words none))
+
+delete_whole : Whole (below delete_app.top)
+delete_whole words none = (verb.Delete, refl, has_word _ delete_leaf image_built refl refl (refl, refl) words none)
+
+rename_whole : Whole (below rename_app.top)
+rename_whole words none = (verb.Rename, refl, has_word _ rename_leaf image_built refl refl (refl, refl) words none)
+
+copy_whole : Whole (below copy_app.top)
+copy_whole words none = (verb.Copy, refl, has_word _ copy_leaf image_built refl refl (refl, refl) words none)
+
+squeeze_whole : Whole (below squeeze_app.top)
+squeeze_whole words none = (verb.Squeeze, refl, has_word _ squeeze_leaf image_built refl refl (refl, refl) words none)
 
 check_whole : Whole (below check_app.top)
-check_whole words none = (verb.Check, refl, has_word _ check_leaf image_built refl refl (refl, refl) words none)
+check_whole words none = (verb.Check, refl, has_some _ check_leaf images_built refl refl refl refl refl words none)
 
 -- ## The whole command
 
@@ -141,7 +182,7 @@ entered_whole : (stop : Option (Text × List Text)) → IsNoHelp stop → is_som
 entered_whole None past met none = absurd (true≢false (sym met))
 entered_whole (Some p) past met none =
     chosen p.0 p.1 (built pdp8).subs
-    (inr tape_whole, (inr rim_whole, (inr source_whole, (inr assemble_whole, (inr teletype_whole, (inr run_whole, (inr create_whole, (inr list_whole, (inr get_whole, (inr put_whole, (inr check_whole, (inl (no_help p.0 past), tt))))))))))))
+    (inr tape_whole, (inr rim_whole, (inr source_whole, (inr assemble_whole, (inr teletype_whole, (inr trace_whole, (inr profile_whole, (inr run_whole, (inr create_whole, (inr list_whole, (inr get_whole, (inr put_whole, (inr delete_whole, (inr rename_whole, (inr copy_whole, (inr squeeze_whole, (inr check_whole, (inl (no_help p.0 past), tt))))))))))))))))))
     met none
 
 -- words with no fault ask for a subcommand that has what it needs
@@ -178,9 +219,10 @@ memory_fault error Memory is memory = refl
 memory_fault error LookAndKeep is memory = absurd is
 memory_fault error InputTwice is memory = absurd is
 memory_fault error CrossAlone is memory = absurd is
-memory_fault error (Start text) is memory = absurd is
-memory_fault error (Switches text) is memory = absurd is
+memory_fault error (Start which text) is memory = absurd is
+memory_fault error (Switches which text) is memory = absurd is
 memory_fault error (SourceStart text) is memory = absurd is
+memory_fault error (Refused which refusal) is memory = absurd is
 
 -- words with no fault that ask for no task
 refused_answer : (words : List Text) (met : Option (Text × List Row)) (fault : TaskFault) → subcommand_of pdp8 words ≡ met → fault_of pdp8 words ≡ []
@@ -190,9 +232,10 @@ refused_answer words met Memory same none is = tt
 refused_answer words met LookAndKeep same none is = (none, subst AsksBoth (sym same) is)
 refused_answer words met InputTwice same none is = (none, subst NamesInputTwice (sym same) is)
 refused_answer words met CrossAlone same none is = (none, subst AsksCrossAlone (sym same) is)
-refused_answer words met (Start text) same none is = (none, subst (AsksNoStart text.bytes.items) (sym same) is)
-refused_answer words met (Switches text) same none is = (none, subst (AsksNoSwitches text.bytes.items) (sym same) is)
+refused_answer words met (Start which text) same none is = (none, subst (AsksNoStart which text.bytes.items) (sym same) is)
+refused_answer words met (Switches which text) same none is = (none, subst (AsksNoSwitches which text.bytes.items) (sym same) is)
 refused_answer words met (SourceStart text) same none is = (none, subst (AsksNoSourceStart text.bytes.items) (sym same) is)
+refused_answer words met (Refused which refusal) same none is = (none, subst (IsRefusal which refusal) (sym same) is)
 
 refused_kind : (met : Option (Text × List Row)) (fault : TaskFault) → IsRefused met fault → IsPastClap fault
 refused_kind met (Words error) is = is
@@ -200,9 +243,19 @@ refused_kind met Memory is = tt
 refused_kind met LookAndKeep is = tt
 refused_kind met InputTwice is = tt
 refused_kind met CrossAlone is = tt
-refused_kind met (Start text) is = tt
-refused_kind met (Switches text) is = tt
+refused_kind met (Start which text) is = tt
+refused_kind met (Switches which text) is = tt
 refused_kind met (SourceStart text) is = tt
+refused_kind met (Refused which refusal) is = tt
+
+-- the subcommand that was met, with its name and what was found for it, has what it needs
+pub met_whole : {S : Type 0} (met : Option S) (name_of : S → Text) (found_for : S → List Row) (name : Text) (rows : List Row) → Some name ≡ option_map name_of met
+    → Some rows ≡ option_map (λ (p : Text × List Row). p.1) (option_map (λ s. (name_of s, found_for s)) met) → HasMet (option_map (λ s. (name_of s, found_for s)) met)
+    → IsWhole name rows
+met_whole None name_of found_for name rows named found has = absurd has
+met_whole (Some s) name_of found_for name rows named found has =
+    subst (λ (n : Text). IsWhole n rows) (some_eq (name_of s) name (sym named))
+    (subst (λ (r : List Row). IsWhole (name_of s) r) (some_eq (found_for s) rows (sym found)) has)
 
 -- what is asked for is answered, or why it is refused
 pub asked_answer : (words : List Text) (met : Option (Text × List Row)) (asked : Result Task TaskFault) → subcommand_of pdp8 words ≡ met
@@ -229,9 +282,10 @@ fault_answer app words error Memory same kinds is = tt
 fault_answer app words error LookAndKeep same kinds is = absurd is
 fault_answer app words error InputTwice same kinds is = absurd is
 fault_answer app words error CrossAlone same kinds is = absurd is
-fault_answer app words error (Start text) same kinds is = absurd is
-fault_answer app words error (Switches text) same kinds is = absurd is
+fault_answer app words error (Start which text) same kinds is = absurd is
+fault_answer app words error (Switches which text) same kinds is = absurd is
 fault_answer app words error (SourceStart text) same kinds is = absurd is
+fault_answer app words error (Refused which refusal) same kinds is = absurd is
 fault_answer app words error (Words other) same kinds is =
     met (subst (λ (a : App). HasKind (fault_of a words) error) same (kinds (ap is_simple_and_free same ∙ is_free)))
   where

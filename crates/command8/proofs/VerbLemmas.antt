@@ -5,7 +5,8 @@ use Rattle.std.specs.Str.{bytes_eq}
 use Rattle.std.proofs.lemmas.Slice.Eq.{bytes_eq-Decides}
 use Rattle.clap.specs.Words.{Text}
 use Rattle.command8.specs.declared.verbs.Verb.{Verb}
-use Rattle.command8.specs.TaskSteps.{verb_of, verbs, word}
+use Rattle.command8.specs.Refusals.{word}
+use Rattle.command8.specs.TaskSteps.{verb_of, verbs}
 use Rattle.command8.proofs.NumberLemmas.{same_some}
 
 among : (name : Text) (list : List Verb) (which : Verb) → find (λ x. bytes_eq name (word x)) list ≡ Some which → name ≡ word which

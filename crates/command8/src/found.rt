@@ -1,9 +1,9 @@
 //! What `clap` found for an argument, by the kind of argument.
-ghost use Rattle.std.specs.Prelude.{◌≡◌, ◌≤◌, true, codes, is_some, map, option_map, IfOk, ℕ, List, Some};
+ghost use Rattle.std.specs.Prelude.{◌≡◌, ◌≤◌, true, codes, is_some, map, option_map, slice_get, IfOk, IfSome, Some};
 ghost use Rattle.clap.specs.Words.{first_of, found_of, one_of, rows_of};
 ghost use Rattle.word12.specs.declared.sizes.TheConstants.{MOST_BLOCKS};
-ghost use Rattle.command8.specs.Tasks.{number_of};
-ghost use Rattle.command8.specs.Tasks as spec;
+ghost use Rattle.command8.specs.Tasks.{is_limit, number_of};
+ghost use Rattle.command8.specs.Found as spec;
 ghost use Rattle.command8.specs.TaskSteps.{HasBlocks, HasSteps};
 
 use clap::ArgMatches;
@@ -14,6 +14,34 @@ pub fn text_of<'a>(found: &ArgMatches<'a>, id: &str) -> Option<&'a str>
     ensures { option_map (λ text. text.now) result ≡ first_of id.now (rows_of (found_of found.now)) }
 {
     found.get_str(id)
+}
+
+/// Whether an argument has a value.
+pub fn has(found: &ArgMatches<'_>, id: &str) -> bool
+    ensures { result ≡ spec.has id.now (rows_of (found_of found.now)) }
+{
+    text_of(found, id).is_some()
+}
+
+/// A value of an argument that may have several, if there are as many.
+pub fn word_at<'a>(found: &ArgMatches<'a>, id: &str, index: usize) -> Option<&'a str>
+    ensures { option_map (λ text. text.now) result
+        ≡ slice_get (spec.values_of id.now (rows_of (found_of found.now))) index }
+{
+    match found.get_strs(id) {
+        Some(words) => nth(words, index),
+        None => None,
+    }
+}
+
+/// The text at a place, if there are as many.
+fn nth<'a>(words: &[&'a str], index: usize) -> Option<&'a str>
+    ensures { option_map (λ text. text.now) result ≡ slice_get (map (λ word. word.now) words.now) index }
+{
+    if index < words.len() {
+        return Some(words[index]);
+    }
+    None
 }
 
 /// Whether an option without a value was given.
@@ -79,24 +107,20 @@ fn copies(alloc: Global, words: &[&str]) -> Result<Vec<String>, AllocError>
     Ok(texts)
 }
 
-/// The number of a new volume's blocks.
-pub fn blocks_of(found: &ArgMatches<'_>) -> usize
+/// The number of a new volume's blocks, if it was given.
+pub fn blocks_of(found: &ArgMatches<'_>) -> Option<usize>
     requires { HasBlocks (rows_of (found_of found.now)) }
-    ensures number { (text : List ℕ) → one_of (codes "BLOCKS") (rows_of (found_of found.now)) ≡ Some text
-        → result ≡ number_of text }
-    ensures range { (8 ≤ result) × (result ≤ MOST_BLOCKS) }
+    ensures number { option_map number_of (one_of (codes "BLOCKS") (rows_of (found_of found.now))) ≡ result }
+    ensures range { IfSome result (λ blocks. (8 ≤ blocks) × (blocks ≤ MOST_BLOCKS)) }
 {
-    match found.get_one::<usize>("BLOCKS") {
-        Some(blocks) => blocks,
-        None => unreachable!(),
-    }
+    found.get_one::<usize>("BLOCKS")
 }
 
 /// The limit of instructions, if one was given.
 pub fn steps_of(found: &ArgMatches<'_>) -> Option<u64>
     requires { HasSteps (rows_of (found_of found.now)) }
     ensures number { option_map number_of (one_of (codes "steps") (rows_of (found_of found.now))) ≡ result }
-    ensures range { spec.is_limit result ≡ true }
+    ensures range { is_limit result ≡ true }
 {
     found.get_one::<u64>("steps")
 }

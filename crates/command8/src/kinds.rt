@@ -1,9 +1,15 @@
 ghost use Rattle.std.specs.Prelude.{◌≡◌, option_map};
 ghost use Rattle.command8.specs.Tasks.{IsFaultOf};
-ghost use Rattle.command8.specs.Usage.{usage_of};
+ghost use Rattle.command8.specs.Usage.{runner_usage, usage_of};
 ghost use Rattle.command8.specs.declared.kinds.TaskFault.TheVariants.{Memory};
 
-use char_pack::{GetForm, PutForm};
+use crate::forms::{
+    BlocksForm, CheckForm, CopyForm, DeleteForm, FileForm, GetManyForm, ImageForm, PutManyForm,
+    PutOneForm,
+};
+use crate::refusals::Refusal;
+use crate::verbs::Verb;
+use char_pack::GetForm;
 use clap::error::ErrorKind;
 use std::alloc::AllocError;
 use thiserror::Error;
@@ -68,6 +74,9 @@ pub struct SourceForm {
 
     /// The cells at which the program starts, if any is given; else each word is taken for an instruction.
     pub starts: Vec<Cell>,
+
+    /// The file of the host that names cells, if one is named.
+    pub names: Option<String>,
 }
 
 /// How the processor runs with the Teletype that the terminal is (this project's profile).
@@ -92,6 +101,36 @@ pub struct TeletypeForm {
     pub is_live: bool,
 }
 
+/// A subcommand that runs a tape.
+#[derive(Clone, Copy, PartialEq, Eq, Debug)]
+pub enum Runner {
+    Teletype,
+    Trace,
+    Profile,
+}
+
+/// How the processor runs while its steps are told or counted (this project's profile).
+#[derive(Drop)]
+pub struct TraceForm {
+    /// The file of the host: of a BIN tape, or of the image of a volume where a file of it is named.
+    pub file: String,
+
+    /// The name of the file on the volume, if one is named.
+    pub name: Option<String>,
+
+    /// The cell at which the processor starts, if one is given.
+    pub start: Option<Cell>,
+
+    /// What the switches are set to, if it is given.
+    pub switches: Option<Word>,
+
+    /// The most steps that are made, 1 up, if a limit is given.
+    pub steps: Option<u64>,
+
+    /// The text whose characters are struck as keys, if one is given.
+    pub keys: Option<String>,
+}
+
 /// What a command line asks of the program.
 #[derive(Drop)]
 pub enum Task {
@@ -104,32 +143,65 @@ pub enum Task {
     /// Write the PAL III source of a BIN tape.
     Source(SourceForm),
 
-    /// Run the script on standard input, on the volume in the file of this name.
-    Run(String, RunForm),
+    /// Run the script on standard input, on this volume.
+    Run(ImageForm, RunForm),
 
     /// Write an empty volume of so many blocks, 8 to 4095, to the file of this name.
     Create(String, usize),
 
-    /// List the files of the volume in the file of this name.
-    List(String),
+    /// Write a DECtape with an empty volume to the file of this name.
+    CreateTape(String),
 
-    /// Write what the file of the second name has, on the volume in the file of the first.
-    Get(String, String, GetForm),
+    /// List the files of this volume.
+    List(ImageForm),
 
-    /// Write the BIN tape of the core image that the file of the second name is, on the volume in the file of the first.
-    GetBin(String, String),
+    /// List them in the order of the directory, with their first blocks and their information words.
+    ListLong(ImageForm),
 
-    /// Make the bytes on standard input the file of the second name, on the volume in the file of the first.
-    Put(String, String, PutForm),
+    /// Write what the file has, on this volume.
+    Get(ImageForm, FileForm, GetForm),
 
-    /// Tell of the volume in the file of this name, its directory and where its files lie.
-    Check(String),
+    /// Write the BIN tape of the core image that the file is, on this volume.
+    GetBin(ImageForm, FileForm),
+
+    /// Write files of a volume to a folder.
+    GetMany(GetManyForm),
+
+    /// Write what blocks of a volume have.
+    GetBlocks(BlocksForm),
+
+    /// Make the bytes on standard input a file of a volume.
+    Put(PutOneForm),
+
+    /// Make files of the host files of a volume.
+    PutMany(PutManyForm),
+
+    /// Take files out of a volume.
+    Delete(DeleteForm),
+
+    /// Give the file this name, on this volume.
+    Rename(ImageForm, FileForm, String),
+
+    /// Copy a file from volume to volume.
+    Copy(CopyForm),
+
+    /// Move the files together on this volume.
+    Squeeze(ImageForm),
+
+    /// Tell of volumes, their directories and where their files lie.
+    Check(CheckForm),
 
     /// Assemble sources to a BIN tape.
     Assemble(AssembleForm),
 
     /// Run a tape with the terminal as the Teletype.
     Teletype(TeletypeForm),
+
+    /// Run a tape, and tell of each step.
+    Trace(TraceForm),
+
+    /// Run a tape, and tell how often each cell was fetched.
+    Profile(TraceForm),
 }
 
 /// Why a command line asks for nothing.
@@ -156,16 +228,20 @@ pub enum TaskFault {
     CrossAlone,
 
     /// 6: this is no cell.
-    #[error("invalid value '{0}' for '--start <FAAAA>': not five octal digits, a field and an address")]
-    Start(String),
+    #[error("invalid value '{1}' for '--start <FAAAA>': not five octal digits, a field and an address")]
+    Start(Runner, String),
 
     /// 7: this is no word.
-    #[error("invalid value '{0}' for '--switches <WWWW>': not four octal digits")]
-    Switches(String),
+    #[error("invalid value '{1}' for '--switches <WWWW>': not four octal digits")]
+    Switches(Runner, String),
 
     /// 8: this is no cell, at which the program of a source is to start.
     #[error("invalid value '{0}' for '--start <FAAAA>': not five octal digits, a field and an address")]
     SourceStart(String),
+
+    /// 9: the words can't be followed by this subcommand on volumes.
+    #[error("{1}")]
+    Refused(Verb, Refusal),
 }
 
 impl TaskFault {
@@ -179,10 +255,22 @@ impl TaskFault {
             TaskFault::InputTwice | TaskFault::CrossAlone => {
                 Some("Usage: pdp8 assemble [OPTIONS] <FILE>...")
             }
-            TaskFault::Start(_) | TaskFault::Switches(_) => {
-                Some("Usage: pdp8 teletype [OPTIONS] <TAPE> [NAME]")
-            }
+            TaskFault::Start(runner, _) | TaskFault::Switches(runner, _) => Some(runner.usage()),
             TaskFault::SourceStart(_) => Some("Usage: pdp8 source [OPTIONS] [TAPE] [NAME]"),
+            TaskFault::Refused(which, _) => Some(which.usage()),
+        }
+    }
+}
+
+impl Runner {
+    /// The line on its usage.
+    fn usage(&self) -> &'static str
+        ensures { result.now ≡ runner_usage self.now }
+    {
+        match self {
+            Runner::Teletype => "Usage: pdp8 teletype [OPTIONS] <TAPE> [NAME]",
+            Runner::Trace => "Usage: pdp8 trace [OPTIONS] <TAPE> [NAME]",
+            Runner::Profile => "Usage: pdp8 profile [OPTIONS] <TAPE> [NAME]",
         }
     }
 }

@@ -5,10 +5,15 @@ ghost use Rattle.command8.specs.declared.kinds.RimForm.TheVariants.{Lines, Bin};
 ghost use Rattle.command8.specs.declared.kinds.Saving.TheVariants.{AtEnd, Never, Always};
 ghost use Rattle.char_pack.specs.declared.forms.GetForm.TheVariants as get_as;
 ghost use Rattle.char_pack.specs.declared.forms.PutForm.TheVariants as put_as;
+ghost use Rattle.disk8.specs.declared.layouts.Layout.{Layout};
+ghost use Rattle.disk8.specs.declared.layouts.Layout.TheVariants.{Dectape};
 ghost use Rattle.word12.specs.Octal.{octal_of};
 ghost use Rattle.word12.specs.declared.sizes.TheConstants.{MOST_BLOCKS};
-ghost use Rattle.command8.specs.Tasks.{IsAssembleOf, IsCheckOf, IsCreateOf, IsGetBinOf, IsGetOf, IsListOf, IsPlain};
-ghost use Rattle.command8.specs.Tasks.{IsPutOf, IsRimOf, IsRunOf, IsSourceOf, IsTakenAs, IsTape, IsTeletypeOf, number_of};
+ghost use Rattle.command8.specs.Found.{number_in, place_of};
+ghost use Rattle.command8.specs.Tasks.{IsAssembleOf, IsAt, IsCheckOf, IsCopyOf, IsCreateOf, IsCreateTapeOf, IsDeleteOf, IsGetBinOf};
+ghost use Rattle.command8.specs.Tasks.{IsGetBlocksOf, IsGetManyOf, IsGetOf, IsListLongOf, IsListOf, IsNamed, IsPlain, IsProfileOf};
+ghost use Rattle.command8.specs.Tasks.{IsPutManyOf, IsPutOf, IsRenameOf, IsRimOf, IsRunOf, IsSourceOf, IsSqueezeOf, IsTakenAs, IsTape};
+ghost use Rattle.command8.specs.Tasks.{IsTeletypeOf, IsTraceOf, IsVolume, number_of};
 
 /// A law: plain command lines are taken, and ask for what they say; a run that is both to look and to keep asks for no task (this
 /// project's profile). A word that names a file or gives a number is plain where it begins with no hyphen.
@@ -16,41 +21,129 @@ pub fn plain_words()
     ensures tape { (name : List ℕ) → IsTakenAs (name ∷ codes "tape" ∷ []) IsTape }
     ensures rim { (name : List ℕ) → IsTakenAs (name ∷ codes "rim" ∷ []) (IsRimOf Lines) }
     ensures rim_bin { (name : List ℕ) → IsTakenAs (name ∷ codes "rim" ∷ codes "--bin" ∷ []) (IsRimOf Bin) }
-    ensures source { (name : List ℕ) → IsTakenAs (name ∷ codes "source" ∷ []) (IsSourceOf None None []) }
+    ensures source { (name : List ℕ) → IsTakenAs (name ∷ codes "source" ∷ []) (IsSourceOf None None [] None) }
     ensures source_file { (name tape : List ℕ) → IsPlain tape
-        → IsTakenAs (name ∷ codes "source" ∷ tape ∷ []) (IsSourceOf (Some tape) None []) }
+        → IsTakenAs (name ∷ codes "source" ∷ tape ∷ []) (IsSourceOf (Some tape) None [] None) }
     ensures source_start { (name start : List ℕ) (cell : ℕ) → octal_of 5 start ≡ Some cell
-        → IsTakenAs (name ∷ codes "source" ∷ codes "--start" ∷ start ∷ []) (IsSourceOf None None (cell ∷ [])) }
+        → IsTakenAs (name ∷ codes "source" ∷ codes "--start" ∷ start ∷ [])
+        (IsSourceOf None None (cell ∷ []) None) }
+    ensures source_names { (name file : List ℕ) → IsPlain file
+        → IsTakenAs (name ∷ codes "source" ∷ codes "--names" ∷ file ∷ [])
+        (IsSourceOf None None [] (Some file)) }
     ensures run { (name image : List ℕ) → IsPlain image
-        → IsTakenAs (name ∷ codes "run" ∷ image ∷ []) (IsRunOf image AtEnd false) }
+        → IsTakenAs (name ∷ codes "run" ∷ image ∷ [])
+        (IsRunOf image None AtEnd false) }
     ensures run_look { (name image : List ℕ) → IsPlain image
-        → IsTakenAs (name ∷ codes "run" ∷ image ∷ codes "--look" ∷ []) (IsRunOf image Never false) }
+        → IsTakenAs (name ∷ codes "run" ∷ image ∷ codes "--look" ∷ [])
+        (IsRunOf image None Never false) }
     ensures run_keep { (name image : List ℕ) → IsPlain image
-        → IsTakenAs (name ∷ codes "run" ∷ image ∷ codes "--keep" ∷ []) (IsRunOf image Always false) }
+        → IsTakenAs (name ∷ codes "run" ∷ image ∷ codes "--keep" ∷ [])
+        (IsRunOf image None Always false) }
     ensures run_strict { (name image : List ℕ) → IsPlain image
-        → IsTakenAs (name ∷ codes "run" ∷ image ∷ codes "--strict" ∷ []) (IsRunOf image AtEnd true) }
+        → IsTakenAs (name ∷ codes "run" ∷ image ∷ codes "--strict" ∷ [])
+        (IsRunOf image None AtEnd true) }
     ensures run_both { (name image : List ℕ) → IsPlain image
-        → IsTakenAs (name ∷ codes "run" ∷ image ∷ codes "--look" ∷ codes "--keep" ∷ []) (λ task. ⊥) }
+        → IsTakenAs (name ∷ codes "run" ∷ image ∷ codes "--look" ∷ codes "--keep" ∷ [])
+        (λ task. ⊥) }
+    ensures run_volume { (name image text : List ℕ) (layout : Layout) → IsPlain image → IsVolume text layout
+        → IsTakenAs (name ∷ codes "run" ∷ image ∷ codes "--volume" ∷ text ∷ [])
+        (IsRunOf image (Some layout) AtEnd false) }
+    ensures run_dectape { (name image : List ℕ) → IsPlain image
+        → IsTakenAs (name ∷ codes "run" ∷ image ∷ codes "--dectape" ∷ [])
+        (IsRunOf image (Some Dectape) AtEnd false) }
     ensures create { (name image blocks : List ℕ) → IsPlain image → IsPlain blocks
         → IsUnsignedIn 8 MOST_BLOCKS blocks
-        → IsTakenAs (name ∷ codes "create" ∷ image ∷ blocks ∷ []) (IsCreateOf image (number_of blocks)) }
+        → IsTakenAs (name ∷ codes "create" ∷ image ∷ blocks ∷ [])
+        (IsCreateOf image (number_of blocks)) }
+    ensures create_tape { (name image : List ℕ) → IsPlain image
+        → IsTakenAs (name ∷ codes "create" ∷ image ∷ codes "--dectape" ∷ [])
+        (IsCreateTapeOf image) }
     ensures list { (name image : List ℕ) → IsPlain image
-        → IsTakenAs (name ∷ codes "list" ∷ image ∷ []) (IsListOf image) }
+        → IsTakenAs (name ∷ codes "list" ∷ image ∷ [])
+        (IsListOf image None) }
+    ensures list_long { (name image : List ℕ) → IsPlain image
+        → IsTakenAs (name ∷ codes "list" ∷ image ∷ codes "--long" ∷ [])
+        (IsListLongOf image None) }
+    ensures list_volume { (name image text : List ℕ) (layout : Layout) → IsPlain image → IsVolume text layout
+        → IsTakenAs (name ∷ codes "list" ∷ image ∷ codes "--volume" ∷ text ∷ [])
+        (IsListOf image (Some layout)) }
+    ensures list_dectape { (name image : List ℕ) → IsPlain image
+        → IsTakenAs (name ∷ codes "list" ∷ image ∷ codes "--dectape" ∷ [])
+        (IsListOf image (Some Dectape)) }
     ensures get { (name image file : List ℕ) → IsPlain image → IsPlain file
-        → IsTakenAs (name ∷ codes "get" ∷ image ∷ file ∷ []) (IsGetOf image file get_as.Frames) }
+        → IsTakenAs (name ∷ codes "get" ∷ image ∷ file ∷ [])
+        (IsGetOf image (IsNamed file) get_as.Frames) }
     ensures get_text { (name image file : List ℕ) → IsPlain image → IsPlain file
         → IsTakenAs (name ∷ codes "get" ∷ image ∷ file ∷ codes "--text" ∷ [])
-        (IsGetOf image file get_as.Text) }
+        (IsGetOf image (IsNamed file) get_as.Text) }
     ensures get_tape { (name image file : List ℕ) → IsPlain image → IsPlain file
         → IsTakenAs (name ∷ codes "get" ∷ image ∷ file ∷ codes "--tape" ∷ [])
-        (IsGetOf image file get_as.Tape) }
+        (IsGetOf image (IsNamed file) get_as.Tape) }
     ensures get_bin { (name image file : List ℕ) → IsPlain image → IsPlain file
-        → IsTakenAs (name ∷ codes "get" ∷ image ∷ file ∷ codes "--bin" ∷ []) (IsGetBinOf image file) }
+        → IsTakenAs (name ∷ codes "get" ∷ image ∷ file ∷ codes "--bin" ∷ [])
+        (IsGetBinOf image file) }
+    ensures get_at { (name image place : List ℕ) (n : ℕ) → IsPlain image → place_of place ≡ Some n
+        → IsTakenAs (name ∷ codes "get" ∷ image ∷ codes "--at" ∷ place ∷ [])
+        (IsGetOf image (IsAt n) get_as.Frames) }
+    ensures get_into { (name image file folder : List ℕ) → IsPlain image → IsPlain file → IsPlain folder
+        → IsTakenAs (name ∷ codes "get" ∷ image ∷ file ∷ codes "--into" ∷ folder ∷ [])
+        (IsGetManyOf image (file ∷ []) false folder) }
+    ensures get_all { (name image folder : List ℕ) → IsPlain image → IsPlain folder
+        → IsTakenAs (name ∷ codes "get" ∷ image ∷ codes "--all" ∷ codes "--into" ∷ folder ∷ [])
+        (IsGetManyOf image [] true folder) }
+    ensures get_blocks { (name image first count : List ℕ) (n m : ℕ) → IsPlain image
+        → number_in 0 4094 first ≡ Some n → number_in 1 MOST_BLOCKS count ≡ Some m
+        → IsTakenAs (name ∷ codes "get" ∷ image ∷ codes "--blocks" ∷ first ∷ count ∷ [])
+        (IsGetBlocksOf image n m get_as.Frames) }
     ensures put { (name image file : List ℕ) → IsPlain image → IsPlain file
-        → IsTakenAs (name ∷ codes "put" ∷ image ∷ file ∷ []) (IsPutOf image file put_as.Frames) }
+        → IsTakenAs (name ∷ codes "put" ∷ image ∷ file ∷ [])
+        (IsPutOf image file put_as.Frames None) }
     ensures put_text { (name image file : List ℕ) → IsPlain image → IsPlain file
         → IsTakenAs (name ∷ codes "put" ∷ image ∷ file ∷ codes "--text" ∷ [])
-        (IsPutOf image file put_as.Text) }
+        (IsPutOf image file put_as.Text None) }
+    ensures put_info { (name image file info : List ℕ) (n : ℕ) → IsPlain image → IsPlain file
+        → octal_of 4 info ≡ Some n
+        → IsTakenAs (name ∷ codes "put" ∷ image ∷ file ∷ codes "--info" ∷ info ∷ [])
+        (IsPutOf image file put_as.Frames (Some (n ∷ []))) }
+    ensures put_two { (name image file other : List ℕ) → IsPlain image → IsPlain file → IsPlain other
+        → IsTakenAs (name ∷ codes "put" ∷ image ∷ file ∷ other ∷ [])
+        (IsPutManyOf image (file ∷ other ∷ [])) }
+    ensures put_files { (name image file : List ℕ) → IsPlain image → IsPlain file
+        → IsTakenAs (name ∷ codes "put" ∷ image ∷ codes "--files" ∷ file ∷ [])
+        (IsPutManyOf image (file ∷ [])) }
+    ensures delete { (name image file : List ℕ) → IsPlain image → IsPlain file
+        → IsTakenAs (name ∷ codes "delete" ∷ image ∷ file ∷ [])
+        (IsDeleteOf image (file ∷ []) []) }
+    ensures delete_two { (name image file other : List ℕ) → IsPlain image → IsPlain file → IsPlain other
+        → IsTakenAs (name ∷ codes "delete" ∷ image ∷ file ∷ other ∷ [])
+        (IsDeleteOf image (file ∷ other ∷ []) []) }
+    ensures delete_at { (name image place : List ℕ) (n : ℕ) → IsPlain image → place_of place ≡ Some n
+        → IsTakenAs (name ∷ codes "delete" ∷ image ∷ codes "--at" ∷ place ∷ [])
+        (IsDeleteOf image [] (n ∷ [])) }
+    ensures rename { (name image file new : List ℕ) → IsPlain image → IsPlain file → IsPlain new
+        → IsTakenAs (name ∷ codes "rename" ∷ image ∷ file ∷ new ∷ [])
+        (IsRenameOf image (IsNamed file) new) }
+    ensures rename_at { (name image place new : List ℕ) (n : ℕ) → IsPlain image → IsPlain new
+        → place_of place ≡ Some n
+        → IsTakenAs (name ∷ codes "rename" ∷ image ∷ codes "--at" ∷ place ∷ new ∷ [])
+        (IsRenameOf image (IsAt n) new) }
+    ensures copy { (name image file to : List ℕ) → IsPlain image → IsPlain file → IsPlain to
+        → IsTakenAs (name ∷ codes "copy" ∷ image ∷ file ∷ to ∷ [])
+        (IsCopyOf image (IsNamed file) to None None) }
+    ensures copy_as { (name image file to new : List ℕ) → IsPlain image → IsPlain file → IsPlain to
+        → IsPlain new
+        → IsTakenAs (name ∷ codes "copy" ∷ image ∷ file ∷ to ∷ new ∷ [])
+        (IsCopyOf image (IsNamed file) to None (Some new)) }
+    ensures copy_at { (name image place to : List ℕ) (n : ℕ) → IsPlain image → IsPlain to
+        → place_of place ≡ Some n
+        → IsTakenAs (name ∷ codes "copy" ∷ image ∷ codes "--at" ∷ place ∷ to ∷ [])
+        (IsCopyOf image (IsAt n) to None None) }
+    ensures copy_dectape { (name image file to : List ℕ) → IsPlain image → IsPlain file → IsPlain to
+        → IsTakenAs (name ∷ codes "copy" ∷ image ∷ file ∷ to ∷ codes "--to-dectape" ∷ [])
+        (IsCopyOf image (IsNamed file) to (Some Dectape) None) }
+    ensures squeeze { (name image : List ℕ) → IsPlain image
+        → IsTakenAs (name ∷ codes "squeeze" ∷ image ∷ [])
+        (IsSqueezeOf image) }
     ensures assemble { (name file : List ℕ) → IsPlain file
         → IsTakenAs (name ∷ codes "assemble" ∷ file ∷ []) (IsAssembleOf (file ∷ []) None) }
     ensures assemble_input { (name : List ℕ)
@@ -68,6 +161,33 @@ pub fn plain_words()
         → octal_of 5 start ≡ Some cell
         → IsTakenAs (name ∷ codes "teletype" ∷ tape ∷ codes "--start" ∷ start ∷ [])
         (IsTeletypeOf tape None (Some cell)) }
+    ensures trace { (name tape : List ℕ) → IsPlain tape
+        → IsTakenAs (name ∷ codes "trace" ∷ tape ∷ []) (IsTraceOf tape None None) }
+    ensures trace_file { (name image file : List ℕ) → IsPlain image → IsPlain file
+        → IsTakenAs (name ∷ codes "trace" ∷ image ∷ file ∷ []) (IsTraceOf image (Some file) None) }
+    ensures trace_keys { (name tape keys : List ℕ) → IsPlain tape → IsPlain keys
+        → IsTakenAs (name ∷ codes "trace" ∷ tape ∷ codes "--keys" ∷ keys ∷ [])
+        (IsTraceOf tape None (Some keys)) }
+    ensures profile { (name tape : List ℕ) → IsPlain tape
+        → IsTakenAs (name ∷ codes "profile" ∷ tape ∷ []) (IsProfileOf tape None None) }
+    ensures profile_file { (name image file : List ℕ) → IsPlain image → IsPlain file
+        → IsTakenAs (name ∷ codes "profile" ∷ image ∷ file ∷ []) (IsProfileOf image (Some file) None) }
+    ensures profile_keys { (name tape keys : List ℕ) → IsPlain tape → IsPlain keys
+        → IsTakenAs (name ∷ codes "profile" ∷ tape ∷ codes "--keys" ∷ keys ∷ [])
+        (IsProfileOf tape None (Some keys)) }
     ensures check { (name image : List ℕ) → IsPlain image
-        → IsTakenAs (name ∷ codes "check" ∷ image ∷ []) (IsCheckOf image) }
+        → IsTakenAs (name ∷ codes "check" ∷ image ∷ [])
+        (IsCheckOf (image ∷ []) None false) }
+    ensures check_two { (name image other : List ℕ) → IsPlain image → IsPlain other
+        → IsTakenAs (name ∷ codes "check" ∷ image ∷ other ∷ [])
+        (IsCheckOf (image ∷ other ∷ []) None false) }
+    ensures check_all { (name image : List ℕ) → IsPlain image
+        → IsTakenAs (name ∷ codes "check" ∷ image ∷ codes "--all" ∷ [])
+        (IsCheckOf (image ∷ []) None true) }
+    ensures check_volume { (name image text : List ℕ) (layout : Layout) → IsPlain image → IsVolume text layout
+        → IsTakenAs (name ∷ codes "check" ∷ image ∷ codes "--volume" ∷ text ∷ [])
+        (IsCheckOf (image ∷ []) (Some layout) false) }
+    ensures check_dectape { (name image : List ℕ) → IsPlain image
+        → IsTakenAs (name ∷ codes "check" ∷ image ∷ codes "--dectape" ∷ [])
+        (IsCheckOf (image ∷ []) (Some Dectape) false) }
 {}

@@ -2,22 +2,38 @@
 #![tactic(auto)]
 
 mod assembling;
+mod changes;
 mod file_commands;
+mod forms;
 mod found;
+mod getting;
+mod judging;
 mod kinds;
 mod laws;
 mod listings;
+mod numbers;
 mod parts;
+mod putting;
+mod refusals;
 mod runs;
 mod tapes;
 mod tasks;
 mod teletypes;
+mod traces;
 mod verbs;
+mod volume_words;
 mod volumes;
 
+pub use forms::{
+    BlocksForm, CheckForm, CopyForm, DeleteForm, FileForm, GetManyForm, ImageForm, PutManyForm,
+    PutOneForm, TextsForm,
+};
 pub use kinds::{
-    AssembleForm, RimForm, RunForm, Saving, SourceForm, Task, TaskFault, TeletypeForm,
+    AssembleForm, RimForm, RunForm, Runner, Saving, SourceForm, Task, TaskFault, TeletypeForm,
+    TraceForm,
 };
 pub use laws::plain_words;
+pub use refusals::{Pair, Place, Refusal, What};
 pub use runs::SCRIPT_LINES;
 pub use tasks::task;
+pub use verbs::Verb;

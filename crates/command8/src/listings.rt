@@ -7,7 +7,7 @@ ghost use Rattle.command8.specs.Tasks.{source_app, values_of};
 ghost use Rattle.command8.specs.TaskSteps.{Gives, IsNoStartOf};
 
 use crate::found::value_if_given;
-use crate::parts::{Draft, leaf, may_have, options, with_argument};
+use crate::parts::{Draft, leaf, may_have, option, options, with_argument};
 use crate::{SourceForm, Task, TaskFault};
 use clap::ArgMatches;
 use std::alloc::{AllocError, Global};
@@ -29,7 +29,9 @@ pub fn source<'a>(alloc: Global) -> Draft<'a>
     let command = with_argument(command, may_have(alloc, "NAME", name));
     let start =
         "A cell at which the program starts, field and address in octal; it may be given several times";
-    with_argument(command, options(alloc, "start", "FAAAA", start))
+    let command = with_argument(command, options(alloc, "start", "FAAAA", start));
+    let names = "A file of names, a line FAAAA NAME for each cell that gets one";
+    with_argument(command, option(alloc, "names", "FILE", names))
 }
 
 /// The source that is asked for.
@@ -39,7 +41,13 @@ pub fn source_asked(alloc: Global, found: &ArgMatches<'_>) -> Result<Task, TaskF
     let starts = starts_of(alloc, found)?;
     let file = value_if_given(alloc, found, "TAPE")?;
     let name = value_if_given(alloc, found, "NAME")?;
-    Ok(Task::Source(SourceForm { file, name, starts }))
+    let names = value_if_given(alloc, found, "names")?;
+    Ok(Task::Source(SourceForm {
+        file,
+        name,
+        starts,
+        names,
+    }))
 }
 
 /// The cells at which the program starts.

@@ -1,11 +1,11 @@
 //! What subcommands are made of: their texts and their arguments. What `clap` makes of each kind of argument is computed
 //! here, once. A command that memory was not granted for is passed on as it is, so that no function holds one command while
 //! it waits for another.
-ghost use Rattle.std.specs.Prelude.{◌<◌, true, IfOk};
+ghost use Rattle.std.specs.Prelude.{◌<◌, true, codes, IfOk};
 ghost use Rattle.clap.specs.Words.{App, Rule, new_app, new_rule, with_rule};
 ghost use Rattle.command8.specs.CommandSteps.{IsArgument, IsCommand, IsDraft, with_leaf};
-ghost use Rattle.command8.specs.Tasks.{blocks_rule, flag_rule, image_rule, name_rule, option_rule, options_rule};
-ghost use Rattle.command8.specs.Tasks.{steps_rule, words_rule};
+ghost use Rattle.command8.specs.Tasks.{blocks_rule, flag_rule, image_rule, may_words_rule, option_rule, options_rule};
+ghost use Rattle.command8.specs.Tasks.{steps_rule, word_rule, words_rule};
 
 use clap::{Arg, ArgAction, Command};
 use std::alloc::{AllocError, Global};
@@ -55,13 +55,36 @@ pub fn with_image<'a>(alloc: Global, command: Draft<'a>) -> Draft<'a>
     with_argument(command, must_have(may_have(alloc, "IMAGE", help)))
 }
 
-/// A command with the name of a file on a volume.
+/// A command with the name of a file on a volume, for which an option may stand.
 pub fn with_name<'a>(alloc: Global, command: Draft<'a>) -> Draft<'a>
     ensures { (app : App) → IsDraft command.entry app
-        → IsDraft result (with_rule app name_rule) }
+        → IsDraft result (with_rule app (new_rule (codes "NAME"))) }
 {
+    let help = "The name of the file on the volume, where --at does not tell it";
+    with_argument(command, may_have(alloc, "NAME", help))
+}
+
+/// A command with the options for where a volume lies in its file.
+pub fn with_layout<'a>(alloc: Global, command: Draft<'a>) -> Draft<'a>
+    ensures { (app : App) → IsDraft command.entry app
+        → IsDraft result (with_rule (with_rule app (option_rule (codes "volume")))
+        (flag_rule (codes "dectape"))) }
+{
+    let volume = "The volume of an RK05 disk, 1 or 2, where IMAGE is the file of one";
+    let command = with_argument(command, option(alloc, "volume", "N", volume));
+    let dectape = "IMAGE is the file of a DECtape, of 129 words a block";
+    with_argument(command, flag(alloc, "dectape", dectape))
+}
+
+/// A command with the name of the file of a tape, or of an image and of a file on it.
+pub fn with_tape<'a>(alloc: Global, command: Draft<'a>) -> Draft<'a>
+    ensures { (app : App) → IsDraft command.entry app
+        → IsDraft result (with_rule (with_rule app (word_rule (codes "TAPE"))) (new_rule (codes "NAME"))) }
+{
+    let help = "The file of the tape, or of the image that holds NAME";
+    let command = with_argument(command, must_have(may_have(alloc, "TAPE", help)));
     let help = "The name of the file on the volume";
-    with_argument(command, must_have(may_have(alloc, "NAME", help)))
+    with_argument(command, may_have(alloc, "NAME", help))
 }
 
 /// A word that may be given.
@@ -84,7 +107,15 @@ pub fn words<'a>(alloc: Global, id: &'a str, most: usize, help: &'a str) -> Arg<
     requires { 0 < most }
     ensures { IsArgument result (words_rule id.entry.now most) }
 {
-    must_have(may_have(alloc, id, help)).num_args(1..=most)
+    must_have(may_have_words(alloc, id, most, help))
+}
+
+/// As many words at most, which may be given in one place.
+pub fn may_have_words<'a>(alloc: Global, id: &'a str, most: usize, help: &'a str) -> Arg<'a>
+    requires { 0 < most }
+    ensures { IsArgument result (may_words_rule id.entry.now most) }
+{
+    may_have(alloc, id, help).num_args(1..=most)
 }
 
 /// An option that takes no value.
@@ -117,23 +148,18 @@ pub fn hidden<'a>(argument: Arg<'a>) -> Arg<'a>
     argument.hide(true)
 }
 
-/// The number of a new volume's blocks.
+/// The number of a new volume's blocks, if it is given.
 pub fn blocks<'a>(alloc: Global) -> Arg<'a>
     ensures { IsArgument result blocks_rule }
 {
-    let word = must_have(may_have(alloc, "BLOCKS", "The number of blocks, 8 to 4095"));
+    let word = may_have(alloc, "BLOCKS", "The number of blocks, 8 to 4095");
     word.value_parser(clap::value_parser!(usize).range(8..=MOST_BLOCKS as i64))
 }
 
 /// A limit of instructions.
-pub fn steps<'a>(alloc: Global) -> Arg<'a>
+pub fn steps<'a>(alloc: Global, help: &'a str) -> Arg<'a>
     ensures { IsArgument result steps_rule }
 {
-    let option = option(
-        alloc,
-        "steps",
-        "N",
-        "The most instructions that are done, 1 up; without it there is no limit",
-    );
+    let option = option(alloc, "steps", "N", help);
     option.value_parser(clap::value_parser!(u64).range(1..))
 }

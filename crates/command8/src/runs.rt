@@ -7,8 +7,11 @@ ghost use Rattle.command8.specs.Tasks as spec;
 ghost use Rattle.command8.specs.TaskSteps.{Gives, Needs};
 ghost use Rattle.command8.specs.declared.verbs.Verb.TheVariants as verb;
 
-use crate::found::{is_set, value_of};
-use crate::parts::{Draft, flag, leaf, with_argument, with_image, with_lines};
+use crate::found::is_set;
+use crate::judging::judged;
+use crate::parts::{Draft, flag, leaf, with_argument, with_image, with_layout, with_lines};
+use crate::verbs::Verb;
+use crate::volume_words::image_of;
 use crate::{RunForm, Saving, Task, TaskFault};
 use clap::ArgMatches;
 use std::alloc::Global;
@@ -45,7 +48,7 @@ pub fn run<'a>(alloc: Global) -> Draft<'a>
         alloc,
         "run",
         "Run a script on a volume",
-        "Runs the script of standard input on the OS/8 volume in the file IMAGE, prints the replies, and{n}writes the image back to the file. Each line gets its reply as it comes.",
+        "Runs the script of standard input on the OS/8 volume in the file IMAGE, prints the replies, and{n}writes the image back to the file. Each line gets its reply as it comes. IMAGE may be the file of a{n}disk of two volumes or of a DECtape, as --volume and --dectape say.",
     );
     let command = with_image(alloc, Ok(with_lines(bare, SCRIPT_LINES)));
     let look = "Never write the image, whatever the script does";
@@ -53,7 +56,8 @@ pub fn run<'a>(alloc: Global) -> Draft<'a>
     let keep = "Write the image after each entry that changed it, before its reply";
     let command = with_argument(command, flag(alloc, "keep", keep));
     let strict = "End with status 1 where a reply was a refusal";
-    with_argument(command, flag(alloc, "strict", strict))
+    let command = with_argument(command, flag(alloc, "strict", strict));
+    with_layout(alloc, command)
 }
 
 /// The run that is asked for.
@@ -61,7 +65,8 @@ pub fn run_asked(alloc: Global, found: &ArgMatches<'_>) -> Result<Task, TaskFaul
     requires { Needs verb.Run (rows_of (found_of found.now)) }
     ensures { Gives (codes "run") (rows_of (found_of found.now)) result }
 {
-    let image = value_of(alloc, found, "IMAGE")?;
+    judged(alloc, found, Verb::Run, None)?;
+    let image = image_of(alloc, found)?;
     match saving(is_set(found, "look"), is_set(found, "keep")) {
         Some(saving) => Ok(Task::Run(
             image,

@@ -1,30 +1,49 @@
 ghost use Rattle.std.specs.Prelude.{◌≡◌, ◌∷◌, [], true, codes, IfErr, IfOk, map};
 ghost use Rattle.clap.specs.Words.{App, found_of, new_app, rows_of, subcommand_rows_of, takes};
 ghost use Rattle.command8.specs.Tasks.{Answers, IsPastClap, bare_app, pdp8};
-ghost use Rattle.command8.specs.TaskSteps.{Gives, GivesMet, HasMet, IsWhole, Needs, word};
+ghost use Rattle.command8.specs.Refusals.{word};
+ghost use Rattle.command8.specs.TaskSteps.{Gives, GivesMet, HasMet, IsWhole, Needs};
 ghost use Rattle.command8.specs.CommandSteps.{IsCommand, IsDraft};
 
 use crate::assembling::{assemble, assemble_asked};
-use crate::file_commands::{check, check_asked, get, get_asked, list, list_asked, put, put_asked};
+use crate::changes::{
+    copy, copy_asked, delete, delete_asked, rename, rename_asked, squeeze, squeeze_asked,
+};
+use crate::file_commands::{check, check_asked, list, list_asked};
+use crate::getting::{get, get_asked};
 use crate::listings::{source, source_asked};
 use crate::parts::{Draft, with_leaf};
+use crate::putting::{put, put_asked};
 use crate::runs::{run, run_asked};
 use crate::tapes::{rim, rim_asked, tape};
 use crate::teletypes::{teletype, teletype_asked};
+use crate::traces::{profile, profile_asked, trace, trace_asked};
 use crate::verbs::{Verb, verb_of};
 use crate::volumes::{create, create_asked};
 use crate::{Task, TaskFault};
 use clap::{ArgMatches, Command};
 use std::alloc::Global;
 
-/// What the words of a command line ask for, the program's own name first: `tape`, `rim` with `--bin`, `source` with or without `TAPE`, and with
-/// `NAME` behind it, and with `--start` and a cell of five octal digits several times, else `SourceStart`, `assemble FILE..` of 1
-/// to 8 files, one of them at most `-`, else `InputTwice`, with `--output`, `--list` and `--cross`, which without a listing is `CrossAlone`, `teletype TAPE`
-/// or `teletype TAPE NAME` with `--start` and a cell of five octal digits, else `Start`, `--switches` and a word of four, else `Switches`,
-/// `--steps` and a number from 1 up, `--raw` and `--live`, `run IMAGE` with `--strict` and with `--look` or `--keep`, which together are
-/// `LookAndKeep`, `create IMAGE BLOCKS` with 8 to 4095 blocks of 512 bytes, `list IMAGE`, `get IMAGE NAME` with `--text`, `--tape`,
-/// which goes before it, or `--bin`, which goes before both, `put IMAGE NAME` with `--text`, or `check IMAGE` (this project's profile). A request for help or the version
-/// comes back as an error of `clap`, as it gives it.
+/// What the words of a command line ask for, the program's own name first (this project's profile). A request for help or the version
+/// comes back as an error of `clap`, as it gives it; words that `clap` takes are refused where a `TaskFault` says so.
+///
+/// - `tape`, and `rim` with `--bin`;
+/// - `source` with or without `TAPE`, and with `NAME` behind it, with `--start` and a cell of five octal digits several times, and with
+///   `--names` and a file;
+/// - `assemble FILE..` of 1 to 8 files, one of them at most `-`, with `--output`, `--list` and, where there is a listing, `--cross`;
+/// - `teletype TAPE` or `teletype TAPE NAME` with `--start` and a cell, `--switches` and a word of four octal digits, `--steps` and a number
+///   from 1 up, `--raw` and `--live`; `trace` and `profile` with the same but for the last two, and with `--keys` and a text;
+/// - `run IMAGE` with `--strict`, and with `--look` or `--keep`; `create IMAGE BLOCKS` with 8 to 4095 blocks of 512 bytes, or
+///   `create IMAGE --dectape`;
+/// - `list IMAGE` with `--long`; `squeeze IMAGE`; `check IMAGE..` of 1 to 4095 images with `--all`;
+/// - `get IMAGE NAME` or `get IMAGE --at BLOCK` with `--text`, `--tape`, which goes before it, or `--bin`, which goes before both;
+///   `get IMAGE NAME.. --into FOLDER` of up to 4095 names, with `--at` several times, `--all`, `--text`, `--text-of` and a text several
+///   times, and `--force`; `get IMAGE --blocks FIRST COUNT` with `--text`, a block 0 to 4094 and a number of blocks 1 to 4095;
+/// - `put IMAGE NAME` with `--text`; `put IMAGE FILE FILE..`, or with `--files` also one, with `--text` and `--text-of`; both with `--info`
+///   and a word of four octal digits several times;
+/// - `delete IMAGE NAME..` of up to 4095 names, and with `--at` several times; `rename IMAGE NAME NEW` or `rename IMAGE --at BLOCK NEW`;
+///   `copy IMAGE NAME TO`, `copy IMAGE --at BLOCK TO`, or with `NEW` behind, with `--to-volume` or `--to-dectape`;
+/// - all of these but `create` with `--volume` and 1 or 2, or `--dectape`; a block after `--at` is 0 to 4095, in 1 to 4 digits.
 pub fn task(alloc: Global, words: &[&str]) -> Result<Task, TaskFault>
     ensures answer { Answers (map (λ given. given.now) words.now) result }
     ensures taken { takes pdp8 (map (λ given. given.now) words.now) ≡ true
@@ -44,11 +63,17 @@ fn command_line<'a>(alloc: Global) -> Draft<'a>
     let line = with_leaf(line, source(alloc));
     let line = with_leaf(line, assemble(alloc));
     let line = with_leaf(line, teletype(alloc));
+    let line = with_leaf(line, trace(alloc));
+    let line = with_leaf(line, profile(alloc));
     let line = with_leaf(line, run(alloc));
     let line = with_leaf(line, create(alloc));
     let line = with_leaf(line, list(alloc));
     let line = with_leaf(line, get(alloc));
     let line = with_leaf(line, put(alloc));
+    let line = with_leaf(line, delete(alloc));
+    let line = with_leaf(line, rename(alloc));
+    let line = with_leaf(line, copy(alloc));
+    let line = with_leaf(line, squeeze(alloc));
     with_leaf(line, check(alloc))
 }
 
@@ -116,11 +141,17 @@ fn asked_by(alloc: Global, verb: Verb, found: &ArgMatches<'_>) -> Result<Task, T
         Verb::Source => source_asked(alloc, found),
         Verb::Assemble => assemble_asked(alloc, found),
         Verb::Teletype => teletype_asked(alloc, found),
+        Verb::Trace => trace_asked(alloc, found),
+        Verb::Profile => profile_asked(alloc, found),
         Verb::Run => run_asked(alloc, found),
         Verb::Create => create_asked(alloc, found),
         Verb::List => list_asked(alloc, found),
         Verb::Get => get_asked(alloc, found),
         Verb::Put => put_asked(alloc, found),
+        Verb::Delete => delete_asked(alloc, found),
+        Verb::Rename => rename_asked(alloc, found),
+        Verb::Copy => copy_asked(alloc, found),
+        Verb::Squeeze => squeeze_asked(alloc, found),
         Verb::Check => check_asked(alloc, found),
     }
 }

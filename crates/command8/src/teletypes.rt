@@ -7,8 +7,8 @@ ghost use Rattle.command8.specs.TaskSteps.{Gives, Needs, IsNoStart, IsNoSwitches
 ghost use Rattle.command8.specs.declared.verbs.Verb.TheVariants as verb;
 
 use crate::found::{is_set, steps_of, text_of, value_if_given, value_of};
-use crate::parts::{Draft, flag, hidden, leaf, may_have, must_have, option, steps, with_argument};
-use crate::{Task, TaskFault, TeletypeForm};
+use crate::parts::{Draft, flag, hidden, leaf, option, steps, with_argument, with_tape};
+use crate::{Runner, Task, TaskFault, TeletypeForm};
 use clap::ArgMatches;
 use std::alloc::Global;
 use word12::{Cell, Word, octal_cell, octal_word};
@@ -23,15 +23,11 @@ pub fn teletype<'a>(alloc: Global) -> Draft<'a>
         "Run a BIN paper tape with the terminal as the Teletype",
         "Loads the BIN paper tape in the file TAPE into core, or the tape that the file NAME of the OS/8{n}volume in the image TAPE begins with, and starts the processor. What it prints goes to standard{n}output with its top bit dropped; standard input is the keyboard. It ends where the processor{n}halts, where the program waits for a key and there are no more, and at a limit. The exit status is{n}0 after HALT or where the keys ended, 1 after a word that is no instruction, the limit or a fault{n}of the tape, and 2 for words that are refused.",
     );
-    let tape = "The file of the tape, or of the image that holds NAME";
-    let command = with_argument(Ok(bare), must_have(may_have(alloc, "TAPE", tape)));
-    let name = "The name of the file on the volume";
-    let command = with_argument(command, may_have(alloc, "NAME", name));
-    with_modes(alloc, with_cells(alloc, command))
+    with_modes(alloc, with_cells(alloc, with_tape(alloc, Ok(bare))))
 }
 
 /// A command with the options for what the processor begins with.
-fn with_cells<'a>(alloc: Global, command: Draft<'a>) -> Draft<'a>
+pub fn with_cells<'a>(alloc: Global, command: Draft<'a>) -> Draft<'a>
     ensures { (app : App) → IsDraft command.entry app
         → IsDraft result (with_rule (with_rule app (option_rule (codes "start")))
         (option_rule (codes "switches"))) }
@@ -49,7 +45,8 @@ fn with_modes<'a>(alloc: Global, command: Draft<'a>) -> Draft<'a>
         → IsDraft result (with_rule (with_rule (with_rule app steps_rule) (flag_rule (codes "raw")))
         (flag_rule (codes "live"))) }
 {
-    let command = with_argument(command, steps(alloc));
+    let most = "The most instructions that are done, 1 up; without it there is no limit";
+    let command = with_argument(command, steps(alloc, most));
     let raw = "Strike each byte as it is, with no change of line ends and no top bit set";
     let command = with_argument(command, flag(alloc, "raw", raw));
     let live = "Take the keys as they are struck";
@@ -61,8 +58,8 @@ pub fn teletype_asked(alloc: Global, found: &ArgMatches<'_>) -> Result<Task, Tas
     requires { Needs verb.Teletype (rows_of (found_of found.now)) }
     ensures { Gives (codes "teletype") (rows_of (found_of found.now)) result }
 {
-    let start = start_of(alloc, found)?;
-    let switches = switches_of(alloc, found)?;
+    let start = start_of(alloc, found, Runner::Teletype)?;
+    let switches = switches_of(alloc, found, Runner::Teletype)?;
     let file = value_of(alloc, found, "TAPE")?;
     let name = value_if_given(alloc, found, "NAME")?;
     Ok(Task::Teletype(TeletypeForm {
@@ -77,30 +74,38 @@ pub fn teletype_asked(alloc: Global, found: &ArgMatches<'_>) -> Result<Task, Tas
 }
 
 /// The cell to start at, if one was given.
-fn start_of(alloc: Global, found: &ArgMatches<'_>) -> Result<Option<Cell>, TaskFault>
+pub fn start_of(
+    alloc: Global,
+    found: &ArgMatches<'_>,
+    runner: Runner,
+) -> Result<Option<Cell>, TaskFault>
     ensures start { IfOk result (λ start.
         IsOctalOf 5 (first_of (codes "start") (rows_of (found_of found.now))) start) }
-    ensures refused { IfErr result (IsNoStart (rows_of (found_of found.now))) }
+    ensures refused { IfErr result (IsNoStart runner (rows_of (found_of found.now))) }
 {
     match text_of(found, "start") {
         Some(text) => match octal_cell(text.as_bytes()) {
             Some(start) => Ok(Some(start)),
-            None => Err(TaskFault::Start(String::from_str(alloc, text)?)),
+            None => Err(TaskFault::Start(runner, String::from_str(alloc, text)?)),
         },
         None => Ok(None),
     }
 }
 
 /// What the switches are set to, if it was given.
-fn switches_of(alloc: Global, found: &ArgMatches<'_>) -> Result<Option<Word>, TaskFault>
+pub fn switches_of(
+    alloc: Global,
+    found: &ArgMatches<'_>,
+    runner: Runner,
+) -> Result<Option<Word>, TaskFault>
     ensures switches { IfOk result (λ word.
         IsOctalOf 4 (first_of (codes "switches") (rows_of (found_of found.now))) word) }
-    ensures refused { IfErr result (IsNoSwitches (rows_of (found_of found.now))) }
+    ensures refused { IfErr result (IsNoSwitches runner (rows_of (found_of found.now))) }
 {
     match text_of(found, "switches") {
         Some(text) => match octal_word(text.as_bytes()) {
             Some(word) => Ok(Some(word)),
-            None => Err(TaskFault::Switches(String::from_str(alloc, text)?)),
+            None => Err(TaskFault::Switches(runner, String::from_str(alloc, text)?)),
         },
         None => Ok(None),
     }

@@ -7,7 +7,9 @@ ghost use Rattle.command8.specs.TaskSteps.{Gives, Needs};
 ghost use Rattle.command8.specs.declared.verbs.Verb.TheVariants as verb;
 
 use crate::found::{blocks_of, value_of};
-use crate::parts::{Draft, blocks, leaf, with_argument, with_image};
+use crate::judging::{create_missing, judged};
+use crate::parts::{Draft, blocks, flag, leaf, with_argument, with_image};
+use crate::verbs::Verb;
 use crate::{Task, TaskFault};
 use clap::ArgMatches;
 use std::alloc::Global;
@@ -19,9 +21,11 @@ pub fn create<'a>(alloc: Global) -> Draft<'a>
         alloc,
         "create",
         "Write an empty volume",
-        "Writes an empty OS/8 volume of BLOCKS blocks of 512 bytes to the file IMAGE, in place of any{n}file of that name, and prints CREATED and the number of blocks.",
+        "Writes an empty OS/8 volume of BLOCKS blocks of 512 bytes to the file IMAGE, in place of any{n}file of that name, and prints CREATED and the number of blocks. With --dectape the file is that of a{n}DECtape of 1474 blocks of 129 words.",
     );
-    with_argument(with_image(alloc, Ok(bare)), blocks(alloc))
+    let command = with_argument(with_image(alloc, Ok(bare)), blocks(alloc));
+    let dectape = "Write the file of a DECtape";
+    with_argument(command, flag(alloc, "dectape", dectape))
 }
 
 /// The new volume that is asked for.
@@ -29,6 +33,10 @@ pub fn create_asked(alloc: Global, found: &ArgMatches<'_>) -> Result<Task, TaskF
     requires { Needs verb.Create (rows_of (found_of found.now)) }
     ensures { Gives (codes "create") (rows_of (found_of found.now)) result }
 {
+    judged(alloc, found, Verb::Create, create_missing(found))?;
     let image = value_of(alloc, found, "IMAGE")?;
-    Ok(Task::Create(image, blocks_of(found)))
+    match blocks_of(found) {
+        Some(blocks) => Ok(Task::Create(image, blocks)),
+        None => Ok(Task::CreateTape(image)),
+    }
 }

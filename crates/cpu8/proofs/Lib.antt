@@ -9,5 +9,6 @@ pub mod AutoIndexLemmas
 pub mod GoLemmas
 pub mod QuietLemmas
 pub mod UnaskedLemmas
+pub mod FetchLemmas
 pub mod UnbrokenLemmas
 pub mod UnsetLemmas

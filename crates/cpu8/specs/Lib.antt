@@ -9,4 +9,5 @@ pub mod Step
 pub mod Go
 pub mod QuietSteps
 pub mod Unasked
+pub mod Fetches
 pub mod Laws

@@ -10,48 +10,48 @@ use word12::{PAGE, Word};
 // Bits of a reference to memory.
 
 /// The reference is indirect.
-pub(crate) const INDIRECT: u16 = 0o400;
+pub const INDIRECT: u16 = 0o400;
 
 /// The offset is in the current page, else in page zero.
-pub(crate) const CURRENT_PAGE: u16 = 0o200;
+pub const CURRENT_PAGE: u16 = 0o200;
 
 // Bits of an operate instruction. Group 1 has `GROUP_2_OR_3` clear; group 3 has `GROUP_3` set too.
 
-pub(crate) const GROUP_2_OR_3: u16 = 0o400;
+pub const GROUP_2_OR_3: u16 = 0o400;
 
-pub(crate) const GROUP_3: u16 = 0o001;
+pub const GROUP_3: u16 = 0o001;
 
-pub(crate) const CLA: u16 = 0o200;
+pub const CLA: u16 = 0o200;
 
 // Of group 1.
 
-pub(crate) const CLL: u16 = 0o100;
+pub const CLL: u16 = 0o100;
 
-pub(crate) const CMA: u16 = 0o040;
+pub const CMA: u16 = 0o040;
 
-pub(crate) const CML: u16 = 0o020;
+pub const CML: u16 = 0o020;
 
-pub(crate) const RAR: u16 = 0o010;
+pub const RAR: u16 = 0o010;
 
-pub(crate) const RAL: u16 = 0o004;
+pub const RAL: u16 = 0o004;
 
 /// The rotation is done twice.
-pub(crate) const TWICE: u16 = 0o002;
+pub const TWICE: u16 = 0o002;
 
 // Of group 2.
 
-pub(crate) const SMA: u16 = 0o100;
+pub const SMA: u16 = 0o100;
 
-pub(crate) const SZA: u16 = 0o040;
+pub const SZA: u16 = 0o040;
 
-pub(crate) const SNL: u16 = 0o020;
+pub const SNL: u16 = 0o020;
 
 /// The sense of the skip is reversed.
-pub(crate) const REVERSED: u16 = 0o010;
+pub const REVERSED: u16 = 0o010;
 
-pub(crate) const OSR: u16 = 0o004;
+pub const OSR: u16 = 0o004;
 
-pub(crate) const HLT: u16 = 0o002;
+pub const HLT: u16 = 0o002;
 
 /// The operation of an instruction.
 #[derive(Clone, Copy)]
@@ -76,9 +76,9 @@ pub(crate) enum Device {
     Other,
 }
 
-/// Whether a word has this bit, one of those above.
+/// Whether a word has this bit, one of those above (Small Computer Handbook).
 #[inline(always)]
-pub(crate) fn has(word: Word, bit: u16) -> bool
+pub fn has(word: Word, bit: u16) -> bool
     requires { 0 < bit }
     ensures { result ≡ has word bit }
 {

@@ -4,7 +4,7 @@
 //! Words have twelve bits; a field is 0 to 7 and an address in it 0 to 0o7777. Nothing here takes memory.
 #![tactic(auto)]
 
-mod decoding;
+pub mod decoding;
 pub mod laws;
 mod machines;
 mod outcomes;

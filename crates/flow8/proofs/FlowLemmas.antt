@@ -7,7 +7,7 @@ use Rattle.std.proofs.Math.ListN.{get_or-eq_default}
 use Rattle.word12.specs.declared.sizes.TheConstants.{CORE}
 use Rattle.flow8.specs.Exits.{exits, IsExit}
 use Rattle.flow8.specs.Flow.{IsAmong, Reaches, start, goes, IsFlow, word_in}
-use Rattle.flow8.specs.FlowSteps.{AreUnmarked, Gives, Has, Marks, cells_behind, exit_list, unmarked}
+use Rattle.flow8.specs.FlowSteps.{AreUnmarked, GivesWord, IsMarked, MarksCells, cells_behind, exit_list, unmarked}
 
 -- ## Lists of cells
 
@@ -25,9 +25,9 @@ among_parts cell [] ys is = inr is
 among_parts cell (x ∷ xs) ys (inl same) = inl (inl same)
 among_parts cell (x ∷ xs) ys (inr other) = elim (among_parts cell xs ys other) [ inl left ↦ inl (inr left) | inr right ↦ inr right ]
 
--- ## Marks
+-- ## MarksCells
 
-pub marks_none : (words : List (Option ℕ)) (old : List Bool) (waiting : List ℕ) → Marks words old old waiting waiting []
+pub marks_none : (words : List (Option ℕ)) (old : List Bool) (waiting : List ℕ) → MarksCells words old old waiting waiting []
 marks_none words old waiting = record {
   size = refl;
   marks = λ cell word is gives. absurd is;
@@ -39,8 +39,8 @@ marks_none words old waiting = record {
   sum = omega arith;
 }
 
-pub marks_more : (words : List (Option ℕ)) (a b c : List Bool) (u v w : List ℕ) (xs ys : List ℕ) → Marks words a b u v xs → Marks words b c v w ys
-    → Marks words a c u w (xs ++ ys)
+pub marks_more : (words : List (Option ℕ)) (a b c : List Bool) (u v w : List ℕ) (xs ys : List ℕ) → MarksCells words a b u v xs → MarksCells words b c v w ys
+    → MarksCells words a c u w (xs ++ ys)
 marks_more words a b c u v w xs ys first second = record {
   size = second.size ∙ first.size;
   marks = λ cell word is gives. elim (among_parts cell xs ys is) [
@@ -75,12 +75,12 @@ marks_more words a b c u v w xs ys first second = record {
 
 -- a cell that is marked, or to which no word is given, stays as it is
 pub marks_not : (words : List (Option ℕ)) (old : List Bool) (waiting : List ℕ) (cell : ℕ)
-    → Has old cell ⊎ (slice_index_or words cell None ≡ None) → Marks words old old waiting waiting (cell ∷ [])
+    → IsMarked old cell ⊎ (slice_index_or words cell None ≡ None) → MarksCells words old old waiting waiting (cell ∷ [])
 marks_not words old waiting cell done = record {
   size = refl;
   marks = λ other word is gives. elim is [
     | inl same ↦ elim done [
-      | inl has ↦ subst (λ c. Has old c) (sym same) has
+      | inl has ↦ subst (λ c. IsMarked old c) (sym same) has
       | inr none ↦ absurd (none_gives (sym none ∙ ap (λ c. slice_index_or words c None) (sym same) ∙ gives))
     ]
     | inr never ↦ absurd never
@@ -97,20 +97,20 @@ marks_not words old waiting cell done = record {
     none_gives same = cc
 
 -- a cell that isn't marked is, and waits
-pub marks_new : (words : List (Option ℕ)) (old : List Bool) (waiting : List ℕ) (cell word : ℕ) → cell < length old → Gives words cell word
-    → slice_index_or old cell false ≡ false → Marks words old (slice_set old cell true) waiting (waiting ++ cell ∷ []) (cell ∷ [])
+pub marks_new : (words : List (Option ℕ)) (old : List Bool) (waiting : List ℕ) (cell word : ℕ) → cell < length old → GivesWord words cell word
+    → slice_index_or old cell false ≡ false → MarksCells words old (slice_set old cell true) waiting (waiting ++ cell ∷ []) (cell ∷ [])
 marks_new words old waiting cell word within gives new = record {
   size = length-set old cell true;
   marks = λ other w is given. elim is [
-    | inl same ↦ subst (λ c. Has (slice_set old cell true) c) (sym same) here
+    | inl same ↦ subst (λ c. IsMarked (slice_set old cell true) c) (sym same) here
     | inr never ↦ absurd never
   ];
   kept = λ other has. elim (cases_eq other cell) [
-    | inl same ↦ subst (λ c. Has (slice_set old cell true) c) (sym same) here
+    | inl same ↦ subst (λ c. IsMarked (slice_set old cell true) c) (sym same) here
     | inr apart ↦ get_or-set_other old cell other true false apart ∙ has
   ];
   only = λ other has. elim (cases_eq other cell) [
-    | inl same ↦ inr (inl same, (word, subst (λ c. Gives words c word) (sym same) gives))
+    | inl same ↦ inr (inl same, (word, subst (λ c. GivesWord words c word) (sym same) gives))
     | inr apart ↦ inl (sym (get_or-set_other old cell other true false apart) ∙ has)
   ];
   waits = λ other has. elim (cases_eq other cell) [
@@ -121,14 +121,14 @@ marks_new words old waiting cell word within gives new = record {
   waiting_are = λ other is. elim (among_parts other waiting (cell ∷ []) is) [
     | inl older ↦ inl older
     | inr last ↦ elim last [
-      | inl same ↦ inr (subst (λ c. Has (slice_set old cell true) c) (sym same) here)
+      | inl same ↦ inr (subst (λ c. IsMarked (slice_set old cell true) c) (sym same) here)
       | inr never ↦ absurd never
     ]
   ];
   sum = omega (arith, total, one_more);
 }
   where
-    here : Has (slice_set old cell true) cell
+    here : IsMarked (slice_set old cell true) cell
     here = get_or-set_same old cell true false within
 
     total : unmarked (slice_set old cell true) + 1 ≡ unmarked old + 0
@@ -142,19 +142,19 @@ marks_new words old waiting cell word within gives new = record {
 -- the same of a word that is read in place
 pub marks_given : (words : List (Option ℕ)) (old : List Bool) (waiting waiting' : List ℕ) (cell at : ℕ) (given : Option ℕ) → at ≡ cell
     → cell < length old → slice_index_or words cell None ≡ given → is_some given ≡ true → slice_index_or old cell false ≡ false
-    → waiting' ≡ waiting ++ cell ∷ [] → Marks words old (slice_set old at true) waiting waiting' (cell ∷ [])
+    → waiting' ≡ waiting ++ cell ∷ [] → MarksCells words old (slice_set old at true) waiting waiting' (cell ∷ [])
 marks_given words old waiting waiting' cell at None is within gives some new waits = absurd (false_true some)
   where
     false_true : false ≡ true → ⊥
     false_true same = cc
 marks_given words old waiting waiting' cell at (Some word) is within gives some new waits =
-    subst (λ w. Marks words old (slice_set old at true) waiting w (cell ∷ [])) (sym waits)
-    (subst (λ n. Marks words old (slice_set old n true) waiting (waiting ++ cell ∷ []) (cell ∷ [])) (sym is)
+    subst (λ w. MarksCells words old (slice_set old at true) waiting w (cell ∷ [])) (sym waits)
+    (subst (λ n. MarksCells words old (slice_set old n true) waiting (waiting ++ cell ∷ []) (cell ∷ [])) (sym is)
     (marks_new words old waiting cell word within gives new))
 
 -- ## Exits
 
-pub exits_among : (words : List (Option ℕ)) (cell word next : ℕ) → Gives words cell word → IsExit cell word next → IsAmong next (cells_behind words cell)
+pub exits_among : (words : List (Option ℕ)) (cell word next : ℕ) → GivesWord words cell word → IsExit cell word next → IsAmong next (cells_behind words cell)
 exits_among words cell word next gives exit =
     subst (λ given. IsAmong next (exit_list cell given)) (sym gives) (one_of exit)
   where
@@ -173,7 +173,7 @@ exits_among words cell word next gives exit =
     one_of (inr second) = among_right next (option_to_list (exits cell word).0) (option_to_list (exits cell word).1) (of_option (exits cell word).1 second)
 
 pub among_exits : (words : List (Option ℕ)) (cell next : ℕ) → IsAmong next (cells_behind words cell)
-    → (word : ℕ) × Gives words cell word × IsExit cell word next
+    → (word : ℕ) × GivesWord words cell word × IsExit cell word next
 among_exits words cell next is = given (slice_index_or words cell None) refl is
   where
     of_option : (exit : Option ℕ) → IsAmong next (option_to_list exit) → exit ≡ Some next
@@ -185,7 +185,7 @@ among_exits words cell next is = given (slice_index_or words cell None) refl is
     one_of word (inl first) = inl (of_option (exits cell word).0 first)
     one_of word (inr second) = inr (of_option (exits cell word).1 second)
 
-    given : (o : Option ℕ) → slice_index_or words cell None ≡ o → IsAmong next (exit_list cell o) → (word : ℕ) × Gives words cell word × IsExit cell word next
+    given : (o : Option ℕ) → slice_index_or words cell None ≡ o → IsAmong next (exit_list cell o) → (word : ℕ) × GivesWord words cell word × IsExit cell word next
     given None same among = absurd among
     given (Some word) same among =
         (word, same, one_of word (among_parts next (option_to_list (exits cell word).0) (option_to_list (exits cell word).1) among))
@@ -195,11 +195,11 @@ among_exits words cell next is = given (slice_index_or words cell None) refl is
 -- What is so between two cells that wait: what is marked is reached, and each exit of what waits no more is marked.
 pub record IsOnTheWay (words : List (Option ℕ)) (starts : List ℕ) (reached : List Bool) (waiting : List ℕ) : Type 0 where
   pub size : length reached ≡ CORE
-  pub sound : (cell : ℕ) → Has reached cell → Reaches (word_in words) starts cell
-  pub starts_are : (cell word : ℕ) → IsAmong cell starts → Gives words cell word → Has reached cell
-  pub marked : (cell : ℕ) → IsAmong cell waiting → Has reached cell
-  pub closed : (cell : ℕ) → Has reached cell → IsAmong cell waiting
-      ⊎ ((next word : ℕ) → IsAmong next (cells_behind words cell) → Gives words next word → Has reached next)
+  pub sound : (cell : ℕ) → IsMarked reached cell → Reaches (word_in words) starts cell
+  pub starts_are : (cell word : ℕ) → IsAmong cell starts → GivesWord words cell word → IsMarked reached cell
+  pub marked : (cell : ℕ) → IsAmong cell waiting → IsMarked reached cell
+  pub closed : (cell : ℕ) → IsMarked reached cell → IsAmong cell waiting
+      ⊎ ((next word : ℕ) → IsAmong next (cells_behind words cell) → GivesWord words next word → IsMarked reached next)
 
 pub none_marked : (count : ℕ) → AreUnmarked (replicate count false)
 none_marked count cell has = true≢false (sym has ∙ unmarked_at (cases_lt cell count))
@@ -209,7 +209,7 @@ none_marked count cell has = true≢false (sym has ∙ unmarked_at (cases_lt cel
     unmarked_at (inr beyond) = get_or-eq_default (replicate count false) false (omega (arith, beyond, length-replicate count false))
 
 pub begins : (words : List (Option ℕ)) (starts : List ℕ) (none reached : List Bool) (before waiting : List ℕ) → length none ≡ CORE
-    → AreUnmarked none → before ≡ [] → Marks words none reached before waiting starts → IsOnTheWay words starts reached waiting
+    → AreUnmarked none → before ≡ [] → MarksCells words none reached before waiting starts → IsOnTheWay words starts reached waiting
 begins words starts none reached before waiting size empty nothing marks = record {
   size = marks.size ∙ size;
   sound = λ cell has. elim (marks.only cell has) [
@@ -230,7 +230,7 @@ begins words starts none reached before waiting size empty nothing marks = recor
 -- one cell waits no more
 pub goes_on : (words : List (Option ℕ)) (starts : List ℕ) (old new : List Bool) (all rest waiting : List ℕ) (cell : ℕ)
     → IsOnTheWay words starts old all → all ≡ rest ++ cell ∷ []
-    → Marks words old new rest waiting (cells_behind words cell) → IsOnTheWay words starts new waiting
+    → MarksCells words old new rest waiting (cells_behind words cell) → IsOnTheWay words starts new waiting
 goes_on words starts old new all rest waiting cell way is marks = record {
   size = marks.size ∙ way.size;
   sound = λ other marked. elim (marks.only other marked) [
@@ -256,7 +256,7 @@ goes_on words starts old new all rest waiting cell way is marks = record {
   ];
 }
   where
-    has : Has old cell
+    has : IsMarked old cell
     has = way.marked cell (subst (λ l. IsAmong cell l) (sym is) (among_right cell rest (cell ∷ []) (inl refl)))
 
     only_cell : {other : ℕ} → IsAmong other (cell ∷ []) → other ≡ cell
@@ -267,7 +267,7 @@ goes_on words starts old new all rest waiting cell way is marks = record {
 pub ends : (words : List (Option ℕ)) (starts : List ℕ) (reached : List Bool) → IsOnTheWay words starts reached [] → IsFlow words starts reached
 ends words starts reached way = record { size = way.size; cells = λ cell. (way.sound cell, all cell) }
   where
-    all : (cell : ℕ) → Reaches (word_in words) starts cell → Has reached cell
+    all : (cell : ℕ) → Reaches (word_in words) starts cell → IsMarked reached cell
     all cell (start _ word among gives) = way.starts_are cell word among gives
     all cell (goes before word _ other reaches gives exit given) =
         elim (way.closed before (all before reaches)) [
@@ -277,7 +277,7 @@ ends words starts reached way = record { size = way.size; cells = λ cell. (way.
 
 -- fewer cells are left to be marked or to wait
 pub fewer : (words : List (Option ℕ)) (old new : List Bool) (all rest waiting : List ℕ) (cell : ℕ) → all ≡ rest ++ cell ∷ []
-    → Marks words old new rest waiting (cells_behind words cell) → 2 * unmarked new + length waiting < 2 * unmarked old + length all
+    → MarksCells words old new rest waiting (cells_behind words cell) → 2 * unmarked new + length waiting < 2 * unmarked old + length all
 fewer words old new all rest waiting cell is marks = omega (arith, marks.sum, one_more)
   where
     one_more : length all ≡ length rest + 1

@@ -1,5 +1,5 @@
 -- A step of the machine goes where the word of its instruction tells.
-use Rattle.std.proofs.Common.{◌≡◌, ◌⊎◌, inl, inr, ℕ, ◌+◌, ◌*◌, ◌/◌, ◌%◌, ◌<◌, Bool, true, false, true≢false, ◌&&◌, ◌||◌, not, if◌then◌else◌, nat_eq, Option, Some, None, ap, sym, refl, subst, ◌∙◌, arith}
+use Rattle.std.proofs.Common.{◌≡◌, ◌⊎◌, inl, inr, ℕ, zero, suc, ◌+◌, ◌*◌, ◌/◌, ◌%◌, ◌<◌, Bool, true, false, true≢false, ◌&&◌, ◌||◌, not, if◌then◌else◌, nat_eq, Option, Some, None, ap, sym, refl, subst, ◌∙◌, arith}
 use Rattle.std.proofs.lemmas.Bool.{cases_Bool}
 use Rattle.std.proofs.lemmas.Bool.Decides.{eqb_tells}
 use Rattle.word12.specs.declared.sizes.TheConstants.{FIELD, PAGE}
@@ -11,7 +11,7 @@ use Rattle.cpu8.specs.Operate.{is_group1_unassigned, operate_row, group2_row}
 use Rattle.cpu8.specs.Transfer.{transfer_row, interrupts_row, fields_row, read_row}
 use Rattle.cpu8.specs.Step.{step, executed, fetched}
 use Rattle.cpu8.specs.Laws.{runs_on}
-use Rattle.flow8.specs.Exits.{behind, exits, goes_on, group2_exits, ion_exits, iot_exits, jmp_exits, jms_exits, may_skip, named_cell, operate_exits, skips, IsExit}
+use Rattle.flow8.specs.Exits.{behind, exits, goes_on, group2_exits, ion_exits, iot_exits, jmp_exits, jms_exits, may_skip, operate_exits, referred, referred_cell, skips, IsExit}
 use Rattle.flow8.specs.Laws.{IsTold, jumps_through_pointer}
 
 -- ## Cells
@@ -43,11 +43,18 @@ skip_is field pc at small is = inl (ap Some (place_behind field pc 2 small ∙ a
 
 -- ## Addresses
 
+by_bit : (at word bit : ℕ) → bit ≡ word / 0o200 % 2
+    → (if nat_eq bit 0 then word % PAGE else PAGE * (at / PAGE) + word % PAGE) ≡ (if nat_eq bit 1 then at / PAGE * PAGE + word % PAGE else word % PAGE)
+by_bit at word zero is = refl
+by_bit at word (suc zero) is = omega arith
+by_bit at word (suc (suc more)) is = absurd (omega (arith, is))
+
 pub named_is : (field pc word : ℕ) → pc < FIELD
-    → named_cell (place field pc) word ≡ place field (if is_in_current_page word then pc / PAGE * PAGE + offset_of word else offset_of word)
+    → referred_cell (place field pc) word ≡ place field (if is_in_current_page word then pc / PAGE * PAGE + offset_of word else offset_of word)
 named_is field pc word small =
-    ap (λ f. place f (if is_in_current_page word then place field pc % FIELD / PAGE * PAGE + offset_of word else offset_of word)) over
-    ∙ ap (λ a. place field (if is_in_current_page word then a / PAGE * PAGE + offset_of word else offset_of word)) within
+    ap (λ f. place f (referred (place field pc % FIELD) word)) over
+    ∙ ap (λ a. place field (referred a word)) within
+    ∙ ap (place field) (by_bit pc word (word / 0o200 % 2) refl)
   where
     over : place field pc / FIELD ≡ field
     over = omega (arith, small)
@@ -137,14 +144,14 @@ told_iot s word small = elim (eqb_tells (word / 0o10 % 0o100) 0) [
 
 -- ## Operates
 
-told_ways : (field pc : ℕ) (sma sza snl reversed negative zero link : Bool) → pc < FIELD
+told_ways : (field pc : ℕ) (sma sza snl reversed negative is_zero link : Bool) → pc < FIELD
     → IsOneOf (if sma || (sza || snl) then may_skip (place field pc) else (if reversed then skips (place field pc) else goes_on (place field pc)))
-    (place field ((pc + (if (if reversed then not ((sma && negative) || ((sza && zero) || (snl && link))) else ((sma && negative) || ((sza && zero) || (snl && link)))) then 2 else 1)) % FIELD))
-told_ways field pc true sza snl reversed negative zero link small = next_or_skip field pc _ _ small refl
-told_ways field pc false true snl reversed negative zero link small = next_or_skip field pc _ _ small refl
-told_ways field pc false false true reversed negative zero link small = next_or_skip field pc _ _ small refl
-told_ways field pc false false false true negative zero link small = skip_is field pc _ small refl
-told_ways field pc false false false false negative zero link small = next_is field pc None _ small refl
+    (place field ((pc + (if (if reversed then not ((sma && negative) || ((sza && is_zero) || (snl && link))) else ((sma && negative) || ((sza && is_zero) || (snl && link)))) then 2 else 1)) % FIELD))
+told_ways field pc true sza snl reversed negative is_zero link small = next_or_skip field pc _ _ small refl
+told_ways field pc false true snl reversed negative is_zero link small = next_or_skip field pc _ _ small refl
+told_ways field pc false false true reversed negative is_zero link small = next_or_skip field pc _ _ small refl
+told_ways field pc false false false true negative is_zero link small = skip_is field pc _ small refl
+told_ways field pc false false false false negative is_zero link small = next_is field pc None _ small refl
 
 told_group2 : (s : State) (word : ℕ) → s.pc < FIELD → runs_on (group2_row s word).1 ≡ true
     → IsOneOf (group2_exits (next_cell s) word) (next_cell (group2_row s word).0)

@@ -3,17 +3,20 @@ use Rattle.std.specs.Prelude.{◌≡◌, ◌⊎◌, ℕ, ◌+◌, ◌*◌, ◌/�
 use Rattle.word12.specs.declared.sizes.TheConstants.{FIELD, PAGE}
 use Rattle.tty8.specs.Bits.{has}
 use Rattle.cpu8.specs.State.{place}
-use Rattle.cpu8.specs.Decoding.{pulses_of, is_indirect, is_in_current_page, offset_of, is_group_1, is_group_2, has_sma, has_sza, has_snl, is_reversed, has_hlt}
+use Rattle.cpu8.specs.Decoding.{pulses_of, is_indirect, is_group_1, is_group_2, has_sma, has_sza, has_snl, is_reversed, has_hlt}
 use Rattle.cpu8.specs.Operate.{is_group1_unassigned}
 
 -- the cell so many words behind this one, in its field
 abbrev pub behind : ℕ → ℕ → ℕ
 behind count cell = place (cell / FIELD) ((cell % FIELD + count) % FIELD)
 
--- the cell that a direct reference to memory names: in the page of the instruction or in page zero, of its field
-abbrev pub named_cell : ℕ → ℕ → ℕ
-named_cell cell word =
-    place (cell / FIELD) (if is_in_current_page word then cell % FIELD / PAGE * PAGE + offset_of word else offset_of word)
+-- the address that a memory reference at an address has: on page zero, or on its own page where the page bit, 0200, is set
+abbrev pub referred : ℕ → ℕ → ℕ
+referred at word = if nat_eq (word / 0o200 % 2) 0 then word % PAGE else PAGE * (at / PAGE) + word % PAGE
+
+-- the cell that a memory reference in a cell names: the one of its field at that address
+abbrev pub referred_cell : ℕ → ℕ → ℕ
+referred_cell cell word = place (cell / FIELD) (referred (cell % FIELD) word)
 
 -- ## Kinds of ends
 
@@ -33,10 +36,10 @@ skips cell = (Some (behind 2 cell), None)
 
 -- a subroutine begins behind the cell that the JMS names, and comes back behind the JMS
 abbrev pub jms_exits : ℕ → ℕ → Option ℕ × Option ℕ
-jms_exits cell word = (Some (behind 1 cell), if is_indirect word then None else Some (behind 1 (named_cell cell word)))
+jms_exits cell word = (Some (behind 1 cell), if is_indirect word then None else Some (behind 1 (referred_cell cell word)))
 
 abbrev pub jmp_exits : ℕ → ℕ → Option ℕ × Option ℕ
-jmp_exits cell word = (if is_indirect word then None else Some (named_cell cell word), None)
+jmp_exits cell word = (if is_indirect word then None else Some (referred_cell cell word), None)
 
 -- once ION turned interrupts on, one may come: it goes to cell 1 of field 0
 abbrev pub ion_exits : ℕ → Option ℕ × Option ℕ

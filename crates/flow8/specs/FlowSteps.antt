@@ -4,30 +4,30 @@ use Rattle.flow8.specs.Exits.{exits}
 use Rattle.flow8.specs.Flow.{IsAmong, word_in}
 
 -- a list gives the cell this word
-abbrev pub Gives : List (Option ℕ) → ℕ → ℕ → Type 0
-Gives words cell word = word_in words cell ≡ Some word
+abbrev pub GivesWord : List (Option ℕ) → ℕ → ℕ → Type 0
+GivesWord words cell word = word_in words cell ≡ Some word
 
 -- how many cells are not marked
 abbrev pub unmarked : List Bool → ℕ
 unmarked reached = sum_by (λ mark. if mark then 0 else 1) reached
 
 -- a cell of the table is marked
-abbrev pub Has : List Bool → ℕ → Type 0
-Has reached cell = slice_index_or reached cell false ≡ true
+abbrev pub IsMarked : List Bool → ℕ → Type 0
+IsMarked reached cell = slice_index_or reached cell false ≡ true
 
 -- none is
 abbrev pub AreUnmarked : List Bool → Type 0
-AreUnmarked reached = (cell : ℕ) → Has reached cell → ⊥
+AreUnmarked reached = (cell : ℕ) → IsMarked reached cell → ⊥
 
 -- These cells are marked, but for those to which the tape gives no word; each that wasn't before waits.
-pub record Marks (words : List (Option ℕ)) (old new : List Bool) (waiting waiting' : List ℕ) (cells : List ℕ) : Type 0 where
+pub record MarksCells (words : List (Option ℕ)) (old new : List Bool) (waiting waiting' : List ℕ) (cells : List ℕ) : Type 0 where
   pub size : length new ≡ length old
-  pub marks : (cell word : ℕ) → IsAmong cell cells → Gives words cell word → Has new cell
-  pub kept : (cell : ℕ) → Has old cell → Has new cell
-  pub only : (cell : ℕ) → Has new cell → Has old cell ⊎ (IsAmong cell cells × ((word : ℕ) × Gives words cell word))
-  pub waits : (cell : ℕ) → Has new cell → Has old cell ⊎ IsAmong cell waiting'
+  pub marks : (cell word : ℕ) → IsAmong cell cells → GivesWord words cell word → IsMarked new cell
+  pub kept : (cell : ℕ) → IsMarked old cell → IsMarked new cell
+  pub only : (cell : ℕ) → IsMarked new cell → IsMarked old cell ⊎ (IsAmong cell cells × ((word : ℕ) × GivesWord words cell word))
+  pub waits : (cell : ℕ) → IsMarked new cell → IsMarked old cell ⊎ IsAmong cell waiting'
   pub still_waits : (cell : ℕ) → IsAmong cell waiting → IsAmong cell waiting'
-  pub waiting_are : (cell : ℕ) → IsAmong cell waiting' → IsAmong cell waiting ⊎ Has new cell
+  pub waiting_are : (cell : ℕ) → IsAmong cell waiting' → IsAmong cell waiting ⊎ IsMarked new cell
   pub sum : 2 * unmarked new + length waiting' ≤ 2 * unmarked old + length waiting
 
 -- the exits of a word, as a list

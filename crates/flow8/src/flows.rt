@@ -1,7 +1,7 @@
 ghost use Rattle.std.specs.Prelude.{◌≡◌, [], ◌∷◌, length, IfOk, OnOk, option_to_list, vec_len};
 ghost use Rattle.word12.specs.declared.sizes.TheConstants.{CORE};
 ghost use Rattle.flow8.specs.Flow.{IsFlow};
-ghost use Rattle.flow8.specs.FlowSteps.{AreUnmarked, Marks, cells_behind};
+ghost use Rattle.flow8.specs.FlowSteps.{AreUnmarked, MarksCells, cells_behind};
 
 use crate::exits;
 use std::alloc::{AllocError, Global};
@@ -28,7 +28,7 @@ fn no_cells(alloc: Global, count: usize) -> Result<Vec<bool>, AllocError>
     Ok(reached)
 }
 
-/// Marks what a program reaches.
+/// MarksCells what a program reaches.
 fn reach(
     alloc: Global,
     words: &[Option<Word>],
@@ -48,7 +48,7 @@ fn reach(
     Ok(())
 }
 
-/// Marks the cells at which a program starts.
+/// MarksCells the cells at which a program starts.
 fn mark_starts(
     words: &[Option<Word>],
     reached: &mut [bool],
@@ -57,7 +57,7 @@ fn mark_starts(
 ) -> Result<(), AllocError>
     requires words { length words.now ≡ CORE }
     requires reached { length reached.old ≡ CORE }
-    ensures { OnOk result (Marks words.now reached.old reached.new waiting.old.items waiting.new.items
+    ensures { OnOk result (MarksCells words.now reached.old reached.new waiting.old.items waiting.new.items
         starts.now) }
 {
     for start in starts {
@@ -66,7 +66,7 @@ fn mark_starts(
     Ok(())
 }
 
-/// Marks the cells at which a program goes on behind an instruction.
+/// MarksCells the cells at which a program goes on behind an instruction.
 fn mark_exits(
     words: &[Option<Word>],
     reached: &mut [bool],
@@ -75,7 +75,7 @@ fn mark_exits(
 ) -> Result<(), AllocError>
     requires words { length words.now ≡ CORE }
     requires reached { length reached.old ≡ CORE }
-    ensures { OnOk result (Marks words.now reached.old reached.new waiting.old.items waiting.new.items
+    ensures { OnOk result (MarksCells words.now reached.old reached.new waiting.old.items waiting.new.items
         (cells_behind words.now cell)) }
 {
     let Some(word) = words[cell.index()] else {
@@ -87,7 +87,7 @@ fn mark_exits(
     Ok(())
 }
 
-/// Marks a cell, if there is one.
+/// MarksCells a cell, if there is one.
 fn mark_exit(
     words: &[Option<Word>],
     reached: &mut [bool],
@@ -96,7 +96,7 @@ fn mark_exit(
 ) -> Result<(), AllocError>
     requires words { length words.now ≡ CORE }
     requires reached { length reached.old ≡ CORE }
-    ensures { OnOk result (Marks words.now reached.old reached.new waiting.old.items waiting.new.items
+    ensures { OnOk result (MarksCells words.now reached.old reached.new waiting.old.items waiting.new.items
         (option_to_list cell)) }
 {
     match cell {
@@ -105,7 +105,7 @@ fn mark_exit(
     }
 }
 
-/// Marks a cell, which then waits, unless it is marked or the tape gives it no word.
+/// MarksCells a cell, which then waits, unless it is marked or the tape gives it no word.
 fn mark(
     words: &[Option<Word>],
     reached: &mut [bool],
@@ -114,7 +114,7 @@ fn mark(
 ) -> Result<(), AllocError>
     requires words { length words.now ≡ CORE }
     requires reached { length reached.old ≡ CORE }
-    ensures { OnOk result (Marks words.now reached.old reached.new waiting.old.items waiting.new.items
+    ensures { OnOk result (MarksCells words.now reached.old reached.new waiting.old.items waiting.new.items
         (cell ∷ [])) }
 {
     if words[cell.index()].is_none() || reached[cell.index()] {

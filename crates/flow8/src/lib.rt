@@ -10,4 +10,4 @@ pub mod laws;
 mod words;
 
 pub use flows::flow;
-pub use words::exits;
+pub use words::{exits, referred, referred_cell};

@@ -1,9 +1,12 @@
 ghost use Rattle.std.specs.Prelude.{◌≡◌, ◌<◌, ◌≤◌};
 ghost use Rattle.word12.specs.declared.sizes.TheConstants.{CORE};
-ghost use Rattle.tty8.specs.Bits.{has};
 ghost use Rattle.cpu8.specs.Operate.{is_group1_unassigned};
-ghost use Rattle.flow8.specs.Exits.{behind, exits, goes_on, group2_exits, ion_exits, iot_exits, jmp_exits, jms_exits, may_skip, named_cell, operate_exits};
+ghost use Rattle.flow8.specs.Exits.{behind, exits, goes_on, group2_exits, ion_exits, iot_exits, jmp_exits, jms_exits, may_skip, operate_exits, referred, referred_cell};
 
+use cpu8::decoding::{
+    CURRENT_PAGE, GROUP_2_OR_3, GROUP_3, HLT, INDIRECT, RAL, RAR, REVERSED, SMA, SNL, SZA, TWICE,
+    has,
+};
 use word12::{Cell, PAGE, Word};
 
 /// The cells, at most two, at which a program goes on behind the instruction of this word in this cell, as far as the word
@@ -43,7 +46,7 @@ fn jms_exits(cell: Cell, word: Word) -> (Option<Cell>, Option<Cell>)
     }
     (
         Some(behind(cell, 1)),
-        Some(behind(named_cell(cell, word), 1)),
+        Some(behind(referred_cell(cell, word), 1)),
     )
 }
 
@@ -53,7 +56,7 @@ fn jmp_exits(cell: Cell, word: Word) -> (Option<Cell>, Option<Cell>)
     if has(word, INDIRECT) {
         return (None, None);
     }
-    (Some(named_cell(cell, word)), None)
+    (Some(referred_cell(cell, word)), None)
 }
 
 fn iot_exits(cell: Cell, word: Word) -> (Option<Cell>, Option<Cell>)
@@ -120,52 +123,24 @@ fn behind(cell: Cell, count: u16) -> Cell
     Cell::at(cell.field(), Word::low(cell.address().get() + count))
 }
 
-/// The cell that a direct reference names, in the instruction's page or in page zero.
-fn named_cell(cell: Cell, word: Word) -> Cell
-    ensures value { result ≡ named_cell cell word }
-    ensures range { result < CORE }
+/// The address that a memory reference at an address has: on page zero, or on its own page where its page bit is set (Small Computer
+/// Handbook).
+pub fn referred(at: Word, word: Word) -> Word
+    ensures value { result ≡ referred at word }
+    ensures range { result < 0o10000 }
 {
     let offset = word.get() % PAGE;
-    let page = if has(word, CURRENT_PAGE) {
-        cell.address().get() / PAGE * PAGE
+    if word.get() / CURRENT_PAGE % 2 == 0 {
+        Word::low(offset)
     } else {
-        0
-    };
-    Cell::at(cell.field(), Word::low(page + offset))
+        Word::low(at.get() / PAGE * PAGE + offset)
+    }
 }
 
-/// Whether a word has this bit.
-fn has(word: Word, bit: u16) -> bool
-    requires { 0 < bit }
-    ensures { result ≡ has word bit }
+/// The cell that a memory reference in a cell names: the one of its field at its address (Small Computer Handbook).
+pub fn referred_cell(cell: Cell, word: Word) -> Cell
+    ensures number { result ≡ referred_cell cell word }
+    ensures range { result < CORE }
 {
-    word.get() / bit % 2 == 1
+    Cell::at(cell.field(), referred(cell.address(), word))
 }
-
-// Bits of a reference to memory.
-
-const INDIRECT: u16 = 0o400;
-
-const CURRENT_PAGE: u16 = 0o200;
-
-// Bits of an operate instruction.
-
-const GROUP_2_OR_3: u16 = 0o400;
-
-const GROUP_3: u16 = 0o001;
-
-const RAR: u16 = 0o010;
-
-const RAL: u16 = 0o004;
-
-const TWICE: u16 = 0o002;
-
-const SMA: u16 = 0o100;
-
-const SZA: u16 = 0o040;
-
-const SNL: u16 = 0o020;
-
-const REVERSED: u16 = 0o010;
-
-const HLT: u16 = 0o002;

@@ -53,3 +53,46 @@ pub enum Unwritten {
     /// It may hold a part of what it was to hold.
     InPart,
 }
+
+/// Why a file is not laid.
+#[derive(Clone, Copy)]
+pub enum LayFault {
+    /// There is one of that name.
+    Exists,
+
+    /// Memory was wanted for its name.
+    Memory,
+
+    /// It may not be written, or not whole.
+    Unwritable,
+}
+
+impl From<AllocError> for LayFault {
+    ghost use Rattle.std.specs.Prelude.{◌≡◌};
+    ghost use Rattle.host8.specs.declared.faults.LayFault.TheVariants.{Memory};
+
+    ghost from_gives = { λ _ fault. fault ≡ Memory };
+
+    fn from(_error: AllocError) -> LayFault {
+        LayFault::Memory
+    }
+}
+
+impl From<HoldFault> for LayFault {
+    fn from(fault: HoldFault) -> LayFault {
+        match fault {
+            HoldFault::Memory => LayFault::Memory,
+            HoldFault::Busy => LayFault::Exists,
+            _ => LayFault::Unwritable,
+        }
+    }
+}
+
+impl From<Error> for LayFault {
+    fn from(error: Error) -> LayFault {
+        match error.kind() {
+            ErrorKind::OutOfMemory => LayFault::Memory,
+            _ => LayFault::Unwritable,
+        }
+    }
+}

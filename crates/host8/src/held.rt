@@ -228,7 +228,10 @@ pub fn make<R: Files<File = File> + AllocGlobal>(
 }
 
 /// A new file of the first of these names that none has.
-fn made_beside<R: Files<File = File>>(rt: &R, besides: &mut Besides) -> Result<File, HoldFault> {
+pub(crate) fn made_beside<R: Files<File = File>>(
+    rt: &R,
+    besides: &mut Besides,
+) -> Result<File, HoldFault> {
     for number in 0..TRIES {
         match created(rt, besides.name(number)?) {
             Ok(file) => return Ok(file),
@@ -265,7 +268,11 @@ fn named<R: Files<File = File>>(
 }
 
 /// Gives a file a further name that none has; where the file system has no further names, its own is changed.
-fn linked<R: Files<File = File>>(rt: &R, beside: &str, name: &str) -> Result<(), HoldFault> {
+pub(crate) fn linked<R: Files<File = File>>(
+    rt: &R,
+    beside: &str,
+    name: &str,
+) -> Result<(), HoldFault> {
     let Err(error) = fs::hard_link(rt, beside, name) else {
         return Ok(());
     };

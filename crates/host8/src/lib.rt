@@ -4,8 +4,10 @@
 mod besides;
 mod faults;
 mod held;
+mod laid;
 mod looking;
 
-pub use faults::{HoldFault, Unwritten};
+pub use faults::{HoldFault, LayFault, Unwritten};
 pub use held::{HeldFile, hold, make};
+pub use laid::{lay, make_folder};
 pub use looking::look;

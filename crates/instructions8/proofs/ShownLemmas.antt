@@ -5,20 +5,21 @@ use Rattle.word12.specs.Octal.{octal4}
 use Rattle.pal_list.specs.Patterns.{patterns, chosen, names}
 use Rattle.pal_list.specs.Fewest.{group_1, group_2}
 use Rattle.pal_list.specs.References.{operation_name, is_reference}
+use Rattle.pal_list.specs.Tags.{tag}
 use Rattle.pal_list.specs.Statements.{address, reference, is_named, instruction}
 use Rattle.instructions8.specs.Instructions.{instructions, Each}
 use Rattle.instructions8.specs.Shown.{BeginsWith, field_pieces, IsShown, is_of_group_1, is_of_group_2, codes_where}
 use Rattle.instructions8.proofs.RowLemmas.{◌⊗◌, of_fields}
 
 abbrev behind : (ℕ → Bool) → ℕ → ℕ → List (List ℕ)
-behind tagged cell word = (if nat_eq (word / 0o400 % 2) 1 then codes "I" ∷ [] else []) ++ address tagged cell word ∷ []
+behind tagged cell word = (if nat_eq (word / 0o400 % 2) 1 then codes "I" ∷ [] else []) ++ address tag tagged cell word ∷ []
 
 begins : (digit : ℕ) (tagged : ℕ → Bool) (cell word : ℕ) → word / 0o1000 ≡ digit → is_reference (cell % 0o10000) word ≡ true
     → BeginsWith (operation_name digit) (instruction tagged cell word)
 begins digit tagged cell word top refers = record {
   others = behind tagged cell word;
   pieces_are =
-      ap (λ b. if b then reference tagged cell word else (if is_named word then names (chosen word patterns) else octal4 word ∷ [])) refers
+      ap (λ b. if b then reference tag tagged cell word else (if is_named word then names (chosen word patterns) else octal4 word ∷ [])) refers
       ∙ ap (λ d. operation_name d ∷ behind tagged cell word) top;
 }
 

@@ -3,6 +3,7 @@ use Rattle.std.proofs.Common.{◌≡◌, ◌∙◌, ℕ, ◌+◌, ◌*◌, ◌/�
 use Rattle.std.proofs.Math.Seq.{take-suc, take-add, drop-cons}
 use Rattle.std.proofs.lemmas.List.{take-append-drop, length-take-le}
 use Rattle.char_pack.specs.Packing.{frames}
+use Rattle.char_pack.specs.declared.packing.TheConstants.{BLOCK_FRAMES}
 use Rattle.pal_blocks.specs.Blocks.{first_blocks}
 use Rattle.pal_blocks.specs.Blocks.{block_at}
 
@@ -18,7 +19,7 @@ frames-append [] others even = refl
 frames-append (first ∷ []) others even = absurd (omega (arith, even))
 frames-append (first ∷ second ∷ words) others even = rw (frames-append words others (omega (arith, even))) refl
 
-pub block_frames : (block : List ℕ) → length block ≡ 256 → length (frames block) ≡ 384
+pub block_frames : (block : List ℕ) → length block ≡ 256 → length (frames block) ≡ BLOCK_FRAMES
 block_frames block whole = omega (arith, length-frames block, whole)
 
 -- one frame more

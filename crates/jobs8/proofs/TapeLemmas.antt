@@ -4,6 +4,7 @@ use Rattle.bin_tape.specs.Fault.{IsFault}
 use Rattle.bin_tape.specs.declared.faults.TapeFault.{TapeFault}
 use Rattle.bin_tape.specs.declared.faults.TapeFault.TheVariants.{BadFrame, NoOrigin, CheckSum, NoTrailer, Memory}
 use Rattle.char_pack.specs.Packing.{frames}
+use Rattle.char_pack.specs.declared.packing.TheConstants.{BLOCK_FRAMES}
 use Rattle.core_load.specs.Loading.{Loading}
 use Rattle.core_load.specs.Load.{FeedsFrames, IsFed, IsFine}
 use Rattle.jobs8.specs.Reading.{HasTaken}
@@ -30,7 +31,7 @@ taken_more before fs i frame old new inside is feeds =
     record { fed = subst (λ l. IsFed new l) same feeds.0; fine = subst (λ l. IsFine l) same feeds.1 }
 
 -- one frame is refused, or memory ran out
-pub refused : (before block : List ℕ) (i frame : ℕ) (old new : Loading) (fault : TapeFault) → i < length (frames block) → i < 384 → frame ≡ slice_index (frames block) i
+pub refused : (before block : List ℕ) (i frame : ℕ) (old new : Loading) (fault : TapeFault) → i < length (frames block) → i < BLOCK_FRAMES → frame ≡ slice_index (frames block) i
     → HasTaken old (before ++ take i (frames block)) → FeedsFrames (before ++ take i (frames block)) (frame ∷ []) old new (Err fault) → TakesFrames before block (Err fault) new i
 refused before block i frame old new (BadFrame at) inside low is taken feeds =
     subst (λ l. IsFault l (BadFrame at)) (joined before (frames block) i frame inside is) (feeds.1 (drop (suc i) (frames block)))

@@ -3,6 +3,7 @@ use Rattle.std.specs.Prelude.{◌≡◌, ℕ, ◌+◌, ◌*◌, ◌<◌, ◌≤�
 use Rattle.word12.specs.declared.sizes.TheConstants.{BLOCK}
 use Rattle.std.specs.FinMap.{get}
 use Rattle.char_pack.specs.Packing.{frames}
+use Rattle.char_pack.specs.declared.packing.TheConstants.{BLOCK_FRAMES}
 use Rattle.bin_tape.specs.Items.{Item}
 use Rattle.bin_tape.specs.Tape.{IsTape}
 use Rattle.core_load.specs.Loading as load
@@ -34,6 +35,6 @@ pub record IsLoading (words : List ℕ) (job : Loading) (left : ℕ) : Type 0 wh
   pub whole : BLOCK * blocks_in words ≡ length words
   pub turns : job.done + left ≡ loading_turns (blocks_in words)
   pub more : 1 ≤ left
-  pub offset : job.offset < 384
+  pub offset : job.offset < BLOCK_FRAMES
   pub taken : HasTaken job.loader (frames_taken words job.done job.offset)
   pub at_end : left ≡ 1 → (job.offset ≡ 0) × ((items : List Item) × IsTape (frames words) items)

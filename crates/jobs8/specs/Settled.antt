@@ -1,5 +1,6 @@
 -- What stands between entries: the holds are those of the jobs, and what a job has read is the beginning of its files as they are.
 use Rattle.std.specs.Prelude.{◌≡◌, ◌≤◌, ◌<◌, ℕ, ◌+◌, Bool, false, true, nat_eq, Option, Some, None, List, [], ◌∷◌, map, length}
+use Rattle.char_pack.specs.declared.packing.TheConstants.{BLOCK_FRAMES}
 use Rattle.os8_dir.specs.Files.{files_of, capacity_of, limit_of, above_of}
 use Rattle.os8_files.specs.Calls.{info_of}
 use Rattle.os8_files.specs.Holds.{times}
@@ -77,7 +78,7 @@ AllStand blocks (it ∷ jobs) = StandsIn blocks it × AllStand blocks jobs
 -- the numbers of a job that loads are in their ranges
 pub record LoadingFits (it : Loading) (left : ℕ) : Type 0 where
   pub more : 1 ≤ left
-  pub offset : it.offset ≤ 384
+  pub offset : it.offset ≤ BLOCK_FRAMES
   pub turns : it.done + left ≤ 18446744073709551615
 
 -- the same of each job, also where a write has failed

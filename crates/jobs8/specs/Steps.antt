@@ -22,6 +22,7 @@ use Rattle.jobs8.specs.State.{IsIn, words_in, AreIn, IsOneOut}
 use Rattle.jobs8.specs.Turns.{Answer, LoadingTurn, WorkTurn}
 use Rattle.jobs8.specs.Calls.{NoCallFailed, TurnsOver, LeavesJobs, WorkCalls, TellsSqueeze, IfFile, WorkTellsRoom}
 use Rattle.char_pack.specs.Packing.{frames}
+use Rattle.char_pack.specs.declared.packing.TheConstants.{BLOCK_FRAMES}
 use Rattle.bin_tape.specs.Items.{Item}
 use Rattle.bin_tape.specs.Tape.{IsTape}
 use Rattle.bin_tape.specs.Fault.{IsFault}
@@ -66,8 +67,8 @@ is_assembled (Err why) = false
 -- What taking the other frames of a block comes to, behind frames before it: all are taken, or a fault is met, or memory
 -- runs out where so many are taken.
 abbrev pub TakesFrames : List ℕ → List ℕ → Result (Unit {0}) TapeFault → load.Loading → ℕ → Type 0
-TakesFrames before block (Ok nothing) loader offset = HasTaken loader (before ++ frames block) × (offset ≡ 384)
-TakesFrames before block (Err Memory) loader offset = HasTaken loader (before ++ take offset (frames block)) × (offset < 384)
+TakesFrames before block (Ok nothing) loader offset = HasTaken loader (before ++ frames block) × (offset ≡ BLOCK_FRAMES)
+TakesFrames before block (Err Memory) loader offset = HasTaken loader (before ++ take offset (frames block)) × (offset < BLOCK_FRAMES)
 TakesFrames before block (Err (BadFrame at)) loader offset = IsFault (before ++ frames block) (BadFrame at)
 TakesFrames before block (Err NoOrigin) loader offset = IsFault (before ++ frames block) NoOrigin
 TakesFrames before block (Err (CheckSum found computed)) loader offset = IsFault (before ++ frames block) (CheckSum found computed)

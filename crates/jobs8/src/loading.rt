@@ -2,6 +2,7 @@
 ghost use Rattle.std.specs.Prelude.{◌≡◌, ◌+◌, ◌<◌, ◌≤◌, ◌++◌, ℕ, List, length, take, nat_eq, false, IsErrOf};
 ghost use Rattle.word12.specs.declared.sizes.TheConstants.{BLOCK};
 ghost use Rattle.char_pack.specs.Packing.{frames};
+ghost use Rattle.char_pack.specs.declared.packing.TheConstants.{BLOCK_FRAMES};
 ghost use Rattle.core_load.specs.Load.{IsLoaded};
 ghost use Rattle.os8_dir.specs.Files.{files_of};
 ghost use Rattle.os8_files.specs.Holds.{without_hold};
@@ -15,16 +16,13 @@ use crate::faults::is_memory;
 use crate::{Job, JobFault, Turned, Work};
 use bin_tape::TapeFault;
 use bin_tape::laws::{no_fault, one_fault};
-use char_pack::frame_at;
+use char_pack::{BLOCK_FRAMES, frame_at};
 use core_load::{Core, Loader};
 use os8_dir::Name;
 use os8_files::{FileFault, FileService, Hold};
 use std::alloc::Global;
 use volume_image::BlockStore;
 use word12::{BLOCK, Word};
-
-/// The frames of a block.
-const BLOCK_FRAMES: usize = 384;
 
 /// What a job that loads keeps between its turns.
 pub struct Loading {
@@ -71,11 +69,11 @@ impl Loading {
         requires more { 2 ≤ left }
         requires there { (words : List ℕ) × HasWords (files_of files.old.blocks) self.old.hold words
             × IsLoading words self.old left }
-        requires range { (self.old.offset ≤ 384) × (self.old.done + left ≤ 18446744073709551615) }
+        requires range { (self.old.offset ≤ BLOCK_FRAMES) × (self.old.done + left ≤ 18446744073709551615) }
         ensures turn { (words : List ℕ) → HasWords (files_of files.old.blocks) self.old.hold words
             → IsLoading words self.old left
             → LoadsOn words files.old self.old left result files.new self.new }
-        ensures same { (self.new.hold ≡ self.old.hold) × (self.new.offset ≤ 384) }
+        ensures same { (self.new.hold ≡ self.old.hold) × (self.new.offset ≤ BLOCK_FRAMES) }
         ensures done { self.new.done ≤ self.old.done + 1 }
         ensures memory { IsErrOf result fault.Memory → self.new.done ≡ self.old.done }
     {
@@ -118,12 +116,12 @@ impl Loading {
     /// Takes the next block of the file, where it is the last or not.
     fn take_block(&mut self, block: &[Word], last: bool) -> Result<(), JobFault>
         requires block { length block.now ≡ BLOCK }
-        requires offset { self.old.offset ≤ 384 }
+        requires offset { self.old.offset ≤ BLOCK_FRAMES }
         requires done { self.old.done < 18446744073709551615 }
         ensures block { (words : List ℕ) (left : ℕ) → IsLoading words self.old left
             → block.now ≡ block_at self.old.done words → 2 ≤ left → last ≡ nat_eq left 2
             → ReadsBlock words self.old left result self.new }
-        ensures same { (self.new.hold ≡ self.old.hold) × (self.new.offset ≤ 384) }
+        ensures same { (self.new.hold ≡ self.old.hold) × (self.new.offset ≤ BLOCK_FRAMES) }
         ensures done { self.new.done ≤ self.old.done + 1 }
         ensures memory { IsErrOf result fault.Memory → self.new.done ≡ self.old.done }
     {
@@ -203,10 +201,10 @@ pub(crate) fn loading_turn<S: BlockStore>(
 /// Takes the frames of a block from an offset on. Where memory runs out the offset tells how many were taken.
 fn take_frames(loader: &mut Loader, block: &[Word], offset: &mut usize) -> Result<(), TapeFault>
     requires block { length block.now ≡ BLOCK }
-    requires offset { offset.old ≤ 384 }
+    requires offset { offset.old ≤ BLOCK_FRAMES }
     ensures takes { (before : List ℕ) → HasTaken loader.old (before ++ take offset.old (frames block.now))
         → TakesFrames before block.now result loader.new offset.new }
-    ensures range { offset.new ≤ 384 }
+    ensures range { offset.new ≤ BLOCK_FRAMES }
 {
     while *offset < BLOCK_FRAMES {
         loader.push(frame_at(block, *offset))?;

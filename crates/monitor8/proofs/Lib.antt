@@ -1,2 +1,3 @@
 pub mod LineLemmas
 mod LineEndLemmas
+mod PrefixLemmas

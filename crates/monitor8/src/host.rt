@@ -5,8 +5,10 @@ use crate::listings::write_out;
 use crate::{
     ProgramLine, RimTextFault, SourceFault, Task, TaskFault, put_program, rim_text, tape_text, task,
 };
+use bin_tape::TapeFault;
 use command8::RimForm;
 use core_image::CoreFault;
+use disk8::{DiskFault, blank_tape};
 use host8::Unwritten;
 use script8::{SessionFault, put_reply};
 use session8::read_all;
@@ -15,28 +17,41 @@ use std::env::{self, Env};
 use std::fs::{File, Files};
 use std::io::{self, ErrorKind, Input, IsTerminal, Write};
 use std::process::ExitCode;
+use std::time::Clock;
 use volume_image::{ImageFault, MemoryVolume};
 
 mod archives;
 mod assembling;
+mod changes;
+mod checks;
 mod hints;
 mod images;
+mod many;
+mod progress;
 mod runs;
 mod streams;
 mod tapes;
 mod teletypes;
+mod traces;
 
-use archives::{bytes_of_file, check_volume, get_bin, list_files, put_file};
+use archives::{asked_of, bytes_of_file, get_bin, get_blocks, list_files, list_places, put_file};
 use assembling::assemble_files;
+use changes::{copy_file, delete_files, rename_file, squeeze_files};
+use checks::check_images;
 use hints::tell_rim;
 use images::{Content, make_file};
+use many::{get_files, put_files};
 use runs::run_image;
 use streams::Output;
 use tapes::write_source;
 use teletypes::run_teletype;
+use traces::{profile_tape, trace_tape};
 
 /// The status that a shell tells of a program that SIGPIPE has ended.
 const ABANDONED: u8 = 141;
+
+/// The blocks of the volume of a DECtape.
+const TAPE_BLOCKS: usize = 737;
 
 /// Why the program ends before its work is done.
 #[derive(Drop)]
@@ -97,6 +112,7 @@ impl From<SourceFault> for Ended {
         match fault {
             SourceFault::NoWord => Ended::Line(ProgramLine::NoWord),
             SourceFault::NoStart(start) => Ended::Line(ProgramLine::NoStart(start)),
+            SourceFault::Names(line, why) => Ended::Line(ProgramLine::Names(line, why)),
             SourceFault::Session(fault) => Ended::Fault(fault),
         }
     }
@@ -111,9 +127,21 @@ impl From<RimTextFault> for Ended {
     }
 }
 
+impl From<TapeFault> for Ended {
+    fn from(fault: TapeFault) -> Ended {
+        Ended::Fault(fault.into())
+    }
+}
+
 impl From<CoreFault> for Ended {
     fn from(fault: CoreFault) -> Ended {
         Ended::Line(ProgramLine::Core(fault))
+    }
+}
+
+impl From<DiskFault> for Ended {
+    fn from(fault: DiskFault) -> Ended {
+        Ended::Line(ProgramLine::Disk(fault))
     }
 }
 
@@ -133,11 +161,10 @@ impl From<io::Error> for Ended {
     }
 }
 
-/// Does what the words of the command line ask for: `pdp8 tape`, `pdp8 rim`, `pdp8 source`, `pdp8 assemble FILE..`, `pdp8 teletype TAPE`,
-/// `pdp8 run IMAGE`, `pdp8 create IMAGE BLOCKS`, `pdp8 list IMAGE`, `pdp8 get IMAGE NAME`, `pdp8 put IMAGE NAME` or `pdp8 check IMAGE`.
+/// Does what the words of the command line ask for, as `command8::task` reads them: a subcommand, and the files that it works on.
 /// The exit status is 0, 1 after a fault, and 2 for words that are refused. The line of a fault is on standard output, and for
 /// commands whose standard output is data on standard error (this project's profile).
-pub fn program<R: Env + Files<File = File> + Input + Print + Eprint + AllocGlobal>(
+pub fn program<R: Env + Files<File = File> + Input + Print + Eprint + Clock + AllocGlobal>(
     rt: &R,
 ) -> ExitCode
 where
@@ -161,19 +188,30 @@ fn gives_data(task: &Task) -> bool {
         | Task::Source(_)
         | Task::Assemble(_)
         | Task::Teletype(_)
+        | Task::Trace(_)
+        | Task::Profile(_)
         | Task::Get(..)
-        | Task::GetBin(..) => true,
+        | Task::GetBin(..)
+        | Task::GetBlocks(_) => true,
         Task::Tape
         | Task::Rim(RimForm::Lines)
         | Task::Run(..)
         | Task::Create(..)
+        | Task::CreateTape(_)
         | Task::List(_)
-        | Task::Put(..)
+        | Task::ListLong(_)
+        | Task::GetMany(_)
+        | Task::Put(_)
+        | Task::PutMany(_)
+        | Task::Delete(_)
+        | Task::Rename(..)
+        | Task::Copy(_)
+        | Task::Squeeze(_)
         | Task::Check(_) => false,
     }
 }
 
-fn done<R: Files<File = File> + Input + Print + Eprint + AllocGlobal>(
+fn done<R: Files<File = File> + Input + Print + Eprint + Clock + AllocGlobal>(
     rt: &R,
     task: Task,
 ) -> Result<(), Ended>
@@ -186,13 +224,27 @@ where
         Task::Source(form) => write_source(rt, &form),
         Task::Assemble(form) => assemble_files(rt, &form),
         Task::Teletype(form) => run_teletype(rt, &form),
+        Task::Trace(form) => trace_tape(rt, &form),
+        Task::Profile(form) => profile_tape(rt, &form),
         Task::Run(image, form) => run_image(rt, &image, form),
         Task::Create(image, blocks) => create_image(rt, &image, blocks),
+        Task::CreateTape(image) => create_tape(rt, &image),
         Task::List(image) => list_files(rt, &image),
-        Task::Get(image, name, form) => print_line(rt, &bytes_of_file(rt, &image, &name, form)?),
-        Task::GetBin(image, name) => get_bin(rt, &image, &name),
-        Task::Put(image, name, form) => put_file(rt, &image, &name, form),
-        Task::Check(image) => check_volume(rt, &image),
+        Task::ListLong(image) => list_places(rt, &image),
+        Task::Get(image, file, form) => {
+            let given = bytes_of_file(rt, &image, &asked_of(file), form)?;
+            print_line(rt, &given)
+        }
+        Task::GetBin(image, file) => get_bin(rt, &image, &asked_of(file)),
+        Task::GetMany(form) => get_files(rt, &form),
+        Task::GetBlocks(form) => get_blocks(rt, &form),
+        Task::Put(form) => put_file(rt, &form),
+        Task::PutMany(form) => put_files(rt, &form),
+        Task::Delete(form) => delete_files(rt, form),
+        Task::Rename(image, file, new) => rename_file(rt, &image, file, &new),
+        Task::Copy(form) => copy_file(rt, form),
+        Task::Squeeze(image) => squeeze_files(rt, &image),
+        Task::Check(form) => check_images(rt, form),
     }
 }
 
@@ -307,7 +359,28 @@ fn create_image<R: Files<File = File> + Print + Eprint + AllocGlobal>(
     blocks: usize,
 ) -> Result<(), Ended> {
     let bytes = MemoryVolume::create(rt.alloc(), blocks)?.to_bytes(rt.alloc())?;
-    make_file(rt, image, &bytes, Content::Image)?;
+    make_image(rt, image, &bytes, blocks)
+}
+
+/// Writes an empty volume to a file of a DECtape, in place of any file of that name.
+fn create_tape<R: Files<File = File> + Print + Eprint + AllocGlobal>(
+    rt: &R,
+    image: &str,
+) -> Result<(), Ended> {
+    let blocks = TAPE_BLOCKS;
+    let bytes = MemoryVolume::create(rt.alloc(), blocks)?.to_bytes(rt.alloc())?;
+    let tape = blank_tape(rt.alloc(), &bytes)?;
+    make_image(rt, image, &tape, blocks)
+}
+
+/// Makes the file of a new volume of so many blocks, and tells of it.
+fn make_image<R: Files<File = File> + Print + Eprint + AllocGlobal>(
+    rt: &R,
+    image: &str,
+    bytes: &[u8],
+    blocks: usize,
+) -> Result<(), Ended> {
+    make_file(rt, image, bytes, Content::Image)?;
     let mut line = Vec::new(rt.alloc());
     put_program(&ProgramLine::Created(blocks), &mut line)?;
     print_line(rt, &line)

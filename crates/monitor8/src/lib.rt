@@ -3,9 +3,11 @@
 #![tactic(auto)]
 
 mod cores;
+mod given;
 mod host;
 mod line_ends;
 mod listings;
+mod prefixes;
 mod programs;
 mod rims;
 mod sources;
@@ -13,9 +15,11 @@ mod starts;
 
 pub use command8::{Task, TaskFault, plain_words, task};
 pub use cores::core_tape;
+pub use given::given_cells;
 pub use host::program;
 pub use line_ends::with_line_feeds;
 pub use listings::tape_text;
+pub use prefixes::with_prefix;
 pub use programs::{ProgramLine, put_program};
 pub use rims::{RimTextFault, rim_text};
 pub use script8::SessionFault;

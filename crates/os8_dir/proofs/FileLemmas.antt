@@ -33,12 +33,12 @@ files_at-tidy [] place = refl
 files_at-tidy (e ∷ es) place = files_at-before place e (tidy es) ∙ files_at-more e (tidy es) es place (λ from. files_at-tidy es from)
 
 -- An entry that is the file of a name, and one that is not.
-find-skip : (q place : ℕ) (e : DirEntry) (es : List DirEntry) → is_named q e ≡ false → find q (files_at place (e ∷ es)) ≡ find q (files_at (place + size_of e) es)
+pub find-skip : (q place : ℕ) (e : DirEntry) (es : List DirEntry) → is_named q e ≡ false → find q (files_at place (e ∷ es)) ≡ find q (files_at (place + size_of e) es)
 find-skip q place (File name info zero) es other = rw add-zero refl
 find-skip q place (File name info (suc size)) es other = rw other refl
 find-skip q place (Empty size) es other = refl
 
-find-hit : (q place size : ℕ) (info : List ℕ) (es : List DirEntry) → 0 < size → find q (files_at place (File q info size ∷ es)) ≡ Some (record { name = q; info = info; place = place; size = size })
+pub find-hit : (q place size : ℕ) (info : List ℕ) (es : List DirEntry) → 0 < size → find q (files_at place (File q info size ∷ es)) ≡ Some (record { name = q; info = info; place = place; size = size })
 find-hit q place zero info es some = absurd (omega arith)
 find-hit q place (suc size) info es some = rw (eq-eqb q q refl) refl
 
@@ -46,11 +46,11 @@ and-false : (b : Bool) → (b && false) ≡ false
 and-false true = refl
 and-false false = refl
 
-other-named : (q name size : ℕ) (info : List ℕ) → name ≢ q → is_named q (File name info size) ≡ false
+pub other-named : (q name size : ℕ) (info : List ℕ) → name ≢ q → is_named q (File name info size) ≡ false
 other-named q name size info other = rw (ne_eqb name q other) (and-false (not (is_zero size)))
 
 -- one more entry of two lists
-find-more : (q place : ℕ) (e : DirEntry) (xs ys : List DirEntry) → find q (files_at (place + size_of e) xs) ≡ find q (files_at (place + size_of e) ys) → find q (files_at place (e ∷ xs)) ≡ find q (files_at place (e ∷ ys))
+pub find-more : (q place : ℕ) (e : DirEntry) (xs ys : List DirEntry) → find q (files_at (place + size_of e) xs) ≡ find q (files_at (place + size_of e) ys) → find q (files_at place (e ∷ xs)) ≡ find q (files_at place (e ∷ ys))
 find-more q place (File name info zero) xs ys same = rw add-zero at same
 find-more q place (File name info (suc size)) xs ys same = ap (λ r. cond (eqb name q) (Some (record { name = name; info = info; place = place; size = suc size })) r) same
 find-more q place (Empty size) xs ys same = same

@@ -19,3 +19,5 @@ pub mod ApartLemmas
 pub mod SteadyLemmas
 pub mod ChosenLemmas
 pub mod NewLemmas
+mod RenamingLemmas
+mod InformationLemmas

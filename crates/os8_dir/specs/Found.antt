@@ -28,6 +28,11 @@ abbrev pub extent_of : Option Placed → Option (ℕ × ℕ)
 extent_of None = None
 extent_of (Some f) = Some (f.place, f.size)
 
+-- a file's information words
+abbrev pub information_of : Option Placed → Option (List ℕ)
+information_of None = None
+information_of (Some f) = Some f.info
+
 -- the empties with their places
 abbrev pub rooms_at : ℕ → List DirEntry → List (ℕ × ℕ)
 rooms_at place [] = []

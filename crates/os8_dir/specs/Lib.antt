@@ -10,3 +10,4 @@ pub mod Segments
 pub mod Changes
 pub mod Steps
 pub mod Chosen
+pub mod Renaming

@@ -5,6 +5,7 @@ use Rattle.std.specs.BTreeSet.{BTreeSet, contains}
 use Rattle.std.specs.Borrow.{Bor}
 use Rattle.os8_dir.specs.declared.entries.DirEntry.{DirEntry}
 use Rattle.os8_dir.specs.declared.entries.DirEntry.TheVariants.{File, Empty}
+use Rattle.os8_dir.specs.Names.{padded}
 use Rattle.os8_dir.specs.Entries.{is_zero, names_of, contains as listed}
 use Rattle.os8_dir.specs.Found.{room_of}
 use Rattle.os8_dir.specs.declared.faults.DirFault.{DirFault}
@@ -17,6 +18,16 @@ use Rattle.std.specs.BTreeSet as set
 abbrev pub is_named : ℕ → DirEntry → Bool
 is_named name (File other info size) = not (is_zero size) && other == name
 is_named name (Empty size) = false
+
+-- the information words of an entry; those of an empty are 0
+abbrev pub words_in : DirEntry → List ℕ
+words_in (File name info size) = info
+words_in (Empty size) = padded 10 []
+
+-- the information words of the file of a name
+abbrev pub information_in : ℕ → List DirEntry → Option (List ℕ)
+information_in name [] = None
+information_in name (e ∷ es) = if is_named name e then Some (words_in e) else information_in name es
 
 -- a name is among those of a set
 abbrev pub has_key : BTreeSet ℕ → ℕ → Bool

@@ -120,7 +120,7 @@ fn lowered(alloc: Global, entries: &[DirEntry], name: Name) -> Result<Vec<DirEnt
 
 impl Directory {
     /// The directory with another list of as many blocks.
-    fn with_list(&self, entries: Vec<DirEntry>) -> Directory
+    pub(crate) fn with_list(&self, entries: Vec<DirEntry>) -> Directory
         requires neat { IsTidy entries.items }
         requires same { total entries.items ≡ total self.now.entries }
         ensures { result ≡ relisted self.now entries.items }

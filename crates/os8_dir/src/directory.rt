@@ -2,12 +2,15 @@ ghost use Rattle.std.specs.Prelude.{◌≡◌, ℕ, ◌+◌, ◌<◌, ◌≤◌,
 ghost use Rattle.word12.specs.declared.sizes.TheConstants.{FIRST_FILE_BLOCK, MOST_BLOCKS};
 ghost use Rattle.os8_dir.specs.Entries.{Listed, minus as minus_of, size_of, total, IsTidy, capacity as capacity_of};
 ghost use Rattle.os8_dir.specs.Kept.{IsKept};
-ghost use Rattle.os8_dir.specs.Found.{files_at, rooms_at, find as found, extent_of, largest as largest_of, size_or_zero, free_blocks, used_blocks, count_files as count_of, limit as limit_of};
+ghost use Rattle.os8_dir.specs.Found.{files_at, rooms_at, find as found, extent_of, information_of as information_of_found, largest as largest_of, size_or_zero, free_blocks, used_blocks, count_files as count_of, limit as limit_of};
 ghost use Rattle.os8_dir.specs.Changes.{fitting as fitting_of, lowest_above as lowest_above_of};
 
-use crate::found::{count_files, find, fitting, free_blocks, largest_room, lowest_above};
+use crate::found::{
+    count_files, find, fitting, free_blocks, information_of, largest_room, lowest_above,
+};
 use crate::{DirEntry, Name};
 use std::marker::Model;
+use word12::Word;
 
 /// The directory of a volume: the entries of all its segments in order of their blocks (OS/8 Software Support Manual).
 #[derive(Drop)]
@@ -36,6 +39,14 @@ impl Directory {
         ensures { result ≡ extent_of (found name.now (files_at self.now.first self.now.entries)) }
     {
         find(self.entries.as_slice(), self.first, *name)
+    }
+
+    /// The information words of the file of a name, with zeros behind them; nothing where no file has it (OS/8 Software Support
+    /// Manual).
+    pub fn information(&self, name: &Name) -> Option<[Word; 10]>
+        ensures { result ≡ information_of_found (found name.now (files_at self.now.first self.now.entries)) }
+    {
+        information_of(self.entries.as_slice(), *name)
     }
 
     /// The length of the largest empty, 0 where there is none (this project's profile).

@@ -3,9 +3,10 @@ ghost use Rattle.word12.specs.declared.sizes.TheConstants.{MOST_BLOCKS};
 ghost use Rattle.os8_dir.specs.Entries.{total, IsTidy};
 ghost use Rattle.os8_dir.specs.Changes.{gap_below, swapped, lowest_above as lowest_above_of, fitting as fitting_of};
 ghost use Rattle.os8_dir.specs.Found.{files_at, rooms_at, find as found, extent_of, largest, size_or_zero, room_of, free_blocks as free_of, count_files as count_of};
-ghost use Rattle.os8_dir.specs.Steps.{is_named as is_named_in, last_room as last_room_of, is_gap as is_gap_in, beats as beats_in, with_room as with_room_of};
+ghost use Rattle.os8_dir.specs.Steps.{is_named as is_named_in, last_room as last_room_of, is_gap as is_gap_in, beats as beats_in, with_room as with_room_of, words_in as words_in_entry, information_in};
 
 use crate::{DirEntry, Name};
+use word12::Word;
 
 /// The blocks of an empty, 0 of a file.
 fn room(entry: &DirEntry) -> usize
@@ -55,6 +56,32 @@ pub fn find(entries: &[DirEntry], first: usize, name: Name) -> Option<(usize, us
         place += length;
     }
     None
+}
+
+/// The information words of an entry; an empty has none.
+fn words_in(entry: &DirEntry) -> [Word; 10]
+    ensures { result ≡ words_in_entry entry.now }
+{
+    match entry {
+        DirEntry::File { info, .. } => *info,
+        DirEntry::Empty { .. } => [Word::ZERO; 10],
+    }
+}
+
+/// The information words of the file of a name, with zeros behind them.
+pub fn information_of(entries: &[DirEntry], name: Name) -> Option<[Word; 10]>
+    ensures { result ≡ information_in name entries.now }
+{
+    match entries {
+        [] => None,
+        [entry, behind @ ..] => {
+            if is_named(entry, name) {
+                Some(words_in(entry))
+            } else {
+                information_of(behind, name)
+            }
+        }
+    }
 }
 
 /// The blocks of the largest empty, 0 where there is none.

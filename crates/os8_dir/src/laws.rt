@@ -11,6 +11,7 @@ ghost use Rattle.os8_dir.specs.Files.{files_of, held_of, capacity_of, limit_of, 
 ghost use Rattle.os8_dir.specs.Chosen.{IsFirstLargest, IsFirstSmallest, IsLowestAbove, IsCountAbove};
 ghost use Rattle.os8_dir.specs.Segments.{HoldsSegments};
 ghost use Rattle.os8_dir.specs.Changes.{removed, placed, moved_down, relisted, new_file, lowered, fitting, lowest_above, gap_below, LieIn, IsRoom};
+ghost use Rattle.os8_dir.specs.Renaming.{renamed, with_name};
 ghost use Rattle.os8_dir.specs.declared.faults.DirFault.{DirFault};
 ghost use Rattle.os8_dir.specs.declared.entries.DirEntry.{DirEntry};
 
@@ -38,7 +39,8 @@ pub fn sound_directory()
 /// take its entries.
 pub fn read_back()
     ensures { (blocks : List (List ℕ)) (d : Listed) → IsDirectory (length blocks) d
-        → length blocks ≤ MOST_BLOCKS → length d.entries ≤ limit d → HoldsSegments blocks d → directory_of blocks ≡ Ok d }
+        → length blocks ≤ MOST_BLOCKS → length d.entries ≤ limit d → HoldsSegments blocks d
+        → directory_of blocks ≡ Ok d }
 {}
 
 /// A volume is read as a directory by its number of blocks and blocks 1 to 6 alone.
@@ -208,4 +210,32 @@ pub fn entry_counts()
         → free_blocks es ≤ size_or_zero (largest (rooms_at first es)) * (count_files es + 1) }
     ensures all { (first : ℕ) (es : List DirEntry) → IsTidy es → IsTight es
         → size_or_zero (largest (rooms_at first es)) ≡ free_blocks es }
+{}
+
+/// Under a new name, that no file has, a directory is one of the same volume with as many entries, which lie where they lay, and
+/// the same empties. The file is found under the new name where it was, with its information words, and no more under the old
+/// one; the others are found as before. With the old name again it is the list that it was.
+pub fn file_renamed()
+    ensures directory { (volume name new : ℕ) (d : Listed) → IsDirectory volume d → IsNamed new
+        → find new (files_at d.first d.entries) ≡ None
+        → IsDirectory volume (relisted d (renamed name new d.entries)) }
+    ensures gone { (name new first : ℕ) (es : List DirEntry) → name ≢ new
+        → find name (files_at first (renamed name new es)) ≡ None }
+    ensures there { (name new first : ℕ) (es : List DirEntry) → find new (files_at first es) ≡ None
+        → find new (files_at first (renamed name new es)) ≡ with_name new (find name (files_at first es)) }
+    ensures others { (name new other first : ℕ) (es : List DirEntry) → name ≢ other → new ≢ other
+        → find other (files_at first (renamed name new es)) ≡ find other (files_at first es) }
+    ensures covered { (name new : ℕ) (es : List DirEntry) → total (renamed name new es) ≡ total es }
+    ensures entries { (name new : ℕ) (es : List DirEntry) → length (renamed name new es) ≡ length es }
+    ensures rooms { (name new first : ℕ) (es : List DirEntry)
+        → rooms_at first (renamed name new es) ≡ rooms_at first es }
+    ensures above { (name new : ℕ) (es : List DirEntry) → above (renamed name new es) ≡ above es }
+    ensures back { (name new first : ℕ) (es : List DirEntry) → IsTidy es
+        → find new (files_at first es) ≡ None → renamed new name (renamed name new es) ≡ es }
+{}
+
+/// The information words of a file that is found are those that its directory has for each entry, and zeros behind them.
+pub fn file_information()
+    ensures { (volume name : ℕ) (d : Listed) (f : Placed) → IsDirectory volume d
+        → find name (files_at d.first d.entries) ≡ Some f → padded 10 (take d.info f.info) ≡ f.info }
 {}

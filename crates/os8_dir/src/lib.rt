@@ -20,6 +20,7 @@ mod known;
 pub mod laws;
 mod names;
 mod reading;
+mod renaming;
 mod segments;
 mod volumes;
 

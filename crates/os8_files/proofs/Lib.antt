@@ -26,3 +26,6 @@ pub mod TimesLemmas
 pub mod WholeLemmas
 pub mod PutLemmas
 pub mod PutLaws
+pub mod RenameLemmas
+pub mod RenameLaws
+pub mod InformationLemmas

@@ -12,7 +12,7 @@ use Rattle.os8_files.specs.Mounted.{Mounted, Begun}
 use Rattle.os8_files.specs.Failed.{KeepsDirectory, FoundAgain, StandInFull, IsWrittenInPart, extent_or, listed_or, with_list}
 use Rattle.os8_files.specs.Service.{count_of}
 use Rattle.os8_files.specs.Calls.{IsOf, IsOver, KeepsBlocks, HasWritten, HasEntered, HasFailed, WritesBlock, Enters, ClosesFile, HasClosed, PlaceFailed, RisesBy, info_of, new_held, entries_with, list_with, files_with, rooms_of, Spent, counted_more, differing}
-use Rattle.os8_files.specs.Puts.{HasPut, HasKept, PutFailed, PutsFile, plain_file, blocks_filled, all_written, entries_put, list_put}
+use Rattle.os8_files.specs.Puts.{HasPutWith, HasKept, PutFailedWith, PutsFileWith, file_with, blocks_filled, all_written, entries_put_with, list_put_with}
 use Rattle.os8_files.specs.Steps.{IsBeginning, HasFilled, FillsFile}
 use Rattle.os8_files.specs.declared.faults.FileFault.{FileFault}
 use Rattle.os8_files.specs.declared.faults.FileFault.TheVariants.{NotFound, NoRoom, DirectoryFull, Busy, BadName, TooLong, TentativeOpen, Device, Stopped, Memory, NothingWritten}
@@ -169,24 +169,24 @@ filled_not old begun prefix words all written blocks mid new NothingWritten runn
 -- ## The file is begun
 
 -- a file that could not be begun
-pub entered_not : (old new : Mounted) (name blocks : ℕ) (words : List ℕ) (why : FileFault) → IsNamed name → 0 < blocks → blocks ≡ blocks_filled words → old.tentative ≡ None → Enters old name blocks (Err why) new → PutsFile old name words (Err why) new
-entered_not old new name blocks words BadName named some count none failed = absurd (unnamed (name / 68719476736) named failed.1)
+pub entered_not : (given : List ℕ) (old new : Mounted) (name blocks : ℕ) (words : List ℕ) (why : FileFault) → IsNamed name → 0 < blocks → blocks ≡ blocks_filled words → old.tentative ≡ None → Enters old name blocks (Err why) new → PutsFileWith old name given words (Err why) new
+entered_not given old new name blocks words BadName named some count none failed = absurd (unnamed (name / 68719476736) named failed.1)
   where
     unnamed : (n : ℕ) → 0 < n → n ≡ 0 → ⊥
     unnamed n more is = omega (arith, more, is)
-entered_not old new name blocks words TentativeOpen named some count none failed = absurd (open_none failed.2 (sym none ∙ failed.3))
+entered_not given old new name blocks words TentativeOpen named some count none failed = absurd (open_none failed.2 (sym none ∙ failed.3))
   where
     open_none : (b : Begun) → None ≡ Some b → ⊥
     open_none b is = cc
-entered_not old new name blocks words (Busy other) named some count none failed = (failed.0, failed.2, failed.3, failed.4)
-entered_not old new name blocks words (NoRoom n) named some count none failed = (failed.0, failed.2, subst (λ most. n < most) count (failed.5 some), failed.6, failed.7, subst (λ wish. fitting wish (rooms_of old.blocks) ≡ None) count failed.3)
-entered_not old new name blocks words Stopped named some count none failed = failed
-entered_not old new name blocks words NotFound named some count none failed = absurd failed
-entered_not old new name blocks words DirectoryFull named some count none failed = absurd failed
-entered_not old new name blocks words TooLong named some count none failed = absurd failed
-entered_not old new name blocks words Device named some count none failed = absurd failed
-entered_not old new name blocks words Memory named some count none failed = absurd failed
-entered_not old new name blocks words NothingWritten named some count none failed = absurd failed
+entered_not given old new name blocks words (Busy other) named some count none failed = (failed.0, failed.2, failed.3, failed.4)
+entered_not given old new name blocks words (NoRoom n) named some count none failed = (failed.0, failed.2, subst (λ most. n < most) count (failed.5 some), failed.6, failed.7, subst (λ wish. fitting wish (rooms_of old.blocks) ≡ None) count failed.3)
+entered_not given old new name blocks words Stopped named some count none failed = failed
+entered_not given old new name blocks words NotFound named some count none failed = absurd failed
+entered_not given old new name blocks words DirectoryFull named some count none failed = absurd failed
+entered_not given old new name blocks words TooLong named some count none failed = absurd failed
+entered_not given old new name blocks words Device named some count none failed = absurd failed
+entered_not given old new name blocks words Memory named some count none failed = absurd failed
+entered_not given old new name blocks words NothingWritten named some count none failed = absurd failed
 
 -- a file that was begun
 pub entered_beginning : (old new : Mounted) (name blocks token : ℕ) (e : HasEntered old name blocks token new) → blocks ≤ e.room → IsBeginning new token blocks
@@ -212,8 +212,8 @@ spent-entered : (old m1 : Mounted) (name blocks token : ℕ) → HasEntered old 
 spent-entered old m1 name blocks token e = ap Spent e.others ∙ ap (λ (t : Option Begun). record old { tentative = t }) (sym e.ready.none)
 
 -- a file whose blocks were not all written is given up
-pub filled_failed : (old m1 m2 new : Mounted) (name blocks token : ℕ) (words : List ℕ) (why : FileFault) → blocks ≡ blocks_filled words → HasEntered old name blocks token m1 → FillsFile m1 words blocks (Err why) m2 → new ≡ Spent m2 → PutsFile old name words (Err why) new
-filled_failed old m1 m2 new name blocks token words Device count e failed is = record {
+pub filled_failed : (given : List ℕ) (old m1 m2 new : Mounted) (name blocks token : ℕ) (words : List ℕ) (why : FileFault) → blocks ≡ blocks_filled words → HasEntered old name blocks token m1 → FillsFile m1 words blocks (Err why) m2 → new ≡ Spent m2 → PutsFileWith old name given words (Err why) new
+filled_failed given old m1 m2 new name blocks token words Device count e failed is = record {
   ready = e.ready;
   free = e.free;
   place = e.place;
@@ -235,16 +235,16 @@ filled_failed old m1 m2 new name blocks token words Device count e failed is = r
 
     lies : failed.begun.place ≡ e.place
     lies = ap (λ (b : Begun). b.place) (some-same _ _ (sym failed.was ∙ ap (λ (m : Mounted). m.tentative) e.others))
-filled_failed old m1 m2 new name blocks token words Stopped count e failed is = absurd failed
-filled_failed old m1 m2 new name blocks token words NotFound count e failed is = absurd failed
-filled_failed old m1 m2 new name blocks token words (NoRoom n) count e failed is = absurd failed
-filled_failed old m1 m2 new name blocks token words DirectoryFull count e failed is = absurd failed
-filled_failed old m1 m2 new name blocks token words (Busy n) count e failed is = absurd failed
-filled_failed old m1 m2 new name blocks token words BadName count e failed is = absurd failed
-filled_failed old m1 m2 new name blocks token words TooLong count e failed is = absurd failed
-filled_failed old m1 m2 new name blocks token words TentativeOpen count e failed is = absurd failed
-filled_failed old m1 m2 new name blocks token words Memory count e failed is = absurd failed
-filled_failed old m1 m2 new name blocks token words NothingWritten count e failed is = absurd failed
+filled_failed given old m1 m2 new name blocks token words Stopped count e failed is = absurd failed
+filled_failed given old m1 m2 new name blocks token words NotFound count e failed is = absurd failed
+filled_failed given old m1 m2 new name blocks token words (NoRoom n) count e failed is = absurd failed
+filled_failed given old m1 m2 new name blocks token words DirectoryFull count e failed is = absurd failed
+filled_failed given old m1 m2 new name blocks token words (Busy n) count e failed is = absurd failed
+filled_failed given old m1 m2 new name blocks token words BadName count e failed is = absurd failed
+filled_failed given old m1 m2 new name blocks token words TooLong count e failed is = absurd failed
+filled_failed given old m1 m2 new name blocks token words TentativeOpen count e failed is = absurd failed
+filled_failed given old m1 m2 new name blocks token words Memory count e failed is = absurd failed
+filled_failed given old m1 m2 new name blocks token words NothingWritten count e failed is = absurd failed
 
 -- ## The file is closed
 
@@ -275,11 +275,11 @@ spent_kept old m1 m2 new name blocks token words begun e done is = record {
 }
 
 -- what was written is the file
-new_is : (old m1 m2 : Mounted) (name blocks token : ℕ) (words : List ℕ) (begun b : Begun) → HasEntered old name blocks token m1 → HasFilled m1 begun words blocks m2 → m2.tentative ≡ Some b → new_held m2 b [] ≡ plain_file old words
-new_is old m1 m2 name blocks token words begun b e done was =
-    ap (λ (x : Begun). (padded (info_of m2.blocks) [], run m2.blocks x.place x.written)) (some-same _ _ (sym was ∙ begun_now m1 begun words blocks m2 done))
-    ∙ ap (λ (l : List ℕ). (padded (info_of m2.blocks) [], l)) done.text
-    ∙ ap (λ (n : ℕ). (padded n [], words)) (done.info ∙ ap (λ (m : Mounted). info_of m.blocks) e.others)
+new_is : (given : List ℕ) (old m1 m2 : Mounted) (name blocks token : ℕ) (words : List ℕ) (begun b : Begun) → HasEntered old name blocks token m1 → HasFilled m1 begun words blocks m2 → m2.tentative ≡ Some b → new_held m2 b given ≡ file_with old given words
+new_is given old m1 m2 name blocks token words begun b e done was =
+    ap (λ (x : Begun). (padded (info_of m2.blocks) given, run m2.blocks x.place x.written)) (some-same _ _ (sym was ∙ begun_now m1 begun words blocks m2 done))
+    ∙ ap (λ (l : List ℕ). (padded (info_of m2.blocks) given, l)) done.text
+    ∙ ap (λ (n : ℕ). (padded n given, words)) (done.info ∙ ap (λ (m : Mounted). info_of m.blocks) e.others)
 
 -- and it is all written
 all_is : (old m1 m2 : Mounted) (name blocks token : ℕ) (words : List ℕ) (begun b : Begun) (e : HasEntered old name blocks token m1) → HasFilled m1 begun words blocks m2 → m2.tentative ≡ Some b → blocks ≡ blocks_filled words
@@ -307,28 +307,28 @@ sized old new blocks size is k = record {
 }
 
 -- the same directory comes to the same list with a file
-entries_are : (one two : Begun) (old new : List (List ℕ)) → one ≡ two → directory_of new ≡ directory_of old → entries_with one [] new ≡ entries_with two [] old
-entries_are one two old new is same =
-    ap (of_directory (λ d. length (placed d.first (new_file d one.name [] one.place one.written) d.entries))) same ∙ ap (λ (b : Begun). entries_with b [] old) is
+entries_are : (given : List ℕ) (one two : Begun) (old new : List (List ℕ)) → one ≡ two → directory_of new ≡ directory_of old → entries_with one given new ≡ entries_with two given old
+entries_are given one two old new is same =
+    ap (of_directory (λ d. length (placed d.first (new_file d one.name given one.place one.written) d.entries))) same ∙ ap (λ (b : Begun). entries_with b given old) is
 
-list_is : (one two : Begun) (old new : Mounted) → one ≡ two → directory_of new.blocks ≡ directory_of old.blocks → list_with new one [] ≡ list_with old two []
-list_is one two old new is same =
-    ap (with_list (λ d. placed d.first (new_file d one.name [] one.place one.written) d.entries)) same ∙ ap (λ (b : Begun). list_with old b []) is
+list_is : (given : List ℕ) (one two : Begun) (old new : Mounted) → one ≡ two → directory_of new.blocks ≡ directory_of old.blocks → list_with new one given ≡ list_with old two given
+list_is given one two old new is same =
+    ap (with_list (λ d. placed d.first (new_file d one.name given one.place one.written) d.entries)) same ∙ ap (λ (b : Begun). list_with old b given) is
 
 -- ## The file is closed or not
 
 -- the file that was filled is placed
-closed_done : (old m1 m2 new : Mounted) (name blocks token : ℕ) (words : List ℕ) (begun : Begun) → blocks ≡ blocks_filled words → HasEntered old name blocks token m1 → HasFilled m1 begun words blocks m2 → HasClosed m2 name [] new → HasPut old name words new
+closed_done : (given : List ℕ) (old m1 m2 new : Mounted) (name blocks token : ℕ) (words : List ℕ) (begun : Begun) → blocks ≡ blocks_filled words → HasEntered old name blocks token m1 → HasFilled m1 begun words blocks m2 → HasClosed m2 name given new → HasPutWith old name given words new
 unfolding spent_kept
-closed_done old m1 m2 new name blocks token words begun count e filled has = record {
+closed_done given old m1 m2 new name blocks token words begun count e filled has = record {
   ready = e.ready;
   free = e.free;
-  files = has.files ∙ ap (λ h. insert (files_of m2.blocks) name h) (new_is old m1 m2 name blocks token words begun has.begun e filled has.was) ∙ ap (λ fs. insert fs name (plain_file old words)) kept.files;
+  files = has.files ∙ ap (λ h. insert (files_of m2.blocks) name h) (new_is given old m1 m2 name blocks token words begun has.begun e filled has.was) ∙ ap (λ fs. insert fs name (file_with old given words)) kept.files;
   place = e.place;
   room = e.room;
   fits = subst (λ n. fitting n (rooms_of old.blocks) ≡ Some (e.place, e.room)) count e.fits;
-  few = omega (arith, has.fits, kept.limit, entries_are has.begun _ old.blocks m2.blocks is kept.kept.directory);
-  list = has.list ∙ ap (λ n. list_with m2 (record { name = n; place = has.begun.place; room = has.begun.room; written = has.begun.written }) []) (sym has.names) ∙ list_is has.begun _ old m2 is kept.kept.directory;
+  few = omega (arith, has.fits, kept.limit, entries_are given has.begun _ old.blocks m2.blocks is kept.kept.directory);
+  list = has.list ∙ ap (λ n. list_with m2 (record { name = n; place = has.begun.place; room = has.begun.room; written = has.begun.written }) given) (sym has.names) ∙ list_is given has.begun _ old m2 is kept.kept.directory;
   extent = has.place ∙ ap (λ (b : Begun). Some (b.place, b.written)) is;
   blocks = subst (λ n. KeepsBlocks old.blocks new.blocks e.place n) count (kept-none old.blocks m2.blocks new.blocks e.place blocks kept.blocks has.blocks);
   written = record { directory = has.written.directory; read = has.written.read; segments = has.written.segments; unused = λ k more low. has.written.unused k more low ∙ kept.kept.segments k (omega (arith, more)) low };
@@ -348,10 +348,10 @@ closed_done old m1 m2 new name blocks token words begun count e filled has = rec
     is = all_is old m1 m2 name blocks token words begun has.begun e filled has.was count
 
 -- the directory with it was not written
-closed_not : (old m1 m2 new : Mounted) (name blocks token : ℕ) (words : List ℕ) (begun b : Begun) → blocks ≡ blocks_filled words → HasEntered old name blocks token m1 → HasFilled m1 begun words blocks m2 → m2.tentative ≡ Some b
-    → PlaceFailed (Spent m2) b [] new → PutFailed old name words new
+closed_not : (given : List ℕ) (old m1 m2 new : Mounted) (name blocks token : ℕ) (words : List ℕ) (begun b : Begun) → blocks ≡ blocks_filled words → HasEntered old name blocks token m1 → HasFilled m1 begun words blocks m2 → m2.tentative ≡ Some b
+    → PlaceFailed (Spent m2) b given new → PutFailedWith old name given words new
 unfolding spent_kept
-closed_not old m1 m2 new name blocks token words begun b count e filled was has = record {
+closed_not given old m1 m2 new name blocks token words begun b count e filled was has = record {
   ready = e.ready;
   free = e.free;
   place = e.place;
@@ -359,9 +359,9 @@ closed_not old m1 m2 new name blocks token words begun b count e filled was has 
   fits = subst (λ n. fitting n (rooms_of old.blocks) ≡ Some (e.place, e.room)) count e.fits;
   blocks = subst (λ n. KeepsBlocks old.blocks new.blocks e.place n) count (kept-none old.blocks m2.blocks new.blocks e.place blocks kept.blocks has.blocks);
   failed = inr (record {
-    few = omega (arith, has.fits, kept.limit, entries_are b _ old.blocks m2.blocks is kept.kept.directory);
+    few = omega (arith, has.fits, kept.limit, entries_are given b _ old.blocks m2.blocks is kept.kept.directory);
     older = subst (λ r. StandInFull new.blocks r (files_of old.blocks)) kept.kept.directory (subst (λ fs. StandInFull new.blocks (directory_of m2.blocks) fs) kept.files has.older);
-    newer = subst (λ r. StandInFull new.blocks r (insert (files_of old.blocks) name (plain_file old words))) list (subst (λ fs. StandInFull new.blocks (list_with m2 b []) fs) files has.newer);
+    newer = subst (λ r. StandInFull new.blocks r (insert (files_of old.blocks) name (file_with old given words))) list (subst (λ fs. StandInFull new.blocks (list_with m2 b given) fs) files has.newer);
     directory = has.written.0;
     list = sym list ∙ has.written.1;
     written = record {
@@ -390,14 +390,14 @@ closed_not old m1 m2 new name blocks token words begun b count e filled was has 
     is : b ≡ all_written name e.place e.room words
     is = all_is old m1 m2 name blocks token words begun b e filled was count
 
-    list : list_with m2 b [] ≡ list_put old name e.place e.room words
-    list = list_is b _ old m2 is kept.kept.directory
+    list : list_with m2 b given ≡ list_put_with old name e.place e.room given words
+    list = list_is given b _ old m2 is kept.kept.directory
 
-    files : files_with m2 b [] ≡ insert (files_of old.blocks) name (plain_file old words)
+    files : files_with m2 b given ≡ insert (files_of old.blocks) name (file_with old given words)
     files =
-        ap (λ (x : Begun). insert (files_of m2.blocks) x.name (new_held m2 b [])) is
-        ∙ ap (λ h. insert (files_of m2.blocks) name h) (new_is old m1 m2 name blocks token words begun b e filled was)
-        ∙ ap (λ fs. insert fs name (plain_file old words)) kept.files
+        ap (λ (x : Begun). insert (files_of m2.blocks) x.name (new_held m2 b given)) is
+        ∙ ap (λ h. insert (files_of m2.blocks) name h) (new_is given old m1 m2 name blocks token words begun b e filled was)
+        ∙ ap (λ fs. insert fs name (file_with old given words)) kept.files
 
     part : IsWrittenInPart m2.blocks new.blocks has.written.0
     part = has.written.2.part
@@ -406,17 +406,17 @@ closed_not old m1 m2 new name blocks token words begun b count e filled was has 
     low k one few = kept.kept.segments k one (omega (arith, few, part.low))
 
 -- the file that was filled is closed
-pub closed : (old m1 m2 new : Mounted) (name blocks token : ℕ) (words : List ℕ) (begun : Begun) (r : Result (Unit {0}) FileFault) → 0 < blocks → blocks ≡ blocks_filled words → HasEntered old name blocks token m1 → HasFilled m1 begun words blocks m2 → ClosesFile m2 name [] r new → PutsFile old name words r new
-closed old m1 m2 new name blocks token words begun (Ok done) some count e filled has = closed_done old m1 m2 new name blocks token words begun count e filled has
-closed old m1 m2 new name blocks token words begun (Err NothingWritten) some count e filled has = absurd (written (ap (λ (b : Begun). b.written) (some-same _ _ (sym has.1.was ∙ begun_now m1 begun words blocks m2 filled))) has.2)
+pub closed : (given : List ℕ) (old m1 m2 new : Mounted) (name blocks token : ℕ) (words : List ℕ) (begun : Begun) (r : Result (Unit {0}) FileFault) → 0 < blocks → blocks ≡ blocks_filled words → HasEntered old name blocks token m1 → HasFilled m1 begun words blocks m2 → ClosesFile m2 name given r new → PutsFileWith old name given words r new
+closed given old m1 m2 new name blocks token words begun (Ok done) some count e filled has = closed_done given old m1 m2 new name blocks token words begun count e filled has
+closed given old m1 m2 new name blocks token words begun (Err NothingWritten) some count e filled has = absurd (written (ap (λ (b : Begun). b.written) (some-same _ _ (sym has.1.was ∙ begun_now m1 begun words blocks m2 filled))) has.2)
   where
     written : {n : ℕ} → n ≡ blocks → n ≡ 0 → ⊥
     written one two = omega (arith, one, two, some)
-closed old m1 m2 new name blocks token words begun (Err (Busy other)) some count e filled has = absurd (true≢false (sym held ∙ e.free))
+closed given old m1 m2 new name blocks token words begun (Err (Busy other)) some count e filled has = absurd (true≢false (sym held ∙ e.free))
   where
     held : contains old.holds name ≡ true
     held = subst (λ (l : List ℕ). contains l name ≡ true) (ap (λ (m : Mounted). m.holds) filled.others ∙ ap (λ (m : Mounted). m.holds) e.others) has.4
-closed old m1 m2 new name blocks token words begun (Err DirectoryFull) some count e filled has = (
+closed given old m1 m2 new name blocks token words begun (Err DirectoryFull) some count e filled has = (
   e.ready,
   e.free,
   over,
@@ -427,22 +427,22 @@ closed old m1 m2 new name blocks token words begun (Err DirectoryFull) some coun
     kept : HasKept old blocks (Spent m2)
     kept = spent_kept old m1 m2 (Spent m2) name blocks token words begun e filled refl
 
-    over_limit : limit_of old.blocks < entries_put name e.place e.room words old.blocks
-    over_limit = omega (arith, has.4, kept.limit, entries_are has.0 _ old.blocks m2.blocks (all_is old m1 m2 name blocks token words begun has.0 e filled has.1.was count) kept.kept.directory)
+    over_limit : limit_of old.blocks < entries_put_with name e.place e.room given words old.blocks
+    over_limit = omega (arith, has.4, kept.limit, entries_are given has.0 _ old.blocks m2.blocks (all_is old m1 m2 name blocks token words begun has.0 e filled has.1.was count) kept.kept.directory)
 
-    files : insert (files_of m2.blocks) name (new_held m2 has.0 []) ≡ insert (files_of old.blocks) name (plain_file old words)
-    files = ap (λ h. insert (files_of m2.blocks) name h) (new_is old m1 m2 name blocks token words begun has.0 e filled has.1.was) ∙ ap (λ fs. insert fs name (plain_file old words)) kept.files
+    files : insert (files_of m2.blocks) name (new_held m2 has.0 given) ≡ insert (files_of old.blocks) name (file_with old given words)
+    files = ap (λ h. insert (files_of m2.blocks) name h) (new_is given old m1 m2 name blocks token words begun has.0 e filled has.1.was) ∙ ap (λ fs. insert fs name (file_with old given words)) kept.files
 
-    over : IsOver old.blocks (insert (files_of old.blocks) name (plain_file old words))
+    over : IsOver old.blocks (insert (files_of old.blocks) name (file_with old given words))
     over = record {
       files = omega (arith, has.5.files, kept.limit, ap count_of files);
       tight = λ low. omega (arith, has.5.tight (kept.above ∙ low), kept.limit, ap count_of kept.files);
     }
-closed old m1 m2 new name blocks token words begun (Err Device) some count e filled has = closed_not old m1 m2 new name blocks token words begun has.0 count e filled has.1.was has.3
-closed old m1 m2 new name blocks token words begun (Err Stopped) some count e filled has = absurd (true≢false (sym has.0 ∙ ap (λ (m : Mounted). m.stopped) filled.others ∙ ap (λ (m : Mounted). m.stopped) e.others ∙ e.ready.running))
-closed old m1 m2 new name blocks token words begun (Err Memory) some count e filled has = (e.ready, e.free, sized old new blocks (blocks_filled words) count (spent_kept old m1 m2 new name blocks token words begun e filled has.4))
-closed old m1 m2 new name blocks token words begun (Err NotFound) some count e filled has = absurd has
-closed old m1 m2 new name blocks token words begun (Err (NoRoom n)) some count e filled has = absurd has
-closed old m1 m2 new name blocks token words begun (Err BadName) some count e filled has = absurd has
-closed old m1 m2 new name blocks token words begun (Err TooLong) some count e filled has = absurd has
-closed old m1 m2 new name blocks token words begun (Err TentativeOpen) some count e filled has = absurd has
+closed given old m1 m2 new name blocks token words begun (Err Device) some count e filled has = closed_not given old m1 m2 new name blocks token words begun has.0 count e filled has.1.was has.3
+closed given old m1 m2 new name blocks token words begun (Err Stopped) some count e filled has = absurd (true≢false (sym has.0 ∙ ap (λ (m : Mounted). m.stopped) filled.others ∙ ap (λ (m : Mounted). m.stopped) e.others ∙ e.ready.running))
+closed given old m1 m2 new name blocks token words begun (Err Memory) some count e filled has = (e.ready, e.free, sized old new blocks (blocks_filled words) count (spent_kept old m1 m2 new name blocks token words begun e filled has.4))
+closed given old m1 m2 new name blocks token words begun (Err NotFound) some count e filled has = absurd has
+closed given old m1 m2 new name blocks token words begun (Err (NoRoom n)) some count e filled has = absurd has
+closed given old m1 m2 new name blocks token words begun (Err BadName) some count e filled has = absurd has
+closed given old m1 m2 new name blocks token words begun (Err TooLong) some count e filled has = absurd has
+closed given old m1 m2 new name blocks token words begun (Err TentativeOpen) some count e filled has = absurd has

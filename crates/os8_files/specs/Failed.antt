@@ -3,7 +3,7 @@ use Rattle.std.specs.Prelude.{◌⊎◌, ◌≡◌, ◌≢◌, ℕ, ◌+◌, ◌
 use Rattle.std.specs.FinMap.{get}
 use Rattle.os8_dir.specs.Entries.{Listed}
 use Rattle.os8_dir.specs.Reading.{directory_of, block}
-use Rattle.os8_dir.specs.Found.{Placed, files_at, find, extent_of}
+use Rattle.os8_dir.specs.Found.{Placed, files_at, find, extent_of, information_of}
 use Rattle.os8_dir.specs.Segments.{segment_count, segment_of}
 use Rattle.os8_dir.specs.Files.{FileData, Files, files_of, run}
 use Rattle.os8_dir.specs.Changes.{relisted, lowest_above, moved_down}
@@ -23,6 +23,10 @@ extent_or name (Err fault) = None
 -- how many blocks the file of a name has in a directory
 abbrev pub size_in : Listed → ℕ → Option ℕ
 size_in d name = size_or_none (find name (files_at d.first d.entries))
+
+-- the information words that the file of a name has in a directory, with zeros behind them
+abbrev pub information_in : Listed → ℕ → Option (List ℕ)
+information_in d name = information_of (find name (files_at d.first d.entries))
 
 -- blocks 1 to 6 are as before, so a volume that is mounted again has the directory that it had
 pub record KeepsDirectory (old new : List (List ℕ)) : Type 0 where

@@ -8,3 +8,4 @@ pub mod Calls
 pub mod WriteSteps
 pub mod Laws
 pub mod Puts
+pub mod Renames

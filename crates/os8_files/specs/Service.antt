@@ -2,6 +2,7 @@
 use Rattle.std.specs.Prelude.{ℕ, ◌+◌, ◌/◌, Option, Some, None, List, [], ◌∷◌, map, length}
 use Rattle.word12.specs.declared.sizes.TheConstants.{BLOCK}
 use Rattle.std.specs.FinMap.{entries}
+use Rattle.os8_dir.specs.Names.{padded}
 use Rattle.os8_dir.specs.Files.{Files, FileData}
 
 -- the blocks of a file
@@ -12,6 +13,11 @@ blocks_in held = length held.1 / BLOCK
 abbrev pub blocks_of : Option FileData → Option ℕ
 blocks_of None = None
 blocks_of (Some held) = Some (blocks_in held)
+
+-- the information words of a file that may be there, with zeros behind them up to ten
+abbrev pub information_of : Option FileData → Option (List ℕ)
+information_of None = None
+information_of (Some held) = Some (padded 10 held.0)
 
 -- the names with the blocks of each file, in name order
 abbrev pub lengths_of : Files → List (ℕ × ℕ)

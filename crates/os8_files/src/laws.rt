@@ -1,5 +1,5 @@
 //! What holds of every call of the file service. Each function does nothing: its contract is the law.
-ghost use Rattle.std.specs.Prelude.{◌≡◌, ◌⊎◌, ◌+◌, ◌*◌, ◌<◌, ◌≤◌, ℕ, nat_lt, List, [], ◌∷◌, length, take, drop, None, Some, Ok, Result};
+ghost use Rattle.std.specs.Prelude.{◌≡◌, ◌≢◌, ◌⊎◌, ◌+◌, ◌*◌, ◌<◌, ◌≤◌, ℕ, nat_lt, false, List, [], ◌∷◌, length, take, drop, None, Some, Ok, Result};
 ghost use Rattle.word12.specs.declared.sizes.TheConstants.{BLOCK, MOST_BLOCKS};
 ghost use Rattle.std.specs.FinMap.{get};
 ghost use Rattle.std.specs.Global.{Vec};
@@ -9,10 +9,11 @@ ghost use Rattle.os8_dir.specs.Files.{FileData, files_of, above_of};
 ghost use Rattle.os8_files.specs.Service.{blocks_in, count_of};
 ghost use Rattle.os8_files.specs.Mounted.{Mounted};
 ghost use Rattle.os8_files.specs.Calls.{ReadsBlock, ListsFiles, HoldsFile, DeletesFile, Enters, WritesBlock, ClosesFile, Squeezes, Spent, HasMissed};
-ghost use Rattle.os8_files.specs.Puts.{PutsFile};
+ghost use Rattle.os8_files.specs.Puts.{PutsFile, PutsFileWith};
+ghost use Rattle.os8_files.specs.Renames.{RenamesFile};
 ghost use Rattle.os8_files.specs.Holds.{with_hold, without_hold, times};
 ghost use Rattle.os8_files.specs.Failed.{KeepsDirectory, Survives};
-ghost use Rattle.os8_files.specs.Laws.{KeepsHeld, KeepsHolds, IsHeldThrough, KeepsPlaces, KeepsOtherPlaces, MovesOne, ReadsOne, ReadsLowest, IsStopped};
+ghost use Rattle.os8_files.specs.Laws.{KeepsHeld, KeepsHolds, IsHeldThrough, KeepsPlaces, KeepsOtherPlaces, MovesOne, ReadsOne, ReadsLowest, IsStopped, extent_on};
 ghost use Rattle.os8_files.specs.declared.faults.FileFault.{FileFault};
 ghost use Rattle.os8_files.specs.declared.tokens.Squeezed.{Squeezed};
 
@@ -224,5 +225,42 @@ pub fn stopped_calls()
     ensures delete { (old new : Mounted) (name : ℕ) (result : Result (Unit {0}) FileFault)
         → DeletesFile old name result new → IsStopped old result }
     ensures squeeze_turn { (old new : Mounted) (result : Result Squeezed FileFault) → Squeezes old result new
+        → IsStopped old result }
+{}
+
+/// What giving a file another name leaves: of the holds, of the files that are held, of the places of the other files, of the
+/// count of reads, and behind a write that fails of the files, as the laws above say of the other calls. It answers `Stopped` just
+/// where a write has failed before.
+pub fn renamed_files()
+    ensures holds { (old new : Mounted) (name other : ℕ) (result : Result (Unit {0}) FileFault)
+        → RenamesFile old name other result new → KeepsHolds old new }
+    ensures places { (old new : Mounted) (name other third : ℕ) (result : Result (Unit {0}) FileFault)
+        → RenamesFile old name other result new → name ≢ third → other ≢ third → new.stopped ≡ false
+        → extent_on new third ≡ extent_on old third }
+    ensures reads { (old new : Mounted) (name other : ℕ) (result : Result (Unit {0}) FileFault)
+        → RenamesFile old name other result new → new.reads ≡ old.reads }
+    ensures failed_writes { (old new : Mounted) (name other : ℕ) (result : Result (Unit {0}) FileFault)
+        → RenamesFile old name other result new → old.failed_writes < new.failed_writes
+        → Survives old.blocks new.blocks }
+    ensures stopped { (old new : Mounted) (name other : ℕ) (result : Result (Unit {0}) FileFault)
+        → RenamesFile old name other result new → IsStopped old result }
+{}
+
+/// What putting a file with information words leaves, as the laws above say of putting one without.
+pub fn informed_files()
+    ensures holds { (old new : Mounted) (name : ℕ) (given words : List ℕ)
+        (result : Result (Unit {0}) FileFault) → PutsFileWith old name given words result new
+        → KeepsHolds old new }
+    ensures places { (old new : Mounted) (name : ℕ) (given words : List ℕ)
+        (result : Result (Unit {0}) FileFault) → PutsFileWith old name given words result new
+        → KeepsOtherPlaces name old new }
+    ensures reads { (old new : Mounted) (name : ℕ) (given words : List ℕ)
+        (result : Result (Unit {0}) FileFault) → PutsFileWith old name given words result new
+        → new.reads ≡ old.reads }
+    ensures failed_writes { (old new : Mounted) (name : ℕ) (given words : List ℕ)
+        (result : Result (Unit {0}) FileFault) → PutsFileWith old name given words result new
+        → old.failed_writes < new.failed_writes → Survives old.blocks new.blocks }
+    ensures stopped { (old new : Mounted) (name : ℕ) (given words : List ℕ)
+        (result : Result (Unit {0}) FileFault) → PutsFileWith old name given words result new
         → IsStopped old result }
 {}

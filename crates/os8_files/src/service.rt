@@ -7,8 +7,8 @@ ghost use Rattle.os8_dir.specs.Files.{files_of, capacity_of, above_of};
 ghost use Rattle.os8_dir.specs.declared.faults.DirFault.TheVariants.{Device};
 ghost use Rattle.volume_image.specs.Volume.{IsVolume};
 ghost use Rattle.os8_files.specs.Mounted.{AreSegments};
-ghost use Rattle.os8_files.specs.Service.{blocks_of, used_of, count_of};
-ghost use Rattle.os8_files.specs.Failed.{size_in};
+ghost use Rattle.os8_files.specs.Service.{blocks_of, information_of, used_of, count_of};
+ghost use Rattle.os8_files.specs.Failed.{information_in, size_in};
 ghost use Rattle.os8_files.specs.Holds.{without_hold};
 ghost use Rattle.os8_files.specs.Calls.{ReadsBlock, ListsFiles, HoldsFile, IsLonger};
 ghost use Rattle.os8_dir.specs.Entries.{Listed, contains};
@@ -18,7 +18,9 @@ use crate::copying::{blank_run, read_run};
 use crate::holds::{add_hold, first_of};
 use crate::lengths::files_by_name;
 use crate::{FileFault, Hold, Tentative};
-use os8_dir::laws::{directory_numbers, files_found, files_inside, files_made, sound_directory};
+use os8_dir::laws::{
+    directory_numbers, file_information, files_found, files_inside, files_made, sound_directory,
+};
 use os8_dir::{DirFault, Directory, Name};
 use std::alloc::Global;
 use std::marker::Model;
@@ -27,6 +29,7 @@ use word12::Word;
 
 mod changes;
 mod putting;
+mod renaming;
 mod squeezing;
 mod writing;
 
@@ -160,6 +163,19 @@ impl<S: BlockStore> FileService<S> {
             Some((_, length)) => Some(length),
             None => None,
         }
+    }
+
+    /// The information words of the file of a name, with zeros behind them; nothing where there is none (OS/8 Software Support
+    /// Manual). Where a write has failed they are those of the directory that was held then.
+    pub fn information(&self, name: &Name) -> Option<[Word; 10]>
+        ensures running { self.now.stopped ≡ false → result
+            ≡ information_of (get (files_of self.now.blocks) name.now) }
+        ensures stopped { (d : Listed) → self.now.last ≡ Some d → result ≡ information_in d name.now }
+    {
+        files_found();
+        sound_directory();
+        file_information();
+        self.directory.information(name)
     }
 
     /// The covered blocks that belong to no file. Where a write has failed they are those of the directory that was held

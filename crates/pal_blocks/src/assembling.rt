@@ -12,7 +12,7 @@ use crate::passing::pass_block;
 use bin_tape::laws::written_tape;
 use bin_tape::tape_of;
 use char_pack::laws::joined_text;
-use char_pack::{PackFault, pack_blocks};
+use char_pack::pack_blocks;
 use pal_asm::laws::{has_words, no_lexical_fault, no_word_is_told};
 use pal_asm::{AsmFault, Assembler, Pass, begin_second_pass, end_source};
 use pal_lex::Lexer;
@@ -178,10 +178,8 @@ fn tape_words(alloc: Global, pairs: &[(Cell, Word)]) -> Result<Vec<Word>, AsmFau
         return Ok(Vec::new(alloc));
     }
     let frames = tape_of(alloc, pairs)?;
-    match pack_blocks(alloc, &frames) {
-        Ok(words) => Ok(words),
-        Err(PackFault::Memory) => Err(AsmFault::Memory),
-    }
+    let words = pack_blocks(alloc, &frames)?;
+    Ok(words)
 }
 
 /// How many blocks a source has.

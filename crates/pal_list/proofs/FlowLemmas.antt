@@ -5,13 +5,13 @@ use Rattle.std.proofs.lemmas.List.{get_or_default}
 use Rattle.std.proofs.Math.ListN.{get_or-eq_default}
 use Rattle.std.proofs.Math.Seq.{split_at}
 use Rattle.bin_tape.specs.Items.{Item, IsPrefix, tape_map}
-use Rattle.flow8.specs.Flow.{IsAmong, Reaches, start, goes, word_in}
+use Rattle.flow8.specs.Flow.{IsAmong, word_in}
 use Rattle.pal_list.specs.Sources.{AllGiven, IsFirstWithout}
 use Rattle.pal_list.specs.Steps.{HoldsMap}
 use Rattle.pal_list.proofs.TapeLemmas.{map_fits, outside}
 
 -- a list holds the map of a tape, also where neither has a word
-pub everywhere : (words : List (Option ℕ)) (items : List Item) → length words ≡ 32768 → IsPrefix items → HoldsMap items words → (cell : ℕ)
+everywhere : (words : List (Option ℕ)) (items : List Item) → length words ≡ 32768 → IsPrefix items → HoldsMap items words → (cell : ℕ)
     → word_in words cell ≡ tape_map items cell
 everywhere words items size prefix held cell =
     elim (cases_lt cell 32768) [
@@ -19,19 +19,8 @@ everywhere words items size prefix held cell =
       | inr high ↦ get_or-eq_default words None (omega (arith, size, high)) ∙ outside (tape_map items cell) cell (map_fits items prefix cell) high
     ]
 
-pub same_reach : (f g : ℕ → Option ℕ) (starts : List ℕ) → ((cell : ℕ) → f cell ≡ g cell) → (cell : ℕ) → Reaches f starts cell → Reaches g starts cell
-same_reach f g starts same cell (start _ word among is) = start cell word among (sym (same cell) ∙ is)
-same_reach f g starts same cell (goes before word _ other reaches is exit given) =
-    goes before word cell other (same_reach f g starts same before reaches) (sym (same before) ∙ is) exit (sym (same cell) ∙ given)
-
-pub same_first : (f g : ℕ → Option ℕ) (cells : List ℕ) (cell : ℕ) → ((cell : ℕ) → f cell ≡ g cell) → IsFirstWithout f cells cell → IsFirstWithout g cells cell
-same_first f g cells cell same first = record {
-  before = first.before;
-  after = first.after;
-  split = first.split;
-  given = λ other among none. first.given other among (same other ∙ none);
-  none = sym (same cell) ∙ first.none;
-}
+pub map_is : (words : List (Option ℕ)) (items : List Item) → length words ≡ 32768 → IsPrefix items → HoldsMap items words → word_in words ≡ tape_map items
+map_is words items size prefix held = λ i. λ cell. everywhere words items size prefix held cell i
 
 among_more : (cell : ℕ) (cells : List ℕ) (last : ℕ) → IsAmong cell (cells ++ last ∷ []) → IsAmong cell cells ⊎ (cell ≡ last)
 among_more cell [] last (inl same) = inr same

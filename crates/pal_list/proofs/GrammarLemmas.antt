@@ -1,9 +1,9 @@
 -- What statements of a few pieces say.
-use Rattle.std.proofs.Common.{◌≡◌, ℕ, ◌+◌, ◌/◌, ◌<◌, nat_lt, Bool, true, false, ◌&&◌, if◌then◌else◌, Some, None, List, [], ◌∷◌, refl, ap, ◌∙◌, arith}
+use Rattle.std.proofs.Common.{◌≡◌, ℕ, ◌+◌, ◌/◌, ◌<◌, nat_lt, Bool, true, false, ◌&&◌, ◌||◌, if◌then◌else◌, Some, None, List, [], ◌∷◌, refl, ap, ◌∙◌, arith}
 use Rattle.std.specs.Prelude.{codes}
 use Rattle.std.proofs.lemmas.Bool.Decides.{nat_tests}
 use Rattle.word12.specs.Octal.{octal_digit, octal4}
-use Rattle.word12.specs.Sixbit.{name_number}
+use Rattle.word12.specs.Sixbit.{is_letter, is_digit, name_number}
 use Rattle.pal_lex.specs.Runs.{number_kind, number, are_digits}
 use Rattle.pal_lex.specs.Text.{limit}
 use Rattle.pal_lex.specs.Grammar.{said, has_bad_number, with_tag}
@@ -16,10 +16,11 @@ use Rattle.pal_lex.specs.declared.phrases.Joint.TheVariants.{Add}
 use Rattle.pal_lex.specs.declared.phrases.Part.{Part}
 use Rattle.pal_lex.specs.declared.phrases.Body.{Body}
 use Rattle.pal_lex.specs.declared.phrases.Body.TheVariants.{Origin, Field, Word}
-use Rattle.pal_list.specs.Tags.{tag, tag_name}
-use Rattle.pal_list.proofs.ByteLemmas.{octal}
-use Rattle.pal_list.proofs.PieceLemmas.{kind_of, run_token, blank_token, tokens_at}
-use Rattle.pal_list.proofs.TagLemmas.{tag_ordinary}
+use Rattle.pal_lex.specs.Cutting.{are_coded}
+use Rattle.pal_lex.specs.Language.{is_reserved}
+use Rattle.pal_list.specs.Looks.{is_name}
+use Rattle.pal_list.proofs.ByteLemmas.{both, octal}
+use Rattle.pal_list.proofs.PieceLemmas.{kind_of, is_run, run_token, blank_token, tokens_at}
 
 -- ## Octal numbers
 
@@ -59,6 +60,23 @@ digit_kind n small =
   where
     one : (a b : Bool) → a ≡ true → b ≡ true → (a && b && true) ≡ true
     one a b p q = rw (p, q) refl
+
+-- ## Names
+
+pub name_run : (bytes : List ℕ) → is_name bytes ≡ true → is_run bytes ≡ true
+name_run [] e = absurd (cc e)
+name_run (first ∷ others) e =
+    let parts = both (is_letter first) (are_coded others) e in
+    rw (letter (is_letter first) (is_digit first) parts.0, parts.1) refl
+  where
+    letter : (a b : Bool) → a ≡ true → (a || b) ≡ true
+    letter true b e = refl
+    letter false b e = absurd (cc e)
+
+pub name_kind : (bytes : List ℕ) → is_name bytes ≡ true → kind_of bytes ≡ Term (Name (name_number bytes))
+name_kind [] e = absurd (cc e)
+name_kind (first ∷ others) e =
+    ap (λ (l : Bool). if l then Term (Name (name_number (first ∷ others))) else number_kind 8 (first ∷ others)) (both (is_letter first) (are_coded others) e).0
 
 -- ## Statements
 
@@ -110,12 +128,17 @@ field_says n at small =
 abbrev pub comma_token : ℕ → Token
 comma_token at = record { kind = Comma; start = limit at; end = limit (at + 1) }
 
--- a cell's tag with a comma before a statement
-pub tagged_says : (cell at place : ℕ) (tokens : List Token) (body : Body) → Say tokens [] body
-    → Say (run_token at (tag cell) ∷ comma_token place ∷ tokens) (tag_name cell ∷ []) body
-tagged_says cell at place tokens body say = record {
-  fine = say.fine;
-  said_is =
-      ap (λ (b : Bool). with_tag (if b then None else Some (tag_name cell)) (said tokens)) (tag_ordinary cell).reserved
-      ∙ ap (with_tag (Some (tag_name cell))) say.said_is;
-}
+-- a name with a comma before a statement
+pub tagged_says : (name : List ℕ) (at place : ℕ) (tokens : List Token) (body : Body) → is_name name ≡ true → is_reserved (name_number name) ≡ false → Say tokens [] body
+    → Say (run_token at name ∷ comma_token place ∷ tokens) (name_number name ∷ []) body
+tagged_says name at place tokens body is free say =
+    let t = run_token at name in
+    let n = name_number name in
+    let kind = name_kind name is in
+    record {
+      fine = ap (λ k. has_bad_number (with_kind t k ∷ comma_token place ∷ tokens)) kind ∙ say.fine;
+      said_is =
+          ap (λ k. said (with_kind t k ∷ comma_token place ∷ tokens)) kind
+          ∙ ap (λ (b : Bool). with_tag (if b then None else Some n) (said tokens)) free
+          ∙ ap (with_tag (Some n)) say.said_is;
+    }

@@ -10,7 +10,13 @@ pub mod MarkLemmas
 pub mod ShownLemmas
 pub mod ReferenceLemmas
 pub mod NameLemmas
+pub mod DatumLemmas
 pub mod FewestLemmas
 pub mod DefinedLemmas
 pub mod NamedLemmas
 pub mod FlowLemmas
+pub mod NoteLemmas
+pub mod OwnLemmas
+pub mod FaultLemmas
+pub mod FormLemmas
+pub mod UnnamedLemmas

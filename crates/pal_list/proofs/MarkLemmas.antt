@@ -1,13 +1,15 @@
 -- Which cells are tagged, cell by cell.
-use Rattle.std.proofs.Common.{◌≡◌, ◌≢◌, ℕ, ◌%◌, ◌<◌, ◌≤◌, nat_eq, Bool, true, false, true≢false, ◌&&◌, ◌||◌, inl, inr, Option, Some, None, is_some, zero, suc, length, replicate, slice_index_or, slice_set, get_or-set_other, List, refl, ap, sym, ◌∙◌, arith}
+use Rattle.std.proofs.Common.{◌≡◌, ◌≢◌, ℕ, ◌%◌, ◌<◌, ◌≤◌, nat_eq, Bool, true, false, true≢false, ◌&&◌, ◌||◌, inl, inr, Option, Some, None, is_some, zero, suc, length, slice_set, get_or-set_other, List, refl, ap, sym, ◌∙◌, arith}
 use Rattle.std.proofs.lemmas.Bool.Decides.{eqb_tells}
 use Rattle.std.proofs.lemmas.Grind.{get_or-set_at}
-use Rattle.std.proofs.lemmas.List.{get_or-replicate}
 use Rattle.bin_tape.specs.Items.{Item, tape_map}
-use Rattle.pal_list.specs.References.{is_reference, referred_cell}
-use Rattle.pal_list.specs.Tags.{is_given, is_referred}
+use Rattle.flow8.specs.Exits.{referred_cell}
+use Rattle.pal_list.specs.References.{is_reference}
+use Rattle.flow8.specs.Flow.{word_in}
+use Rattle.pal_list.specs.Tags.{flagged_in, is_given, is_referred}
+use Rattle.pal_list.specs.Looks.{Look}
 use Rattle.pal_list.specs.Sources.{with_word, words_below, words_of_tape}
-use Rattle.pal_list.specs.Steps.{tagged_below, HoldsFlags}
+use Rattle.pal_list.specs.Steps.{tagged_below, given_by, HoldsFlags, HoldsMap, HoldsNames}
 use Rattle.pal_list.proofs.TapeLemmas.{below_none, below_more}
 
 -- ## The cells with words
@@ -56,19 +58,22 @@ given_below items (suc n) cell low =
 -- ## One cell more
 
 -- no memory reference stands in the cell
-pub mark_none : (is_code : ℕ → Bool) (items : List Item) (cell : ℕ) (tags : List Bool) → tape_map items cell ≡ None → HoldsFlags (tagged_below is_code items cell) tags
-    → HoldsFlags (tagged_below is_code items (suc cell)) tags
-mark_none is_code items cell tags none before other small =
+pub mark_none : (look : Look) (items : List Item) (cell : ℕ) (tags : List Bool) → tape_map items cell ≡ None → HoldsFlags (tagged_below look items cell) tags
+    → HoldsFlags (tagged_below look items (suc cell)) tags
+mark_none look items cell tags none before other small =
     before other small
-    ∙ sym (ap (λ l. is_given (words_of_tape items) other && is_referred is_code l other) (below_more items cell ∙ ap (λ w. with_word w cell (words_below items cell)) none))
+    ∙ sym (ap (λ l. is_given (words_of_tape items) other && (look.has_name other || is_referred look.is_code l other))
+    (below_more items cell ∙ ap (λ w. with_word w cell (words_below items cell)) none))
 
-pub mark_no_reference : (is_code : ℕ → Bool) (items : List Item) (cell word : ℕ) (tags : List Bool) → tape_map items cell ≡ Some word
-    → (is_code cell && is_reference (cell % 4096) word) ≡ false → HoldsFlags (tagged_below is_code items cell) tags → HoldsFlags (tagged_below is_code items (suc cell)) tags
-mark_no_reference is_code items cell word tags there no_reference before other small =
+pub mark_no_reference : (look : Look) (items : List Item) (cell word : ℕ) (tags : List Bool) → tape_map items cell ≡ Some word
+    → (look.is_code cell && is_reference (cell % 4096) word) ≡ false → HoldsFlags (tagged_below look items cell) tags
+    → HoldsFlags (tagged_below look items (suc cell)) tags
+mark_no_reference look items cell word tags there no_reference before other small =
     before other small
-    ∙ sym (ap (λ l. is_given (words_of_tape items) other && is_referred is_code l other) (below_more items cell ∙ ap (λ w. with_word w cell (words_below items cell)) there)
-    ∙ ap (λ b. is_given (words_of_tape items) other && (b || is_referred is_code (words_below items cell) other))
-    (neither (is_code cell) (is_reference (cell % 4096) word) (nat_eq (referred_cell cell word) other) no_reference))
+    ∙ sym (ap (λ l. is_given (words_of_tape items) other && (look.has_name other || is_referred look.is_code l other))
+    (below_more items cell ∙ ap (λ w. with_word w cell (words_below items cell)) there)
+    ∙ ap (λ b. is_given (words_of_tape items) other && (look.has_name other || (b || is_referred look.is_code (words_below items cell) other)))
+    (neither (look.is_code cell) (is_reference (cell % 4096) word) (nat_eq (referred_cell cell word) other) no_reference))
   where
     neither : (a b c : Bool) → (a && b) ≡ false → (a && (b && c)) ≡ false
     neither false b c e = refl
@@ -76,41 +81,53 @@ mark_no_reference is_code items cell word tags there no_reference before other s
     neither true true c e = absurd (true≢false e)
 
 -- one stands there
-pub mark_reference : (is_code : ℕ → Bool) (items : List Item) (cell word named : ℕ) (value : Bool) (tags : List Bool) → length tags ≡ 32768 → tape_map items cell ≡ Some word
-    → is_code cell ≡ true → is_reference (cell % 4096) word ≡ true → named ≡ referred_cell cell word → named < 32768 → value ≡ is_some (tape_map items named)
-    → HoldsFlags (tagged_below is_code items cell) tags → HoldsFlags (tagged_below is_code items (suc cell)) (slice_set tags named value)
-mark_reference is_code items cell word named value tags size there code reference is inside has before other small =
+pub mark_reference : (look : Look) (items : List Item) (cell word named : ℕ) (value : Bool) (tags : List Bool) → length tags ≡ 32768 → tape_map items cell ≡ Some word
+    → look.is_code cell ≡ true → is_reference (cell % 4096) word ≡ true → named ≡ referred_cell cell word → named < 32768 → value ≡ is_some (tape_map items named)
+    → HoldsFlags (tagged_below look items cell) tags → HoldsFlags (tagged_below look items (suc cell)) (slice_set tags named value)
+mark_reference look items cell word named value tags size there code reference is inside has before other small =
     elim (eqb_tells named other) [
       | inl same ↦
           get_or-set_at tags named other value false (sym same.1) (omega (arith, size, inside))
           ∙ has
           ∙ ap (λ c. is_some (tape_map items c)) same.1
           ∙ sym (given_below items 32768 other small)
-          ∙ sym (grown ∙ ap (λ b. is_given (words_of_tape items) other && (b || is_referred is_code (words_below items cell) other)) same.0 ∙ whole (is_given (words_of_tape items) other))
+          ∙ sym (grown
+          ∙ ap (λ b. is_given (words_of_tape items) other && (look.has_name other || (b || is_referred look.is_code (words_below items cell) other))) same.0
+          ∙ whole (is_given (words_of_tape items) other) (look.has_name other))
       | inr differ ↦
           get_or-set_other tags named other value false (λ e. differ.1 (sym e))
           ∙ before other small
-          ∙ sym (grown ∙ ap (λ b. is_given (words_of_tape items) other && (b || is_referred is_code (words_below items cell) other)) differ.0)
+          ∙ sym (grown
+          ∙ ap (λ b. is_given (words_of_tape items) other && (look.has_name other || (b || is_referred look.is_code (words_below items cell) other))) differ.0)
     ]
   where
-    grown : tagged_below is_code items (suc cell) other ≡ (is_given (words_of_tape items) other && (nat_eq named other || is_referred is_code (words_below items cell) other))
+    grown : tagged_below look items (suc cell) other
+        ≡ (is_given (words_of_tape items) other && (look.has_name other || (nat_eq named other || is_referred look.is_code (words_below items cell) other)))
     grown =
-        ap (λ l. is_given (words_of_tape items) other && is_referred is_code l other) (below_more items cell ∙ ap (λ w. with_word w cell (words_below items cell)) there)
-        ∙ ap (λ b. is_given (words_of_tape items) other && ((b && (is_reference (cell % 4096) word && nat_eq (referred_cell cell word) other)) || is_referred is_code (words_below items cell) other)) code
-        ∙ ap (λ b. is_given (words_of_tape items) other && ((b && nat_eq (referred_cell cell word) other) || is_referred is_code (words_below items cell) other)) reference
-        ∙ ap (λ c. is_given (words_of_tape items) other && (nat_eq c other || is_referred is_code (words_below items cell) other)) (sym is)
+        ap (λ r. is_given (words_of_tape items) other && (look.has_name other || r))
+        (ap (λ l. is_referred look.is_code l other) (below_more items cell ∙ ap (λ w. with_word w cell (words_below items cell)) there)
+        ∙ ap (λ b. (b && (is_reference (cell % 4096) word && nat_eq (referred_cell cell word) other)) || is_referred look.is_code (words_below items cell) other) code
+        ∙ ap (λ b. (b && nat_eq (referred_cell cell word) other) || is_referred look.is_code (words_below items cell) other) reference
+        ∙ ap (λ c. nat_eq c other || is_referred look.is_code (words_below items cell) other) (sym is))
 
-    whole : (b : Bool) → (b && true) ≡ b
-    whole true = refl
-    whole false = refl
+    whole : (b named : Bool) → (b && (named || true)) ≡ b
+    whole true true = refl
+    whole true false = refl
+    whole false named = refl
 
--- where no cell was looked at none is tagged
-pub mark_first : (is_code : ℕ → Bool) (count : ℕ) (items : List Item) (tags : List Bool) → 32768 ≤ count → tags ≡ replicate count false → HoldsFlags (tagged_below is_code items 0) tags
-mark_first is_code count items tags enough none other small =
-    ap (λ l. slice_index_or l other false) none
-    ∙ get_or-replicate count other false false (omega (arith, small, enough))
-    ∙ sym (ap (λ l. is_given (words_of_tape items) other && is_referred is_code l other) (below_none items) ∙ nothing (is_given (words_of_tape items) other))
+-- where no instruction was looked at those are tagged that have a word and a name
+pub mark_first : (look : Look) (items : List Item) (words : List (Option ℕ)) (names : Option (List (Option (List ℕ)))) (tags : List Bool) → HoldsMap items words
+    → HoldsNames look.has_name names
+    → ((cell : ℕ) → cell < 32768 → flagged_in tags cell ≡ (is_some (word_in words cell) && is_some (given_by names cell)))
+    → HoldsFlags (tagged_below look items 0) tags
+mark_first look items words names tags holds named flags other small =
+    flags other small
+    ∙ ap (λ o. is_some o && is_some (given_by names other)) (holds other small)
+    ∙ ap (λ b. is_some (tape_map items other) && b) (named other small)
+    ∙ ap (λ b. b && look.has_name other) (sym (given_below items 32768 other small))
+    ∙ ap (λ b. is_given (words_of_tape items) other && b) (alone (look.has_name other))
+    ∙ sym (ap (λ l. is_given (words_of_tape items) other && (look.has_name other || is_referred look.is_code l other)) (below_none items))
   where
-    nothing : (b : Bool) → (b && false) ≡ false
-    nothing true = refl
-    nothing false = refl
+    alone : (b : Bool) → b ≡ (b || false)
+    alone true = refl
+    alone false = refl

@@ -20,6 +20,7 @@ use Rattle.pal_asm.specs.Expressions.{Known, term_value, joined_values, value_be
 use Rattle.pal_asm.specs.Faults.{first_of, undefined, term_fault, terms_fault}
 use Rattle.pal_list.specs.Patterns.{Pattern, patterns, chosen, or_behind, shown_name, names}
 use Rattle.pal_list.specs.Statements.{is_named}
+use Rattle.pal_list.specs.Looks.{Look}
 use Rattle.pal_list.specs.References.{is_reference}
 use Rattle.pal_list.proofs.ByteLemmas.{both}
 use Rattle.pal_list.proofs.PieceLemmas.{kind_of, run_token, blank_token, tokens_at, is_run, are_runs}
@@ -120,13 +121,13 @@ not_true true e = absurd (cc e)
 not_true false e = refl
 
 -- the reserved names, one by one
-record IsFree (n : ℕ) : Type 0 where
-  reserved : is_reserved n ≡ false
-  decimal : nat_eq n (name_number (codes "DECIMA")) ≡ false
-  octal : nat_eq n (name_number (codes "OCTAL")) ≡ false
-  field : nat_eq n (name_number (codes "FIELD")) ≡ false
+pub record IsFree (n : ℕ) : Type 0 where
+  pub reserved : is_reserved n ≡ false
+  pub decimal : nat_eq n (name_number (codes "DECIMA")) ≡ false
+  pub octal : nat_eq n (name_number (codes "OCTAL")) ≡ false
+  pub field : nat_eq n (name_number (codes "FIELD")) ≡ false
 
-free_name : (n : ℕ) → is_reserved n ≡ false → IsFree n
+pub free_name : (n : ℕ) → is_reserved n ≡ false → IsFree n
 free_name n e =
     let six = six_no (nat_eq n (name_number (codes "DECIMA"))) (nat_eq n (name_number (codes "OCTAL"))) (nat_eq n (name_number (codes "FIELD")))
     (nat_eq n (name_number (codes "PAUSE"))) (nat_eq n (name_number (codes "I"))) (nat_eq n (name_number (codes "Z"))) e in
@@ -138,13 +139,18 @@ free_name n e =
     six_no false true c d e f h = absurd (cc h)
     six_no false false true d e f h = absurd (cc h)
 
+-- a name alone is a word
+pub lone_name : (n start end : ℕ) → IsFree n → operation_of n ≡ None
+    → said (record { kind = Term (Name n); start = start; end = end } ∷ []) ≡ Some record { tags = []; body = Word (record { joint = Add; term = Name n } ∷ []) }
+lone_name n start end free plain = rw (free.decimal, free.octal, plain, free.reserved) refl
+
 name_term : (n value : ℕ) → permanent n ≡ Some value → IsFree n → operation_of n ≡ None → IsTerm (Term (Name n)) (Name n) value
 name_term n value is free plain = record {
   kind_is = refl;
   free = rw free.reserved refl;
   value_is = λ known keeps place. keeps n value is;
   no_fault = λ known keeps place. ap undefined (keeps n value is);
-  lone = λ start end. rw (free.decimal, free.octal, plain, free.reserved) refl;
+  lone = λ start end. lone_name n start end free plain;
   first = λ start end blank stop next others behind e. rw (free.field, plain, free.reserved, e) refl;
 }
 
@@ -281,9 +287,9 @@ names_say p (q ∷ r ∷ others) at e =
           ∙ is.first t.start t.end blank.start blank.end (run_token (suc end) (shown_name q.2)) (blank_token next ∷ tokens_at (suc next) (names (r ∷ others))) (or_parts (q ∷ r ∷ others)) rest.parts_are;
     }
 
-names_word : (tagged : ℕ → Bool) (p : Pattern) (others : List Pattern) (word place : ℕ) → all_fit (p ∷ others) ≡ true → or_behind 0 (p ∷ others) ≡ word
-    → IsWordOf tagged (Word (all_parts p others)) place word
-names_word tagged p [] word place e comes =
+names_word : (look : Look) (tagged : ℕ → Bool) (p : Pattern) (others : List Pattern) (word place : ℕ) → all_fit (p ∷ others) ≡ true → or_behind 0 (p ∷ others) ≡ word
+    → IsWordOf look tagged (Word (all_parts p others)) place word
+names_word look tagged p [] word place e comes =
     let here = fine p (both (fits p) true e).0 in
     let is = here.is_term in
     record {
@@ -291,7 +297,7 @@ names_word tagged p [] word place e comes =
       value = λ known knows. ap (joined_values Add (Some 0)) (is.value_is known knows.keeps place) ∙ ap (λ n. Some n) (small_or p.3 here.small ∙ comes);
       no_fault = λ known knows. ap (λ f. first_of f None) (is.no_fault known knows.keeps place);
     }
-names_word tagged p (q ∷ others) word place e comes =
+names_word look tagged p (q ∷ others) word place e comes =
     let split = both (fits p) (all_fit (q ∷ others)) e in
     let here = fine p split.0 in
     let is = here.is_term in
@@ -307,24 +313,24 @@ names_word tagged p (q ∷ others) word place e comes =
           ap (λ f. first_of f (terms_fault known place (or_parts (q ∷ others)))) (is.no_fault known knows.keeps place) ∙ rest.no_fault known knows.keeps place;
     }
 
-named : (is_code tagged : ℕ → Bool) (cell word : ℕ) (list : List Pattern) → all_fit list ≡ true → or_behind 0 list ≡ word → 0 < word → is_reference (cell % 4096) word ≡ false
-    → IsShown is_code tagged cell word (names list)
-named is_code tagged cell word [] e comes some apart = absurd (omega (arith, comes, some))
-named is_code tagged cell word (p ∷ others) e comes some apart = record {
+named : (look : Look) (tagged : ℕ → Bool) (cell word : ℕ) (list : List Pattern) → all_fit list ≡ true → or_behind 0 list ≡ word → 0 < word → look.is_code cell ≡ true → is_reference (cell % 4096) word ≡ false
+    → IsShown look tagged cell word (names list)
+named look tagged cell word [] e comes some code apart = absurd (omega (arith, comes, some))
+named look tagged cell word (p ∷ others) e comes some code apart = record {
   first = (shown_name p.2);
   others = names others;
   some = refl;
   runs = runs_of (p ∷ others) e;
   body = Word (all_parts p others);
   says = λ at. names_say p others at e;
-  means = names_word tagged p others word (cell % 4096) e comes;
-  names = λ c r g. absurd (true≢false (sym r ∙ apart));
+  means = names_word look tagged p others word (cell % 4096) e comes;
+  names = record { reference = λ c r g. absurd (true≢false (sym r ∙ apart)); datum = λ d g. absurd (true≢false (sym code ∙ d)) };
 }
 
-pub shown_names : (is_code tagged : ℕ → Bool) (cell word : ℕ) → is_reference (cell % 4096) word ≡ false → is_named word ≡ true → IsShown is_code tagged cell word (names (chosen word patterns))
-shown_names is_code tagged cell word apart shown =
+pub shown_names : (look : Look) (tagged : ℕ → Bool) (cell word : ℕ) → look.is_code cell ≡ true → is_reference (cell % 4096) word ≡ false → is_named word ≡ true → IsShown look tagged cell word (names (chosen word patterns))
+shown_names look tagged cell word code apart shown =
     let split = both (nat_lt 3071 word) (nat_eq (or_behind 0 (chosen word patterns)) word) shown in
-    named is_code tagged cell word (chosen word patterns) (chosen_fit word patterns table_fits) (equal (or_behind 0 (chosen word patterns)) word split.1) (some word split.0) apart
+    named look tagged cell word (chosen word patterns) (chosen_fit word patterns table_fits) (equal (or_behind 0 (chosen word patterns)) word split.1) (some word split.0) code apart
   where
     some : (n : ℕ) → nat_lt 3071 n ≡ true → 0 < n
     some n e = grind (arith, nat_tests)

@@ -2,8 +2,10 @@
 use Rattle.std.proofs.Common.{◌≡◌, ◌≢◌, ◌↔◌, ℕ, ◌<◌, ◌%◌, nat_eq, Bool, true, false, ◌&&◌, ◌||◌, ◌⊎◌, inl, inr, Option, Some, None, is_some, zero, suc, List, refl, ap, sym, ◌∙◌, arith}
 use Rattle.std.proofs.lemmas.Bool.Decides.{eqb_tells}
 use Rattle.bin_tape.specs.Items.{Item, IsPrefix, tape_map}
-use Rattle.pal_list.specs.References.{is_reference, referred_cell}
+use Rattle.flow8.specs.Exits.{referred_cell}
+use Rattle.pal_list.specs.References.{is_reference}
 use Rattle.pal_list.specs.Tags.{is_given, is_referred}
+use Rattle.pal_list.specs.Looks.{Look}
 use Rattle.pal_list.specs.Sources.{with_word, words_below}
 use Rattle.pal_list.specs.Defined.{Refers}
 use Rattle.pal_list.proofs.ByteLemmas.{both}
@@ -96,14 +98,26 @@ not_none_some : (o : Option ℕ) → o ≢ None → is_some o ≡ true
 not_none_some None ne = absurd (ne refl)
 not_none_some (Some word) ne = refl
 
-pub tags_what_is_named : (is_code : ℕ → Bool) (items : List Item) (count : ℕ) → count ≡ 32768 → IsPrefix items → (cell : ℕ) → cell < count
-    → ((is_given (words_below items count) cell && is_referred is_code (words_below items count) cell) ≡ true) ↔ ((tape_map items cell ≢ None) × Refers is_code items cell)
-tags_what_is_named is_code items count size prefix cell small = (
+pub tags_what_is_named : (look : Look) (items : List Item) (count : ℕ) → count ≡ 32768 → IsPrefix items → (cell : ℕ) → cell < count
+    → ((is_given (words_below items count) cell && (look.has_name cell || is_referred look.is_code (words_below items count) cell)) ≡ true)
+    ↔ ((tape_map items cell ≢ None) × ((look.has_name cell ≡ true) ⊎ Refers look.is_code items cell))
+tags_what_is_named look items count size prefix cell small = (
   λ e.
-      let parts = both (is_given (words_below items count) cell) (is_referred is_code (words_below items count) cell) e in
-      (some_not_none (tape_map items cell) (sym (given_below items count cell small) ∙ parts.0), found is_code items count cell parts.1),
+      let parts = both (is_given (words_below items count) cell) (look.has_name cell || is_referred look.is_code (words_below items count) cell) e in (
+        some_not_none (tape_map items cell) (sym (given_below items count cell small) ∙ parts.0),
+        elim (either_of (look.has_name cell) (is_referred look.is_code (words_below items count) cell) parts.1) [
+          | inl own ↦ inl own
+          | inr refers ↦ inr (found look.is_code items count cell refers)
+        ],
+      ),
   λ named.
-      let is = named.1 in
-      let low = inside (tape_map items is.cell) is.cell is.word (map_fits items prefix is.cell) is.there in
-      rw (given_below items count cell small ∙ not_none_some (tape_map items cell) named.0, there_found is_code items count cell is (omega (arith, low, size))) refl,
+      let given = given_below items count cell small ∙ not_none_some (tape_map items cell) named.0 in
+      elim named.1 [
+        | inl own ↦ rw (given, own) refl
+        | inr is ↦
+            let low = inside (tape_map items is.cell) is.cell is.word (map_fits items prefix is.cell) is.there in
+            rw given
+            (or_right (look.has_name cell) (is_referred look.is_code (words_below items count) cell)
+            (there_found look.is_code items count cell is (omega (arith, low, size))))
+      ],
 )

@@ -4,7 +4,7 @@ use Rattle.std.specs.Prelude.{codes}
 use Rattle.std.proofs.lemmas.Bool.Decides.{eqb_tells, nat_tests}
 use Rattle.word12.specs.Octal.{octal4}
 use Rattle.pal_lex.specs.Runs.{name_number}
-use Rattle.pal_lex.specs.Language.{word_of, is_named}
+use Rattle.pal_lex.specs.Language.{word_of, is_reserved, is_named}
 use Rattle.pal_lex.specs.Grammar.{said, has_bad_number, free_term}
 use Rattle.pal_lex.specs.declared.pieces.Term as term
 use Rattle.pal_lex.specs.declared.pieces.Term.TheVariants.{Name, Number}
@@ -17,13 +17,13 @@ use Rattle.pal_lex.specs.declared.phrases.Body.TheVariants.{Reference}
 use Rattle.pal_asm.specs.Expressions.{Known, term_value, joined_values, value_of}
 use Rattle.pal_asm.specs.Words.{offset_of, offset_to, with_offset}
 use Rattle.pal_asm.specs.Faults.{first_of, undefined, term_fault, no_offset, out_of_reach}
-use Rattle.pal_list.specs.References.{operation_name, is_reference, referred, referred_cell}
-use Rattle.pal_list.specs.Tags.{tag, tag_name}
+use Rattle.flow8.specs.Exits.{referred, referred_cell}
+use Rattle.pal_list.specs.Looks.{Look, name_in, IsNaming}
+use Rattle.pal_list.specs.References.{operation_name, is_reference}
 use Rattle.pal_list.specs.Statements.{address, reference}
 use Rattle.pal_list.proofs.ByteLemmas.{both, coded4}
 use Rattle.pal_list.proofs.PieceLemmas.{kind_of, run_token, blank_token, tokens_at, is_run, are_runs}
-use Rattle.pal_list.proofs.GrammarLemmas.{Say, term_parts, octal_kind, with_kind}
-use Rattle.pal_list.proofs.TagLemmas.{tag_run, tag_ordinary}
+use Rattle.pal_list.proofs.GrammarLemmas.{Say, term_parts, name_run, name_kind, octal_kind, with_kind}
 use Rattle.pal_list.proofs.StepLemmas.{Knows, IsWordOf}
 use Rattle.pal_list.proofs.SourceLemmas.{IsShown}
 
@@ -60,17 +60,17 @@ record IsAddressTerm (t : term.Term) : Type 0 where
   no_z : is_named (name_number (codes "Z")) (Term t) ≡ false
 
 -- what is shown for an address is a term that stands for it, the name of a cell's tag where the cell has one
-record IsAddress (tagged : ℕ → Bool) (target : ℕ) (shown : List ℕ) (address : ℕ) : Type 0 where
+record IsAddress (look : Look) (tagged : ℕ → Bool) (target : ℕ) (shown : List ℕ) (address : ℕ) : Type 0 where
   t : term.Term
   kind_is : kind_of shown ≡ Term t
   run : is_run shown ≡ true
   is_term : IsAddressTerm t
-  value : (known : Known) → Knows tagged known → (place : ℕ) → term_value known place t ≡ Some address
-  no_fault : (known : Known) → Knows tagged known → (place : ℕ) → term_fault known place t ≡ None
-  is_name : tagged target ≡ true → t ≡ Name (tag_name target)
+  value : (known : Known) → Knows look tagged known → (place : ℕ) → term_value known place t ≡ Some address
+  no_fault : (known : Known) → Knows look tagged known → (place : ℕ) → term_fault known place t ≡ None
+  is_name : tagged target ≡ true → t ≡ Name (name_in look.name target)
 
-number_address : (tagged : ℕ → Bool) (target a : ℕ) → tagged target ≡ false → a < 4096 → IsAddress tagged target (octal4 a) a
-number_address tagged target a none small = record {
+number_address : (look : Look) (tagged : ℕ → Bool) (target a : ℕ) → tagged target ≡ false → a < 4096 → IsAddress look tagged target (octal4 a) a
+number_address look tagged target a none small = record {
   t = Number a;
   kind_is = octal_kind a small;
   run = coded4 a;
@@ -80,15 +80,32 @@ number_address tagged target a none small = record {
   is_name = λ is_marked. absurd (true≢false (sym is_marked ∙ none));
 }
 
-tag_address : (tagged : ℕ → Bool) (cell : ℕ) → cell < 32768 → tagged cell ≡ true → IsAddress tagged cell (tag cell) (cell % 4096)
-tag_address tagged cell small is_marked =
-    let n = tag_name cell in
-    let plain = tag_ordinary cell in
+-- a name that isn't reserved is neither `I` nor `Z`
+ordinary : (n : ℕ) → is_reserved n ≡ false → (nat_eq n (name_number (codes "I")) ≡ false) × (nat_eq n (name_number (codes "Z")) ≡ false)
+ordinary n e =
+    last_two (nat_eq n (name_number (codes "DECIMA"))) (nat_eq n (name_number (codes "OCTAL"))) (nat_eq n (name_number (codes "FIELD")))
+    (nat_eq n (name_number (codes "PAUSE"))) (nat_eq n (name_number (codes "I"))) (nat_eq n (name_number (codes "Z"))) e
+  where
+    last_two : (a b c d e f : Bool) → (a || b || c || d || e || f) ≡ false → (e ≡ false) × (f ≡ false)
+    last_two false false false false false false h = (refl, refl)
+    last_two true b c d e f h = absurd (cc h)
+    last_two false true c d e f h = absurd (cc h)
+    last_two false false true d e f h = absurd (cc h)
+    last_two false false false true e f h = absurd (cc h)
+    last_two false false false false true f h = absurd (cc h)
+    last_two false false false false false true h = absurd (cc h)
+
+tag_address : (look : Look) (tagged : ℕ → Bool) (cell : ℕ) → IsNaming look.name → cell < 32768 → tagged cell ≡ true → IsAddress look tagged cell (look.name cell) (cell % 4096)
+tag_address look tagged cell naming small is_marked =
+    let n = name_in look.name cell in
+    let is = naming.are_names cell small in
+    let free = naming.not_reserved cell small in
+    let plain = ordinary n free in
     record {
       t = Name n;
-      kind_is = refl;
-      run = tag_run cell;
-      is_term = record { free = ap (λ (b : Bool). if b then None else Some (Name n)) plain.reserved; no_i = plain.no_i; no_z = plain.no_z };
+      kind_is = name_kind (look.name cell) is;
+      run = name_run (look.name cell) is;
+      is_term = record { free = ap (λ (b : Bool). if b then None else Some (Name n)) free; no_i = plain.0; no_z = plain.1 };
       value = λ known knows place. knows.tags_are cell small is_marked;
       no_fault = λ known knows place. ap undefined (knows.tags_are cell small is_marked);
       is_name = λ is_marked. refl;
@@ -155,9 +172,9 @@ abbrev indirection : Bool → List (List ℕ)
 indirection true = codes "I" ∷ []
 indirection false = []
 
-reference_says : (tagged : ℕ → Bool) (target : ℕ) (op : Operation) (indirect : Bool) (shown : List ℕ) (a at : ℕ) (is : IsAddress tagged target shown a)
+reference_says : (look : Look) (tagged : ℕ → Bool) (target : ℕ) (op : Operation) (indirect : Bool) (shown : List ℕ) (a at : ℕ) (is : IsAddress look tagged target shown a)
     → Say (tokens_at at (name_of op ∷ (indirection indirect ++ shown ∷ []))) [] (Reference op indirect (Some (term_parts is.t)))
-reference_says tagged target op true shown a at is =
+reference_says look tagged target op true shown a at is =
     let t = run_token (suc (suc (at + 3) + 1)) shown in
     let long = three_long op in
     record {
@@ -170,7 +187,7 @@ reference_says tagged target op true shown a at is =
           ∙ ap (λ k. said (indirect_tokens at (name_of op) (with_kind t k))) is.kind_is
           ∙ indirect_said op is.t at t.start t.end is.is_term;
     }
-reference_says tagged target op false shown a at is =
+reference_says look tagged target op false shown a at is =
     let t = run_token (suc (at + 3)) shown in
     let long = three_long op in
     record {
@@ -244,10 +261,10 @@ address_small at word inside =
 small_mod : (a : ℕ) → a < 4096 → (0 + a) % 4096 ≡ a
 small_mod a small = omega arith
 
-reference_word : (tagged : ℕ → Bool) (target : ℕ) (op : Operation) (indirect : Bool) (shown : List ℕ) (at a word offset : ℕ) (is : IsAddress tagged target shown a) → a < 4096
+reference_word : (look : Look) (tagged : ℕ → Bool) (target : ℕ) (op : Operation) (indirect : Bool) (shown : List ℕ) (at a word offset : ℕ) (is : IsAddress look tagged target shown a) → a < 4096
     → offset_of at a ≡ Some offset → word_of op + (if indirect then 256 else 0) + offset ≡ word
-    → IsWordOf tagged (Reference op indirect (Some (term_parts is.t))) at word
-reference_word tagged target op indirect shown at a word offset is small there comes = record {
+    → IsWordOf look tagged (Reference op indirect (Some (term_parts is.t))) at word
+reference_word look tagged target op indirect shown at a word offset is small there comes = record {
   is_word = refl;
   value = λ known knows.
       ap (λ v. with_offset op indirect (offset_to at (joined_values Add (Some 0) v))) (is.value known knows at)
@@ -291,29 +308,31 @@ referred_inside cell word small = inside (cell / 4096) (referred (cell % 4096) w
     inside field at low small = omega (arith, low, small)
 
 -- the address that is shown
-address_shown : (tagged : ℕ → Bool) (cell word : ℕ) → cell < 32768 → IsAddress tagged (referred_cell cell word) (address tagged cell word) (referred (cell % 4096) word)
-address_shown tagged cell word small = either (tagged (referred_cell cell word)) refl
+address_shown : (look : Look) (tagged : ℕ → Bool) (cell word : ℕ) → IsNaming look.name → cell < 32768
+    → IsAddress look tagged (referred_cell cell word) (address look.name tagged cell word) (referred (cell % 4096) word)
+address_shown look tagged cell word naming small = either (tagged (referred_cell cell word)) refl
   where
     back : (field at : ℕ) → at < 4096 → (4096 * field + at) % 4096 ≡ at
     back field at small = omega (arith, small)
 
     either : (b : Bool) → tagged (referred_cell cell word) ≡ b
-        → IsAddress tagged (referred_cell cell word) (if b then tag (referred_cell cell word) else octal4 (referred (cell % 4096) word)) (referred (cell % 4096) word)
+        → IsAddress look tagged (referred_cell cell word) (if b then look.name (referred_cell cell word) else octal4 (referred (cell % 4096) word)) (referred (cell % 4096) word)
     either true e =
         let low = address_small (cell % 4096) word (omega arith) in
-        subst (IsAddress tagged (referred_cell cell word) (tag (referred_cell cell word))) (back (cell / 4096) (referred (cell % 4096) word) low)
-        (tag_address tagged (referred_cell cell word) (referred_inside cell word small) e)
-    either false e = number_address tagged (referred_cell cell word) (referred (cell % 4096) word) e (address_small (cell % 4096) word (omega arith))
+        subst (IsAddress look tagged (referred_cell cell word) (look.name (referred_cell cell word))) (back (cell / 4096) (referred (cell % 4096) word) low)
+        (tag_address look tagged (referred_cell cell word) naming (referred_inside cell word small) e)
+    either false e = number_address look tagged (referred_cell cell word) (referred (cell % 4096) word) e (address_small (cell % 4096) word (omega arith))
 
-pub shown_reference : (is_code tagged : ℕ → Bool) (cell word : ℕ) → cell < 32768 → is_reference (cell % 4096) word ≡ true → IsShown is_code tagged cell word (reference tagged cell word)
-shown_reference is_code tagged cell word inside shown =
+pub shown_reference : (look : Look) (tagged : ℕ → Bool) (cell word : ℕ) → IsNaming look.name → cell < 32768 → look.is_code cell ≡ true → is_reference (cell % 4096) word ≡ true
+    → IsShown look tagged cell word (reference look.name tagged cell word)
+shown_reference look tagged cell word naming inside code shown =
     let at = cell % 4096 in
     let parts = both (nat_lt word 3072) (nat_eq (word / 128 % 2) 0 || nat_le 128 at) shown in
     let op = operation_at (word / 512) (operation_small word parts.0) in
     let indirect = nat_eq (word / 256 % 2) 1 in
     let a = referred at word in
-    let named = address tagged cell word in
-    let is = address_shown tagged cell word inside in
+    let named = address look.name tagged cell word in
+    let is = address_shown look tagged cell word naming inside in
     let small = address_small at word (omega arith) in
     let there = offset_there at word (omega arith) shown in
     let bit = bit_value (word / 256 % 2) (omega arith) in
@@ -327,12 +346,15 @@ shown_reference is_code tagged cell word inside shown =
           ∙ ap (λ l. name_of op.operation ∷ l ++ named ∷ []) (indirection_is (word / 256 % 2));
       runs = runs_named op.operation (indirection indirect ++ named ∷ []) (runs_are indirect named is.run);
       body = Reference op.operation indirect (Some (term_parts is.t));
-      says = λ place. reference_says tagged (referred_cell cell word) op.operation indirect named a place is;
-      means = reference_word tagged (referred_cell cell word) op.operation indirect named at a word there.offset is small there.is (whole (word_of op.operation) (if indirect then 256 else 0) there.offset word v bit o);
-      names = λ c r is_marked. record {
-        operation = op.operation;
-        is_operation = v;
-        body_is = ap (λ t. Reference op.operation indirect (Some (term_parts t))) (is.is_name is_marked);
+      says = λ place. reference_says look tagged (referred_cell cell word) op.operation indirect named a place is;
+      means = reference_word look tagged (referred_cell cell word) op.operation indirect named at a word there.offset is small there.is (whole (word_of op.operation) (if indirect then 256 else 0) there.offset word v bit o);
+      names = record {
+        reference = λ c r is_marked. record {
+          operation = op.operation;
+          is_operation = v;
+          body_is = ap (λ t. Reference op.operation indirect (Some (term_parts t))) (is.is_name is_marked);
+        };
+        datum = λ d is_marked. absurd (true≢false (sym code ∙ d));
       };
     }
   where

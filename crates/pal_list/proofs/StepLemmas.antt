@@ -2,11 +2,8 @@
 use Rattle.std.proofs.Common.{◌≡◌, ◌≢◌, ℕ, ◌+◌, ◌*◌, ◌/◌, ◌%◌, ◌<◌, nat_eq, nat_lt, Bool, true, false, ◌&&◌, ◌||◌, if◌then◌else◌, inl, inr, ◌⊎◌, Option, Some, None, Result, Ok, List, [], ◌∷◌, ◌++◌, refl, ap, sym, subst, ◌∙◌, arith, append_assoc, append-nil}
 use Rattle.std.proofs.lemmas.Bool.Decides.{eqb_tells, nat_tests}
 use Rattle.bin_tape.specs.Pairs.{last_word}
-use Rattle.pal_lex.specs.Language.{word_of}
 use Rattle.pal_lex.specs.Statements.{radix_after}
 use Rattle.pal_lex.specs.declared.faults.LexFault.{LexFault}
-use Rattle.pal_lex.specs.declared.pieces.Term.TheVariants.{Name}
-use Rattle.pal_lex.specs.declared.phrases.Operation.{Operation}
 use Rattle.pal_lex.specs.declared.runs.Radix.TheVariants as radix
 use Rattle.pal_lex.specs.declared.phrases.Body.{Body}
 use Rattle.pal_lex.specs.declared.phrases.Body.TheVariants.{Nothing, Origin, Define, Decimal, Octal, Pause, Field, Reference, Word}
@@ -20,12 +17,11 @@ use Rattle.pal_asm.specs.Words.{body_word, with_pair, word_values, pairs_by}
 use Rattle.pal_asm.specs.Faults.{first_of, at_line, past, defined_otherwise, tags_fault, statement_fault, first_order, word_fault, words_fault, has_word}
 use Rattle.pal_asm.specs.declared.faults.Code.TheVariants.{DT, PF}
 use Rattle.pal_asm.specs.declared.faults.AsmFault.{AsmFault}
-use Rattle.pal_list.specs.References.{is_reference, referred_cell}
-use Rattle.pal_list.specs.Tags.{tag_name, is_given}
-use Rattle.pal_list.specs.Named.{NamesThere}
+use Rattle.pal_list.specs.Tags.{is_given}
+use Rattle.pal_list.specs.Looks.{Look, IsNaming, name_in}
+use Rattle.pal_list.specs.Named.{IsByTag, IsThere}
 use Rattle.pal_list.specs.Defined.{tags_in, tags_of, IsNoTag}
-use Rattle.pal_list.proofs.GrammarLemmas.{term_parts, number_parts}
-use Rattle.pal_list.proofs.TagLemmas.{tags_differ, tag_not_permanent}
+use Rattle.pal_list.proofs.GrammarLemmas.{number_parts}
 use Rattle.pal_list.proofs.TapeLemmas.{last_append}
 
 -- there is a pair
@@ -44,67 +40,49 @@ abbrev pub Keeps : Known → Type 0
 Keeps known = (name value : ℕ) → permanent name ≡ Some value → known name ≡ Some value
 
 -- and the tags of these cells for theirs
-pub record Knows (tagged : ℕ → Bool) (known : Known) : Type 0 where
+pub record Knows (look : Look) (tagged : ℕ → Bool) (known : Known) : Type 0 where
   pub keeps : Keeps known
-  pub tags_are : (cell : ℕ) → cell < 32768 → tagged cell ≡ true → known (tag_name cell) ≡ Some (cell % 4096)
+  pub tags_are : (cell : ℕ) → cell < 32768 → tagged cell ≡ true → known (name_in look.name cell) ≡ Some (cell % 4096)
 
 -- what a cell's tag stands for behind these words
 abbrev pub tag_value : (ℕ → Bool) → List (ℕ × ℕ) → ℕ → Option ℕ
 tag_value tagged pairs cell = if is_given pairs cell && tagged cell then Some (cell % 4096) else None
 
--- a body is a reference of a word's operation by a name, and indirect where the word is
-pub record IsNamed (word name : ℕ) (body : Body) : Type 0 where
-  pub operation : Operation
-  pub is_operation : word_of operation ≡ 512 * (word / 512)
-  pub body_is : body ≡ Reference operation (nat_eq (word / 256 % 2) 1) (Some (term_parts (Name name)))
-
--- the body of an instruction that is a memory reference whose cell has a tag is one by that tag's name
-abbrev pub NamesTag : (ℕ → Bool) → (ℕ → Bool) → ℕ → ℕ → Body → Type 0
-NamesTag is_code tagged cell word body =
-    is_code cell ≡ true → is_reference (cell % 4096) word ≡ true → tagged (referred_cell cell word) ≡ true → IsNamed word (tag_name (referred_cell cell word)) body
-
--- so it is with the statement there
-abbrev pub NamesTagThere : (ℕ → Bool) → (ℕ → Bool) → Source → ℕ → ℕ → Type 0
-NamesTagThere is_code tagged source cell word =
-    is_code cell ≡ true → is_reference (cell % 4096) word ≡ true → tagged (referred_cell cell word) ≡ true → NamesThere source cell word (tag_name (referred_cell cell word))
-
 -- Behind these statements the next word goes to this place of this field, and these words stand in cells; no statement has
 -- a fault, and names stand for their permanent values, but for the tags of these words' cells.
-pub record Stands (is_code tagged : ℕ → Bool) (source : Source) (place field : ℕ) (pairs : List (ℕ × ℕ)) : Type 0 where
+pub record Stands (look : Look) (tagged : ℕ → Bool) (source : Source) (place field : ℕ) (pairs : List (ℕ × ℕ)) : Type 0 where
   pub place_is : place_at source ≡ place
   pub field_is : field_at source ≡ field
-  pub others_are : (name : ℕ) → IsNoTag name → values source name ≡ permanent name
-  pub values_are : (cell : ℕ) → cell < 32768 → values source (tag_name cell) ≡ tag_value tagged pairs cell
-  pub tags_are : tags_in source ≡ tags_of tagged pairs
+  pub others_are : (name : ℕ) → IsNoTag look.name name → values source name ≡ permanent name
+  pub values_are : (cell : ℕ) → cell < 32768 → values source (name_in look.name cell) ≡ tag_value tagged pairs cell
+  pub tags_are : tags_in source ≡ tags_of look.name tagged pairs
   pub radix_is : radix_after source ≡ radix.Octal
   pub no_fault : first_order source ≡ None
-  pub no_word_fault : (last : Known) → Knows tagged last → words_fault last source ≡ None
-  pub pairs_are : (last : Known) → Knows tagged last → pairs_by last source ≡ pairs
+  pub no_word_fault : (last : Known) → Knows look tagged last → words_fault last source ≡ None
+  pub pairs_are : (last : Known) → Knows look tagged last → pairs_by last source ≡ pairs
   pub word_is : has_word source ≡ is_some_pair pairs
-  pub named_are : (cell word : ℕ) → last_word pairs cell ≡ Some word → NamesTagThere is_code tagged source cell word
+  pub named_are : (cell word : ℕ) → last_word pairs cell ≡ Some word → IsThere (IsByTag look tagged cell word) source cell
 
 not_some : (value : ℕ) → None ≡ Some value → ⊥
 not_some value e = cc
 
 -- what is named before stays so
-pub names_older : (s : Result Statement LexFault) (source : Source) (cell word name : ℕ) → NamesThere source cell word name → NamesThere (s ∷ source) cell word name
-names_older s source cell word name is = record {
+pub names_older : (Is : Body → Type 0) (s : Result Statement LexFault) (source : Source) (cell : ℕ) → IsThere Is source cell → IsThere Is (s ∷ source) cell
+names_older Is s source cell is = record {
   newer = s ∷ is.newer;
   older = is.older;
   statement = is.statement;
   split = ap (λ l. s ∷ l) is.split;
   place = is.place;
-  operation = is.operation;
-  is_operation = is.is_operation;
-  body = is.body;
+  is = is.is;
 }
 
-pub stands_first : (is_code tagged : ℕ → Bool) → Stands is_code tagged [] 128 0 []
-stands_first is_code tagged = record {
+pub stands_first : (look : Look) (tagged : ℕ → Bool) → IsNaming look.name → Stands look tagged [] 128 0 []
+stands_first look tagged naming = record {
   place_is = refl;
   field_is = refl;
   others_are = λ name free. refl;
-  values_are = λ cell small. tag_not_permanent cell;
+  values_are = naming.not_permanent;
   tags_are = refl;
   radix_is = refl;
   no_fault = refl;
@@ -118,17 +96,18 @@ abbrev pub statement_of : ℕ → Bool → List Token → List ℕ → Body → 
 statement_of line last tokens tags body = record { line = line; tags = tags; body = body; last = last; source = 0; tokens = tokens }
 
 -- a permanent name is no tag
-permanent_is_no_tag : (name value : ℕ) → permanent name ≡ Some value → IsNoTag name
-permanent_is_no_tag name value e cell small same = not_some value (sym (tag_not_permanent cell) ∙ ap permanent same ∙ e)
+permanent_is_no_tag : (look : Look) → IsNaming look.name → (name value : ℕ) → permanent name ≡ Some value → IsNoTag look.name name
+permanent_is_no_tag look naming name value e cell small same = not_some value (sym (naming.not_permanent cell small) ∙ ap permanent same ∙ e)
 
-pub stands_keeps : (is_code tagged : ℕ → Bool) (source : Source) (place field : ℕ) (pairs : List (ℕ × ℕ)) → Stands is_code tagged source place field pairs → Keeps (values source)
-stands_keeps is_code tagged source place field pairs is name value e = is.others_are name (permanent_is_no_tag name value e) ∙ e
+pub stands_keeps : (look : Look) (tagged : ℕ → Bool) → IsNaming look.name → (source : Source) (place field : ℕ) (pairs : List (ℕ × ℕ)) → Stands look tagged source place field pairs
+    → Keeps (values source)
+stands_keeps look tagged naming source place field pairs is name value e = is.others_are name (permanent_is_no_tag look naming name value e) ∙ e
 
 -- ## An origin
 
-pub origin_step : (is_code tagged : ℕ → Bool) (source : Source) (place field : ℕ) (pairs : List (ℕ × ℕ)) (line : ℕ) (tokens : List Token) (a : ℕ) → a < 4096
-    → Stands is_code tagged source place field pairs → Stands is_code tagged (Ok (statement_of line false tokens [] (Origin (number_parts a))) ∷ source) a field pairs
-origin_step is_code tagged source place field pairs line tokens a small is = record {
+pub origin_step : (look : Look) (tagged : ℕ → Bool) (source : Source) (place field : ℕ) (pairs : List (ℕ × ℕ)) (line : ℕ) (tokens : List Token) (a : ℕ) → a < 4096
+    → Stands look tagged source place field pairs → Stands look tagged (Ok (statement_of line false tokens [] (Origin (number_parts a))) ∷ source) a field pairs
+origin_step look tagged source place field pairs line tokens a small is = record {
   place_is = small_mod a small;
   field_is = is.field_is;
   others_are = is.others_are;
@@ -139,7 +118,7 @@ origin_step is_code tagged source place field pairs line tokens a small is = rec
   no_word_fault = λ last knows. ap (λ f. first_of f None) (is.no_word_fault last knows);
   pairs_are = is.pairs_are;
   word_is = is.word_is;
-  named_are = λ cell word e c r g. names_older _ source cell word (tag_name (referred_cell cell word)) (is.named_are cell word e c r g);
+  named_are = λ cell word e. names_older (IsByTag look tagged cell word) _ source cell (is.named_are cell word e);
 }
   where
     small_mod : (a : ℕ) → a < 4096 → (0 + a) % 4096 + 0 ≡ a
@@ -147,9 +126,9 @@ origin_step is_code tagged source place field pairs line tokens a small is = rec
 
 -- ## A field
 
-pub field_step : (is_code tagged : ℕ → Bool) (source : Source) (place field : ℕ) (pairs : List (ℕ × ℕ)) (line : ℕ) (tokens : List Token) (n : ℕ) → n < 8
-    → Stands is_code tagged source place field pairs → Stands is_code tagged (Ok (statement_of line false tokens [] (Field (number_parts n))) ∷ source) 128 n pairs
-field_step is_code tagged source place field pairs line tokens n small is = record {
+pub field_step : (look : Look) (tagged : ℕ → Bool) (source : Source) (place field : ℕ) (pairs : List (ℕ × ℕ)) (line : ℕ) (tokens : List Token) (n : ℕ) → n < 8
+    → Stands look tagged source place field pairs → Stands look tagged (Ok (statement_of line false tokens [] (Field (number_parts n))) ∷ source) 128 n pairs
+field_step look tagged source place field pairs line tokens n small is = record {
   place_is = refl;
   field_is = small_mod n small;
   others_are = is.others_are;
@@ -160,7 +139,7 @@ field_step is_code tagged source place field pairs line tokens n small is = reco
   no_word_fault = λ last knows. ap (λ f. first_of f None) (is.no_word_fault last knows);
   pairs_are = is.pairs_are;
   word_is = is.word_is;
-  named_are = λ cell word e c r g. names_older _ source cell word (tag_name (referred_cell cell word)) (is.named_are cell word e c r g);
+  named_are = λ cell word e. names_older (IsByTag look tagged cell word) _ source cell (is.named_are cell word e);
 }
   where
     small_mod : (a : ℕ) → a < 8 → (0 + a) % 4096 ≡ a
@@ -169,12 +148,33 @@ field_step is_code tagged source place field pairs line tokens n small is = reco
     not_above : (a : ℕ) → a < 8 → nat_lt 7 a ≡ false
     not_above a small = grind (arith, nat_tests)
 
+-- ## A comment, or an empty line
+
+pub nothing_step : (look : Look) (tagged : ℕ → Bool) (source : Source) (place field : ℕ) (pairs : List (ℕ × ℕ)) (line : ℕ) (tokens : List Token)
+    → Stands look tagged source place field pairs → Stands look tagged (Ok (statement_of line false tokens [] Nothing) ∷ source) place field pairs
+nothing_step look tagged source place field pairs line tokens is = record {
+  place_is = no_more (last_setting source) (words_since source) place is.place_is;
+  field_is = is.field_is;
+  others_are = is.others_are;
+  values_are = is.values_are;
+  tags_are = append-nil (tags_in source) ∙ is.tags_are;
+  radix_is = is.radix_is;
+  no_fault = rw is.no_fault refl;
+  no_word_fault = λ last knows. ap (λ f. first_of f None) (is.no_word_fault last knows);
+  pairs_are = is.pairs_are;
+  word_is = is.word_is;
+  named_are = λ cell word e. names_older (IsByTag look tagged cell word) _ source cell (is.named_are cell word e);
+}
+  where
+    no_more : (a b c : ℕ) → a + b ≡ c → a + (0 + b) ≡ c
+    no_more a b c e = omega (arith, e)
+
 -- ## The tag of a word
 
--- the tags of a cell's statement
+-- the tags of a statement that has this name for a tag, or none
 abbrev pub label : Bool → ℕ → List ℕ
-label true cell = tag_name cell ∷ []
-label false cell = []
+label true name = name ∷ []
+label false name = []
 
 not_same : (a b : ℕ) → a ≢ b → nat_eq a b ≡ false
 not_same a b ne = elim (eqb_tells a b) [ inl same ↦ absurd (ne same.1) | inr other ↦ other.0 ]
@@ -190,45 +190,45 @@ given_more (pair ∷ pairs) at word cell =
     turned false b c = refl
 
 -- another name
-other_name : (b : Bool) (cell place name : ℕ) (known : Known) → cell < 32768 → IsNoTag name → with_tags (label b cell) place known name ≡ known name
-other_name true cell place name known small free = ap (λ (b : Bool). if b then Some place else known name) (not_same (tag_name cell) name (free cell small))
-other_name false cell place name known small free = refl
+other_name : (b : Bool) (tag place name : ℕ) (known : Known) → tag ≢ name → with_tags (label b tag) place known name ≡ known name
+other_name true tag place name known apart = ap (λ (b : Bool). if b then Some place else known name) (not_same tag name apart)
+other_name false tag place name known apart = refl
 
-same_name : (a b : ℕ) → a ≡ b → nat_eq (tag_name a) (tag_name b) ≡ true
-same_name a b same = elim (eqb_tells (tag_name a) (tag_name b)) [ inl is ↦ is.0 | inr other ↦ absurd (other.1 (ap tag_name same)) ]
+same_name : (a b : ℕ) → a ≡ b → nat_eq a b ≡ true
+same_name a b same = elim (eqb_tells a b) [ inl is ↦ is.0 | inr other ↦ absurd (other.1 same) ]
 
 not_tagged : (given tagged : Bool) (value : ℕ) → tagged ≡ false → (if given && tagged then Some value else None) ≡ None
 not_tagged true tagged value e = rw e refl
 not_tagged false tagged value e = refl
 
 -- a cell's tag behind one word more, which is at this cell
-same_cell : (tagged : ℕ → Bool) (b : Bool) (given : Bool) (at cell : ℕ) (known : Known) → tagged at ≡ b → at ≡ cell
-    → known (tag_name cell) ≡ (if given && tagged cell then Some (cell % 4096) else None)
-    → with_tags (label b at) (at % 4096) known (tag_name cell) ≡ (if tagged cell then Some (cell % 4096) else None)
-same_cell tagged true given at cell known marked same before =
-    ap (λ (t : Bool). if t then Some (at % 4096) else known (tag_name cell)) (same_name at cell same)
+same_cell : (look : Look) (tagged : ℕ → Bool) (b : Bool) (given : Bool) (at cell : ℕ) (known : Known) → tagged at ≡ b → at ≡ cell
+    → known (name_in look.name cell) ≡ (if given && tagged cell then Some (cell % 4096) else None)
+    → with_tags (label b (name_in look.name at)) (at % 4096) known (name_in look.name cell) ≡ (if tagged cell then Some (cell % 4096) else None)
+same_cell look tagged true given at cell known marked same before =
+    ap (λ (t : Bool). if t then Some (at % 4096) else known (name_in look.name cell)) (same_name (name_in look.name at) (name_in look.name cell) (ap (name_in look.name) same))
     ∙ ap (λ n. Some (n % 4096)) same
     ∙ sym (ap (λ (t : Bool). if t then Some (cell % 4096) else None) (ap tagged (sym same) ∙ marked))
-same_cell tagged false given at cell known marked same before =
+same_cell look tagged false given at cell known marked same before =
     let none : tagged cell ≡ false = ap tagged (sym same) ∙ marked in
     before ∙ not_tagged given (tagged cell) (cell % 4096) none ∙ sym (ap (λ (t : Bool). if t then Some (cell % 4096) else None) none)
 
 -- which is at another
-other_cell : (b : Bool) (at cell place : ℕ) (known : Known) → at < 32768 → cell < 32768 → at ≢ cell → with_tags (label b at) place known (tag_name cell) ≡ known (tag_name cell)
-other_cell true at cell place known inside small ne =
-    ap (λ (t : Bool). if t then Some place else known (tag_name cell)) (not_same (tag_name at) (tag_name cell) (λ e. ne (tags_differ at cell inside small e)))
-other_cell false at cell place known inside small ne = refl
+other_cell : (look : Look) (b : Bool) (at cell place : ℕ) (known : Known) → IsNaming look.name → at < 32768 → cell < 32768 → at ≢ cell
+    → with_tags (label b (name_in look.name at)) place known (name_in look.name cell) ≡ known (name_in look.name cell)
+other_cell look b at cell place known naming inside small ne =
+    other_name b (name_in look.name at) place (name_in look.name cell) known (λ e. ne (naming.differ at cell inside small e))
 
-tag_behind : (tagged : ℕ → Bool) (pairs : List (ℕ × ℕ)) (at word cell : ℕ) (known : Known) → at < 32768 → cell < 32768
-    → known (tag_name cell) ≡ tag_value tagged pairs cell
-    → with_tags (label (tagged at) at) (at % 4096) known (tag_name cell) ≡ tag_value tagged (pairs ++ (at, word) ∷ []) cell
-tag_behind tagged pairs at word cell known inside small before =
+tag_behind : (look : Look) (tagged : ℕ → Bool) (pairs : List (ℕ × ℕ)) (at word cell : ℕ) (known : Known) → IsNaming look.name → at < 32768 → cell < 32768
+    → known (name_in look.name cell) ≡ tag_value tagged pairs cell
+    → with_tags (label (tagged at) (name_in look.name at)) (at % 4096) known (name_in look.name cell) ≡ tag_value tagged (pairs ++ (at, word) ∷ []) cell
+tag_behind look tagged pairs at word cell known naming inside small before =
     elim (eqb_tells at cell) [
       | inl same ↦
-          same_cell tagged (tagged at) (is_given pairs cell) at cell known refl same.1 before
+          same_cell look tagged (tagged at) (is_given pairs cell) at cell known refl same.1 before
           ∙ ap (λ g. if (g || is_given pairs cell) && tagged cell then Some (cell % 4096) else None) (sym same.0)
       | inr other ↦
-          other_cell (tagged at) at cell (at % 4096) known inside small other.1
+          other_cell look (tagged at) at cell (at % 4096) known naming inside small other.1
           ∙ before
           ∙ ap (λ g. if (g || is_given pairs cell) && tagged cell then Some (cell % 4096) else None) (sym other.0)
     ]
@@ -257,42 +257,46 @@ no_other : (place : ℕ) (o : Option ℕ) → Is o place → defined_otherwise D
 no_other place o (inl none) = ap (defined_otherwise DT place) none
 no_other place o (inr some) = ap (defined_otherwise DT place) some ∙ ap (λ (b : Bool). if b then None else Some DT) (same_number place)
 
-tag_fault : (b : Bool) (place cell : ℕ) (known : Known) → place < 4096 → Is (known (tag_name cell)) place → tags_fault known place (label b cell) ≡ None
-tag_fault true place cell known small before =
-    ap (λ (t : Bool). first_of (first_of (if t then Some PF else None) (defined_otherwise DT place (known (tag_name cell)))) None) (not_past place small)
-    ∙ ap (λ f. first_of f None) (no_other place (known (tag_name cell)) before)
-tag_fault false place cell known small before = refl
+tag_fault : (b : Bool) (place tag : ℕ) (known : Known) → place < 4096 → Is (known tag) place → tags_fault known place (label b tag) ≡ None
+tag_fault true place tag known small before =
+    ap (λ (t : Bool). first_of (first_of (if t then Some PF else None) (defined_otherwise DT place (known tag))) None) (not_past place small)
+    ∙ ap (λ f. first_of f None) (no_other place (known tag) before)
+tag_fault false place tag known small before = refl
 
 -- ## What names stand for in a word
 
 -- In a word behind statements names stand for what they stand for there, or at last.
-knows_there : (tagged : ℕ → Bool) (there last : Known) → Keeps there → ((cell : ℕ) → cell < 32768 → Is (there (tag_name cell)) (cell % 4096)) → Knows tagged last
-    → Knows tagged (λ name. if_none (there name) (last name))
-knows_there tagged there last keeps tags knows = record {
+knows_there : (look : Look) (tagged : ℕ → Bool) (there last : Known) → Keeps there → ((cell : ℕ) → cell < 32768 → Is (there (name_in look.name cell)) (cell % 4096))
+    → Knows look tagged last → Knows look tagged (λ name. if_none (there name) (last name))
+knows_there look tagged there last keeps tags knows = record {
   keeps = λ name value e. ap (λ o. if_none o (last name)) (keeps name value e);
-  tags_are = λ cell small marked. first (there (tag_name cell)) (last (tag_name cell)) (cell % 4096) (tags cell small) (knows.tags_are cell small marked);
+  tags_are = λ cell small marked. first (there (name_in look.name cell)) (last (name_in look.name cell)) (cell % 4096) (tags cell small) (knows.tags_are cell small marked);
 }
   where
     first : (o later : Option ℕ) (value : ℕ) → Is o value → later ≡ Some value → if_none o later ≡ Some value
     first o later value (inl none) e = ap (λ o. if_none o later) none ∙ e
     first o later value (inr some) e = ap (λ o. if_none o later) some
 
-knows_here : (is_code tagged : ℕ → Bool) (source : Source) (field : ℕ) (pairs : List (ℕ × ℕ)) (at word : ℕ) (last : Known) → at < 32768
-    → Stands is_code tagged source (at % 4096) field pairs → Knows tagged last → Knows tagged (word_values last (label (tagged at) at) source)
-knows_here is_code tagged source field pairs at word last small is knows =
-    subst (λ p. Knows tagged (λ name. if_none (with_tags (label (tagged at) at) p (values source) name) (last name))) (sym is.place_is)
-    (knows_there tagged (with_tags (label (tagged at) at) (at % 4096) (values source)) last
-    (λ name value e. other_name (tagged at) at (at % 4096) name (values source) small (permanent_is_no_tag name value e) ∙ is.others_are name (permanent_is_no_tag name value e) ∙ e)
-    (λ cell inside. subst (λ o. Is o (cell % 4096)) (sym (tag_behind tagged pairs at word cell (values source) small inside (is.values_are cell inside))) (tag_value_is tagged (pairs ++ (at, word) ∷ []) cell))
+knows_here : (look : Look) (tagged : ℕ → Bool) (source : Source) (field : ℕ) (pairs : List (ℕ × ℕ)) (at word : ℕ) (last : Known) → IsNaming look.name → at < 32768
+    → Stands look tagged source (at % 4096) field pairs → Knows look tagged last → Knows look tagged (word_values last (label (tagged at) (name_in look.name at)) source)
+knows_here look tagged source field pairs at word last naming small is knows =
+    let tag = name_in look.name at in
+    subst (λ p. Knows look tagged (λ name. if_none (with_tags (label (tagged at) tag) p (values source) name) (last name))) (sym is.place_is)
+    (knows_there look tagged (with_tags (label (tagged at) tag) (at % 4096) (values source)) last
+    (λ name value e.
+    let free = permanent_is_no_tag look naming name value e in
+    other_name (tagged at) tag (at % 4096) name (values source) (free at small) ∙ is.others_are name free ∙ e)
+    (λ cell inside. subst (λ o. Is o (cell % 4096)) (sym (tag_behind look tagged pairs at word cell (values source) naming small inside (is.values_are cell inside)))
+    (tag_value_is tagged (pairs ++ (at, word) ∷ []) cell))
     knows)
 
 -- ## A word
 
 -- a body is this word at a place, where names stand for what the source makes of them
-pub record IsWordOf (tagged : ℕ → Bool) (body : Body) (place word : ℕ) : Type 0 where
+pub record IsWordOf (look : Look) (tagged : ℕ → Bool) (body : Body) (place word : ℕ) : Type 0 where
   pub is_word : is_word body ≡ true
-  pub value : (known : Known) → Knows tagged known → body_word known place body ≡ Some word
-  pub no_fault : (known : Known) → Knows tagged known → word_fault known place body ≡ None
+  pub value : (known : Known) → Knows look tagged known → body_word known place body ≡ Some word
+  pub no_fault : (known : Known) → Knows look tagged known → word_fault known place body ≡ None
 
 -- what the statement of a word changes
 record IsStated (source : Source) (s : Statement) : Type 0 where
@@ -316,75 +320,73 @@ word_stated source line tokens tags (Reference op indirect address) e =
 word_stated source line tokens tags (Word x) e =
     record { place = refl; field = refl; values_are = λ name. refl; radix_is = refl; fault = refl; word_is = refl }
 
-pub listed_more : (tagged : ℕ → Bool) (pairs : List (ℕ × ℕ)) (cell word : ℕ) → tags_of tagged (pairs ++ (cell, word) ∷ []) ≡ tags_of tagged pairs ++ label (tagged cell) cell
-listed_more tagged [] cell word = append-nil _ ∙ labelled (tagged cell)
+pub listed_more : (name : ℕ → List ℕ) (tagged : ℕ → Bool) (pairs : List (ℕ × ℕ)) (cell word : ℕ)
+    → tags_of name tagged (pairs ++ (cell, word) ∷ []) ≡ tags_of name tagged pairs ++ label (tagged cell) (name_in name cell)
+listed_more name tagged [] cell word = append-nil _ ∙ labelled (tagged cell)
   where
-    labelled : (b : Bool) → (if b then tag_name cell ∷ [] else []) ≡ label b cell
+    labelled : (b : Bool) → (if b then name_in name cell ∷ [] else []) ≡ label b (name_in name cell)
     labelled true = refl
     labelled false = refl
-listed_more tagged (pair ∷ pairs) cell word =
-    let first = if tagged pair.0 then tag_name pair.0 ∷ [] else [] in
-    ap (λ l. first ++ l) (listed_more tagged pairs cell word) ∙ sym (append_assoc first (tags_of tagged pairs) (label (tagged cell) cell))
+listed_more name tagged (pair ∷ pairs) cell word =
+    let first = if tagged pair.0 then name_in name pair.0 ∷ [] else [] in
+    ap (λ l. first ++ l) (listed_more name tagged pairs cell word) ∙ sym (append_assoc first (tags_of name tagged pairs) (label (tagged cell) (name_in name cell)))
 
 again : (cell : ℕ) → 4096 * (cell / 4096) + cell % 4096 ≡ cell
 again cell = omega arith
 
-names_here : (is_code tagged : ℕ → Bool) (source : Source) (pairs : List (ℕ × ℕ)) (s : Statement) (cell word : ℕ) → NamesTag is_code tagged cell word s.body
-    → Stands is_code tagged source (cell % 4096) (cell / 4096) pairs → NamesTagThere is_code tagged (Ok s ∷ source) cell word
-names_here is_code tagged source pairs s cell word names is c r g =
-    let named = names c r g in
-    record {
-      newer = [];
-      older = source;
-      statement = s;
-      split = refl;
-      place = ap (λ f. 4096 * f + place_at source) is.field_is ∙ ap (λ p. 4096 * (cell / 4096) + p) is.place_is ∙ again cell;
-      operation = named.operation;
-      is_operation = named.is_operation;
-      body = named.body_is;
-    }
+names_here : (Is : Body → Type 0) (look : Look) (tagged : ℕ → Bool) (source : Source) (pairs : List (ℕ × ℕ)) (s : Statement) (cell : ℕ) → Is s.body
+    → Stands look tagged source (cell % 4096) (cell / 4096) pairs → IsThere Is (Ok s ∷ source) cell
+names_here Is look tagged source pairs s cell names is = record {
+  newer = [];
+  older = source;
+  statement = s;
+  split = refl;
+  place = ap (λ f. 4096 * f + place_at source) is.field_is ∙ ap (λ p. 4096 * (cell / 4096) + p) is.place_is ∙ again cell;
+  is = names;
+}
 
 same_word : (a b : ℕ) → Some a ≡ Some b → a ≡ b
 same_word a b e = cc
 
-names_behind : (is_code tagged : ℕ → Bool) (source : Source) (pairs : List (ℕ × ℕ)) (s : Statement) (cell word : ℕ) → NamesTag is_code tagged cell word s.body
-    → Stands is_code tagged source (cell % 4096) (cell / 4096) pairs
-    → (other there : ℕ) → last_word (pairs ++ (cell, word) ∷ []) other ≡ Some there → NamesTagThere is_code tagged (Ok s ∷ source) other there
-names_behind is_code tagged source pairs s cell word names is other there e =
+names_behind : (look : Look) (tagged : ℕ → Bool) (source : Source) (pairs : List (ℕ × ℕ)) (s : Statement) (cell word : ℕ) → IsByTag look tagged cell word s.body
+    → Stands look tagged source (cell % 4096) (cell / 4096) pairs
+    → (other there : ℕ) → last_word (pairs ++ (cell, word) ∷ []) other ≡ Some there → IsThere (IsByTag look tagged other there) (Ok s ∷ source) other
+names_behind look tagged source pairs s cell word names is other there e =
     let step = sym (last_append pairs cell word other) ∙ e in
     elim (eqb_tells cell other) [
       | inl same ↦
           let word_is = same_word word there (ap (λ (b : Bool). if b then Some word else last_word pairs other) (sym same.0) ∙ step) in
-          subst (λ (c : ℕ). NamesTagThere is_code tagged (Ok s ∷ source) c there) same.1
-          (subst (λ (w : ℕ). NamesTagThere is_code tagged (Ok s ∷ source) cell w) word_is (names_here is_code tagged source pairs s cell word names is))
+          subst (λ (c : ℕ). IsThere (IsByTag look tagged c there) (Ok s ∷ source) c) same.1
+          (subst (λ (w : ℕ). IsThere (IsByTag look tagged cell w) (Ok s ∷ source) cell) word_is (names_here (IsByTag look tagged cell word) look tagged source pairs s cell names is))
       | inr apart ↦
-          λ c r g. names_older (Ok s) source other there (tag_name (referred_cell other there))
-          (is.named_are other there (ap (λ (b : Bool). if b then Some word else last_word pairs other) (sym apart.0) ∙ step) c r g)
+          names_older (IsByTag look tagged other there) (Ok s) source other
+          (is.named_are other there (ap (λ (b : Bool). if b then Some word else last_word pairs other) (sym apart.0) ∙ step))
     ]
 
-pub word_step : (is_code tagged : ℕ → Bool) (source : Source) (pairs : List (ℕ × ℕ)) (line : ℕ) (tokens : List Token) (body : Body) (cell word : ℕ) → cell < 32768
-    → IsWordOf tagged body (cell % 4096) word → NamesTag is_code tagged cell word body → Stands is_code tagged source (cell % 4096) (cell / 4096) pairs
-    → Stands is_code tagged (Ok (statement_of line false tokens (label (tagged cell) cell) body) ∷ source) (cell % 4096 + 1) (cell / 4096) (pairs ++ (cell, word) ∷ [])
-word_step is_code tagged source pairs line tokens body cell word small means names is =
-    let tags = label (tagged cell) cell in
+pub word_step : (look : Look) (tagged : ℕ → Bool) (source : Source) (pairs : List (ℕ × ℕ)) (line : ℕ) (tokens : List Token) (body : Body) (cell word : ℕ) → IsNaming look.name
+    → cell < 32768 → IsWordOf look tagged body (cell % 4096) word → IsByTag look tagged cell word body → Stands look tagged source (cell % 4096) (cell / 4096) pairs
+    → Stands look tagged (Ok (statement_of line false tokens (label (tagged cell) (name_in look.name cell)) body) ∷ source) (cell % 4096 + 1) (cell / 4096) (pairs ++ (cell, word) ∷ [])
+word_step look tagged source pairs line tokens body cell word naming small means names is =
+    let tag = name_in look.name cell in
+    let tags = label (tagged cell) tag in
     let place = cell % 4096 in
     let stated = word_stated source line tokens tags body means.is_word in
     let inside : place < 4096 = omega arith in
-    let here = λ (last : Known) (knows : Knows tagged last). knows_here is_code tagged source (cell / 4096) pairs cell word last small is knows in
+    let here = λ (last : Known) (knows : Knows look tagged last). knows_here look tagged source (cell / 4096) pairs cell word last naming small is knows in
     record {
       place_is = stated.place ∙ next (last_setting source) (words_since source) place is.place_is;
       field_is = stated.field ∙ is.field_is;
-      others_are = λ name free. stated.values_are name ∙ other_name (tagged cell) cell (place_at source) name (values source) small free ∙ is.others_are name free;
+      others_are = λ name free. stated.values_are name ∙ other_name (tagged cell) tag (place_at source) name (values source) (free cell small) ∙ is.others_are name free;
       values_are = λ other low.
-          stated.values_are (tag_name other)
-          ∙ ap (λ p. with_tags tags p (values source) (tag_name other)) is.place_is
-          ∙ tag_behind tagged pairs cell word other (values source) small low (is.values_are other low);
-      tags_are = ap (λ l. l ++ tags) is.tags_are ∙ sym (listed_more tagged pairs cell word);
+          stated.values_are (name_in look.name other)
+          ∙ ap (λ p. with_tags tags p (values source) (name_in look.name other)) is.place_is
+          ∙ tag_behind look tagged pairs cell word other (values source) naming small low (is.values_are other low);
+      tags_are = ap (λ l. l ++ tags) is.tags_are ∙ sym (listed_more look.name tagged pairs cell word);
       radix_is = stated.radix_is ∙ is.radix_is;
       no_fault =
           ap (λ f. first_of (first_order source) (at_line line f)) (stated.fault ∙ ap (λ p. first_of (tags_fault (values source) p tags) (past p)) is.place_is)
           ∙ ap (λ f. first_of (first_order source) (at_line line (first_of f (past place))))
-          (tag_fault (tagged cell) place cell (values source) inside (subst (λ o. Is o place) (sym (is.values_are cell small)) (tag_value_is tagged pairs cell)))
+          (tag_fault (tagged cell) place tag (values source) inside (subst (λ o. Is o place) (sym (is.values_are cell small)) (tag_value_is tagged pairs cell)))
           ∙ word_first (first_order source) line place inside is.no_fault;
       no_word_fault = λ last knows.
           ap (λ p. first_of (words_fault last source) (at_line line (word_fault (word_values last tags source) p body))) is.place_is
@@ -397,7 +399,7 @@ word_step is_code tagged source pairs line tokens body cell word small means nam
           ∙ ap (λ f. pairs ++ (4096 * f + place, word) ∷ []) is.field_is
           ∙ ap (λ c. pairs ++ (c, word) ∷ []) (again cell);
       word_is = stated.word_is ∙ one_more pairs (cell, word);
-      named_are = names_behind is_code tagged source pairs (statement_of line false tokens tags body) cell word names is;
+      named_are = names_behind look tagged source pairs (statement_of line false tokens tags body) cell word names is;
     }
   where
     next : (a b c : ℕ) → a + b ≡ c → a + (1 + b) ≡ c + 1
@@ -407,8 +409,8 @@ word_step is_code tagged source pairs line tokens body cell word small means nam
     word_first older line place small none = rw (none, not_past place small) refl
 
 -- an octal number is its word
-pub number_word : (tagged : ℕ → Bool) (place word : ℕ) → word < 4096 → IsWordOf tagged (Word (number_parts word)) place word
-number_word tagged place word small = record { is_word = refl; value = λ known knows. ap (λ n. Some n) (small_mod word small); no_fault = λ known knows. refl }
+pub number_word : (look : Look) (tagged : ℕ → Bool) (place word : ℕ) → word < 4096 → IsWordOf look tagged (Word (number_parts word)) place word
+number_word look tagged place word small = record { is_word = refl; value = λ known knows. ap (λ n. Some n) (small_mod word small); no_fault = λ known knows. refl }
   where
     small_mod : (a : ℕ) → a < 4096 → (0 + a) % 4096 ≡ a
     small_mod a small = omega arith

@@ -1,5 +1,5 @@
 -- The tags of cells as names: they rise with their cells, and none of them is a name of the language.
-use Rattle.std.proofs.Common.{◌≡◌, ℕ, ◌+◌, ◌*◌, ◌/◌, ◌%◌, ◌<◌, ◌≤◌, nat_eq, nat_lt, nat_le, Bool, true, false, ◌&&◌, ◌||◌, ◌⊎◌, inl, inr, Some, None, cond, unwrap_or, zero, suc, List, [], ◌∷◌, refl, ap, ◌∙◌, arith}
+use Rattle.std.proofs.Common.{◌≡◌, ℕ, ◌+◌, ◌*◌, ◌/◌, ◌%◌, ◌<◌, ◌≤◌, nat_eq, nat_lt, nat_le, Bool, true, false, ◌&&◌, ◌||◌, ◌⊎◌, inl, inr, Option, Some, None, cond, unwrap_or, zero, suc, List, [], ◌∷◌, refl, ap, sym, ◌∙◌, arith}
 use Rattle.std.specs.Prelude.{codes}
 use Rattle.std.specs.Cmp.{unsigned_tied}
 use Rattle.std.specs.FinMap.{find}
@@ -9,18 +9,21 @@ use Rattle.word12.specs.Octal.{octal_digit}
 use Rattle.word12.specs.Sixbit.{is_letter, is_digit, sixbit_code, name_number}
 use Rattle.pal_lex.specs.Language.{is_reserved}
 use Rattle.pal_sym.specs.Permanent.{permanent, permanent_names}
-use Rattle.pal_list.specs.Tags.{tag, tag_name}
+use Rattle.pal_list.specs.Tags.{tag}
+use Rattle.pal_list.specs.Looks.{is_name, IsNaming, or_tag, name_or_tag, AreOwnNames}
 use Rattle.pal_list.proofs.ByteLemmas.{both, octal, coded4}
-use Rattle.pal_list.proofs.PieceLemmas.{is_run}
 
 -- ## A tag is a name
 
-pub tag_run : (cell : ℕ) → is_run (tag cell) ≡ true
-tag_run cell =
+pub tag_is_name : (cell : ℕ) → is_name (tag cell) ≡ true
+tag_is_name cell =
     let field = octal (cell / 4096) in
     rw (field.coded, coded4 (cell % 4096)) refl
 
 -- ## Its number
+
+abbrev tag_name : ℕ → ℕ
+tag_name cell = name_number (tag cell)
 
 digit_code : (n : ℕ) → unwrap_or (sixbit_code (octal_digit n)) 0 ≡ octal_digit n
 digit_code n =
@@ -85,7 +88,7 @@ tag_spread cell small = tag_digits cell ∙ whole cell small
         let d : cell % 8 ≡ cell % 4096 % 8 = omega (arith, small) in
         joined (cell / 8 / 8 / 8 / 8 % 8) (cell / 8 / 8 / 8 % 8) (cell / 8 / 8 % 8) (cell / 8 % 8) (cell % 8) _ _ _ _ _ f a b c d
 
-pub tags_rise : (a b : ℕ) → a < b → b < 32768 → tag_name a < tag_name b
+tags_rise : (a b : ℕ) → a < b → b < 32768 → tag_name a < tag_name b
 tags_rise a b less small =
     let rise = spread_rises 5 a b small less in
     let below = tag_spread a (omega (arith, less, small)) in
@@ -158,13 +161,8 @@ pub tag_not_permanent : (cell : ℕ) → permanent (tag_name cell) ≡ None
 unfolding permanent
 tag_not_permanent cell = not_found (tag_name cell) permanent_names (tag_between cell) refl
 
-pub record IsOrdinary (n : ℕ) : Type 0 where
-  pub reserved : is_reserved n ≡ false
-  pub no_i : nat_eq n (name_number (codes "I")) ≡ false
-  pub no_z : nat_eq n (name_number (codes "Z")) ≡ false
-
-pub tag_ordinary : (cell : ℕ) → IsOrdinary (tag_name cell)
-tag_ordinary cell =
+tag_not_reserved : (cell : ℕ) → is_reserved (tag_name cell) ≡ false
+tag_not_reserved cell =
     let n = tag_name cell in
     let is = tag_between cell in
     let decimal = apart n (name_number (codes "DECIMA")) is refl in
@@ -173,7 +171,38 @@ tag_ordinary cell =
     let pause = apart n (name_number (codes "PAUSE")) is refl in
     let i = apart n (name_number (codes "I")) is refl in
     let z = apart n (name_number (codes "Z")) is refl in
-    record { reserved = none _ _ _ _ _ _ decimal octal field pause i z; no_i = i; no_z = z }
+    none _ _ _ _ _ _ decimal octal field pause i z
   where
     none : (a b c d e f : Bool) → a ≡ false → b ≡ false → c ≡ false → d ≡ false → e ≡ false → f ≡ false → (a || b || c || d || e || f) ≡ false
     none a b c d e f p q r s t u = rw (p, q, r, s, t, u) refl
+
+-- tags are names of their own
+pub tag_naming : IsNaming tag
+tag_naming = record {
+  are_names = λ cell small. tag_is_name cell;
+  differ = tags_differ;
+  not_permanent = λ cell small. tag_not_permanent cell;
+  not_reserved = λ cell small. tag_not_reserved cell;
+}
+
+-- ## Names that some cells are given
+
+either_name : (Is : List ℕ → Type 0) (given : Option (List ℕ)) (cell : ℕ) → ((name : List ℕ) → given ≡ Some name → Is name) → Is (tag cell) → Is (or_tag given cell)
+either_name Is None cell named tagged = tagged
+either_name Is (Some name) cell named tagged = named name refl
+
+pub given_naming : (given : ℕ → Option (List ℕ)) → AreOwnNames given → IsNaming (name_or_tag given)
+given_naming given own = record {
+  are_names = λ cell small. either_name (λ n. is_name n ≡ true) (given cell) cell (λ name e. own.are_names cell name small e) (tag_is_name cell);
+  differ = λ a b small little.
+      either_name (λ n. name_number n ≡ name_number (or_tag (given b) b) → a ≡ b) (given a) a
+      (λ name e.
+      either_name (λ m. name_number name ≡ name_number m → a ≡ b) (given b) b (λ other f same. own.differ a b name other small little e f same)
+      (λ same. absurd (own.no_tags a b name small little e same)))
+      (either_name (λ m. tag_name a ≡ name_number m → a ≡ b) (given b) b (λ other f same. absurd (own.no_tags b a other little small f (sym same)))
+      (λ same. tags_differ a b small little same));
+  not_permanent = λ cell small.
+      either_name (λ n. permanent (name_number n) ≡ None) (given cell) cell (λ name e. own.not_permanent cell name small e) (tag_not_permanent cell);
+  not_reserved = λ cell small.
+      either_name (λ n. is_reserved (name_number n) ≡ false) (given cell) cell (λ name e. own.not_reserved cell name small e) (tag_not_reserved cell);
+}

@@ -1,21 +1,13 @@
 -- The words of a tape, cell by cell.
-use Rattle.std.proofs.Common.{◌≡◌, ◌≢◌, ℕ, ◌+◌, ◌*◌, ◌<◌, ◌≤◌, nat_eq, Bool, true, false, Result, Ok, Err, MatchResult, IsErrAnd, if◌then◌else◌, inl, inr, Option, Some, None, zero, suc, length, replicate, reverse, take, drop, slice_index_or, slice_set, get_or-set_other, List, [], ◌∷◌, ◌++◌, ◌⊎◌, refl, ap, sym, subst, ◌∙◌, arith}
+use Rattle.std.proofs.Common.{◌≡◌, ◌≢◌, ℕ, ◌<◌, ◌≤◌, nat_eq, Bool, true, false, if◌then◌else◌, inl, inr, Option, Some, None, zero, suc, length, replicate, reverse, take, drop, List, [], ◌∷◌, ◌++◌, ◌⊎◌, refl, ap, sym, subst, ◌∙◌, arith}
 use Rattle.std.specs.Option.{option_or}
 use Rattle.std.proofs.lemmas.Bool.Decides.{eqb_tells, leb_tells}
-use Rattle.std.proofs.lemmas.Grind.{get_or-set_at}
 use Rattle.std.proofs.lemmas.List.{get_or-replicate, reverse-append}
-use Rattle.std.proofs.lemmas.Result.{err_from_is_err_and}
 use Rattle.std.proofs.Math.Seq.{take-append_seam}
-use Rattle.bin_tape.specs.Items.{Item, Leader, Field, Origin, Word, IsPrefix, field_after, address_after, cell_after, words_of, tape_map}
+use Rattle.bin_tape.specs.Items.{Item, Leader, Field, Origin, Word, IsPrefix, field_after, address_after, cell_after, tape_map}
 use Rattle.bin_tape.specs.Pairs.{last_word, ArePairs}
-use Rattle.bin_tape.specs.Progress.{Progress}
-use Rattle.bin_tape.specs.Reading.{HasRead, IsWhole}
-use Rattle.bin_tape.specs.Fault.{IsFault}
-use Rattle.bin_tape.specs.declared.faults.TapeFault.{TapeFault}
-use Rattle.pal_list.specs.declared.faults.ListFault.{ListFault}
-use Rattle.pal_list.specs.declared.faults.ListFault.TheVariants.{Tape}
-use Rattle.pal_list.specs.Sources.{IsListFault, with_word, words_below}
-use Rattle.pal_list.specs.Steps.{HoldsRead, tagged_in}
+use Rattle.pal_list.specs.Sources.{with_word, words_below}
+use Rattle.pal_list.specs.Tags.{flagged_in}
 
 -- ## The last word of a cell
 
@@ -29,34 +21,7 @@ last_append (pair ∷ pairs) at word cell =
     moved true word later first = refl
     moved false word later first = refl
 
-pub map_words : (items : List Item) (cell : ℕ) → last_word (words_of items) cell ≡ tape_map items cell
-map_words [] cell = refl
-map_words (Leader f ∷ older) cell = map_words older cell
-map_words (Field n ∷ older) cell = map_words older cell
-map_words (Origin high low ∷ older) cell = map_words older cell
-map_words (Word high low ∷ older) cell =
-    last_append (words_of older) (cell_after older) (64 * high + low) cell
-    ∙ ap (λ o. if nat_eq (cell_after older) cell then Some (64 * high + low) else o) (map_words older cell)
-
--- one cell more has a word
-pub hold_one : (words : List (Option ℕ)) (out : List (ℕ × ℕ)) (index at word : ℕ) → length words ≡ 32768 → index ≡ at → index < 32768
-    → ((cell : ℕ) → cell < 32768 → slice_index_or words cell None ≡ last_word out cell)
-    → (cell : ℕ) → cell < 32768 → slice_index_or (slice_set words index (Some word)) cell None ≡ last_word (out ++ (at, word) ∷ []) cell
-hold_one words out index at word size is inside held cell within =
-    elim (eqb_tells at cell) [
-      | inl same ↦
-          get_or-set_at words index cell (Some word) None (sym same.1 ∙ sym is) (omega (arith, size, inside))
-          ∙ sym (last_append out at word cell ∙ ap (λ (b : Bool). if b then Some word else last_word out cell) same.0)
-      | inr other ↦
-          get_or-set_other words index cell (Some word) None (λ e. other.1 (sym (e ∙ is)))
-          ∙ held cell within
-          ∙ sym (last_append out at word cell ∙ ap (λ (b : Bool). if b then Some word else last_word out cell) other.0)
-    ]
-
-pub hold_none : (count cell : ℕ) → cell < count → slice_index_or (replicate {A = Option ℕ} count None) cell None ≡ None
-hold_none count cell inside = get_or-replicate {A = Option ℕ} count cell None None inside
-
-pub told_all : (count cell : ℕ) → cell < count → tagged_in (replicate count true) cell ≡ true
+pub told_all : (count cell : ℕ) → cell < count → flagged_in (replicate count true) cell ≡ true
 told_all count cell inside = get_or-replicate count cell true false inside
 
 -- what a slice of a whole vector leaves of it
@@ -175,15 +140,6 @@ pub below_pairs : (items : List Item) (n : ℕ) → IsPrefix items → ArePairs 
 below_pairs items zero prefix = rw (below_none items) tt
 below_pairs items (suc n) prefix = rw (below_more items n) (pairs_more (tape_map items n) n (words_below items n) (map_fits items prefix n) (below_pairs items n prefix))
 
--- no cell has a word where no frame was read
-pub holds_first : (count : ℕ) (reader : Progress) (words : List (Option ℕ)) → 32768 ≤ count → HasRead reader [] [] → words ≡ replicate {A = Option ℕ} count None
-    → HoldsRead reader [] words
-holds_first count reader words enough read none = record {
-  out = [];
-  read = read;
-  cells = λ cell inside. ap (λ l. slice_index_or l cell None) none ∙ hold_none count cell (omega (arith, inside, enough));
-}
-
 pairs_one : (pairs : List (ℕ × ℕ)) (pair : ℕ × ℕ) → ArePairs pairs → pair.0 < 32768 → pair.1 < 4096 → ArePairs (pairs ++ pair ∷ [])
 pairs_one [] pair all cell word = (cell, word, tt)
 pairs_one (first ∷ pairs) pair all cell word = (all.0, all.1, pairs_one pairs pair all.2 cell word)
@@ -191,10 +147,3 @@ pairs_one (first ∷ pairs) pair all cell word = (all.0, all.1, pairs_one pairs 
 pub pairs_reverse : (pairs : List (ℕ × ℕ)) → ArePairs pairs → ArePairs (reverse pairs)
 pairs_reverse [] all = tt
 pairs_reverse (pair ∷ pairs) all = subst ArePairs (sym (reverse-append (pair ∷ []) pairs)) (pairs_one (reverse pairs) pair (pairs_reverse pairs all.2) all.0 all.1)
-
--- what a reader tells at the end, as a fault of a source
-pub judged : (frames : List ℕ) (out : List (ℕ × ℕ)) (r : Result (Unit {0}) TapeFault) (s : Result (Unit {0}) ListFault)
-    → MatchResult r (λ x. s ≡ Ok x) (λ e. IsErrAnd s (λ fault. fault ≡ Tape e)) → MatchResult r (λ _. IsWhole frames out) (λ fault. IsFault frames fault)
-    → MatchResult s (λ _. IsWhole frames out) (λ fault. IsListFault frames fault)
-judged frames out (Ok x) s is whole = rw is whole
-judged frames out (Err e) s is refused = let p = err_from_is_err_and s is in rw (p.1, p.2) refused

@@ -1,9 +1,11 @@
 -- Lines behind a text.
-use Rattle.std.proofs.Common.{◌≡◌, ℕ, nat_eq, Bool, true, false, ◌&&◌, ◌||◌, not, if◌then◌else◌, suc, length, List, [], ◌∷◌, ◌++◌, refl, ap, ◌∙◌}
+use Rattle.std.proofs.Common.{◌≡◌, ℕ, nat_eq, nat_le, nat_lt, Bool, true, false, ◌&&◌, ◌||◌, not, if◌then◌else◌, suc, length, List, [], ◌∷◌, ◌++◌, refl, ap, ◌∙◌, arith}
+use Rattle.std.proofs.lemmas.Bool.Decides.{nat_tests}
 use Rattle.pal_lex.specs.Text.{is_ignored, in_comment, is_dead, is_end, is_over, stretch, line_after, text_from}
 use Rattle.pal_lex.specs.Steps.{has_cr}
 use Rattle.pal_lex.specs.Cutting.{is_legal}
 use Rattle.pal_lex.specs.Statements.{statements, judged, radix_after, with_stretch}
+use Rattle.pal_notes.specs.Laws.{are_graphic}
 use Rattle.pal_list.proofs.ByteLemmas.{both, neither, IsPlain, plain, all_legal}
 
 pub text_append : (a b text : List ℕ) → text_from text (a ++ b) ≡ text_from (text_from text a) b
@@ -99,6 +101,25 @@ all_die text (b ∷ bytes) none inside =
     slash : (t c : Bool) → c ≡ true → (if t then true else c) ≡ true
     slash true c e = refl
     slash false c e = e
+
+-- graphic characters are no CR
+pub no_return : (bytes : List ℕ) → are_graphic bytes ≡ true → has_cr bytes ≡ false
+no_return [] graphic = refl
+no_return (b ∷ bytes) graphic =
+    let parts = both (nat_le 0o40 b && nat_lt b 0o177) (are_graphic bytes) graphic in
+    none (nat_eq b 13) (has_cr bytes) (other b (both (nat_le 0o40 b) (nat_lt b 0o177) parts.0).0) (no_return bytes parts.1)
+  where
+    other : (b : ℕ) → nat_le 0o40 b ≡ true → nat_eq b 13 ≡ false
+    other b high = grind (arith, nat_tests)
+
+    none : (a c : Bool) → a ≡ false → c ≡ false → (a || c) ≡ false
+    none a c e f = rw (e, f) refl
+
+pub no_return_more : (a b : List ℕ) → has_cr a ≡ false → has_cr b ≡ false → has_cr (a ++ b) ≡ false
+no_return_more [] b e f = f
+no_return_more (x ∷ a) b e f =
+    let parts = neither (nat_eq x 13) (has_cr a) e in
+    rw (parts.0, no_return_more a b parts.1 f) refl
 
 -- ## Whole lines
 

@@ -1,6 +1,7 @@
 pub mod Patterns
 pub mod References
 pub mod Tags
+pub mod Looks
 pub mod Statements
 pub mod Lines
 pub mod Named

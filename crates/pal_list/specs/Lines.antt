@@ -1,10 +1,11 @@
 -- The lines of a source, by the words that it gives cells (PAL III Symbolic Assembler manual, and this project's profile).
-use Rattle.std.specs.Prelude.{ℕ, ◌/◌, ◌%◌, nat_eq, Bool, true, if◌then◌else◌, Option, List, [], ◌∷◌, ◌++◌, codes}
+use Rattle.std.specs.Prelude.{ℕ, ◌/◌, ◌%◌, nat_eq, Bool, if◌then◌else◌, Option, List, [], ◌∷◌, ◌++◌, codes}
 use Rattle.word12.specs.declared.sizes.TheConstants.{FIELD}
-use Rattle.word12.specs.Octal.{octal_digit, octal4}
+use Rattle.word12.specs.Octal.{octal_digit, octal4, octal5}
 use Rattle.bin_tape.specs.Writing.{field_behind, is_next, newest_cell}
+use Rattle.pal_notes.specs.Notes.{note_lines}
+use Rattle.pal_list.specs.Looks.{Look, is_tagged}
 use Rattle.pal_list.specs.Statements.{statement}
-use Rattle.pal_list.specs.Tags.{tag, is_tagged}
 
 -- CR and LF
 abbrev pub line_end : List ℕ
@@ -20,7 +21,7 @@ origin_line cell = 0o52 ∷ octal4 (cell % FIELD) ++ line_end
 
 -- a `/` with the cell, its field first, and the word in octal
 abbrev pub comment : ℕ → ℕ → List ℕ
-comment cell word = 0o57 ∷ octal_digit (cell / FIELD) ∷ octal4 (cell % FIELD) ++ 0o40 ∷ octal4 word
+comment cell word = 0o57 ∷ octal5 cell ++ 0o40 ∷ octal4 word
 
 -- pieces, the first behind this byte and the others behind a blank
 abbrev pub led : ℕ → List (List ℕ) → List ℕ
@@ -28,30 +29,27 @@ led byte [] = []
 led byte (piece ∷ others) = byte ∷ piece ++ led 0o40 others
 
 -- a cell's tag with a comma, where it has one
-abbrev pub tag_part : (ℕ → Bool) → ℕ → List ℕ
-tag_part tagged cell = if tagged cell then tag cell ++ 0o54 ∷ [] else []
+abbrev pub tag_part : (ℕ → List ℕ) → (ℕ → Bool) → ℕ → List ℕ
+tag_part name tagged cell = if tagged cell then name cell ++ 0o54 ∷ [] else []
 
 -- the cell's tag, the statement of the word behind a tab, and behind another the comment
-abbrev pub word_line : (ℕ → Bool) → (ℕ → Bool) → ℕ → ℕ → List ℕ
-word_line is_code tagged cell word = tag_part tagged cell ++ led 9 (statement is_code tagged cell word) ++ 0o11 ∷ comment cell word ++ line_end
+abbrev pub word_line : Look → (ℕ → Bool) → ℕ → ℕ → List ℕ
+word_line look tagged cell word =
+    tag_part look.name tagged cell ++ led 9 (statement look tagged cell word) ++ 0o11 ∷ comment cell word ++ look.remark cell ++ line_end
 
 -- the lines of a cell's word behind a word for the cell before: the field where it changes, an origin where the cell isn't
--- the next, and the word
-abbrev pub cell_lines : (ℕ → Bool) → (ℕ → Bool) → Option ℕ → ℕ → ℕ → List ℕ
-cell_lines is_code tagged before cell word =
+-- the next, the comments above it, the word, and an empty line where one stands behind it
+abbrev pub cell_lines : Look → (ℕ → Bool) → Option ℕ → ℕ → ℕ → List ℕ
+cell_lines look tagged before cell word =
     (if nat_eq (cell / FIELD) (field_behind before) then [] else field_line cell) ++ (if is_next before cell then [] else origin_line cell)
-    ++ word_line is_code tagged cell word
+    ++ note_lines (look.above cell) ++ word_line look tagged cell word ++ (if look.has_gap cell then line_end else [])
 
 -- the lines of cells with their words, the newest first, where these cells are tagged
-abbrev pub lines_of : (ℕ → Bool) → (ℕ → Bool) → List (ℕ × ℕ) → List ℕ
-lines_of is_code tagged [] = []
-lines_of is_code tagged (pair ∷ older) = lines_of is_code tagged older ++ cell_lines is_code tagged (newest_cell older) pair.0 pair.1
+abbrev pub lines_of : Look → (ℕ → Bool) → List (ℕ × ℕ) → List ℕ
+lines_of look tagged [] = []
+lines_of look tagged (pair ∷ older) = lines_of look tagged older ++ cell_lines look tagged (newest_cell older) pair.0 pair.1
 
--- the source of cells with their words, the newest first, of which these are instructions: their lines, with a tag for each cell
--- that the instructions refer to, and `$`
-abbrev pub source_with : (ℕ → Bool) → List (ℕ × ℕ) → List ℕ
-source_with is_code pairs = lines_of is_code (is_tagged is_code pairs) pairs ++ 0o44 ∷ line_end
-
--- all words are taken for instructions
-abbrev pub all_code : ℕ → Bool
-all_code cell = true
+-- the source of cells with their words, the newest first: their lines, with a tag for each cell that the instructions refer to or that
+-- has a name of its own, and `$`
+abbrev pub source_with : Look → List (ℕ × ℕ) → List ℕ
+source_with look pairs = lines_of look (is_tagged look pairs) pairs ++ 0o44 ∷ line_end

@@ -1,5 +1,5 @@
 -- The source that says what a tape says.
-use Rattle.std.specs.Prelude.{◌≡◌, ◌≢◌, ◌↔◌, ℕ, Bool, true, zero, suc, Option, None, Some, reverse, List, [], ◌∷◌, ◌++◌}
+use Rattle.std.specs.Prelude.{◌≡◌, ◌≢◌, ◌↔◌, ℕ, true, zero, suc, Option, None, Some, Err, reverse, List, [], ◌∷◌, ◌++◌}
 use Rattle.word12.specs.declared.sizes.TheConstants.{CORE}
 use Rattle.pal_lex.specs.Text.{text_of}
 use Rattle.pal_asm.specs.Words.{pairs_of}
@@ -9,9 +9,13 @@ use Rattle.bin_tape.specs.Tape.{IsTape}
 use Rattle.bin_tape.specs.Fault.{IsFault}
 use Rattle.bin_tape.specs.Pairs.{last_word}
 use Rattle.flow8.specs.Flow.{IsAmong, Reaches}
-use Rattle.pal_list.specs.Lines.{all_code, source_with}
+use Rattle.pal_names.specs.Names.{AreNames, read_of}
+use Rattle.pal_names.specs.declared.faults.Why.{Why}
+use Rattle.pal_names.specs.declared.faults.NamesFault.TheVariants.{At}
+use Rattle.pal_list.specs.Looks.{Look, AreNotes, IsNaming, noted, plain, with_names}
+use Rattle.pal_list.specs.Lines.{source_with}
 use Rattle.pal_list.specs.declared.faults.ListFault.{ListFault}
-use Rattle.pal_list.specs.declared.faults.ListFault.TheVariants.{Tape, NoWord, NoStart, Memory}
+use Rattle.pal_list.specs.declared.faults.ListFault.TheVariants.{Tape, NoWord, NoStart, Names, Memory}
 
 -- a cell's word before others, where it has one
 abbrev pub with_word : Option ℕ → ℕ → List (ℕ × ℕ) → List (ℕ × ℕ)
@@ -39,22 +43,40 @@ pub record Says (text : List ℕ) (items : List Item) : Type 0 where
   pub pairs : pairs_of (text_of text) ≡ reverse (words_of_tape items)
   pub map : (cell : ℕ) → last_word (pairs_of (text_of text)) cell ≡ tape_map items cell
 
--- The frames are a tape of some word, and the text is its source, with these cells as instructions.
-pub record IsSourceWith (is_code : ℕ → Bool) (frames text : List ℕ) : Type 0 where
+-- The frames are a tape of some word, and the text is its source, which looks like this.
+pub record IsSourceWith (look : Look) (frames text : List ℕ) : Type 0 where
   pub items : List Item
   pub is_tape : IsTape frames items
-  pub lines : text ≡ source_with is_code (words_of_tape items)
+  pub notes : AreNotes look
+  pub naming : IsNaming look.name
+  pub lines : text ≡ source_with look (words_of_tape items)
   pub says : Says text items
 
--- with all of them
+-- with all words as instructions, and nothing told beside them
 abbrev pub IsSourceOf : List ℕ → List ℕ → Type 0
-IsSourceOf frames text = IsSourceWith all_code frames text
+IsSourceOf frames text = IsSourceWith plain frames text
 
--- with those that a program reaches which starts at these cells
+-- with those as instructions that a program reaches which starts at these cells, and with the notes of the tape's words
 pub record IsSourceFrom (frames starts text : List ℕ) : Type 0 where
-  pub is_code : ℕ → Bool
-  pub source : IsSourceWith is_code frames text
-  pub reached : (cell : ℕ) → (is_code cell ≡ true) ↔ Reaches (tape_map source.items) starts cell
+  pub look : Look
+  pub source : IsSourceWith look frames text
+  pub told : look ≡ noted (tape_map source.items) look.is_code
+  pub reached : (cell : ℕ) → (look.is_code cell ≡ true) ↔ Reaches (tape_map source.items) starts cell
+
+-- A source of all words as instructions, in which the names that a text gives cells of the tape are their tags.
+pub record IsNamedSourceOf (frames names text : List ℕ) : Type 0 where
+  pub table : List (Option (List ℕ))
+  pub source : IsSourceWith (with_names table plain) frames text
+  pub named : AreNames (tape_map source.items) names table
+
+-- and one of what a program reaches, with the notes of the tape's words
+pub record IsNamedSourceFrom (frames starts names text : List ℕ) : Type 0 where
+  pub table : List (Option (List ℕ))
+  pub look : Look
+  pub source : IsSourceWith (with_names table look) frames text
+  pub named : AreNames (tape_map source.items) names table
+  pub told : look ≡ noted (tape_map source.items) look.is_code
+  pub reached : (cell : ℕ) → (look.is_code cell ≡ true) ↔ Reaches (tape_map source.items) starts cell
 
 -- The frames are a tape that gives each cell what these items give it.
 pub record SaysTheSame (frames : List ℕ) (items : List Item) : Type 0 where
@@ -86,11 +108,28 @@ pub record LacksStart (frames starts : List ℕ) (start : ℕ) : Type 0 where
   pub is_tape : IsTape frames items
   pub first : IsFirstWithout (tape_map items) starts start
 
+-- The frames are a tape that gives each of these starts a word, and this is the first line of a text that gives no name, and why.
+pub record RefusesName (frames starts names : List ℕ) (line : ℕ) (why : Why) : Type 0 where
+  pub items : List Item
+  pub is_tape : IsTape frames items
+  pub given : AllGiven (tape_map items) starts
+  pub refused : read_of (tape_map items) names ≡ Err (At line why)
+
+-- The frames are a tape that gives no cell a word, and neither a start nor a line of a text wants one.
+pub record NamesNoWord (frames starts names : List ℕ) : Type 0 where
+  pub items : List Item
+  pub is_tape : IsTape frames items
+  pub none : (cell : ℕ) → tape_map items cell ≡ None
+  pub given : AllGiven (tape_map items) starts
+  pub table : List (Option (List ℕ))
+  pub named : AreNames (tape_map items) names table
+
 -- Why frames have no source.
 abbrev pub IsListFault : List ℕ → ListFault → Type 0
 IsListFault frames (Tape fault) = IsFault frames fault
 IsListFault frames NoWord = GivesNoWord frames
 IsListFault frames (NoStart start) = ⊥
+IsListFault frames (Names line why) = ⊥
 IsListFault frames Memory = Unit {0}
 
 -- Why they have none with what a program reaches from these starts.
@@ -98,4 +137,13 @@ abbrev pub IsFlowFault : List ℕ → List ℕ → ListFault → Type 0
 IsFlowFault frames starts (Tape fault) = IsFault frames fault
 IsFlowFault frames starts NoWord = GivesNoWord frames
 IsFlowFault frames starts (NoStart start) = LacksStart frames starts start
+IsFlowFault frames starts (Names line why) = ⊥
 IsFlowFault frames starts Memory = Unit {0}
+
+-- Why they have none with the names of a text, where a program starts at these cells, or at none.
+abbrev pub IsNamedFault : List ℕ → List ℕ → List ℕ → ListFault → Type 0
+IsNamedFault frames starts names (Tape fault) = IsFault frames fault
+IsNamedFault frames starts names (NoStart start) = LacksStart frames starts start
+IsNamedFault frames starts names (Names line why) = RefusesName frames starts names line why
+IsNamedFault frames starts names NoWord = NamesNoWord frames starts names
+IsNamedFault frames starts names Memory = Unit {0}

@@ -1,16 +1,19 @@
 -- What the parts of a source come to, for private clauses.
-use Rattle.std.specs.Prelude.{◌≡◌, ℕ, ◌<◌, Bool, ◌&&◌, slice_index_or, Option, None, List, false}
+use Rattle.std.specs.Prelude.{◌≡◌, ℕ, ◌<◌, Bool, false, ◌&&◌, ◌||◌, slice_index_or, Option, Some, None, Err, is_some, List, []}
 use Rattle.word12.specs.declared.sizes.TheConstants.{CORE}
 use Rattle.bin_tape.specs.Items.{Item, IsPrefix, tape_map}
-use Rattle.bin_tape.specs.Tape.{IsTape}
-use Rattle.bin_tape.specs.Pairs.{last_word}
-use Rattle.bin_tape.specs.Progress.{Progress}
-use Rattle.bin_tape.specs.Reading.{HasRead}
+use Rattle.bin_tape.specs.Fault.{IsFault}
+use Rattle.flow8.specs.Flow.{word_in}
+use Rattle.pal_notes.specs.Notes as notes
+use Rattle.pal_notes.specs.Notes.{Notes, flagged_in}
 use Rattle.pal_list.specs.Tags.{is_given, is_referred}
+use Rattle.pal_list.specs.Looks.{Look, AreNotes, IsNaming, given_in, name_or_tag}
+use Rattle.pal_names.specs.Names.{read_of}
+use Rattle.pal_names.specs.declared.faults.NamesFault.TheVariants.{At}
 use Rattle.pal_list.specs.Lines.{source_with}
 use Rattle.pal_list.specs.Sources.{Says, words_below, words_of_tape}
 use Rattle.pal_list.specs.declared.faults.ListFault.{ListFault}
-use Rattle.pal_list.specs.declared.faults.ListFault.TheVariants.{Tape, NoWord, NoStart, Memory}
+use Rattle.pal_list.specs.declared.faults.ListFault.TheVariants.{Tape, NoWord, NoStart, Names, Memory}
 
 -- ## The words of a tape
 
@@ -18,43 +21,88 @@ use Rattle.pal_list.specs.declared.faults.ListFault.TheVariants.{Tape, NoWord, N
 abbrev pub HoldsMap : List Item → List (Option ℕ) → Type 0
 HoldsMap items words = (cell : ℕ) → cell < CORE → slice_index_or words cell None ≡ tape_map items cell
 
--- the frames are a tape, and these are the last words of its cells
-pub record IsHeld (frames : List ℕ) (words : List (Option ℕ)) : Type 0 where
-  pub items : List Item
-  pub is_tape : IsTape frames items
-  pub cells : HoldsMap items words
-
--- the cells hold the last words that the reader has handed out for them
-pub record HoldsRead (reader : Progress) (frames : List ℕ) (words : List (Option ℕ)) : Type 0 where
-  pub out : List (ℕ × ℕ)
-  pub read : HasRead reader frames out
-  pub cells : (cell : ℕ) → cell < CORE → slice_index_or words cell None ≡ last_word out cell
-
 -- ## Tags
 
--- a cell with a word is named by a memory reference in a cell below a number
-abbrev pub tagged_below : (ℕ → Bool) → List Item → ℕ → ℕ → Bool
-tagged_below is_code items count cell = is_given (words_of_tape items) cell && is_referred is_code (words_below items count) cell
-
--- these cells are tagged, told by their numbers
-abbrev pub tagged_in : List Bool → ℕ → Bool
-tagged_in tags cell = slice_index_or tags cell false
+-- a cell with a word has a name of its own, or is named by a memory reference in a cell below a number
+abbrev pub tagged_below : Look → List Item → ℕ → ℕ → Bool
+tagged_below look items count cell =
+    is_given (words_of_tape items) cell && (look.has_name cell || is_referred look.is_code (words_below items count) cell)
 
 -- these tell which cells are tagged
 abbrev pub HoldsFlags : (ℕ → Bool) → List Bool → Type 0
-HoldsFlags tagged tags = (cell : ℕ) → cell < CORE → tagged_in tags cell ≡ tagged cell
+HoldsFlags tagged tags = (cell : ℕ) → cell < CORE → flagged_in tags cell ≡ tagged cell
+
+-- ## Names, of a table or none
+
+abbrev pub given_by : Option (List (Option (List ℕ))) → ℕ → Option (List ℕ)
+given_by None cell = None
+given_by (Some table) cell = given_in table cell
+
+-- these give the cells that have a name of their own
+abbrev pub HoldsNames : (ℕ → Bool) → Option (List (Option (List ℕ))) → Type 0
+HoldsNames has_name names = (cell : ℕ) → cell < CORE → is_some (given_by names cell) ≡ has_name cell
+
+-- ## What is told beside words, by notes or by none
+
+abbrev pub above_of : Option Notes → ℕ → List (List ℕ)
+above_of None cell = []
+above_of (Some n) cell = notes.above (word_in n.words) (flagged_in n.code) cell
+
+abbrev pub remark_of : Option Notes → ℕ → List ℕ
+remark_of None cell = []
+remark_of (Some n) cell = notes.remark (word_in n.words) (flagged_in n.code) cell
+
+abbrev pub gap_of : Option Notes → ℕ → Bool
+gap_of None cell = false
+gap_of (Some n) cell = notes.has_gap (word_in n.words) (flagged_in n.code) cell
 
 -- ## Sources
 
--- a text says these words, whatever tells which of them are instructions as this list does
-abbrev pub SaysWords : List (Option ℕ) → List Bool → List ℕ → Type 0
-SaysWords words code text =
-    (is_code : ℕ → Bool) (items : List Item) → IsPrefix items → HoldsMap items words → HoldsFlags is_code code
-    → (text ≡ source_with is_code (words_of_tape items)) × Says text items
+abbrev pub look_with : Option (List (Option (List ℕ))) → Option Notes → (ℕ → Bool) → Look
+look_with names n is_code = record {
+  name = name_or_tag (given_by names);
+  has_name = λ cell. is_some (given_by names cell);
+  is_code = is_code;
+  above = λ cell. above_of n cell;
+  remark = λ cell. remark_of n cell;
+  has_gap = λ cell. gap_of n cell;
+}
+
+-- two looks tell the same of each cell
+pub record SameLook (one other : Look) : Type 0 where
+  pub names : (cell : ℕ) → cell < CORE → one.name cell ≡ other.name cell
+  pub named : (cell : ℕ) → cell < CORE → one.has_name cell ≡ other.has_name cell
+  pub code : (cell : ℕ) → cell < CORE → one.is_code cell ≡ other.is_code cell
+  pub above : (cell : ℕ) → cell < CORE → one.above cell ≡ other.above cell
+  pub remark : (cell : ℕ) → cell < CORE → one.remark cell ≡ other.remark cell
+  pub gaps : (cell : ℕ) → cell < CORE → one.has_gap cell ≡ other.has_gap cell
+
+-- a text says these words, and looks like each look that tells the same as this one
+abbrev pub SaysWords : List (Option ℕ) → Look → List ℕ → Type 0
+SaysWords words look text =
+    (other : Look) (items : List Item) → IsPrefix items → HoldsMap items words → SameLook look other → AreNotes other → IsNaming other.name
+    → (text ≡ source_with other (words_of_tape items)) × Says text items
+
+-- why frames give no words
+abbrev pub IsUnread : List ℕ → ListFault → Type 0
+IsUnread frames (Tape fault) = IsFault frames fault
+IsUnread frames NoWord = ⊥
+IsUnread frames (NoStart start) = ⊥
+IsUnread frames (Names line why) = ⊥
+IsUnread frames Memory = Unit {0}
+
+-- why a text gives no names for words
+abbrev pub IsRefused : (ℕ → Option ℕ) → List ℕ → ListFault → Type 0
+IsRefused words text (Tape fault) = ⊥
+IsRefused words text NoWord = ⊥
+IsRefused words text (NoStart start) = ⊥
+IsRefused words text (Names line why) = read_of words text ≡ Err (At line why)
+IsRefused words text Memory = Unit {0}
 
 -- why words have no source
 abbrev pub IsNoSource : List (Option ℕ) → ListFault → Type 0
 IsNoSource words (Tape fault) = ⊥
 IsNoSource words NoWord = (items : List Item) → IsPrefix items → HoldsMap items words → (cell : ℕ) → tape_map items cell ≡ None
 IsNoSource words (NoStart start) = ⊥
+IsNoSource words (Names line why) = ⊥
 IsNoSource words Memory = Unit {0}

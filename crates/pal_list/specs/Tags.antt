@@ -1,17 +1,14 @@
--- The cells that a source tags, and their tags (PAL III Symbolic Assembler manual, and this project's profile of it).
-use Rattle.std.specs.Prelude.{ℕ, ◌/◌, ◌%◌, nat_eq, Bool, false, ◌&&◌, ◌||◌, List, [], ◌∷◌}
+-- The tags that are made of cells, and the cells to which instructions refer (PAL III Symbolic Assembler manual, and this project's profile of it).
+use Rattle.std.specs.Prelude.{ℕ, ◌%◌, nat_eq, Bool, false, ◌&&◌, ◌||◌, List, [], ◌∷◌}
 use Rattle.word12.specs.declared.sizes.TheConstants.{FIELD}
-use Rattle.word12.specs.Octal.{octal_digit, octal4}
-use Rattle.pal_lex.specs.Runs.{name_number}
-use Rattle.pal_list.specs.References.{is_reference, referred_cell}
+use Rattle.word12.specs.Octal.{octal5}
+use Rattle.flow8.specs.Exits.{referred_cell}
+pub use Rattle.pal_notes.specs.Notes.{flagged_in}
+use Rattle.pal_list.specs.References.{is_reference}
 
 -- the tag of a cell: `A`, its field and its address in octal, six characters
 abbrev pub tag : ℕ → List ℕ
-tag cell = 0o101 ∷ octal_digit (cell / FIELD) ∷ octal4 (cell % FIELD)
-
--- the same as a name
-abbrev pub tag_name : ℕ → ℕ
-tag_name cell = name_number (tag cell)
+tag cell = 0o101 ∷ octal5 cell
 
 -- a word stands in this cell
 abbrev pub is_given : List (ℕ × ℕ) → ℕ → Bool
@@ -22,7 +19,3 @@ is_given (pair ∷ others) cell = nat_eq pair.0 cell || is_given others cell
 abbrev pub is_referred : (ℕ → Bool) → List (ℕ × ℕ) → ℕ → Bool
 is_referred is_code [] cell = false
 is_referred is_code (pair ∷ others) cell = (is_code pair.0 && (is_reference (pair.0 % FIELD) pair.1 && nat_eq (referred_cell pair.0 pair.1) cell)) || is_referred is_code others cell
-
--- of cells with their words a source tags those that a memory reference among its instructions names
-abbrev pub is_tagged : (ℕ → Bool) → List (ℕ × ℕ) → ℕ → Bool
-is_tagged is_code pairs cell = is_given pairs cell && is_referred is_code pairs cell

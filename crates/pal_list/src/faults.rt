@@ -2,6 +2,7 @@ ghost use Rattle.std.specs.Prelude.{◌≡◌};
 ghost use Rattle.pal_list.specs.declared.faults.ListFault.TheVariants.{Memory};
 
 use bin_tape::TapeFault;
+use pal_names::Why;
 use std::alloc::AllocError;
 use thiserror::Error;
 use word12::Cell;
@@ -20,6 +21,10 @@ pub enum ListFault {
     /// The tape gives this cell no word, at which a program is to start.
     #[error("no word at the start")]
     NoStart(Cell),
+
+    /// The first line of the names that is refused, counted from 1, and why.
+    #[error("line {0} of the names: {1}")]
+    Names(u64, Why),
 
     /// Memory ran out.
     #[error("out of memory")]

@@ -1,33 +1,41 @@
 ghost use Rattle.std.specs.Prelude.{◌≡◌, ℕ, ◌/◌, ◌++◌, nat_eq, if◌then◌else◌, OnOk, List, [], ◌∷◌, length};
 ghost use Rattle.word12.specs.declared.sizes.TheConstants.{CORE, FIELD};
 ghost use Rattle.bin_tape.specs.Writing.{field_behind, is_next};
-ghost use Rattle.pal_list.specs.Steps.{tagged_in};
+ghost use Rattle.pal_list.specs.Looks.{name_or_tag};
+ghost use Rattle.pal_list.specs.Steps.{given_by, look_with};
+ghost use Rattle.pal_list.specs.Tags.{flagged_in};
 ghost use Rattle.pal_list.specs.Lines.{line_end, field_line, origin_line, comment, tag_part, word_line, cell_lines};
 
+use crate::notes::{put_above, put_gap, put_remark};
 use crate::statements::put_statement;
-use crate::tags::tag;
+use crate::tags::{Tags, put_name};
+use pal_notes::Notes;
 use std::alloc::AllocError;
 use word12::{Cell, Word};
 
-/// Appends the lines of a cell's word behind a word for the cell before, where these cells hold instructions and these are
-/// tagged.
+/// Appends the lines of a cell's word behind a word for the cell before, where these cells hold instructions, these are tagged, and
+/// these notes stand beside their words.
 pub fn put_cell(
     text: &mut Vec<u8>,
     code: &[bool],
-    tags: &[bool],
+    tags: &Tags<'_>,
+    notes: &Option<Notes<'_>>,
     before: Option<Cell>,
     cell: Cell,
     word: Word,
 ) -> Result<(), AllocError>
     requires code { length code.now ≡ CORE }
-    requires tags { length tags.now ≡ CORE }
+    requires tags { length tags.now.flags.now ≡ CORE }
     ensures { OnOk result (text.new.items ≡ text.old.items
-        ++ cell_lines (tagged_in code.now) (tagged_in tags.now) before cell word) }
+        ++ cell_lines (look_with tags.now.names.now notes.now (flagged_in code.now))
+        (flagged_in tags.now.flags.now) before cell word) }
 {
     let again = before;
     put_field(text, before, cell)?;
     put_origin(text, again, cell)?;
-    put_word(text, code, tags, cell, word)?;
+    put_above(text, notes, cell)?;
+    put_word(text, code, tags, notes, cell, word)?;
+    put_gap(text, notes, cell)?;
     Ok(())
 }
 
@@ -64,55 +72,45 @@ fn put_origin(text: &mut Vec<u8>, before: Option<Cell>, cell: Cell) -> Result<()
 fn put_word(
     text: &mut Vec<u8>,
     code: &[bool],
-    tags: &[bool],
+    tags: &Tags<'_>,
+    notes: &Option<Notes<'_>>,
     cell: Cell,
     word: Word,
 ) -> Result<(), AllocError>
     requires code { length code.now ≡ CORE }
-    requires tags { length tags.now ≡ CORE }
+    requires tags { length tags.now.flags.now ≡ CORE }
     ensures { OnOk result (text.new.items ≡ text.old.items
-        ++ word_line (tagged_in code.now) (tagged_in tags.now) cell word) }
+        ++ word_line (look_with tags.now.names.now notes.now (flagged_in code.now))
+        (flagged_in tags.now.flags.now) cell word) }
 {
     put_tag(text, tags, cell)?;
     put_statement(text, code, tags, cell, word)?;
     put_comment(text, cell, word)?;
+    put_remark(text, notes, cell)?;
+    text.extend_from_slice(b"\r\n")?;
     Ok(())
 }
 
 /// Appends a cell's tag and a comma, if it has one.
-fn put_tag(text: &mut Vec<u8>, tags: &[bool], cell: Cell) -> Result<(), AllocError>
-    requires { length tags.now ≡ CORE }
-    ensures { OnOk result (text.new.items ≡ text.old.items ++ tag_part (tagged_in tags.now) cell) }
+fn put_tag(text: &mut Vec<u8>, tags: &Tags<'_>, cell: Cell) -> Result<(), AllocError>
+    requires { length tags.now.flags.now ≡ CORE }
+    ensures { OnOk result (text.new.items ≡ text.old.items
+        ++ tag_part (name_or_tag (given_by tags.now.names.now)) (flagged_in tags.now.flags.now) cell) }
 {
-    if tags[cell.index()] {
-        text.extend_from_slice(&tag(cell))?;
+    if tags.flags[cell.index()] {
+        put_name(text, tags.names, cell)?;
         text.push(b',')?;
     }
     Ok(())
 }
 
-/// Appends a tab, the comment and the line's end.
+/// Appends a tab, and the comment up to the word.
 fn put_comment(text: &mut Vec<u8>, cell: Cell, word: Word) -> Result<(), AllocError>
-    ensures { OnOk result (text.new.items ≡ text.old.items ++ 0o11 ∷ comment cell word ++ line_end) }
+    ensures { OnOk result (text.new.items ≡ text.old.items ++ 0o11 ∷ comment cell word) }
 {
-    let [a, b, c, d] = cell.address().octal4();
+    let [field, a, b, c, d] = cell.octal5();
     let [e, f, g, h] = word.octal4();
-    let line = [
-        b'\t',
-        b'/',
-        b'0' + cell.field(),
-        a,
-        b,
-        c,
-        d,
-        b' ',
-        e,
-        f,
-        g,
-        h,
-        b'\r',
-        b'\n',
-    ];
+    let line = [b'\t', b'/', field, a, b, c, d, b' ', e, f, g, h];
     text.extend_from_slice(&line)?;
     Ok(())
 }

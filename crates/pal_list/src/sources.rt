@@ -1,17 +1,24 @@
 ghost use Rattle.std.specs.Prelude.{◌≡◌, ℕ, ◌<◌, ◌++◌, ◌∷◌, [], None, Option, List, true, IfOk, IfErr, MatchOption, OnOk, length, replicate, vec_len, slice_index_or};
 ghost use Rattle.word12.specs.declared.sizes.TheConstants.{CORE};
 ghost use Rattle.bin_tape.specs.Items.{Item};
+ghost use Rattle.bin_tape.specs.Map.{IsMapFault, IsMapOf};
 ghost use Rattle.bin_tape.specs.Writing.{newest_cell};
 ghost use Rattle.flow8.specs.Flow.{word_in};
-ghost use Rattle.pal_list.specs.Steps.{HoldsMap, HoldsRead, IsHeld, IsNoSource, SaysWords, tagged_in};
+ghost use Rattle.pal_names.specs.Names.{AreNames};
+ghost use Rattle.pal_list.specs.Steps.{HoldsMap, IsNoSource, IsRefused, IsUnread, SaysWords, look_with};
+ghost use Rattle.pal_list.specs.Tags.{flagged_in};
 ghost use Rattle.pal_list.specs.Lines.{lines_of};
-ghost use Rattle.pal_list.specs.Sources.{AllGiven, IsFirstWithout, IsFlowFault, IsListFault, IsSourceFrom, IsSourceOf, with_word, words_of_tape};
+ghost use Rattle.pal_list.specs.Sources.{AllGiven, IsFirstWithout, IsFlowFault, IsListFault, IsNamedFault, IsNamedSourceFrom, IsNamedSourceOf, IsSourceFrom, IsSourceOf, with_word, words_of_tape};
 
 use crate::ListFault;
+use crate::laws::names_of_a_text_are_names_of_their_own;
 use crate::lines::put_cell;
-use crate::tags::tags_of;
-use bin_tape::TapeReader;
+use crate::tags::{Tags, tags_of};
+use bin_tape::{TapeFault, TapeMap};
 use flow8::flow;
+use pal_names::{Names, NamesFault, names_of};
+use pal_notes::Notes;
+use pal_notes::laws::notes_are_graphic;
 use std::alloc::{AllocError, Global};
 use word12::{CORE, Cell, Word};
 
@@ -27,12 +34,14 @@ pub fn source_of(alloc: Global, frames: &[u8]) -> Result<Vec<u8>, ListFault>
 {
     let words = words_of(alloc, frames)?;
     let code = all_code(alloc, CORE)?;
-    let text = source_with(alloc, &words, &code)?;
+    let text = source_with(alloc, &words, &code, &None, &None)?;
     Ok(text)
 }
 
 /// The same of a program that starts at these cells: instructions are those that it reaches, as far as their words tell, and all
-/// other words stand as numbers, and name no cell (this project's reading of a program's flow).
+/// other words stand as data: as the tag of the cell whose address they are, in their own field, where it has one, else as numbers
+/// (this project's reading of a program's flow). Comments tell who refers to a cell and the characters of data, and an empty line stands
+/// where a program doesn't go on (this project's profile).
 ///
 /// A start to which the tape gives no word is refused, the first one.
 pub fn source_from(alloc: Global, frames: &[u8], starts: &[Cell]) -> Result<Vec<u8>, ListFault>
@@ -44,8 +53,68 @@ pub fn source_from(alloc: Global, frames: &[u8], starts: &[Cell]) -> Result<Vec<
         return Err(ListFault::NoStart(start));
     }
     let code = flow(alloc, &words, starts)?;
-    let text = source_with(alloc, &words, &code)?;
+    let notes = Notes::new(alloc, &words, &code)?;
+    let beside = Some(notes);
+    let text = source_with(alloc, &words, &code, &None, &beside)?;
+    notes_are_graphic();
     Ok(text)
+}
+
+/// The same as `source_of`'s with names for some cells, which a text gives as `pal_names` reads it: each is the tag of its cell, whatever
+/// refers to it, and stands for the cell where a tag would (PAL III Symbolic Assembler manual, and this project's profile of it).
+///
+/// The first line of the names that is refused is told before a tape of no word is.
+pub fn named_source_of(alloc: Global, frames: &[u8], names: &[u8]) -> Result<Vec<u8>, ListFault>
+    ensures source { IfOk result (λ text. IsNamedSourceOf frames.now names.now text.items) }
+    ensures fault { IfErr result (λ fault. IsNamedFault frames.now [] names.now fault) }
+{
+    let words = words_of(alloc, frames)?;
+    let table = names_in(alloc, &words, names)?;
+    let code = all_code(alloc, CORE)?;
+    let given = Some(table);
+    let text = source_with(alloc, &words, &code, &given, &None)?;
+    names_of_a_text_are_names_of_their_own();
+    Ok(text)
+}
+
+/// The same as `source_from`'s with names for some cells, as `named_source_of` takes them.
+///
+/// A start to which the tape gives no word is refused before the names are read.
+pub fn named_source_from(
+    alloc: Global,
+    frames: &[u8],
+    starts: &[Cell],
+    names: &[u8],
+) -> Result<Vec<u8>, ListFault>
+    ensures source { IfOk result (λ text. IsNamedSourceFrom frames.now starts.now names.now text.items) }
+    ensures fault { IfErr result (λ fault. IsNamedFault frames.now starts.now names.now fault) }
+{
+    let map = words_of(alloc, frames)?;
+    if let Some(start) = first_without(&map, starts) {
+        return Err(ListFault::NoStart(start));
+    }
+    let table = names_in(alloc, &map, names)?;
+    let code = flow(alloc, &map, starts)?;
+    let notes = Notes::new(alloc, &map, &code)?;
+    let given = Some(table);
+    let beside = Some(notes);
+    let text = source_with(alloc, &map, &code, &given, &beside)?;
+    names_of_a_text_are_names_of_their_own();
+    notes_are_graphic();
+    Ok(text)
+}
+
+/// The names that a text gives cells with these words, or the first line that is refused.
+fn names_in(alloc: Global, words: &[Option<Word>], text: &[u8]) -> Result<Names, ListFault>
+    requires { length words.now ≡ CORE }
+    ensures names { IfOk result (λ names. AreNames (word_in words.now) text.now names) }
+    ensures fault { IfErr result (λ fault. IsRefused (word_in words.now) text.now fault) }
+{
+    match names_of(alloc, text, words) {
+        Ok(names) => Ok(names),
+        Err(NamesFault::At(line, why)) => Err(ListFault::Names(line, why)),
+        Err(NamesFault::Memory) => Err(ListFault::Memory),
+    }
 }
 
 /// The first of these cells that has no word.
@@ -65,22 +134,33 @@ fn first_without(words: &[Option<Word>], starts: &[Cell]) -> Option<Cell>
 /// All cells are taken for instructions.
 #[tactic(auto, using(crate::proofs::TapeLemmas::told_all))]
 fn all_code(alloc: Global, count: usize) -> Result<Vec<bool>, AllocError>
-    ensures code { IfOk result (λ code. (cell : ℕ) → cell < count → tagged_in code.items cell ≡ true) }
+    ensures code { IfOk result (λ code. (cell : ℕ) → cell < count → flagged_in code.items cell ≡ true) }
     ensures size { IfOk result (λ code. vec_len code ≡ count) }
 {
     let code = vec![in alloc; true; count]?;
     Ok(code)
 }
 
-/// The source of these words, of which these are instructions.
-fn source_with(alloc: Global, words: &[Option<Word>], code: &[bool]) -> Result<Vec<u8>, ListFault>
+/// The source of these words, of which these are instructions, with these names for cells and these notes beside the words.
+fn source_with(
+    alloc: Global,
+    words: &[Option<Word>],
+    code: &[bool],
+    names: &Option<Names>,
+    notes: &Option<Notes<'_>>,
+) -> Result<Vec<u8>, ListFault>
     requires words { length words.now ≡ CORE }
     requires code { length code.now ≡ CORE }
-    ensures source { IfOk result (λ text. SaysWords words.now code.now text.items) }
+    ensures source { IfOk result (λ text. SaysWords words.now
+        (look_with names.now notes.now (flagged_in code.now)) text.items) }
     ensures fault { IfErr result (λ fault. IsNoSource words.now fault) }
 {
-    let tags = tags_of(alloc, words, code)?;
-    let mut text = lines_of(alloc, words, code, &tags)?;
+    let flags = tags_of(alloc, words, code, names)?;
+    let tags = Tags {
+        flags: &flags,
+        names,
+    };
+    let mut text = lines_of(alloc, words, code, &tags, notes)?;
     if text.is_empty() {
         return Err(ListFault::NoWord);
     }
@@ -91,67 +171,62 @@ fn source_with(alloc: Global, words: &[Option<Word>], code: &[bool]) -> Result<V
 /// The last word that a tape gives each cell.
 fn words_of(alloc: Global, frames: &[u8]) -> Result<Vec<Option<Word>>, ListFault>
     ensures size { IfOk result (λ words. vec_len words ≡ CORE) }
-    ensures words { IfOk result (λ words. IsHeld frames.now words.items) }
-    ensures fault { IfErr result (λ fault. IsListFault frames.now fault) }
+    ensures words { IfOk result (λ words. IsMapOf frames.now words.items) }
+    ensures fault { IfErr result (λ fault. IsUnread frames.now fault) }
 {
-    let mut words = no_words(alloc, CORE)?;
-    let mut reader = TapeReader::new();
-    take_all(&mut reader, frames, &mut words);
-    reader.end().map_err(ListFault::Tape)?;
-    Ok(words)
-}
-
-fn no_words(alloc: Global, count: usize) -> Result<Vec<Option<Word>>, AllocError>
-    ensures { IfOk result (λ words. words.items ≡ replicate count None) }
-{
-    let words = vec![in alloc; None; count]?;
-    Ok(words)
-}
-
-/// Puts the words that frames bring to a new reader into their cells.
-fn take_all(reader: &mut TapeReader, frames: &[u8], words: &mut [Option<Word>])
-    requires { length words.old ≡ CORE }
-    ensures { HoldsRead reader.old [] words.old → HoldsRead reader.new frames.now words.new }
-{
-    for frame in frames {
-        take(reader, *frame, words);
-    }
-}
-
-/// Puts the word that one more frame brings into its cell.
-fn take(reader: &mut TapeReader, frame: u8, words: &mut [Option<Word>])
-    requires { length words.old ≡ CORE }
-    ensures { (frames : List ℕ) → HoldsRead reader.old frames words.old
-        → HoldsRead reader.new (frames ++ frame ∷ []) words.new }
-{
-    match reader.push(frame) {
-        Ok(tape) => {
-            if let Some(word) = tape.word() {
-                words[word.0.index()] = Some(word.1);
-            }
+    match TapeMap::read(alloc, frames) {
+        Ok(map) => {
+            let words = words_in(alloc, &map)?;
+            Ok(words)
         }
-        Err(_) => {}
+        Err(fault) => Err(fault_of(fault)),
     }
 }
 
-/// The lines of the cells that have a word, by rising cell, where these cells hold instructions and these are tagged.
+/// The words of a map, cell by cell.
+fn words_in(alloc: Global, map: &TapeMap) -> Result<Vec<Option<Word>>, AllocError>
+    ensures size { IfOk result (λ words. vec_len words ≡ CORE) }
+    ensures words { IfOk result (λ words. (cell : ℕ) → cell < CORE
+        → slice_index_or words.items cell None ≡ slice_index_or map.now cell None) }
+{
+    let mut words = Vec::with_capacity(alloc, CORE)?;
+    for number in 0u32..CORE as u32 {
+        words.push(map.get(Cell::of(number)))?;
+    }
+    Ok(words)
+}
+
+/// A tape's fault, or want of memory.
+fn fault_of(fault: TapeFault) -> ListFault
+    ensures { (frames : List ℕ) → IsMapFault frames fault → IsUnread frames result }
+{
+    match fault {
+        TapeFault::Memory => ListFault::Memory,
+        _ => ListFault::Tape(fault),
+    }
+}
+
+/// The lines of the cells that have a word, by rising cell, where these cells hold instructions, these are tagged, and these notes
+/// stand beside their words.
 fn lines_of(
     alloc: Global,
     words: &[Option<Word>],
     code: &[bool],
-    tags: &[bool],
+    tags: &Tags<'_>,
+    notes: &Option<Notes<'_>>,
 ) -> Result<Vec<u8>, AllocError>
     requires words { length words.now ≡ CORE }
     requires code { length code.now ≡ CORE }
-    requires size { length tags.now ≡ CORE }
+    requires size { length tags.now.flags.now ≡ CORE }
     ensures { IfOk result (λ text. (items : List Item) → HoldsMap items words.now
-        → text.items ≡ lines_of (tagged_in code.now) (tagged_in tags.now) (words_of_tape items)) }
+        → text.items ≡ lines_of (look_with tags.now.names.now notes.now (flagged_in code.now))
+        (flagged_in tags.now.flags.now) (words_of_tape items)) }
 {
     let mut text = Vec::new(alloc);
     let mut before = None;
     for number in 0u32..CORE as u32 {
         let word = words[number as usize];
-        before = put_next(&mut text, code, tags, before, Cell::of(number), word)?;
+        before = put_next(&mut text, code, tags, notes, before, Cell::of(number), word)?;
     }
     Ok(text)
 }
@@ -160,24 +235,27 @@ fn lines_of(
 fn put_next(
     text: &mut Vec<u8>,
     code: &[bool],
-    tags: &[bool],
+    tags: &Tags<'_>,
+    notes: &Option<Notes<'_>>,
     before: Option<Cell>,
     cell: Cell,
     word: Option<Word>,
 ) -> Result<Option<Cell>, AllocError>
     requires code { length code.now ≡ CORE }
-    requires tags { length tags.now ≡ CORE }
+    requires tags { length tags.now.flags.now ≡ CORE }
     ensures text { (older : List (ℕ × ℕ))
-        → text.old.items ≡ lines_of (tagged_in code.now) (tagged_in tags.now) older
+        → text.old.items ≡ lines_of (look_with tags.now.names.now notes.now (flagged_in code.now))
+        (flagged_in tags.now.flags.now) older
         → before ≡ newest_cell older
         → OnOk result (text.new.items
-        ≡ lines_of (tagged_in code.now) (tagged_in tags.now) (with_word word cell older)) }
+        ≡ lines_of (look_with tags.now.names.now notes.now (flagged_in code.now))
+        (flagged_in tags.now.flags.now) (with_word word cell older)) }
     ensures cell { (older : List (ℕ × ℕ)) → before ≡ newest_cell older
         → IfOk result (λ next. next ≡ newest_cell (with_word word cell older)) }
 {
     match word {
         Some(word) => {
-            put_cell(text, code, tags, before, cell, word)?;
+            put_cell(text, code, tags, notes, before, cell, word)?;
             Ok(Some(cell))
         }
         None => Ok(before),

@@ -1,13 +1,18 @@
-ghost use Rattle.std.specs.Prelude.{◌≡◌, ℕ, ◌/◌, ◌%◌, ◌++◌, ◌∷◌, [], codes, nat_eq, if◌then◌else◌, length, OnOk};
+ghost use Rattle.std.specs.Prelude.{◌≡◌, ℕ, ◌/◌, ◌%◌, ◌++◌, ◌∷◌, [], None, codes, nat_eq, if◌then◌else◌, length, OnOk};
 ghost use Rattle.word12.specs.declared.sizes.TheConstants.{CORE};
 ghost use Rattle.word12.specs.Octal.{octal4};
 ghost use Rattle.pal_list.specs.Lines.{led};
-ghost use Rattle.pal_list.specs.Steps.{tagged_in};
-ghost use Rattle.pal_list.specs.Statements.{address, instruction, reference, statement};
+ghost use Rattle.pal_list.specs.Looks.{name_or_tag};
+ghost use Rattle.pal_list.specs.Tags.{flagged_in};
+ghost use Rattle.pal_list.specs.Statements.{address, datum, instruction, instruction_by, reference, statement};
+ghost use Rattle.pal_list.specs.Steps.{given_by, look_with};
 
 use crate::patterns::{is_named, put_names};
-use crate::references::{is_reference, operation_name, referred, referred_cell};
-use crate::tags::tag;
+use crate::references::operation_name;
+use crate::tags::{Tags, put_name};
+use flow8::{referred, referred_cell};
+use pal_names::Names;
+use pal_notes::is_reference;
 use std::alloc::AllocError;
 use word12::{Cell, Word};
 
@@ -18,23 +23,39 @@ const INDIRECT: u16 = 0o400;
 pub fn put_statement(
     text: &mut Vec<u8>,
     code: &[bool],
-    tags: &[bool],
+    tags: &Tags<'_>,
     cell: Cell,
     word: Word,
 ) -> Result<(), AllocError>
     requires code { length code.now ≡ CORE }
-    requires tags { length tags.now ≡ CORE }
+    requires tags { length tags.now.flags.now ≡ CORE }
     ensures { OnOk result (text.new.items ≡ text.old.items
-        ++ led 9 (statement (tagged_in code.now) (tagged_in tags.now) cell word)) }
+        ++ led 9 (statement (look_with tags.now.names.now None (flagged_in code.now))
+        (flagged_in tags.now.flags.now) cell word)) }
 {
     if code[cell.index()] {
-        return put_instruction(text, tags, cell, word);
+        return put_instruction_by(text, tags, cell, word);
+    }
+    put_datum(text, tags, cell, word)
+}
+
+/// Appends a datum, behind a tab: the tag of the cell whose address it is in its own field, where that is tagged, else its number.
+fn put_datum(text: &mut Vec<u8>, tags: &Tags<'_>, cell: Cell, word: Word) -> Result<(), AllocError>
+    requires { length tags.now.flags.now ≡ CORE }
+    ensures { OnOk result (text.new.items ≡ text.old.items
+        ++ led 9 (datum (name_or_tag (given_by tags.now.names.now)) (flagged_in tags.now.flags.now)
+        cell word)) }
+{
+    let named = Cell::at(cell.field(), word);
+    if tags.flags[named.index()] {
+        return put_tag(text, b'\t', tags.names, named);
     }
     put_number(text, word)
 }
 
-/// Appends a cell's instruction, behind a tab.
-fn put_instruction(
+/// Appends the instruction of a cell's word as a source spells it, behind a tab: a memory reference, by the tag of the cell that it
+/// names where that is tagged; names where they come to the word; else its number (PAL III Symbolic Assembler manual).
+pub fn put_instruction(
     text: &mut Vec<u8>,
     tags: &[bool],
     cell: Cell,
@@ -42,7 +63,27 @@ fn put_instruction(
 ) -> Result<(), AllocError>
     requires { length tags.now ≡ CORE }
     ensures { OnOk result (text.new.items ≡ text.old.items
-        ++ led 9 (instruction (tagged_in tags.now) cell word)) }
+        ++ led 9 (instruction (flagged_in tags.now) cell word)) }
+{
+    let names = None;
+    let made = Tags {
+        flags: tags,
+        names: &names,
+    };
+    put_instruction_by(text, &made, cell, word)
+}
+
+/// The same by the names that some cells are given.
+fn put_instruction_by(
+    text: &mut Vec<u8>,
+    tags: &Tags<'_>,
+    cell: Cell,
+    word: Word,
+) -> Result<(), AllocError>
+    requires { length tags.now.flags.now ≡ CORE }
+    ensures { OnOk result (text.new.items ≡ text.old.items
+        ++ led 9 (instruction_by (name_or_tag (given_by tags.now.names.now))
+        (flagged_in tags.now.flags.now) cell word)) }
 {
     if is_reference(cell.address(), word) {
         return put_reference(text, tags, cell, word);
@@ -69,16 +110,32 @@ pub fn put_piece(text: &mut Vec<u8>, byte: u8, piece: &[u8]) -> Result<(), Alloc
     Ok(())
 }
 
+/// Appends a cell's tag behind a byte.
+fn put_tag(
+    text: &mut Vec<u8>,
+    byte: u8,
+    names: &Option<Names>,
+    cell: Cell,
+) -> Result<(), AllocError>
+    ensures { OnOk result (text.new.items ≡ text.old.items
+        ++ byte ∷ name_or_tag (given_by names.now) cell) }
+{
+    text.push(byte)?;
+    put_name(text, names, cell)?;
+    Ok(())
+}
+
 /// Appends the memory reference of a cell's word.
 fn put_reference(
     text: &mut Vec<u8>,
-    tags: &[bool],
+    tags: &Tags<'_>,
     cell: Cell,
     word: Word,
 ) -> Result<(), AllocError>
-    requires { length tags.now ≡ CORE }
+    requires { length tags.now.flags.now ≡ CORE }
     ensures { OnOk result (text.new.items ≡ text.old.items
-        ++ led 9 (reference (tagged_in tags.now) cell word)) }
+        ++ led 9 (reference (name_or_tag (given_by tags.now.names.now))
+        (flagged_in tags.now.flags.now) cell word)) }
 {
     put_piece(text, b'\t', &operation_name(word))?;
     put_indirection(text, word)?;
@@ -98,13 +155,20 @@ fn put_indirection(text: &mut Vec<u8>, word: Word) -> Result<(), AllocError>
 }
 
 /// Appends the cell that a memory reference in a cell names: its tag, where it is tagged, else its address.
-fn put_address(text: &mut Vec<u8>, tags: &[bool], cell: Cell, word: Word) -> Result<(), AllocError>
-    requires { length tags.now ≡ CORE }
-    ensures { OnOk result (text.new.items ≡ text.old.items ++ 0o40 ∷ address (tagged_in tags.now) cell word) }
+fn put_address(
+    text: &mut Vec<u8>,
+    tags: &Tags<'_>,
+    cell: Cell,
+    word: Word,
+) -> Result<(), AllocError>
+    requires { length tags.now.flags.now ≡ CORE }
+    ensures { OnOk result (text.new.items ≡ text.old.items
+        ++ 0o40 ∷ address (name_or_tag (given_by tags.now.names.now))
+        (flagged_in tags.now.flags.now) cell word) }
 {
     let named = referred_cell(cell, word);
-    if tags[named.index()] {
-        return put_piece(text, b' ', &tag(named));
+    if tags.flags[named.index()] {
+        return put_tag(text, b' ', tags.names, named);
     }
     put_piece(text, b' ', &referred(cell.address(), word).octal4())
 }

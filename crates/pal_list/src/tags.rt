@@ -1,44 +1,97 @@
-ghost use Rattle.std.specs.Prelude.{◌≡◌, ℕ, ◌<◌, ◌&&◌, Bool, false, suc, List, IfOk, length, replicate, vec_len};
+ghost use Rattle.std.specs.Prelude.{◌≡◌, ℕ, ◌<◌, ◌&&◌, ◌++◌, suc, List, IfOk, OnOk, is_some, length, vec_len};
 ghost use Rattle.word12.specs.declared.sizes.TheConstants.{CORE};
 ghost use Rattle.bin_tape.specs.Items.{Item};
 ghost use Rattle.pal_list.specs.References.{is_reference};
-ghost use Rattle.pal_list.specs.Tags.{tag};
-ghost use Rattle.pal_list.specs.Steps.{HoldsMap, HoldsFlags, tagged_below};
+ghost use Rattle.flow8.specs.Flow.{word_in};
+ghost use Rattle.pal_list.specs.Tags.{flagged_in, tag};
+ghost use Rattle.pal_list.specs.Looks.{Look, as_shown, name_or_tag};
+ghost use Rattle.pal_list.specs.Steps.{HoldsMap, HoldsFlags, HoldsNames, given_by, tagged_below};
 
-use crate::references::{is_reference, referred_cell};
+use flow8::referred_cell;
+use pal_names::{Names, shown};
+use pal_notes::is_reference;
 use std::alloc::{AllocError, Global};
 use word12::{CORE, Cell, Word};
 
-/// The tag of a cell.
-pub fn tag(cell: Cell) -> [u8; 6]
-    ensures { result ≡ tag cell }
-{
-    let [a, b, c, d] = cell.address().octal4();
-    [b'A', b'0' + cell.field(), a, b, c, d]
+/// Which cells are tagged, and the names that some are given.
+#[derive(Drop)]
+pub struct Tags<'t> {
+    pub flags: &'t [bool],
+    pub names: &'t Option<Names>,
 }
 
-/// Which cells are tagged: those with a word that a memory reference among the instructions names, which are in these cells.
+/// Appends a cell's tag: the name that it is given, or else the tag that is made of it.
+pub fn put_name(text: &mut Vec<u8>, names: &Option<Names>, cell: Cell) -> Result<(), AllocError>
+    ensures { OnOk result (text.new.items ≡ text.old.items ++ name_or_tag (given_by names.now) cell) }
+{
+    match name_of(names, cell) {
+        Some(six) => text.extend_from_slice(shown(&six)),
+        None => text.extend_from_slice(&tag(cell)),
+    }
+}
+
+/// The name that a cell is given, in six places, if it is given one.
+fn name_of(names: &Option<Names>, cell: Cell) -> Option<[u8; 6]>
+    ensures { as_shown result ≡ given_by names.now cell }
+{
+    match names {
+        Some(names) => names.get(cell),
+        None => None,
+    }
+}
+
+/// The tag that is made of a cell.
+fn tag(cell: Cell) -> [u8; 6]
+    ensures { result ≡ tag cell }
+{
+    let [f, a, b, c, d] = cell.octal5();
+    [b'A', f, a, b, c, d]
+}
+
+/// Which cells are tagged: those with a word that are given a name, or that a memory reference among the instructions names, which are in
+/// these cells.
 pub fn tags_of(
     alloc: Global,
     words: &[Option<Word>],
     code: &[bool],
+    names: &Option<Names>,
 ) -> Result<Vec<bool>, AllocError>
     requires words { length words.now ≡ CORE }
     requires code { length code.now ≡ CORE }
     ensures size { IfOk result (λ tags. vec_len tags ≡ CORE) }
-    ensures tags { IfOk result (λ tags. (is_code : ℕ → Bool) (items : List Item) → HoldsMap items words.now
-        → HoldsFlags is_code code.now → HoldsFlags (tagged_below is_code items CORE) tags.items) }
+    ensures tags { IfOk result (λ tags. (look : Look) (items : List Item) → HoldsMap items words.now
+        → HoldsFlags look.is_code code.now → HoldsNames look.has_name names.now
+        → HoldsFlags (tagged_below look items CORE) tags.items) }
 {
-    let mut tags = no_tags(alloc, words.len())?;
+    let mut tags = named_cells(alloc, words, names)?;
     mark_all(&mut tags, words, code);
     Ok(tags)
 }
 
-fn no_tags(alloc: Global, count: usize) -> Result<Vec<bool>, AllocError>
-    ensures { IfOk result (λ tags. tags.items ≡ replicate count false) }
+/// The cells with a word that are given a name.
+fn named_cells(
+    alloc: Global,
+    words: &[Option<Word>],
+    names: &Option<Names>,
+) -> Result<Vec<bool>, AllocError>
+    requires { length words.now ≡ CORE }
+    ensures size { IfOk result (λ tags. vec_len tags ≡ CORE) }
+    ensures tags { IfOk result (λ tags. (cell : ℕ) → cell < CORE → flagged_in tags.items cell
+        ≡ (is_some (word_in words.now cell) && is_some (given_by names.now cell))) }
 {
-    let tags = vec![in alloc; false; count]?;
+    let mut tags = Vec::with_capacity(alloc, CORE)?;
+    for number in 0u32..CORE as u32 {
+        tags.push(is_named(words, names, Cell::of(number)))?;
+    }
     Ok(tags)
+}
+
+/// Whether a cell has a word and is given a name.
+fn is_named(words: &[Option<Word>], names: &Option<Names>, cell: Cell) -> bool
+    requires { length words.now ≡ CORE }
+    ensures { result ≡ (is_some (word_in words.now cell) && is_some (given_by names.now cell)) }
+{
+    words[cell.index()].is_some() && name_of(names, cell).is_some()
 }
 
 /// Marks the cells that memory references among the instructions name, where none is marked before.
@@ -46,9 +99,9 @@ fn mark_all(tags: &mut [bool], words: &[Option<Word>], code: &[bool])
     requires size { length tags.old ≡ CORE }
     requires words { length words.now ≡ CORE }
     requires code { length code.now ≡ CORE }
-    ensures { (is_code : ℕ → Bool) (items : List Item) → HoldsMap items words.now
-        → HoldsFlags is_code code.now → HoldsFlags (tagged_below is_code items 0) tags.old
-        → HoldsFlags (tagged_below is_code items CORE) tags.new }
+    ensures { (look : Look) (items : List Item) → HoldsMap items words.now
+        → HoldsFlags look.is_code code.now → HoldsFlags (tagged_below look items 0) tags.old
+        → HoldsFlags (tagged_below look items CORE) tags.new }
 {
     for number in 0u32..CORE as u32 {
         mark(tags, words, code, Cell::of(number));
@@ -67,9 +120,9 @@ fn mark(tags: &mut [bool], words: &[Option<Word>], code: &[bool], cell: Cell)
     requires size { length tags.old ≡ CORE }
     requires words { length words.now ≡ CORE }
     requires code { length code.now ≡ CORE }
-    ensures { (is_code : ℕ → Bool) (items : List Item) → HoldsMap items words.now
-        → HoldsFlags is_code code.now → HoldsFlags (tagged_below is_code items cell) tags.old
-        → HoldsFlags (tagged_below is_code items (suc cell)) tags.new }
+    ensures { (look : Look) (items : List Item) → HoldsMap items words.now
+        → HoldsFlags look.is_code code.now → HoldsFlags (tagged_below look items cell) tags.old
+        → HoldsFlags (tagged_below look items (suc cell)) tags.new }
 {
     let held = words[cell.index()];
     if let Some(word) = held {

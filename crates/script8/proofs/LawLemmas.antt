@@ -10,9 +10,9 @@ use Rattle.std.proofs.lemmas.Str.{digit_value_digit}
 use Rattle.std.proofs.lemmas.Str.Parse.{digit_from_value}
 use Rattle.word12.specs.Sixbit.{sixbit_code, is_letter, is_digit}
 use Rattle.os8_dir.specs.Names.{name_of, words_of_name, paired, padded, before_dot, after_dot, codes_of, codes_within, with_code, spelled, extension_codes, parsed_name}
-use Rattle.word12.specs.Octal.{octal_digit, octal4, octal_from, octal_of}
+use Rattle.word12.specs.Octal.{octal_digit, octal4, octal5, octal_from, octal_of}
 use Rattle.script8.specs.Lines.{number_of, digits_from, within, cell_of, character_of}
-use Rattle.script8.specs.Replies.{cell_text, character_text}
+use Rattle.script8.specs.Replies.{character_text}
 use Rattle.script8.specs.Shown.{shown, shown_code, shown_words, shown_extension, shown_name}
 
 both : (a b : Bool) → a ≡ true → b ≡ true → a && b ≡ true
@@ -72,7 +72,7 @@ word_as_shown word small =
     value : 8 * (8 * (8 * (8 * 0 + word / 512 % 8) + word / 64 % 8) + word / 8 % 8) + word % 8 ≡ word
     value = omega (arith, small)
 
-pub cell_as_shown : (cell : ℕ) → cell < 32768 → cell_of (cell_text cell) ≡ Some cell
+pub cell_as_shown : (cell : ℕ) → cell < 32768 → cell_of (octal5 cell) ≡ Some cell
 cell_as_shown cell small = by_word (cell / 4096) (cell % 4096) cell (omega arith) (omega (arith, small)) (omega arith)
   where
     by_word : (field word cell : ℕ) → cell ≡ 4096 * field + word → field < 8 → word < 4096 → octal_of 5 (octal_digit field ∷ octal4 word) ≡ Some cell

@@ -1,8 +1,7 @@
 -- The lines of replies and refusals (this project's profile).
-use Rattle.std.specs.Prelude.{ℕ, ◌/◌, ◌%◌, codes, decimal, Bool, true, false, Option, Some, None, List, [], ◌∷◌, ◌++◌, Result, Ok, Err}
+use Rattle.std.specs.Prelude.{ℕ, ◌/◌, codes, decimal, Bool, true, false, Option, Some, None, List, [], ◌∷◌, ◌++◌, Result, Ok, Err}
 use Rattle.std.specs.List.{flat_map}
-use Rattle.word12.specs.Octal.{octal_digit, octal4}
-use Rattle.word12.specs.declared.sizes.TheConstants.{FIELD}
+use Rattle.word12.specs.Octal.{octal_digit, octal4, octal5}
 use Rattle.script8.specs.Faults.{fault_text}
 use Rattle.script8.specs.Shown.{shown}
 use Rattle.script8.specs.declared.entries.Entry.{Entry}
@@ -46,10 +45,6 @@ line_of text = text ++ 0o12 ∷ []
 abbrev pub job_text : ℕ → List ℕ → List ℕ
 job_text job text = codes "JOB " ++ decimal job ++ text
 
--- the five octal digits of a cell: its field, and its address
-abbrev pub cell_text : ℕ → List ℕ
-cell_text cell = octal_digit (cell / FIELD) ∷ octal4 (cell % FIELD)
-
 -- the three octal digits of a character
 abbrev pub character_text : ℕ → List ℕ
 character_text character =
@@ -83,14 +78,14 @@ line_reply_text (Assembled job name blocks) = assembled_text job name blocks
 line_reply_text (Loaded job name) = job_text job (codes " LOADED " ++ shown name)
 line_reply_text (Squeezed job) = job_text job (codes " SQUEEZED")
 line_reply_text Finished = codes "FINISHED"
-line_reply_text (Started cell) = codes "STARTED " ++ cell_text cell
+line_reply_text (Started cell) = codes "STARTED " ++ octal5 cell
 line_reply_text (Steps steps why cell) =
-    codes "STEPS " ++ decimal steps ++ 0o40 ∷ why_text why ++ 0o40 ∷ cell_text cell
+    codes "STEPS " ++ decimal steps ++ 0o40 ∷ why_text why ++ 0o40 ∷ octal5 cell
 line_reply_text (Key character) = codes "KEY " ++ character_text character
 line_reply_text Done = codes "DONE"
 line_reply_text (Switches word) = codes "SWITCHES " ++ octal4 word
-line_reply_text (Core cell word) = cell_text cell ++ 0o40 ∷ octal4 word
-line_reply_text (Break cell is_on) = codes "BREAK " ++ cell_text cell ++ 0o40 ∷ setting_text is_on
+line_reply_text (Core cell word) = octal5 cell ++ 0o40 ∷ octal4 word
+line_reply_text (Break cell is_on) = codes "BREAK " ++ octal5 cell ++ 0o40 ∷ setting_text is_on
 
 -- a blank, and the octal digits of a character
 abbrev pub printed_character : ℕ → List ℕ

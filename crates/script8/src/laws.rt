@@ -1,10 +1,10 @@
 //! What holds of names and numbers in lines. Each function does nothing: its contract is the law.
 ghost use Rattle.std.specs.Prelude.{◌≡◌, ◌<◌, ℕ, List, Option, Some, decimal};
-ghost use Rattle.word12.specs.Octal.{octal4, octal_of};
+ghost use Rattle.word12.specs.Octal.{octal4, octal5, octal_of};
 ghost use Rattle.word12.specs.declared.sizes.TheConstants.{CORE};
 ghost use Rattle.os8_dir.specs.Names.{parsed_name};
 ghost use Rattle.script8.specs.Lines.{number_of, cell_of, character_of};
-ghost use Rattle.script8.specs.Replies.{cell_text, character_text};
+ghost use Rattle.script8.specs.Replies.{character_text};
 ghost use Rattle.script8.specs.Shown.{shown};
 ghost use Rattle.script8.specs.Written.{AssembleAsWritten};
 
@@ -23,7 +23,7 @@ pub fn number_as_shown()
 /// A cell, a word and a character that are shown are read as they are.
 #[tactic(auto, using(crate::proofs::LawLemmas::cell_as_shown, crate::proofs::LawLemmas::word_as_shown, crate::proofs::LawLemmas::character_as_shown))]
 pub fn octal_as_shown()
-    ensures cell { (cell : ℕ) → cell < CORE → cell_of (cell_text cell) ≡ Some cell }
+    ensures cell { (cell : ℕ) → cell < CORE → cell_of (octal5 cell) ≡ Some cell }
     ensures word { (word : ℕ) → word < 0o10000 → octal_of 4 (octal4 word) ≡ Some word }
     ensures character { (character : ℕ) → character < 256
         → character_of (character_text character) ≡ Some character }

@@ -1,7 +1,8 @@
 //! The texts of replies of one line.
 ghost use Rattle.std.specs.Prelude.{◌≡◌, ◌+◌, ◌≤◌, ◌++◌, [], ◌∷◌};
 ghost use Rattle.arrayvec.specs.ArrayVec.{array_vec_len};
-ghost use Rattle.script8.specs.Replies.{line_reply_text, assembled_text, file_text, why_text, setting_text, cell_text, character_text, job_text};
+ghost use Rattle.word12.specs.Octal.{octal5};
+ghost use Rattle.script8.specs.Replies.{line_reply_text, assembled_text, file_text, why_text, setting_text, character_text, job_text};
 
 use crate::text_lines::{put, put_name, put_number};
 use crate::{LineReply, Why};
@@ -138,11 +139,10 @@ pub(crate) fn put_job(line: &mut ArrayVec<u8, 80>, job: u32)
 /// Puts the octal digits of a cell.
 fn put_cell(line: &mut ArrayVec<u8, 80>, cell: Cell)
     requires { array_vec_len line.old ≤ 60 }
-    ensures text { line.new.items ≡ line.old.items ++ cell_text cell }
+    ensures text { line.new.items ≡ line.old.items ++ octal5 cell }
     ensures len { array_vec_len line.new ≡ array_vec_len line.old + 5 }
 {
-    put(line, &[0o60 + cell.field()]);
-    put(line, &cell.address().octal4());
+    put(line, &cell.octal5());
 }
 
 /// The three octal digits of a character.

@@ -1,12 +1,12 @@
 //! The cross reference of a listing.
-ghost use Rattle.std.specs.Prelude.{◌≡◌, ◌++◌, None, unwrap_or, decimal, OnOk};
+ghost use Rattle.std.specs.Prelude.{◌≡◌, ◌++◌, None, unwrap_or, OnOk};
 ghost use Rattle.assemble8.specs.Symbols.{known};
 ghost use Rattle.source_listing.specs.References.{spot_text, opening_text, is_same_spot, mention_text, ending_text, cross_text};
 
 use crate::references::Mention;
 use crate::spots::Spot;
 use crate::tables::put_symbol;
-use assemble8::value_by_number;
+use assemble8::{put_number, value_by_number};
 use std::alloc::AllocError;
 use std::collections::BTreeMap;
 
@@ -104,14 +104,5 @@ fn put_spot(text: &mut Vec<u8>, several: bool, spot: Spot) -> Result<(), AllocEr
         text.extend_from_slice(b":")?;
     }
     put_number(text, spot.line as u64)?;
-    Ok(())
-}
-
-/// Puts a number in decimal, without leading zeros.
-fn put_number(text: &mut Vec<u8>, number: u64) -> Result<(), AllocError>
-    ensures { OnOk result (text.new.items ≡ text.old.items ++ decimal number) }
-{
-    let mut digits = itoa::Buffer::new();
-    text.extend_from_slice(digits.format(number).as_bytes())?;
     Ok(())
 }

@@ -1,6 +1,7 @@
 pub mod KeyLemmas
 pub mod ByteLemmas
 pub mod TerminalLemmas
+pub mod FetchLemmas
 pub mod WaitLemmas
 pub mod LoopLemmas
 pub mod LookLemmas

@@ -9,9 +9,9 @@ use Rattle.cpu8.specs.declared.outcomes.Stepped.TheVariants.{Stopped, Interrupte
 use Rattle.terminal8.specs.Keys.{Keyboard, fresh, keys_from, keys_of}
 use Rattle.terminal8.specs.KeySteps.{behind}
 use Rattle.terminal8.specs.Asks.{asks_for_key}
-use Rattle.terminal8.specs.Terminal.{Terminal, seated, looked, stepped, next, later, last_did, printed_by, shown, starves, has_halted, GoesOn, Ends}
+use Rattle.terminal8.specs.Terminal.{Terminal, seated, looked, stepped, next, later, last_did, printed_by, shown, starves, has_halted, stop_of, GoesOn, Ends}
 use Rattle.terminal8.specs.Run.{MayFollow, FindsKey, FindsNone, HaveEnded, HasMadeSteps, IsRunOf, IsCut, WritesPrinted, RunsProgram}
-use Rattle.terminal8.specs.RunSteps.{StrikesKeys, IsDry, IsNoneOnly, Passes, Holds, Attends, Misses, Prints, RunsInto, stop_of}
+use Rattle.terminal8.specs.RunSteps.{StrikesKeys, IsDry, IsNoneOnly, Passes, Holds, Attends, Misses, Prints, RunsInto}
 use Rattle.terminal8.specs.declared.inputs.Input.{Input}
 use Rattle.terminal8.specs.declared.outcomes.TerminalFault.{TerminalFault}
 use Rattle.terminal8.specs.declared.outcomes.TerminalFault.TheVariants.{Reader, Writer}

@@ -15,9 +15,13 @@ IsInLoop s now = (now ≡ s) ⊎ (now ≡ advanced s)
 
 -- ## Whole runs
 
--- a terminal at which the keys of these bytes are struck, one at each look
+-- a terminal at which these keys are struck, one at each look
+abbrev pub struck_at : State → List ℕ → Terminal
+struck_at s keys = seated s (map (λ key. Some key) keys)
+
+-- a terminal at which the keys of these bytes are struck
 abbrev pub terminal_of : Form → State → List ℕ → Terminal
-terminal_of form s bytes = seated s (map (λ key. Some key) (keys_of form bytes))
+terminal_of form s bytes = struck_at s (keys_of form bytes)
 
 -- A run of at most n steps of a terminal, the machine that it leaves, and what a writer got.
 pub record IsWholeRun (t : Terminal) (n : ℕ) (new : State) (writer writer' : Option (List ℕ)) (ended : Ended) : Type 0 where

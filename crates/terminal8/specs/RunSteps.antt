@@ -2,8 +2,6 @@
 use Rattle.std.specs.Prelude.{◌≡◌, ℕ, ◌≤◌, Bool, true, false, List, [], ◌∷◌, ◌++◌, length, take, Option, Some, None, Result, Ok, Err}
 use Rattle.std.specs.Io.KnownBytes.{Consumes, Appends, IsAtEnd}
 use Rattle.cpu8.specs.State.{State}
-use Rattle.cpu8.specs.declared.outcomes.Stepped.{Stepped}
-use Rattle.cpu8.specs.declared.outcomes.Stepped.TheVariants.{Stopped, Interrupted, Ran, Halted, Unassigned}
 use Rattle.terminal8.specs.Keys.{Keyboard, keys_from}
 use Rattle.terminal8.specs.KeySteps.{behind}
 use Rattle.terminal8.specs.Terminal.{seated, looked, attended, is_none_left, printed_by, shown, starves}
@@ -14,8 +12,6 @@ use Rattle.terminal8.specs.declared.keyboards.Form.{Form}
 use Rattle.terminal8.specs.declared.outcomes.Ended.{Ended}
 use Rattle.terminal8.specs.declared.outcomes.TerminalFault.{TerminalFault}
 use Rattle.terminal8.specs.declared.outcomes.TerminalFault.TheVariants.{Reader, Writer}
-use Rattle.terminal8.specs.declared.outcomes.Why.{Why}
-use Rattle.terminal8.specs.declared.outcomes.Why.TheVariants as why
 
 -- ## Bytes that are read ahead
 
@@ -126,14 +122,6 @@ abbrev pub Misses : Keyboard → Keyboard → List ℕ → List ℕ → Bool →
 Misses k k' ahead ahead' is_over reader reader' = (is_over ≡ false) × StrikesKeys k k' ahead ahead' reader reader' []
 
 -- ## The run
-
--- why a run ends behind a step, if it does
-abbrev pub stop_of : Stepped → Option Why
-stop_of Halted = Some why.Halt
-stop_of (Unassigned word) = Some why.Unassigned
-stop_of Stopped = Some why.Halt
-stop_of Interrupted = None
-stop_of (Ran printed) = None
 
 -- what so many steps printed went to the writer, and the rest is on the paper
 abbrev pub Prints : State → List (Option ℕ) → Bool → Option (List ℕ) → Option (List ℕ) → List ℕ → ℕ → Type 0

@@ -75,6 +75,14 @@ has_halted (Unassigned word) = false
 has_halted Interrupted = false
 has_halted (Ran printed) = false
 
+-- why a run ends behind a step, if it does
+abbrev pub stop_of : Stepped → Option Why
+stop_of Halted = Some why.Halt
+stop_of (Unassigned word) = Some why.Unassigned
+stop_of Stopped = Some why.Halt
+stop_of Interrupted = None
+stop_of (Ran printed) = None
+
 -- Why a run of at most n steps ends after so many of them: the last one was a HLT, or the machine stands stopped; it met an
 -- unassigned word; the keys have ended and the machine waits for one; or all n are made.
 abbrev pub Ends : Terminal → ℕ → ℕ → Why → Type 0

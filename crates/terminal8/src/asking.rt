@@ -1,6 +1,6 @@
 //! When a program asks for a key, and when it does nothing but wait for one.
 
-ghost use Rattle.std.specs.Prelude.{◌≡◌, ◌<◌};
+ghost use Rattle.std.specs.Prelude.{◌≡◌, ℕ, ◌+◌, ◌<◌, ◌≤◌, ◌&&◌, nat_le, false};
 ghost use Rattle.terminal8.specs.Asks.{is_ksf, is_undisturbed, tests_keyboard, asks_for_key, jumps_back, is_at_rest, waits_for_key};
 ghost use Rattle.cpu8.specs.Step.{fetched};
 
@@ -14,6 +14,21 @@ pub fn asks_for_key(since: u64, machine: &Machine) -> bool
 {
     !machine.keyboard_flag()
         && (tests_keyboard(machine) || (machine.interrupts_on() && since >= TENTH_OF_A_SECOND))
+}
+
+/// How many steps, at most n, a program may make before it asks for a key by its time alone, so many steps after it last asked,
+/// with interrupts on or off as they are.
+#[inline(always)]
+pub(crate) fn steps_before_look(since: u64, machine: &Machine, n: u64) -> usize
+    ensures within { result ≤ n }
+    ensures sooner { (m : ℕ) → m < result → (machine.now.interrupts_on && nat_le 30000 (since + m)) ≡ false }
+{
+    let most = if machine.interrupts_on() {
+        TENTH_OF_A_SECOND.saturating_sub(since)
+    } else {
+        TENTH_OF_A_SECOND
+    };
+    n.min(most) as usize
 }
 
 /// Whether the machine waits for a key in `KSF; JMP .-1`, and would do so for ever if none came.
@@ -90,7 +105,7 @@ fn is_at_rest(machine: &Machine) -> bool
 }
 
 /// So many steps take a tenth of a second.
-pub(crate) const TENTH_OF_A_SECOND: u64 = 30_000;
+const TENTH_OF_A_SECOND: u64 = 30_000;
 
 /// The keyboard's instructions without their pulses, 6030 to 6037.
 const KEYBOARD: u16 = 0o603;

@@ -1,5 +1,5 @@
 //! A machine at a terminal: the bytes of a reader are struck as keys, each where the program asks for one, and a writer gets what
-//! is printed.
+//! is printed; or the keys are known, and steps are made one by one, or several at once that are counted.
 //!
 //! Nothing here takes memory but lists of keys.
 #![tactic(auto)]
@@ -12,10 +12,12 @@ mod operators;
 mod outcomes;
 mod readings;
 mod runs;
+mod terminals;
 mod writing;
 
 pub use asking::{asks_for_key, waits_for_key};
 pub use inputs::Input;
 pub use keyboards::{Form, Keyboard, keys_of};
 pub use outcomes::{Ended, TerminalFault, Why};
-pub use runs::run;
+pub use runs::{run, stop_of};
+pub use terminals::Terminal;

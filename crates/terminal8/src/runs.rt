@@ -4,12 +4,12 @@ ghost use Rattle.std.specs.Prelude.{◌≡◌, ℕ, ◌+◌, ◌<◌, ◌≤◌,
 ghost use Rattle.cpu8.specs.Go.{after, answer, printing_step, character_of};
 ghost use Rattle.cpu8.specs.declared.outcomes.Stepped.TheVariants.{Ran};
 ghost use Rattle.terminal8.specs.Asks.{asks_for_key};
-ghost use Rattle.terminal8.specs.Terminal.{shown};
+ghost use Rattle.terminal8.specs.Terminal.{shown, stop_of};
 ghost use Rattle.terminal8.specs.Run.{RunsProgram};
-ghost use Rattle.terminal8.specs.RunSteps.{Passes, RunsInto, stop_of};
+ghost use Rattle.terminal8.specs.RunSteps.{Passes, RunsInto};
 ghost use Rattle.terminal8.specs.declared.outcomes.TerminalFault.TheVariants as fault;
 
-use crate::asking::TENTH_OF_A_SECOND;
+use crate::asking::steps_before_look;
 use crate::inputs::Input;
 use crate::keyboards::Form;
 use crate::operators::Operator;
@@ -134,16 +134,13 @@ fn go_on(machine: &mut Machine, n: u64, since: u64) -> u64
     ensures answers { (m : ℕ) → m < result → answer true m machine.old ≡ Ran None }
     ensures asks { (m : ℕ) → m < result → asks_for_key (since + m) (after true m machine.old) ≡ false }
 {
-    let most = if machine.interrupts_on() {
-        TENTH_OF_A_SECOND.saturating_sub(since)
-    } else {
-        TENTH_OF_A_SECOND
-    };
-    machine.run_unasked(n.min(most) as usize) as u64
+    let most = steps_before_look(since, machine, n);
+    machine.run_unasked(most) as u64
 }
 
-/// Why a run ends behind a step, if it does.
-fn stop_of(did: Stepped) -> Option<Why>
+/// Why a run ends behind a step that did this, if it does: it was a HLT, or the machine stood stopped; or it met a word that is
+/// unassigned.
+pub fn stop_of(did: Stepped) -> Option<Why>
     ensures { result ≡ stop_of did }
 {
     match did {

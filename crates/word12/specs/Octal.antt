@@ -1,5 +1,6 @@
 -- Octal digits, as the handbook writes words, addresses and fields.
 use Rattle.std.specs.Prelude.{ℕ, ◌+◌, ◌-◌, ◌*◌, ◌/◌, ◌%◌, ◌&&◌, if◌then◌else◌, nat_eq, nat_le, nat_lt, length, List, [], ◌∷◌, Option, None, Some, zero, suc}
+use Rattle.word12.specs.declared.sizes.TheConstants.{FIELD}
 
 -- the ASCII code of the last octal digit of a number
 abbrev pub octal_digit : ℕ → ℕ
@@ -8,6 +9,10 @@ octal_digit n = 0o60 + n % 8
 -- the four octal digits of a word, the first of them the most significant
 abbrev pub octal4 : ℕ → List ℕ
 octal4 word = octal_digit (word / 0o1000) ∷ octal_digit (word / 0o100) ∷ octal_digit (word / 8) ∷ octal_digit word ∷ []
+
+-- the five octal digits of a cell: its field, and its address
+abbrev pub octal5 : ℕ → List ℕ
+octal5 cell = octal_digit (cell / FIELD) ∷ octal4 (cell % FIELD)
 
 -- the number that octal digits spell behind a number that was spelled before them
 abbrev pub octal_number_after : ℕ → List ℕ → ℕ

@@ -1,4 +1,5 @@
 ghost use Rattle.std.specs.Prelude.{◌≡◌, ℕ, ◌+◌, ◌*◌, ◌/◌, ◌%◌, ◌<◌, ◌↔◌, IsSome, IfSome};
+ghost use Rattle.word12.specs.Octal.{octal5};
 ghost use Rattle.word12.specs.declared.sizes.TheConstants.{CORE, FIELD};
 
 use crate::{FIELD, Word};
@@ -85,5 +86,13 @@ impl Cell {
         ensures range { result < CORE }
     {
         self.number as usize
+    }
+
+    /// The cell as five octal digits in ASCII: its field, and its address with zeros in front.
+    pub fn octal5(self) -> [u8; 5]
+        ensures { result ≡ octal5 self }
+    {
+        let [a, b, c, d] = self.address().octal4();
+        [0o60 + self.field(), a, b, c, d]
     }
 }

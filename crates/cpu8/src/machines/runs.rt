@@ -4,6 +4,7 @@ ghost use Rattle.std.specs.Prelude.{◌≡◌, ◌+◌, ◌≤◌, ◌++◌, [],
 ghost use Rattle.word12.specs.declared.sizes.TheConstants.{CORE};
 ghost use Rattle.cpu8.specs.QuietSteps.{AreQuiet, AreUnbroken, IsUnbroken, is_quiet, is_settled};
 ghost use Rattle.cpu8.specs.Unasked.{AreUnasked};
+ghost use Rattle.cpu8.specs.Fetches.{AddsFetches, HaveRoom};
 ghost use Rattle.cpu8.specs.Go.{IsGo, after, break_ahead, character_of, printed_by, reason, printing_step};
 
 use super::Machine;
@@ -60,13 +61,37 @@ impl Machine {
         ensures state { self.new ≡ after true result self.old }
         ensures unasked { AreUnasked self.old result }
     {
-        if !self.processor.is_quiet(true) || !self.processor.is_settled() {
-            return 0;
-        }
-        if self.processor.finds_transfer(&self.core) {
+        if !self.begins_unasked() {
             return 0;
         }
         self.run_without_breaks(n, true, true, &[])
+    }
+
+    /// The same, and counts the words that are fetched: one count for each of the 0o100000 cells of core becomes one more with each
+    /// step that fetches the word of its cell. Each count must have room for n more.
+    pub fn run_unasked_counting(&mut self, n: usize, counts: &mut [u64]) -> usize
+        requires size { length counts.old ≡ CORE }
+        requires room { HaveRoom n counts.old }
+        ensures within { result ≤ n }
+        ensures state { self.new ≡ after true result self.old }
+        ensures unasked { AreUnasked self.old result }
+        ensures counts { AddsFetches result self.old counts.old counts.new }
+    {
+        if !self.begins_unasked() {
+            return 0;
+        }
+        self.run_counting(n, counts)
+    }
+
+    /// Whether steps may be made without a look at the Teletype, and are worth it.
+    #[inline(always)]
+    fn begins_unasked(&self) -> bool
+        ensures quiet { result ≡ true → is_quiet true self.now ≡ true }
+        ensures settled { result ≡ true → is_settled self.now ≡ true }
+    {
+        self.processor.is_quiet(true)
+            && self.processor.is_settled()
+            && !self.processor.finds_transfer(&self.core)
     }
 
     /// Makes up to n steps as long as they are quiet, and no break is ahead; none where breaks tell of some cells alone,
@@ -127,6 +152,24 @@ impl Machine {
     {
         let mut processor = self.processor.settled();
         let steps = processor.run_quietly::<true>(&mut self.core, n, quick, false, breaks);
+        self.processor = processor;
+        steps
+    }
+
+    /// The same with a question for a key at each step, and counts for each cell how often its word was fetched.
+    #[inline(never)]
+    fn run_counting(&mut self, n: usize, counts: &mut [u64]) -> usize
+        requires quiet { is_quiet true self.old ≡ true }
+        requires settled { is_settled self.old ≡ true }
+        requires size { length counts.old ≡ CORE }
+        requires room { HaveRoom n counts.old }
+        ensures within { result ≤ n }
+        ensures state { self.new ≡ after true result self.old }
+        ensures unasked { AreUnasked self.old result }
+        ensures counts { AddsFetches result self.old counts.old counts.new }
+    {
+        let mut processor = self.processor.settled();
+        let steps = processor.run_counting(&mut self.core, n, counts);
         self.processor = processor;
         steps
     }

@@ -1,12 +1,14 @@
 //! Steps with no look at the Teletype: what a run mostly makes, on a processor of its own that the compiler keeps in
 //! registers. So every function here is inlined, and what is rare is left to the other steps. The larger ones have the
-//! parameter MINDS, whether breaks are minded, so that each stands in the program once for each of the two loops, and not
-//! once for both, which would not be inlined.
+//! parameters MINDS, whether breaks are minded, and COUNTS, whether fetches are counted, so that each stands in the program
+//! once for each of the three loops, and not once for all, which would not be inlined.
 
-ghost use Rattle.std.specs.Prelude.{◌≡◌, ◌<◌, ◌≤◌, ◌/◌, true, false, nat_eq};
+ghost use Rattle.std.specs.Prelude.{◌≡◌, ◌<◌, ◌≤◌, ◌/◌, true, false, nat_eq, length};
+ghost use Rattle.word12.specs.declared.sizes.TheConstants.{CORE};
 ghost use Rattle.cpu8.specs.State.{next_cell, with_core};
 ghost use Rattle.cpu8.specs.Step.{fetched};
 ghost use Rattle.cpu8.specs.Go.{after, is_break};
+ghost use Rattle.cpu8.specs.Fetches.{AddsFetches, HaveRoom};
 ghost use Rattle.cpu8.specs.Unasked.{AreUnasked, finds_no_key, is_ksf};
 ghost use Rattle.cpu8.specs.QuietSteps.{AreMinded, AreQuiet, Does, DoesOrNot, is_quiet, is_settled, operates_on};
 
@@ -71,12 +73,34 @@ impl Processor {
     {
         let _quick = quick;
         for made in 0..n {
-            if !self.step_quietly::<MINDS>(core, asks) {
+            if !self.step_quietly::<MINDS, false>(core, asks) {
                 return made;
             }
             if self.is_at_break::<MINDS>(breaks) {
                 return made + 1;
             }
+        }
+        n
+    }
+
+    /// Makes up to n steps as long as they are quiet and none is a KSF that finds the keyboard flag clear, and counts for
+    /// each cell how often its word was fetched.
+    #[inline(always)]
+    pub(crate) fn run_counting(&mut self, core: &mut Core, n: usize, counts: &mut [u64]) -> usize
+        requires quiet { is_quiet true self.old ≡ true }
+        requires size { length counts.old ≡ CORE }
+        requires room { HaveRoom n counts.old }
+        ensures within { result ≤ n }
+        ensures state { with_core self.new core.new ≡ after true result (with_core self.old core.old) }
+        ensures unasked { AreUnasked (with_core self.old core.old) result }
+        ensures counts { AddsFetches result (with_core self.old core.old) counts.old counts.new }
+    {
+        for made in 0..n {
+            let cell = self.next_cell();
+            if !self.step_quietly::<false, true>(core, true) {
+                return made;
+            }
+            counts[cell.index()] += 1;
         }
         n
     }
@@ -109,7 +133,11 @@ impl Processor {
 
     /// The next instruction, if it is one that is done here. If it asks, a KSF that finds the keyboard flag clear is none.
     #[inline(always)]
-    fn step_quietly<const MINDS: bool>(&mut self, core: &mut Core, asks: bool) -> bool
+    fn step_quietly<const MINDS: bool, const COUNTS: bool>(
+        &mut self,
+        core: &mut Core,
+        asks: bool,
+    ) -> bool
         ensures does { DoesOrNot (with_core self.old core.old) (fetched (with_core self.old core.old))
             result (with_core self.new core.new) }
         ensures asks { asks ≡ true → result ≡ true → finds_no_key (with_core self.old core.old) ≡ false }
@@ -149,7 +177,7 @@ impl Processor {
             0o31 => return self.transfer_quietly(core, leading(0o31, word)),
             0o32 => return self.transfer_quietly(core, leading(0o32, word)),
             0o33 => return self.transfer_quietly(core, leading(0o33, word)),
-            _ => return self.operate_quietly::<MINDS>(core, word),
+            _ => return self.operate_quietly::<MINDS, COUNTS>(core, word),
         }
         true
     }
@@ -197,7 +225,11 @@ impl Processor {
 
     /// An operate instruction that goes on. The words of everyday use are each compiled for themselves.
     #[inline(always)]
-    fn operate_quietly<const MINDS: bool>(&mut self, core: &Core, word: Word) -> bool
+    fn operate_quietly<const MINDS: bool, const COUNTS: bool>(
+        &mut self,
+        core: &Core,
+        word: Word,
+    ) -> bool
         requires { 7 ≤ word / 0o1000 }
         ensures { DoesOrNot (with_core self.old core.now) word result (with_core self.new core.now) }
     {

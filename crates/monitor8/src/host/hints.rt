@@ -4,15 +4,10 @@ use super::Ended;
 use crate::ProgramLine;
 use archive8::bad_text_at;
 use command8::SCRIPT_LINES;
+use disk8::{Layout, guess};
 use os8_dir::DirFault;
 use rim_tape::RimFault;
 use word12::{BLOCK, MOST_BLOCKS};
-
-/// The bytes of a whole RK05 disk.
-const RK05: usize = 2 * 3248 * BLOCK * 2;
-
-/// The bytes of a DECtape, 1474 blocks of 129 words.
-const DECTAPE: usize = 1474 * 129 * 2;
 
 /// The most bytes that an image has.
 const IMAGE: usize = MOST_BLOCKS * BLOCK * 2;
@@ -33,14 +28,19 @@ pub fn refused_image<R: Eprint>(rt: &R, size: usize, line: ProgramLine) -> Ended
 /// What may help where an image of so many bytes is refused.
 fn image_hint(size: usize, line: ProgramLine) -> Option<&'static str> {
     match line {
-        ProgramLine::Image(_) if size == RK05 => Some(
-            "note: 3325952 bytes are a whole RK05 disk of two volumes: cut it into two images of 1662976 bytes\n",
-        ),
-        ProgramLine::Image(_) if size == DECTAPE => Some(
-            "note: 380292 bytes are a DECtape with 129 words a block: leave out each 129th word\n",
-        ),
+        ProgramLine::Image(_) => match guess(size)? {
+            Layout::Dectape => Some(
+                "note: 380292 bytes are a DECtape with 129 words a block: --dectape takes it so
+",
+            ),
+            Layout::First | Layout::Second => Some(
+                "note: the file may be an RK05 disk of two volumes: --volume 1 or --volume 2 takes one of them
+",
+            ),
+        },
         ProgramLine::Directory(DirFault::PastVolume) if size < IMAGE => Some(
-            "note: the file ends before the blocks that its directory covers: if the disk's end was never written, pad it with zeros\n",
+            "note: the file ends before the blocks that its directory covers: if the end of an RK05 disk was never written, --volume 1 takes it as zeros
+",
         ),
         _ => None,
     }
@@ -59,6 +59,7 @@ pub fn tell_bad_text<R: Eprint>(rt: &R, text: &[u8]) {
 /// Says that frames which are no BIN tape are a RIM tape, where they are one.
 pub fn tell_rim<R: Eprint + AllocGlobal>(rt: &R, frames: &[u8]) {
     match rim_tape::read(rt.alloc(), frames) {
+        // memory is asked for only where the frames are a tape
         Ok(_) | Err(RimFault::Memory) => {
             let _ = rt.eprint(
                 "note: the frames are a RIM tape: addresses and words in turn, and no check sum; a BIN tape is wanted\n",

@@ -2,6 +2,8 @@
 
 use super::Ended;
 use crate::ProgramLine;
+use command8::ImageForm;
+use disk8::{DiskFile, Layout};
 use host8::{HeldFile, HoldFault, Unwritten, hold, look, make};
 use script8::SessionFault;
 use session8::MOST;
@@ -33,6 +35,9 @@ pub struct Image {
     held: Option<HeldFile>,
     bytes: Vec<u8>,
 
+    /// The whole file, where it holds more than the image.
+    disk: Option<DiskFile>,
+
     /// Whether it was told that the file is written in its place.
     is_told: bool,
 }
@@ -41,27 +46,30 @@ impl Image {
     /// Holds an image file and reads it. Where another program holds it, nothing is read.
     pub fn open<R: Files<File = File> + Eprint + AllocGlobal>(
         rt: &R,
-        name: &str,
+        form: &ImageForm,
     ) -> Result<Image, Ended> {
-        let found = hold(rt, name);
+        let found = hold(rt, &form.file);
         if let Err(HoldFault::Unwritable) = &found {
-            return Image::look(rt, name);
+            return Image::look(rt, form);
         }
         let held = found.map_err(unread)?;
         tell_of_lock(rt, &held, Content::Image);
-        let bytes = taken(held.read(rt, MOST))?;
+        let file = taken(held.read(rt, MOST))?;
+        let (bytes, disk) = volume_in(rt, file, form.layout)?;
         Ok(Image {
             held: Some(held),
             bytes,
+            disk,
             is_told: false,
         })
     }
 
     /// Reads an image file, and holds nothing: it can't be saved.
-    pub fn look<R: Files + AllocGlobal>(rt: &R, name: &str) -> Result<Image, Ended> {
+    pub fn look<R: Files + AllocGlobal>(rt: &R, form: &ImageForm) -> Result<Image, Ended> {
         Ok(Image {
             held: None,
-            bytes: seen(rt, name)?,
+            bytes: seen(rt, form)?,
+            disk: None,
             is_told: false,
         })
     }
@@ -87,7 +95,15 @@ impl Image {
         if !self.is_told {
             tell_of_place(rt, held, Content::Image);
         }
-        write(rt, held, bytes, Content::Image)?;
+        match &mut self.disk {
+            None => write(rt, held, bytes, Content::Image)?,
+            Some(disk) => {
+                if !disk.lay(bytes) {
+                    return Err(Ended::Unwritten(Content::Image, Unwritten::AsItWas));
+                }
+                write(rt, held, disk.bytes(), Content::Image)?;
+            }
+        }
         self.is_told = true;
         mem::swap(&mut self.bytes, bytes);
         Ok(())
@@ -112,8 +128,28 @@ pub fn make_file<R: Files<File = File> + Eprint + AllocGlobal>(
 }
 
 /// The bytes of an image that is only looked at.
-pub fn seen<R: Files + AllocGlobal>(rt: &R, name: &str) -> Result<Vec<u8>, Ended> {
+pub fn seen<R: Files + AllocGlobal>(rt: &R, form: &ImageForm) -> Result<Vec<u8>, Ended> {
+    let (bytes, _disk) = volume_in(rt, bytes_of(rt, &form.file)?, form.layout)?;
+    Ok(bytes)
+}
+
+/// The bytes of a file that is only looked at.
+pub fn bytes_of<R: Files + AllocGlobal>(rt: &R, name: &str) -> Result<Vec<u8>, Ended> {
     taken(look(rt, name, MOST))
+}
+
+/// The image of the volume in a file of these bytes, and the file where it holds more than that.
+fn volume_in<R: AllocGlobal>(
+    rt: &R,
+    file: Vec<u8>,
+    layout: Option<Layout>,
+) -> Result<(Vec<u8>, Option<DiskFile>), Ended> {
+    let Some(layout) = layout else {
+        return Ok((file, None));
+    };
+    let disk = DiskFile::new(file, layout)?;
+    let image = disk.volume(rt.alloc())?;
+    Ok((image, Some(disk)))
 }
 
 /// The bytes of an image file, if they are not too many.

@@ -4,7 +4,7 @@ use super::Ended;
 use super::hints::{line_hint, refused_image};
 use super::images::Image;
 use crate::ProgramLine;
-use command8::{RunForm, Saving};
+use command8::{ImageForm, RunForm, Saving};
 use script8::{LineReply, Reply, SessionFault};
 use session8::{Session, Watcher};
 use std::fs::{File, Files};
@@ -15,15 +15,15 @@ use volume_image::MemoryVolume;
 /// memory for that is taken before the script.
 pub fn run_image<R: Files<File = File> + Input + Print + Eprint + AllocGlobal>(
     rt: &R,
-    name: &str,
+    named: &ImageForm,
     form: RunForm,
 ) -> Result<(), Ended>
 where
     R::Reader: IsTerminal,
 {
     let image = match form.saving {
-        Saving::Never => Image::look(rt, name)?,
-        Saving::AtEnd | Saving::Always => Image::open(rt, name)?,
+        Saving::Never => Image::look(rt, named)?,
+        Saving::AtEnd | Saving::Always => Image::open(rt, named)?,
     };
     let bytes = image.bytes().to_vec(rt.alloc())?;
     let mut writer = BufWriter::new(rt.alloc(), io::writer(rt))?;

@@ -3,10 +3,10 @@
 
 use super::Ended;
 use super::archives::{bytes_of_file, core_of_file};
-use super::images::seen;
+use super::images::bytes_of;
 use crate::{put_source, source_text};
-use archive8::GetForm;
-use command8::SourceForm;
+use archive8::{Asked, GetForm};
+use command8::{ImageForm, SourceForm};
 use std::fs::Files;
 use std::io::{self, Input};
 use word12::Cell;
@@ -20,14 +20,19 @@ pub fn program_of<R: Files + Eprint + AllocGlobal>(
     file: &str,
     name: &Option<String>,
 ) -> Result<(Vec<u8>, Option<Cell>), Ended> {
-    match name {
-        Some(name) if name.ends_with(CORE_IMAGE) => {
-            let (frames, start) = core_of_file(rt, file, name)?;
-            Ok((frames, Some(start)))
-        }
-        Some(name) => Ok((bytes_of_file(rt, file, name, GetForm::Tape)?, None)),
-        None => Ok((seen(rt, file)?, None)),
+    let Some(name) = name else {
+        return Ok((bytes_of(rt, file)?, None));
+    };
+    let image = ImageForm {
+        file: String::from_str(rt.alloc(), file)?,
+        layout: None,
+    };
+    let asked = Asked::Name(String::from_str(rt.alloc(), name)?);
+    if name.ends_with(CORE_IMAGE) {
+        let (frames, start) = core_of_file(rt, &image, &asked)?;
+        return Ok((frames, Some(start)));
     }
+    Ok((bytes_of_file(rt, &image, &asked, GetForm::Tape)?, None))
 }
 
 /// Writes the source of a tape. The program of a core image starts where that tells, unless other cells are given.
@@ -35,17 +40,27 @@ pub fn write_source<R: Files + Input + Print + Eprint + AllocGlobal>(
     rt: &R,
     form: &SourceForm,
 ) -> Result<(), Ended> {
+    let names = match &form.names {
+        Some(file) => Some(bytes_of(rt, file)?),
+        None => None,
+    };
     let mut writer = io::writer(rt);
     let Some(file) = &form.file else {
-        source_text(rt.alloc(), &mut rt.reader(), &form.starts, &mut writer)?;
+        source_text(
+            rt.alloc(),
+            &mut rt.reader(),
+            &form.starts,
+            &names,
+            &mut writer,
+        )?;
         return Ok(());
     };
     let (frames, start) = program_of(rt, file, &form.name)?;
     match start {
         Some(start) if form.starts.is_empty() => {
-            put_source(rt.alloc(), &frames, &[start], &mut writer)?;
+            put_source(rt.alloc(), &frames, &[start], &names, &mut writer)?;
         }
-        _ => put_source(rt.alloc(), &frames, &form.starts, &mut writer)?,
+        _ => put_source(rt.alloc(), &frames, &form.starts, &names, &mut writer)?,
     }
     Ok(())
 }

@@ -11,7 +11,7 @@ use script8::SessionFault;
 use std::fs::Files;
 use std::io::Input;
 use terminal8::{Form, Input as Keys, TerminalFault, Why, run};
-use word12::Cell;
+use word12::{Cell, Word};
 
 /// Loads a tape or a core image into a new machine, and runs it at the Teletype.
 pub fn run_teletype<R: Files + Input + Print + Eprint + AllocGlobal>(
@@ -19,7 +19,7 @@ pub fn run_teletype<R: Files + Input + Print + Eprint + AllocGlobal>(
     form: &TeletypeForm,
 ) -> Result<(), Ended> {
     let (frames, start) = program_of(rt, &form.file, &form.name)?;
-    let mut machine = machine_of(rt, form, &frames, start)?;
+    let mut machine = machine_of(rt, &frames, form.start.or(start), form.switches)?;
     let struck = if form.is_raw { Form::Raw } else { Form::Text };
     let keys = if form.is_live {
         Keys::Live
@@ -43,11 +43,11 @@ pub fn run_teletype<R: Files + Input + Print + Eprint + AllocGlobal>(
 }
 
 /// A machine that stands where the program of a tape is to begin: at its first word where no other start is known.
-fn machine_of<R: AllocGlobal>(
+pub fn machine_of<R: AllocGlobal>(
     rt: &R,
-    form: &TeletypeForm,
     frames: &[u8],
     start: Option<Cell>,
+    switches: Option<Word>,
 ) -> Result<Machine, Ended> {
     let mut core = Core::new(rt.alloc()).map_err(SessionFault::from)?;
     load(rt.alloc(), frames, &mut core).map_err(SessionFault::from)?;
@@ -55,10 +55,10 @@ fn machine_of<R: AllocGlobal>(
         return Err(Ended::Line(ProgramLine::NothingToRun));
     };
     let mut machine = Machine::new(core);
-    if let Some(word) = form.switches {
+    if let Some(word) = switches {
         machine.switches(word);
     }
-    machine.start(form.start.or(start).unwrap_or(first));
+    machine.start(start.unwrap_or(first));
     Ok(machine)
 }
 

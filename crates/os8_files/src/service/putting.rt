@@ -2,7 +2,7 @@
 ghost use Rattle.std.specs.Prelude.{◌≡◌, ◌*◌, ◌<◌, length, None};
 ghost use Rattle.word12.specs.declared.sizes.TheConstants.{BLOCK};
 ghost use Rattle.os8_dir.specs.Entries.{IsNamed};
-ghost use Rattle.os8_files.specs.Puts.{PutsFile, blocks_filled};
+ghost use Rattle.os8_files.specs.Puts.{PutsFile, PutsFileWith, blocks_filled};
 ghost use Rattle.os8_files.specs.Steps.{IsBeginning, FillsFile};
 
 use crate::{FileFault, FileService, Tentative};
@@ -25,7 +25,26 @@ impl<S: BlockStore> FileService<S> {
         ensures call { PutsFile self.old name words.now result self.new }
         ensures none { self.new.tentative ≡ None }
     {
-        put_file(self, alloc, name, words, words.len() / BLOCK)
+        put_file(self, alloc, name, words, &[], words.len() / BLOCK)
+    }
+
+    /// The same with information words: the first of those given are the file's, and missing ones are 0 (OS/8 Software Support
+    /// Manual).
+    pub fn put_with(
+        &mut self,
+        alloc: Global,
+        name: Name,
+        words: &[Word],
+        info: &[Word],
+    ) -> Result<(), FileFault>
+        requires named { IsNamed name }
+        requires some { 0 < blocks_filled words.now }
+        requires whole { BLOCK * blocks_filled words.now ≡ length words.now }
+        requires none { self.old.tentative ≡ None }
+        ensures call { PutsFileWith self.old name info.now words.now result self.new }
+        ensures none { self.new.tentative ≡ None }
+    {
+        put_file(self, alloc, name, words, info, words.len() / BLOCK)
     }
 }
 
@@ -35,6 +54,7 @@ fn put_file<S: BlockStore>(
     alloc: Global,
     name: Name,
     words: &[Word],
+    info: &[Word],
     blocks: usize,
 ) -> Result<(), FileFault>
     requires named { IsNamed name }
@@ -42,13 +62,13 @@ fn put_file<S: BlockStore>(
     requires whole { BLOCK * blocks ≡ length words.now }
     requires count { blocks ≡ blocks_filled words.now }
     requires none { files.old.tentative ≡ None }
-    ensures call { PutsFile files.old name words.now result files.new }
+    ensures call { PutsFileWith files.old name info.now words.now result files.new }
     ensures none { files.new.tentative ≡ None }
 {
     rooms();
     let mut tentative = files.enter(name, blocks)?;
     match fill(files, &mut tentative, words, blocks) {
-        Ok(()) => files.close(alloc, tentative, &[]),
+        Ok(()) => files.close(alloc, tentative, info),
         Err(fault) => {
             files.give_up(tentative);
             Err(fault)

@@ -26,7 +26,7 @@ fn begins_high(words: &[Word]) -> bool
 }
 
 /// Whether the first word of a name is not 0.
-fn has_first_word(name: Name) -> bool
+pub(super) fn has_first_word(name: Name) -> bool
     ensures { result ≡ nat_lt 0 (name / 68719476736) }
 {
     let words = name.words();

@@ -1,6 +1,6 @@
 use Rattle.std.proofs.Common.{◌≡◌, Some, map, take, drop}
 use Rattle.word12.specs.Octal.{octal_of}
-use Rattle.command8.specs.Tasks.{first_no_octal}
+use Rattle.command8.specs.Found.{first_no_octal}
 use Rattle.command8.proofs.listings.cells_of.Given as goal
 
 abbrev pub invariant-loop-text : goal.invariant-loop-text

@@ -1,7 +1,6 @@
 use Rattle.std.proofs.Common.{codes}
 use Rattle.clap.specs.Words.{new_rule}
-use Rattle.command8.specs.Tasks.{name_rule}
 use Rattle.command8.proofs.parts.with_name.Goals as goal
 
 pub returns : goal.returns
-returns c = λ app is. c.with_argument.ensures app name_rule is (c.must_have.ensures (new_rule (codes "NAME")) c.may_have.ensures)
+returns c = λ app is. c.with_argument.ensures app (new_rule (codes "NAME")) is c.may_have.ensures

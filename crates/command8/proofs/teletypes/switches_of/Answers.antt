@@ -1,4 +1,4 @@
-use Rattle.std.proofs.Common.{◌∙◌, ap, sym, option_map, Some}
+use Rattle.std.proofs.Common.{◌∙◌, ap, sym, refl, option_map, Some}
 use Rattle.word12.specs.Octal.{octal_of}
 use Rattle.command8.proofs.teletypes.switches_of.Goals as goal
 
@@ -16,6 +16,7 @@ pub returns-in_ok-from_str-in-None-octal_word-clause-refused : goal.returns-in_o
 returns-in_ok-from_str-in-None-octal_word-clause-refused c =
     let given = ap (option_map (λ text. text.now)) (sym c.in-Some.is) ∙ c.text_of.ensures in
     let kept = c.in_ok-from_str-in-None-octal_word.ensures.ok in (
+      refl,
       sym given ∙ ap Some (sym kept),
       ap (octal_of 4) (kept ∙ sym c.as_bytes.ensures.value) ∙ (sym c.octal_word.ensures ∙ c.in-None-octal_word.is),
     )

@@ -1,7 +1,7 @@
 use Rattle.std.proofs.Common.{◌≡◌, drop}
 use Rattle.std.specs.Prelude.{find}
 use Rattle.std.specs.Str.{bytes_eq}
-use Rattle.command8.specs.TaskSteps.{word}
+use Rattle.command8.specs.Refusals.{word}
 use Rattle.command8.proofs.verbs.first_of.Given as goal
 
 -- none of those so far has the name

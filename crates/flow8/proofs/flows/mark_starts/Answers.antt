@@ -1,6 +1,6 @@
 use Rattle.std.proofs.Common.{◌∷◌, [], ◌++◌, take, ap, sym, ◌∙◌, subst}
 use Rattle.std.proofs.lemmas.List.{take_more}
-use Rattle.flow8.specs.FlowSteps.{Marks}
+use Rattle.flow8.specs.FlowSteps.{MarksCells}
 use Rattle.flow8.proofs.FlowLemmas.{marks_more}
 use Rattle.flow8.proofs.flows.mark_starts.Goals as goal
 
@@ -12,5 +12,5 @@ loop-start-preserved c =
     (take c.loop-start.start-index c.args.starts.now) (c.start-item.result ∷ []) c.loop-start.invariant.marks c.in_ok-mark.ensures in
     record {
       size = c.in_ok-mark.ensures.size ∙ c.loop-start.invariant.size;
-      marks = subst (λ l. Marks c.args.words.now c.args.reached.now c.mark.new.reached c.args.waiting.now.items c.mark.new.waiting.items l) (sym all) both;
+      marks = subst (λ l. MarksCells c.args.words.now c.args.reached.now c.mark.new.reached c.args.waiting.now.items c.mark.new.waiting.items l) (sym all) both;
     }

@@ -1,5 +1,5 @@
-use Rattle.pal_list.proofs.TagLemmas.{tags_differ, tag_not_permanent}
+use Rattle.pal_list.proofs.TagLemmas.{tag_naming}
 use Rattle.pal_list.proofs.laws.tags_are_names_of_their_own.Goals as goal
 
 pub returns : goal.returns
-returns c = record { differ = tags_differ; free = tag_not_permanent }
+returns c = tag_naming

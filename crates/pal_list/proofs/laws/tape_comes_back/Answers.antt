@@ -7,7 +7,7 @@ use Rattle.pal_list.proofs.TapeLemmas.{below_pairs, pairs_reverse}
 use Rattle.pal_list.proofs.laws.tape_comes_back.Goals as goal
 
 pub returns : goal.returns
-returns c = λ is_code frames text rest source.
+returns c = λ look frames text rest source.
     let pairs = pairs_of (text_of text) in
     let are : ArePairs pairs =
     subst ArePairs (sym source.says.pairs) (pairs_reverse (words_of_tape source.items) (below_pairs source.items 32768 source.is_tape.is_prefix.3)) in

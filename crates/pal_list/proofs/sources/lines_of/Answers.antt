@@ -2,7 +2,8 @@ use Rattle.std.proofs.Common.{ℕ, ◌+◌, ◌≡◌, ◌<◌, length, None, su
 use Rattle.std.proofs.lemmas.List.{get_or_default}
 use Rattle.bin_tape.specs.Items.{tape_map}
 use Rattle.bin_tape.specs.Writing.{newest_cell}
-use Rattle.pal_list.specs.Steps.{tagged_in}
+use Rattle.pal_list.specs.Steps.{look_with}
+use Rattle.pal_list.specs.Tags.{flagged_in}
 use Rattle.pal_list.specs.Lines.{lines_of}
 use Rattle.pal_list.specs.Sources.{words_below, with_word}
 use Rattle.pal_list.proofs.TapeLemmas.{below_none, below_more}
@@ -12,7 +13,7 @@ next : (n : ℕ) → suc n ≡ n + 1
 next n = omega arith
 
 pub loop-number-init : goal.loop-number-init
-loop-number-init c = λ items holds. (c.new-text.ensures.items ∙ sym (ap (lines_of (tagged_in c.args.code.now) (tagged_in c.args.tags.now)) (below_none items)), sym (ap newest_cell (below_none items)))
+loop-number-init c = λ items holds. (c.new-text.ensures.items ∙ sym (ap (lines_of (look_with c.args.tags.now.names.now c.args.notes.now (flagged_in c.args.code.now)) (flagged_in c.args.tags.now.flags.now)) (below_none items)), sym (ap newest_cell (below_none items)))
 
 pub loop-number-preserved : goal.loop-number-preserved
 loop-number-preserved c = λ items holds.
@@ -24,6 +25,6 @@ loop-number-preserved c = λ items holds.
     let words =
     ap (λ w. with_word w c.of.result older) word ∙ ap (λ cell. with_word (tape_map items n) cell older) c.of.ensures.number
     ∙ sym (below_more items n) ∙ ap (words_below items) (next n) in (
-      c.in_ok-before.ensures.text older before.0 before.1 ∙ ap (lines_of (tagged_in c.args.code.now) (tagged_in c.args.tags.now)) words,
+      c.in_ok-before.ensures.text older before.0 before.1 ∙ ap (lines_of (look_with c.args.tags.now.names.now c.args.notes.now (flagged_in c.args.code.now)) (flagged_in c.args.tags.now.flags.now)) words,
       c.in_ok-before.ensures.cell older before.1 ∙ ap newest_cell words,
     )

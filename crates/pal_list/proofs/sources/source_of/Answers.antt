@@ -1,12 +1,16 @@
-use Rattle.std.proofs.Common.{subst, sym}
-use Rattle.pal_list.specs.Steps.{HoldsMap, HoldsFlags}
-use Rattle.pal_list.specs.Lines.{all_code}
+use Rattle.std.proofs.Common.{None, subst, sym}
+use Rattle.pal_notes.specs.Notes.{flagged_in}
+use Rattle.pal_list.specs.Looks.{plain}
+use Rattle.pal_list.specs.Steps.{HoldsMap, SameLook, look_with}
+use Rattle.pal_list.proofs.NoteLemmas.{plain_notes, same_plain}
+use Rattle.pal_list.proofs.TagLemmas.{tag_naming}
 use Rattle.pal_list.proofs.sources.source_of.Goals as goal
 
 pub returns-clause-source : goal.returns-clause-source
 returns-clause-source c =
     let held = c.in_ok-words.ensures.words in
     let words = subst (HoldsMap held.items) (sym c.deref.ensures.value) held.cells in
-    let told = subst (HoldsFlags all_code) (sym c.deref-2.ensures.value) c.in_ok-code.ensures.code in
-    let both = c.in_ok-text.ensures.source all_code held.items held.is_tape.is_prefix.3 words told in
-    record { items = held.items; is_tape = held.is_tape; lines = both.0; says = both.1 }
+    let told = same_plain c.in_ok-code.code.items c.in_ok-code.ensures.code in
+    let same = subst (λ code. SameLook (look_with None None (flagged_in code)) plain) (sym c.deref-2.ensures.value) told in
+    let both = c.in_ok-text.ensures.source plain held.items held.is_tape.is_prefix.3 words same plain_notes tag_naming in
+    record { items = held.items; is_tape = held.is_tape; notes = plain_notes; naming = tag_naming; lines = both.0; says = both.1 }

@@ -20,28 +20,28 @@ told_of is_code code index cell at word result is same inside here told =
     sym (is ∙ ap (λ (b : Bool). b && is_reference at word) (told index inside ∙ ap is_code same) ∙ ap (λ a. is_code cell && is_reference a word) here)
 
 pub returns-then-refers : goal.returns-then-refers
-returns-then-refers c = λ is_code items holds told before.
+returns-then-refers c = λ look items holds told before.
     let there = read c.args.words.now items c.index.result c.args.cell c.index-words-index.result c.requires.words c.index-words-index.is c.index.ensures.value c.index.ensures.range holds in
     let named = read c.args.words.now items c.index-named.result c.index-named.result c.index-words-named.result c.requires.words c.index-words-named.is refl c.index-named.ensures.range holds in
     let refers =
-    told_of is_code c.args.code.now c.index-in-Some.result c.args.cell c.address.result c.in-Some.word c.refers.result c.refers.ensures c.index-in-Some.ensures.value
+    told_of look.is_code c.args.code.now c.index-in-Some.result c.args.cell c.address.result c.in-Some.word c.refers.result c.refers.ensures c.index-in-Some.ensures.value
     c.index-in-Some.ensures.range c.address.ensures.value told in
-    let parts = both (is_code c.args.cell) (is_reference (c.args.cell % 4096) c.in-Some.word) (refers ∙ c.if-refers.true) in
-    mark_reference is_code items c.args.cell c.in-Some.word c.index-named.result c.is_some.result c.args.tags.now c.requires.size
+    let parts = both (look.is_code c.args.cell) (is_reference (c.args.cell % 4096) c.in-Some.word) (refers ∙ c.if-refers.true) in
+    mark_reference look items c.args.cell c.in-Some.word c.index-named.result c.is_some.result c.args.tags.now c.requires.size
     (sym there ∙ c.in-Some.is) parts.0 parts.1
     (c.index-named.ensures.value ∙ c.referred_cell.ensures.number) c.index-named.ensures.range
     (c.is_some.ensures ∙ ap (λ o. is_some o) named)
     before
 
 pub returns-else-refers : goal.returns-else-refers
-returns-else-refers c = λ is_code items holds told.
+returns-else-refers c = λ look items holds told.
     let there = read c.args.words.now items c.index.result c.args.cell c.index-words-index.result c.requires.words c.index-words-index.is c.index.ensures.value c.index.ensures.range holds in
     let refers =
-    told_of is_code c.args.code.now c.index-in-Some.result c.args.cell c.address.result c.in-Some.word c.refers.result c.refers.ensures c.index-in-Some.ensures.value
+    told_of look.is_code c.args.code.now c.index-in-Some.result c.args.cell c.address.result c.in-Some.word c.refers.result c.refers.ensures c.index-in-Some.ensures.value
     c.index-in-Some.ensures.range c.address.ensures.value told in
-    mark_no_reference is_code items c.args.cell c.in-Some.word c.args.tags.now (sym there ∙ c.in-Some.is) (refers ∙ c.if-refers.false)
+    mark_no_reference look items c.args.cell c.in-Some.word c.args.tags.now (sym there ∙ c.in-Some.is) (refers ∙ c.if-refers.false)
 
 pub returns-in_default : goal.returns-in_default
-returns-in_default c = λ is_code items holds told.
+returns-in_default c = λ look items holds told.
     let there = read c.args.words.now items c.index.result c.args.cell c.index-words-index.result c.requires.words c.index-words-index.is c.index.ensures.value c.index.ensures.range holds in
-    mark_none is_code items c.args.cell c.args.tags.now (sym there ∙ c.in_default.is)
+    mark_none look items c.args.cell c.args.tags.now (sym there ∙ c.in_default.is)

@@ -3,7 +3,7 @@ use Rattle.cpu8.specs.State.{with_core}
 use Rattle.cpu8.proofs.GoLemmas.{after-none}
 use Rattle.cpu8.proofs.QuietLemmas.{none-quiet, after-quiet, quiet-next, stays-quiet, fields-same}
 use Rattle.cpu8.specs.QuietSteps.{AreMinded}
-use Rattle.cpu8.proofs.UnaskedLemmas.{none-unasked, unasked-next, unasked-on}
+use Rattle.cpu8.proofs.UnaskedLemmas.{none-unasked, unasked-on}
 use Rattle.cpu8.proofs.processors.Processor.run_quietly.Goals as goal
 
 pub loop-made-init : goal.loop-made-init

@@ -1,0 +1,38 @@
+-- What copying a file from one image into another comes to.
+use Rattle.std.specs.Prelude.{◌≡◌, ℕ, Option, Some, None, Result, Ok, Err, List}
+use Rattle.os8_dir.specs.Names.{padded, parsed_name}
+use Rattle.os8_dir.specs.Files.{FileData}
+use Rattle.os8_files.specs.declared.faults.FileFault.TheVariants.{BadName, NoRoom, DirectoryFull}
+use Rattle.script8.specs.declared.faults.SessionFault.TheVariants.{File}
+use Rattle.archive8.specs.declared.faults.ArchiveFault.{ArchiveFault}
+use Rattle.archive8.specs.declared.faults.ArchiveFault.TheVariants.{Refused}
+use Rattle.archive8.specs.declared.faults.CopyFault.{CopyFault}
+use Rattle.archive8.specs.declared.faults.CopyFault.TheVariants.{From, To}
+use Rattle.archive8.specs.declared.putting.NewImage.{NewImage}
+use Rattle.archive8.specs.Opening.{IsOpened, IsUnopened}
+use Rattle.archive8.specs.Asking.{Wanted}
+use Rattle.archive8.specs.Getting.{HasFile, ReadRefused}
+use Rattle.archive8.specs.Putting.{HasPutUnder, IsFullUnder}
+
+-- the name that a copy gets: the new one that was typed, if that is one, or else that of the file
+abbrev pub target : ℕ → Option (List ℕ) → Option ℕ
+target name None = Some name
+target name (Some other) = parsed_name other
+
+-- the new image is that of the volume into which the file that is wanted is put with its words and its information words
+pub record HasCopied (from : List ℕ) (wanted : Wanted) (to : List ℕ) (other : Option (List ℕ)) (new : NewImage) : Type 0 where
+  pub file : FileData
+  pub source : HasFile from wanted file
+  pub put : HasPutUnder to (target source.number other) (Some (padded 10 file.0)) file.1 new
+
+-- words are not put into an image, for the first of these: a fault of the image, of its directory, no name, no room
+abbrev pub WordsRefused : List ℕ → Option ℕ → List ℕ → List ℕ → ArchiveFault → Type 0
+WordsRefused image name info words (Refused (File BadName)) = (blocks : List (List ℕ)) × IsOpened image blocks × (name ≡ None)
+WordsRefused image name info words (Refused (File (NoRoom largest))) = IsFullUnder image name (Some info) words (File (NoRoom largest))
+WordsRefused image name info words (Refused (File DirectoryFull)) = IsFullUnder image name (Some info) words (File DirectoryFull)
+WordsRefused image name info words fault = IsUnopened image fault
+
+abbrev pub CopiesFile : List ℕ → Wanted → List ℕ → Option (List ℕ) → Result NewImage CopyFault → Type 0
+CopiesFile from wanted to other (Ok new) = HasCopied from wanted to other new
+CopiesFile from wanted to other (Err (From fault)) = ReadRefused from wanted fault
+CopiesFile from wanted to other (Err (To fault)) = (file : FileData) × (source : HasFile from wanted file) × WordsRefused to (target source.number other) (padded 10 file.0) file.1 fault

@@ -1,0 +1,40 @@
+//! Decimal numbers of few digits.
+ghost use Rattle.std.specs.Prelude.{◌≡◌, ◌≤◌, IfSome, length};
+ghost use Rattle.command8.specs.Found.{digits_from, number_of_digits};
+ghost use Rattle.command8.specs.Found as spec;
+
+/// A decimal number of 1 to 4 digits, if it is within these limits.
+pub fn number_in(digits: &[u8], least: usize, most: usize) -> Option<usize>
+    ensures value { result ≡ spec.number_in least most digits.now }
+    ensures range { IfSome result (λ number. (least ≤ number) × (number ≤ most)) }
+{
+    match number(digits) {
+        Some(number) if least <= number && number <= most => Some(number),
+        _ => None,
+    }
+}
+
+/// A decimal number of 1 to 4 digits.
+fn number(digits: &[u8]) -> Option<usize>
+    ensures { result ≡ number_of_digits digits.now }
+{
+    if digits.is_empty() || digits.len() > 4 {
+        return None;
+    }
+    digits_value(digits)
+}
+
+/// The number of decimal digits.
+fn digits_value(digits: &[u8]) -> Option<usize>
+    requires { length digits.now ≤ 4 }
+    ensures { result ≡ digits_from 0 digits.now }
+{
+    let mut value = 0;
+    for digit in digits {
+        match digit {
+            b'0'..=b'9' => value = 10 * value + usize::from(digit - b'0'),
+            _ => return None,
+        }
+    }
+    Some(value)
+}

@@ -1,0 +1,5 @@
+pub mod Disks
+pub mod Files
+pub mod Kept
+pub mod Laws
+pub mod Steps

@@ -1,0 +1,13 @@
+//! What holds of a file in which an image of its volume was laid.
+ghost use Rattle.disk8.specs.Laws.{FirstStays, LaidIsRead, ReadIsLaid, SecondStays, WordsStay};
+
+/// A law: what was laid is read again. Each byte that is none of the volume's is as it was: the other volume of a disk, which is read
+/// as before, and the 129th words of a DECtape. What was read and is laid again leaves the file as it is, but for zeros to the end of
+/// its last block where it had a part of a block.
+pub fn laid_volume()
+    ensures again { LaidIsRead }
+    ensures second { SecondStays }
+    ensures first { FirstStays }
+    ensures words { WordsStay }
+    ensures unchanged { ReadIsLaid }
+{}

@@ -1,0 +1,9 @@
+pub mod FileLemmas
+pub mod PatternLemmas
+pub mod ExtensionLemmas
+pub mod PutLemmas
+pub mod HostLemmas
+pub mod ChoiceLemmas
+pub mod LawLemmas
+pub mod SpelledLemmas
+pub mod VolumeLemmas

@@ -1,0 +1,11 @@
+pub mod Opened
+pub mod Raw
+pub mod Putting
+pub mod Patterns
+pub mod Extensions
+pub mod HostNames
+pub mod Steps
+pub mod PutSteps
+pub mod PatternSteps
+pub mod ExtensionSteps
+pub mod Laws

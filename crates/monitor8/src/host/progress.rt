@@ -1,0 +1,63 @@
+//! How far a long command is: told on a terminal whose owner sees no line of it, since standard output goes elsewhere.
+
+use std::fs::{File, Files, OpenOptions};
+use std::io::IsTerminal;
+use std::time::{Clock, Instant};
+
+/// How many seconds a command works before it is told how far it is.
+const PATIENCE: u64 = 2;
+
+/// What is told on standard error, from two seconds on and once a second, on one line that is written over.
+#[derive(Drop)]
+pub struct Progress<'a, R> {
+    rt: &'a R,
+
+    /// When the command began, if it is told of at all.
+    begun: Option<Instant>,
+    all: usize,
+    shown: u64,
+}
+
+impl<'a, R: Files<File = File> + Eprint + Clock> Progress<'a, R> {
+    /// That of a command which has so many things to do.
+    pub fn new(rt: &'a R, all: usize) -> Progress<'a, R> {
+        let is_told = is_terminal(rt, "/dev/stderr") && !is_terminal(rt, "/dev/stdout");
+        let begun = if is_told { Instant::now(rt).ok() } else { None };
+        Progress {
+            rt,
+            begun,
+            all,
+            shown: 0,
+        }
+    }
+
+    /// Tells that so many are done.
+    pub fn tell(&mut self, done: usize) {
+        let Some(begun) = self.begun else {
+            return;
+        };
+        let Ok(taken) = begun.elapsed(self.rt) else {
+            return;
+        };
+        let seconds = taken.as_secs();
+        if seconds >= PATIENCE && seconds != self.shown {
+            self.shown = seconds;
+            let _ = eprint!(self.rt; "\r{done} of {}", self.all);
+        }
+    }
+
+    /// Takes away what was told.
+    pub fn end(&self) {
+        if self.shown > 0 {
+            let _ = self.rt.eprint("\r\x1b[K");
+        }
+    }
+}
+
+/// Whether the file of a standard stream is a terminal.
+fn is_terminal<R: Files<File = File>>(rt: &R, name: &str) -> bool {
+    match OpenOptions::new().write(true).open(rt, name) {
+        Ok(stream) => stream.is_terminal(),
+        Err(_) => false,
+    }
+}

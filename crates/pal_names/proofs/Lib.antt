@@ -1,0 +1,5 @@
+pub mod NameLemmas
+pub mod LawLemmas
+pub mod SpellingLemmas
+pub mod GivenLemmas
+pub mod SaidLemmas

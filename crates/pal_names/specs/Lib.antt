@@ -1,0 +1,4 @@
+pub mod Names
+pub mod Said
+pub mod Steps
+pub mod Laws

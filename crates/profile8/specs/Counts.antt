@@ -1,0 +1,14 @@
+-- How often the word of each cell was fetched (this project's profile).
+use Rattle.std.specs.Prelude.{◌≡◌, ℕ, ◌<◌, List, slice_index_or, length}
+use Rattle.word12.specs.declared.sizes.TheConstants.{CORE}
+use Rattle.terminal8.specs.Terminal.{Terminal}
+use Rattle.terminal8.specs.Fetches.{fetch_count}
+
+-- these are the counts of so many steps, one for each cell of core
+pub record AreCounts (steps : ℕ) (t : Terminal) (counts : List ℕ) : Type 0 where
+  pub size : length counts ≡ CORE
+  pub cells : (cell : ℕ) → cell < CORE → slice_index_or counts cell 0 ≡ fetch_count steps t cell
+
+-- all of these are 0
+abbrev pub AreZero : List ℕ → Type 0
+AreZero counts = (cell : ℕ) → slice_index_or counts cell 0 ≡ 0

@@ -1,0 +1,5 @@
+pub mod Counts
+pub mod CountSteps
+pub mod Profile
+pub mod CellSteps
+pub mod TextSteps

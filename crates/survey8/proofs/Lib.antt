@@ -1,0 +1,4 @@
+mod ReadingLemmas
+mod JudgingLemmas
+mod ClaimLemmas
+mod SoundLemmas

@@ -1,0 +1,29 @@
+use Rattle.std.proofs.Common.{◌≡◌, ◌∙◌, ℕ, ◌++◌, [], false, List, length, ap, arith, append_assoc}
+use Rattle.survey8.specs.Findings.{judged}
+use Rattle.survey8.specs.Lines.{finding_lines, run_lines, count_runs, is_twice}
+use Rattle.survey8.specs.Steps.{is_two}
+use Rattle.survey8.proofs.ClaimLemmas.{run_lines-same, count_runs-same, tests_same}
+use Rattle.survey8.proofs.surveys.put_all.Goals as goal
+
+pub returns-clause-lines : goal.returns-clause-lines
+returns-clause-lines c =
+    let volume = c.args.volume in
+    let counts = c.put_findings.new.counts in
+    let found = judged volume [] c.args.parts.now in
+    let size : length counts ≡ volume = omega (arith, c.put_findings.auto.counts, c.requires.size) in
+    let same = tests_same c.args.counts.now counts found volume c.requires.size c.requires.zeros c.in_ok-faults.ensures.counts in
+    c.in_ok-runs.ensures.lines
+    ∙ ap (λ (l : List ℕ). l ++ run_lines (is_two counts) false (length counts) 0) c.in_ok-faults.ensures.lines
+    ∙ append_assoc c.args.out.now.items (finding_lines found) (run_lines (is_two counts) false (length counts) 0)
+    ∙ ap (λ (n : ℕ). c.args.out.now.items ++ (finding_lines found ++ run_lines (is_two counts) false n 0)) size
+    ∙ ap (λ (l : List ℕ). c.args.out.now.items ++ (finding_lines found ++ l)) (run_lines-same (is_two counts) (is_twice found) false volume 0 same)
+
+pub returns-clause-faults : goal.returns-clause-faults
+returns-clause-faults c =
+    let volume = c.args.volume in
+    let counts = c.put_findings.new.counts in
+    let found = judged volume [] c.args.parts.now in
+    let size : length counts ≡ volume = omega (arith, c.put_findings.auto.counts, c.requires.size) in
+    let same = tests_same c.args.counts.now counts found volume c.requires.size c.requires.zeros c.in_ok-faults.ensures.counts in
+    let runs = ap (λ (n : ℕ). count_runs (is_two counts) false n 0) size ∙ count_runs-same (is_two counts) (is_twice found) false volume 0 same in
+    omega (arith, c.in_ok-runs.ensures.count, c.in_ok-faults.ensures.faults, runs)

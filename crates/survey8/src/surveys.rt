@@ -1,0 +1,101 @@
+ghost use Rattle.std.specs.Prelude.{◌≡◌, ℕ, ◌+◌, ◌<◌, ◌≤◌, ◌++◌, [], List, false, min, length, slice_index, IfOk, OnOk};
+ghost use Rattle.volume_image.specs.Volume.{IsVolume};
+ghost use Rattle.survey8.specs.Findings.{judged};
+ghost use Rattle.survey8.specs.Lines.{claims, count_faults, count_runs, finding_lines, is_twice, run_lines, survey_faults, survey_text};
+ghost use Rattle.survey8.specs.Surveying.{Surveys};
+
+use crate::answers::Survey;
+use crate::claims::{claim, put_runs};
+use crate::judging::{faults_told, judge, put_told};
+use crate::parts::Part;
+use crate::reading::parts;
+use std::alloc::{AllocError, Global};
+use std::collections::BTreeSet;
+use volume_image::{BlockStore, ImageFault, MemoryVolume};
+
+/// Tells of an image, that is accepted or refused as a mount does, what its directory still holds: each segment that the links lead
+/// to, each fault in order, each entry with its first block and its length, and the blocks that two sound entries claim (OS/8
+/// Software Support Manual; the faults, their order and the lines are this project's profile).
+pub fn survey(alloc: Global, image: &[u8]) -> Result<Survey, ImageFault>
+    ensures { Surveys image.now result }
+{
+    let volume = MemoryVolume::from_bytes(alloc, image)?;
+    match survey_volume(alloc, &volume) {
+        Ok(told) => Ok(told),
+        Err(error) => Err(ImageFault::from(error)),
+    }
+}
+
+/// Tells what the directory of a volume still holds.
+#[tactic(auto, unfolding(crate::specs::Findings::findings, crate::specs::Lines::survey_text, crate::specs::Lines::survey_faults))]
+fn survey_volume(alloc: Global, volume: &MemoryVolume) -> Result<Survey, AllocError>
+    requires { IsVolume volume.now.blocks }
+    ensures text { IfOk result (λ told. told.text.items ≡ survey_text volume.now.blocks) }
+    ensures faults { IfOk result (λ told. told.faults ≡ survey_faults volume.now.blocks) }
+{
+    let found = parts(alloc, volume)?;
+    let blocks = volume.blocks();
+    let mut counts = zeros(alloc, blocks)?;
+    let mut text = Vec::new(alloc);
+    let faults = put_all(alloc, blocks, &found, &mut counts, &mut text)?;
+    Ok(Survey { text, faults })
+}
+
+/// Appends the lines of what is told of parts, and of the blocks that two sound entries claim, and gives how many faults that are;
+/// each block of the volume has a count, which is 0.
+fn put_all(
+    alloc: Global,
+    volume: usize,
+    parts: &[Part],
+    counts: &mut [u8],
+    out: &mut Vec<u8>,
+) -> Result<usize, AllocError>
+    requires size { length counts.old ≡ volume }
+    requires zeros { (k : ℕ) → slice_index counts.old k ≡ 0 }
+    ensures lines { OnOk result (out.new.items ≡ out.old.items ++ (finding_lines (judged volume [] parts.now)
+        ++ run_lines (is_twice (judged volume [] parts.now)) false volume 0)) }
+    ensures faults { IfOk result (λ faults. faults ≡ count_faults (judged volume [] parts.now)
+        + count_runs (is_twice (judged volume [] parts.now)) false volume 0) }
+{
+    let faults = put_findings(alloc, volume, parts, counts, out)?;
+    let runs = put_runs(counts, out)?;
+    Ok(faults + runs)
+}
+
+/// So many zeros.
+fn zeros(alloc: Global, count: usize) -> Result<Vec<u8>, AllocError>
+    ensures size { IfOk result (λ counts. length counts.items ≡ count) }
+    ensures zero { IfOk result (λ counts. (k : ℕ) → slice_index counts.items k ≡ 0) }
+{
+    let mut counts = Vec::new(alloc);
+    counts.resize(count, 0)?;
+    Ok(counts)
+}
+
+/// Appends the lines of what is told of parts, counts the claims of each block up to two, and gives how many faults are told.
+fn put_findings(
+    alloc: Global,
+    volume: usize,
+    parts: &[Part],
+    counts: &mut [u8],
+    out: &mut Vec<u8>,
+) -> Result<usize, AllocError>
+    ensures lines { OnOk result (out.new.items ≡ out.old.items
+        ++ finding_lines (judged volume [] parts.now)) }
+    ensures faults { IfOk result (λ faults. faults ≡ count_faults (judged volume [] parts.now)) }
+    ensures few { IfOk result (λ faults. faults ≤ length parts.now) }
+    ensures counts { OnOk result ((k : ℕ) → k < length counts.old → min 2 (slice_index counts.new k)
+        ≡ min 2 (slice_index counts.old k + claims (judged volume [] parts.now) k)) }
+{
+    let mut names = BTreeSet::new(alloc);
+    let mut faults = 0;
+    let mut rest = parts;
+    while let [part, others @ ..] = rest {
+        let verdict = judge(volume, part, &mut names)?;
+        put_told(verdict, part, out)?;
+        claim(verdict, part, counts);
+        faults += faults_told(verdict, part);
+        rest = others;
+    }
+    Ok(faults)
+}

@@ -1,0 +1,20 @@
+-- How often the word of each cell is fetched at a terminal (this project's profile).
+use Rattle.std.specs.Prelude.{◌≡◌, ℕ, zero, suc, ◌+◌, ◌<◌, Bool, ◌&&◌, nat_eq, if◌then◌else◌, List, length, slice_index_or}
+use Rattle.word12.specs.declared.sizes.TheConstants.{CORE}
+use Rattle.cpu8.specs.State.{next_cell}
+use Rattle.cpu8.specs.Fetches.{is_fetch}
+use Rattle.terminal8.specs.Terminal.{Terminal, later, stepped}
+
+-- whether the step that a terminal makes next fetches the word of a cell
+abbrev pub fetches : Terminal → ℕ → Bool
+fetches t cell = is_fetch (stepped t).1 && nat_eq (next_cell t.machine) cell
+
+-- how often so many steps fetch it
+unfoldable pub fetch_count : ℕ → Terminal → ℕ → ℕ
+fetch_count zero t cell = 0
+fetch_count (suc k) t cell = fetch_count k t cell + (if fetches (later k t) cell then 1 else 0)
+
+-- To the count of each cell of core was added how often so many steps fetch its word.
+pub record AddsFetches (k : ℕ) (t : Terminal) (old new : List ℕ) : Type 0 where
+  pub size : length new ≡ length old
+  pub cells : (cell : ℕ) → cell < CORE → slice_index_or new cell 0 ≡ slice_index_or old cell 0 + fetch_count k t cell

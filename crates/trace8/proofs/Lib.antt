@@ -1,0 +1,4 @@
+pub mod ChangeLemmas
+pub mod LineLemmas
+pub mod RunLemmas
+pub mod SourceLemmas

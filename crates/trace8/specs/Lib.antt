@@ -1,0 +1,5 @@
+pub mod Stores
+pub mod Trace
+pub mod Tracing
+pub mod StoresSteps
+pub mod TracingSteps

@@ -1,0 +1,139 @@
+//! A run, and a writer that gets the line of each of its steps.
+
+ghost use Rattle.std.specs.Prelude.{◌≡◌, ◌+◌, ◌^◌, ◌<◌, ◌++◌, [], length, IfErr, IfOk, OnOk};
+ghost use Rattle.std.specs.Io.KnownBytes.{Appends};
+ghost use Rattle.word12.specs.declared.sizes.TheConstants.{CORE};
+ghost use Rattle.pal_list.specs.Tags.{flagged_in};
+ghost use Rattle.terminal8.specs.Terminal.{next, stepped};
+ghost use Rattle.trace8.specs.Trace.{next_line};
+ghost use Rattle.trace8.specs.Tracing.{Traces};
+ghost use Rattle.trace8.specs.TracingSteps.{HandsOn, TracesInto};
+ghost use Rattle.trace8.specs.declared.faults.TraceFault.TheVariants as fault;
+
+use crate::faults::TraceFault;
+use crate::lines::put_line;
+use crate::stores::Before;
+use cpu8::Stepped;
+use std::alloc::{AllocError, Global};
+use std::io::Write;
+use terminal8::{Ended, Terminal, Why, stop_of};
+
+/// Makes steps of a terminal, at most n of them, and hands the line of each on to a writer, with these cells tagged: the k-th line is
+/// that of the k-th step (this project's profile). It ends as a run does: at a HLT, or where the machine stands stopped; at an
+/// unassigned word; where no key is left and the machine waits for one for ever; or behind n steps.
+///
+/// Memory is taken once, before the first step, unless lines are longer than any that is known. The answer is `Writer` where the
+/// writer fails.
+pub fn trace<W: Write>(
+    alloc: Global,
+    terminal: &mut Terminal<'_>,
+    n: u64,
+    tags: &[bool],
+    writer: &mut W,
+) -> Result<Ended, TraceFault>
+    requires tags { length tags.now ≡ CORE }
+    requires room { terminal.old.since + n < 2 ^ 64 }
+    ensures { Traces (flagged_in tags.now) n terminal.old terminal.new
+        (W.contents writer.old) (W.contents writer.new) result }
+{
+    let mut lines = Vec::with_capacity(alloc, HANDED_ON_AT_ONCE + LONGEST_LINE)?;
+    let ended = trace_steps(terminal, n, tags, &mut lines, writer)?;
+    write_out(writer, &lines)?;
+    Ok(ended)
+}
+
+/// The same, but the last lines may still wait.
+fn trace_steps<W: Write>(
+    terminal: &mut Terminal<'_>,
+    n: u64,
+    tags: &[bool],
+    lines: &mut Vec<u8>,
+    writer: &mut W,
+) -> Result<Ended, TraceFault>
+    requires tags { length tags.now ≡ CORE }
+    requires room { terminal.old.since + n < 2 ^ 64 }
+    requires none { lines.old.items ≡ [] }
+    ensures { TracesInto (flagged_in tags.now) n terminal.old terminal.new
+        (W.contents writer.old) (W.contents writer.new) lines.new.items result }
+{
+    if !terminal.machine().is_running() {
+        return Ok(Ended {
+            steps: 0,
+            why: Why::Halt,
+        });
+    }
+    for made in 0..n {
+        if terminal.starves() {
+            return Ok(Ended {
+                steps: made,
+                why: Why::Keys,
+            });
+        }
+        hand_on(lines, writer)?;
+        let did = trace_step(terminal, tags, lines)?;
+        if let Some(why) = stop_of(did) {
+            return Ok(Ended {
+                steps: made + 1,
+                why,
+            });
+        }
+    }
+    Ok(Ended {
+        steps: n,
+        why: Why::Limit,
+    })
+}
+
+/// Makes a step, and appends its line.
+fn trace_step(
+    terminal: &mut Terminal<'_>,
+    tags: &[bool],
+    lines: &mut Vec<u8>,
+) -> Result<Stepped, AllocError>
+    requires tags { length tags.now ≡ CORE }
+    requires room { terminal.old.since + 1 < 2 ^ 64 }
+    ensures terminal { terminal.new ≡ next terminal.old }
+    ensures did { IfOk result (λ did. did ≡ (stepped terminal.old).1) }
+    ensures line { OnOk result (lines.new.items ≡ lines.old.items
+        ++ next_line (flagged_in tags.now) terminal.old) }
+{
+    let before = Before::of(terminal.machine());
+    let did = terminal.step();
+    put_line(lines, tags, &before, &did, terminal.machine())?;
+    Ok(did)
+}
+
+/// Hands the lines on to a writer where there are many.
+#[inline]
+fn hand_on<W: Write>(lines: &mut Vec<u8>, writer: &mut W) -> Result<(), TraceFault>
+    ensures ok { OnOk result (HandsOn lines.old.items lines.new.items
+        (W.contents writer.old) (W.contents writer.new)) }
+    ensures err { IfErr result (λ e. e ≡ fault.Writer) }
+{
+    if lines.len() <= HANDED_ON_AT_ONCE {
+        return Ok(());
+    }
+    write_out(writer, lines)?;
+    lines.clear();
+    Ok(())
+}
+
+/// Hands a text on to a writer, and has that hand it on too.
+fn write_out<W: Write>(writer: &mut W, text: &[u8]) -> Result<(), TraceFault>
+    ensures ok { OnOk result (Appends (W.contents writer.old) (W.contents writer.new) text.now) }
+    ensures err { IfErr result (λ e. e ≡ fault.Writer) }
+{
+    if writer.write_all(text).is_err() {
+        return Err(TraceFault::Writer);
+    }
+    if writer.flush().is_err() {
+        return Err(TraceFault::Writer);
+    }
+    Ok(())
+}
+
+/// The bytes that wait at most before a step.
+const HANDED_ON_AT_ONCE: usize = 0o20000;
+
+/// No line has so many bytes.
+const LONGEST_LINE: usize = 0o400;

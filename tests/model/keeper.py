@@ -1,0 +1,209 @@
+"""What the commands that work on the files of an image answer and leave, by their definitions: a volume is a map of files, and runs of blocks."""
+from __future__ import annotations
+import fnmatch
+import re
+from dataclasses import dataclass, replace
+from typing import Optional, Union
+from volume import File, Run, Volume
+from words import Name, frames_of, octal, packed, parsed_name, shown_name, shown_word, stored_host_text, text_of
+
+FULL = "? 4.3 DIRECTORY FULL"
+BAD_NAME = "? 4.5 BAD NAME"
+NOT_FOUND = "? 4.1 NOT FOUND"
+NOTHING = "? 4.11 NOTHING WRITTEN"
+BAD_TEXT = "? 7 BAD TEXT"
+TEXTS = ["BA", "BI", "FT", "HL", "LS", "MA", "PA", "RA", "SB", "TX"]
+
+Answer = tuple[list[str], int]
+"""The lines of an answer, and the status."""
+
+Asked = Union[bytes, int]
+"""What a file is asked for by: its name as typed, or its first block."""
+
+
+def asked_text(asked: Asked) -> str:
+    return f"--at {asked}" if isinstance(asked, int) else asked.decode()
+
+
+def can_be_typed(name: Name) -> bool:
+    return parsed_name(shown_name(name).encode("latin-1")) == name
+
+
+def found(volume: Volume, asked: Asked) -> tuple[Optional[Name], str]:
+    """The name of the file that is asked for, and why there is none."""
+    name = volume.name_at(asked) if isinstance(asked, int) else parsed_name(asked)
+    if name is None:
+        return None, NOT_FOUND if isinstance(asked, int) else BAD_NAME
+    return name, "" if name in volume.files else NOT_FOUND
+
+
+def refused(line: str) -> Answer:
+    return [line], 1
+
+
+def with_files(volume: Volume, files: dict[Name, File], runs: list[Run]) -> Volume:
+    return replace(volume, files=files, runs=runs)
+
+
+@dataclass
+class Keeper:
+    """Volumes, by the names of their image files."""
+
+    volumes: dict[str, Volume]
+
+    def put(self, image: str, name: Optional[Name], words: list[int], info: Optional[tuple[int, ...]]) -> Answer:
+        """Puts a file in, with the information words that are given, else with those of the older file of its name, else with zeros."""
+        volume = self.volumes[image]
+        if name is None:
+            return refused(BAD_NAME)
+        older = volume.files[name].info if name in volume.files else ()
+        own = (tuple(older if info is None else info) + (0,) * volume.info)[: volume.info]
+        file = File(own, words)
+        runs = volume.with_file(name, file.blocks)
+        if runs is None:
+            return refused(f"? 4.2 NO ROOM {volume.largest}")
+        if len(runs) > volume.limit:
+            return refused(FULL)
+        self.volumes[image] = with_files(volume, {**volume.files, name: file}, runs)
+        return [f"STORED {shown_name(name)} {file.blocks}"], 0
+
+    def put_frames(self, image: str, typed: bytes, frames: bytes, info: Optional[tuple[int, ...]]) -> Answer:
+        name = parsed_name(typed)
+        if name is not None and not frames:
+            return refused(NOTHING)
+        return self.put(image, name, packed(list(frames)), info)
+
+    def put_all(self, image: str, given: list[tuple[bytes, bytes]], texts: list[str], info: Optional[tuple[int, ...]]) -> Answer:
+        """Puts files of the host in, each with its bytes, all or none; those with one of these extensions as texts."""
+        before, lines, names = self.volumes[image], [], [parsed_name(path.upper()) for path, _ in given]
+        for at, name in enumerate(names):
+            note = f"note: {given[at][0].decode()} is refused, and no file is put"
+            if name is None:
+                return [note, "note: a file's name is 1 to 6 letters or digits, then nothing, or a dot and 1 or 2 more", BAD_NAME], 1
+            if name in names[:at]:
+                return [note, "? PUT 1 SAME NAME"], 1
+        for (path, content), name in zip(given, names):
+            is_text = name is not None and extension(name) in texts
+            words = stored_host_text(content) if is_text else packed(list(content))
+            if words is None:
+                answer: Answer = refused(BAD_TEXT)
+            else:
+                answer = self.put(image, name, words, info) if is_text or content else refused(NOTHING)
+            if answer[1]:
+                self.volumes[image] = before
+                hint = bad_text_hint(content) if answer[0] == [BAD_TEXT] else []
+                return [f"note: {path.decode()} is refused, and no file is put", *hint, *answer[0]], 1
+            lines += answer[0]
+        return lines, 0
+
+    def delete(self, image: str, asked: list[Asked]) -> Answer:
+        """Takes files out, all or none."""
+        volume, lines = self.volumes[image], []
+        for one in asked:
+            name, why = found(volume, one)
+            if name is not None and not why:
+                runs = volume.without(name)
+                why = FULL if len(runs) > volume.limit else ""
+                volume = with_files(volume, {it: file for it, file in volume.files.items() if it != name}, runs)
+                lines.append(f"DELETED {shown_name(name)}")
+            if why:
+                note = [f"note: {asked_text(one)} is refused, and no file is taken out"] if len(asked) > 1 else []
+                return [*note, why], 1
+        self.volumes[image] = volume
+        return lines, 0
+
+    def rename(self, image: str, asked: Asked, wanted: bytes) -> Answer:
+        volume, new = self.volumes[image], parsed_name(wanted)
+        name, why = found(volume, asked)
+        if why == BAD_NAME or new is None:
+            return refused(BAD_NAME)
+        if name is None or why:
+            return refused(why)
+        if new in volume.files:
+            return refused("? RENAME 1 FILE EXISTS")
+        if len(volume.runs) > volume.limit:
+            return refused(FULL)
+        files = {new if it == name else it: file for it, file in volume.files.items()}
+        self.volumes[image] = with_files(volume, files, [(new if it == name else it, blocks) for it, blocks in volume.runs])
+        return [f"RENAMED {shown_name(name)} {shown_name(new)}"], 0
+
+    def copy(self, image: str, asked: Asked, to: str, wanted: Optional[bytes]) -> Answer:
+        name, why = found(self.volumes[image], asked)
+        if name is None or why:
+            return [f"note: {image} is the image that refuses", why], 1
+        file = self.volumes[image].files[name]
+        lines, status = self.put(to, name if wanted is None else parsed_name(wanted), file.words, file.info)
+        return [*([f"note: {to} is the image that refuses"] if status else []), *lines], status
+
+    def squeeze(self, image: str) -> Answer:
+        """Moves files down, the lowest with free blocks below it first, until there is none."""
+        volume, moved = self.volumes[image], 0
+        while (runs := volume.moved_down()) is not None:
+            if len(runs) > volume.limit:
+                return refused(FULL)
+            volume, moved = with_files(volume, volume.files, runs), moved + 1
+        self.volumes[image] = volume
+        return [f"SQUEEZED {moved}"], 0
+
+    def list(self, image: str) -> Answer:
+        volume, places = self.volumes[image], self.volumes[image].places
+        lines = [f"{shown_name(name)} {file.blocks}" + ("" if can_be_typed(name) else f" AT {places[name]}") for name, file in sorted(volume.files.items())]
+        return [*lines, f"FREE {volume.capacity - volume.used}"], 0
+
+    def list_long(self, image: str) -> Answer:
+        volume, place, lines = self.volumes[image], self.volumes[image].first, []
+        for name, blocks in volume.runs:
+            if name is not None:
+                lines.append(" ".join([shown_name(name), str(blocks), str(place), *(octal(it, 4) for it in volume.files[name].info)]))
+            place += blocks
+        return [*lines, f"FREE {volume.capacity - volume.used}"], 0
+
+    def get(self, image: str, asked: Asked, is_text: bool) -> tuple[bytes, int]:
+        """The file's frames or its text, or on standard error why there is none."""
+        name, why = found(self.volumes[image], asked)
+        if name is None or why:
+            return f"{why}\n".encode(), 1
+        return given_of(self.volumes[image].files[name].words, is_text), 0
+
+    def chosen(self, image: str, words: list[str], is_all: bool) -> tuple[list[Name], list[str]]:
+        """The files that names, patterns and `--at N` choose, each once, and the lines of what is refused."""
+        volume, lines = self.volumes[image], []
+        in_order = sorted(volume.files, key=lambda it: volume.places[it])
+        names = list(in_order) if is_all else []
+        for word in words:
+            asked: Asked = int(word[5:]) if word.startswith("--at ") else word.encode()
+            if "*" in word or "?" in word:
+                found_names, why = [it for it in in_order if is_like(word, it)], "" if is_pattern(word) else BAD_NAME
+                found_names, why = ([], why) if why else (found_names, "" if found_names else NOT_FOUND)
+            else:
+                name, why = found(volume, asked)
+                found_names = [] if name is None or why else [name]
+            if why:
+                lines.append(f"{word}: {why}")
+            names += found_names
+        return list(dict.fromkeys(names)), lines
+
+
+def extension(name: Name) -> str:
+    return shown_word(name[3])
+
+
+def is_pattern(word: str) -> bool:
+    return bool(re.fullmatch(r"[A-Z0-9*?]{1,12}(\.[A-Z0-9*?]{1,4})?", word))
+
+
+def is_like(word: str, name: Name) -> bool:
+    """Whether a pattern matches a name: the name and the extension each by itself."""
+    wanted, _, wanted_behind = word.partition(".")
+    return fnmatch.fnmatchcase("".join(map(shown_word, name[:3])), wanted) and fnmatch.fnmatchcase(extension(name), wanted_behind)
+
+
+def given_of(words: list[int], is_text: bool) -> bytes:
+    return text_of(words).replace(b"\r\n", b"\n") if is_text else bytes(frames_of(words))
+
+
+def bad_text_hint(content: bytes) -> list[str]:
+    """Where a text has its first byte that may not stand in one."""
+    at = next(place for place, byte in enumerate(content) if byte > 0o177 or byte == 0o32)
+    lines = content[:at].split(b"\n")
+    return [f"note: line {len(lines)}, byte {len(lines[-1]) + 1}: a text has no byte above 0177, and no control Z"]
