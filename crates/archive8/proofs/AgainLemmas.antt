@@ -21,8 +21,8 @@ use Rattle.archive8.specs.declared.faults.ArchiveFault.TheVariants.{Image, Direc
 use Rattle.script8.specs.declared.faults.SessionFault.{SessionFault}
 use Rattle.script8.specs.declared.faults.SessionFault.TheVariants.{File, Memory}
 use Rattle.script8.specs.declared.faults.SessionFault.TheVariants as session
-use Rattle.os8_files.specs.declared.faults.FileFault.TheVariants.{NotFound, BadName}
-use Rattle.os8_files.specs.declared.faults.FileFault.TheVariants as file
+use Rattle.os8_dir.specs.declared.file_faults.FileFault.TheVariants.{NotFound, BadName}
+use Rattle.os8_dir.specs.declared.file_faults.FileFault.TheVariants as file
 use Rattle.archive8.proofs.LawLemmas.{one_volume, some_eq}
 use Rattle.archive8.proofs.AskLemmas.{one_name, bad_named, there_missing}
 

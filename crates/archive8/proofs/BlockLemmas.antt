@@ -9,8 +9,8 @@ use Rattle.os8_dir.specs.Found.{Placed, files_at, find}
 use Rattle.os8_dir.specs.Reading.{directory_of}
 use Rattle.os8_dir.specs.Files.{FileData, files_of, held, held_of}
 use Rattle.os8_dir.specs.declared.faults.DirFault.{DirFault}
-use Rattle.os8_files.specs.declared.faults.FileFault.TheVariants.{NotFound, BadName}
-use Rattle.os8_files.specs.declared.faults.FileFault.TheVariants as file
+use Rattle.os8_dir.specs.declared.file_faults.FileFault.TheVariants.{NotFound, BadName}
+use Rattle.os8_dir.specs.declared.file_faults.FileFault.TheVariants as file
 use Rattle.script8.specs.declared.faults.SessionFault.{SessionFault}
 use Rattle.script8.specs.declared.faults.SessionFault.TheVariants.{File, Memory}
 use Rattle.script8.specs.declared.faults.SessionFault.TheVariants as session

@@ -9,8 +9,8 @@ use Rattle.std.proofs.lemmas.Bool.Decides.{eqb_tells}
 use Rattle.std.proofs.lemmas.List.{append-nil, drop_all}
 use Rattle.os8_dir.specs.Reading.{block}
 use Rattle.os8_dir.specs.Files.{files_of}
-use Rattle.os8_files.specs.declared.faults.FileFault.{FileFault}
-use Rattle.os8_files.specs.declared.faults.FileFault.TheVariants.{NotFound, NoRoom, DirectoryFull, Busy, BadName, TooLong, TentativeOpen, Device, Stopped, Memory, NothingWritten}
+use Rattle.os8_dir.specs.declared.file_faults.FileFault.{FileFault}
+use Rattle.os8_dir.specs.declared.file_faults.FileFault.TheVariants.{NotFound, NoRoom, DirectoryFull, Busy, BadName, TooLong, TentativeOpen, Device, Stopped, Memory, NothingWritten}
 use Rattle.archive8.specs.Asking.{Wanted, OfName, AtBlock, asked_name, AreAsked, IsMissing}
 use Rattle.archive8.specs.ChangeSteps.{DeletesAll, DeletesOne}
 use Rattle.archive8.specs.Deleting.{AreDeleted, IsRefusedAt, IsRefusedName, without}

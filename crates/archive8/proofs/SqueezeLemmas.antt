@@ -5,8 +5,8 @@ use Rattle.os8_dir.specs.Files.{files_of, above_of, capacity_of, limit_of}
 use Rattle.os8_files.specs.Mounted.{Mounted}
 use Rattle.os8_files.specs.Calls.{HasMoved, IsReady, Squeezes, entries_moved, info_of}
 use Rattle.os8_files.specs.Failed.{lowest_or}
-use Rattle.os8_files.specs.declared.faults.FileFault.{FileFault}
-use Rattle.os8_files.specs.declared.faults.FileFault.TheVariants.{NotFound, NoRoom, DirectoryFull, Busy, BadName, TooLong, TentativeOpen, Device, Stopped, Memory, NothingWritten}
+use Rattle.os8_dir.specs.declared.file_faults.FileFault.{FileFault}
+use Rattle.os8_dir.specs.declared.file_faults.FileFault.TheVariants.{NotFound, NoRoom, DirectoryFull, Busy, BadName, TooLong, TentativeOpen, Device, Stopped, Memory, NothingWritten}
 use Rattle.archive8.specs.Squeezing.{AreMoved}
 use Rattle.archive8.specs.ChangeSteps.{SqueezesAll}
 

@@ -4,8 +4,8 @@ use Rattle.os8_dir.specs.declared.entries.DirEntry.{DirEntry}
 use Rattle.os8_dir.specs.Entries.{name_in, size_of}
 use Rattle.os8_dir.specs.Names.{parsed_name}
 use Rattle.os8_files.specs.Mounted.{Mounted}
-use Rattle.os8_files.specs.declared.faults.FileFault.{FileFault}
-use Rattle.os8_files.specs.declared.faults.FileFault.TheVariants.{BadName, NotFound}
+use Rattle.os8_dir.specs.declared.file_faults.FileFault.{FileFault}
+use Rattle.os8_dir.specs.declared.file_faults.FileFault.TheVariants.{BadName, NotFound}
 use Rattle.archive8.specs.declared.faults.ArchiveFault.{ArchiveFault}
 use Rattle.archive8.specs.Asking.{Wanted, OfName, AtBlock, asked_name}
 use Rattle.archive8.specs.Getting.{ReadRefused}

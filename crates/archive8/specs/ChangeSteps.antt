@@ -9,8 +9,8 @@ use Rattle.os8_files.specs.Mounted.{Mounted}
 use Rattle.os8_files.specs.Calls.{HasDeleted, IsThere, entries_moved}
 use Rattle.os8_files.specs.Failed.{lowest_or}
 use Rattle.os8_files.specs.Renames.{HasRenamed, entries_of}
-use Rattle.os8_files.specs.declared.faults.FileFault.{FileFault}
-use Rattle.os8_files.specs.declared.faults.FileFault.TheVariants as file
+use Rattle.os8_dir.specs.declared.file_faults.FileFault.{FileFault}
+use Rattle.os8_dir.specs.declared.file_faults.FileFault.TheVariants as file
 use Rattle.script8.specs.declared.faults.SessionFault.TheVariants.{Memory}
 use Rattle.archive8.specs.declared.faults.ArchiveFault.TheVariants.{Refused}
 use Rattle.archive8.specs.declared.faults.RenameFault.{RenameFault}

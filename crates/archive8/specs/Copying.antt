@@ -2,7 +2,7 @@
 use Rattle.std.specs.Prelude.{◌≡◌, ℕ, Option, Some, None, Result, Ok, Err, List}
 use Rattle.os8_dir.specs.Names.{padded, parsed_name}
 use Rattle.os8_dir.specs.Files.{FileData}
-use Rattle.os8_files.specs.declared.faults.FileFault.TheVariants.{BadName, NoRoom, DirectoryFull}
+use Rattle.os8_dir.specs.declared.file_faults.FileFault.TheVariants.{BadName, NoRoom, DirectoryFull}
 use Rattle.script8.specs.declared.faults.SessionFault.TheVariants.{File}
 use Rattle.archive8.specs.declared.faults.ArchiveFault.{ArchiveFault}
 use Rattle.archive8.specs.declared.faults.ArchiveFault.TheVariants.{Refused}

@@ -7,8 +7,8 @@ use Rattle.os8_dir.specs.Files.{Files, files_of, limit_of}
 use Rattle.os8_files.specs.Mounted.{Mounted}
 use Rattle.os8_files.specs.Calls.{HasDeleted, IsThere, KeepsBlocks, entries_without}
 use Rattle.os8_files.specs.Laws.{extent_on}
-use Rattle.os8_files.specs.declared.faults.FileFault.{FileFault}
-use Rattle.os8_files.specs.declared.faults.FileFault.TheVariants.{BadName, NotFound, DirectoryFull}
+use Rattle.os8_dir.specs.declared.file_faults.FileFault.{FileFault}
+use Rattle.os8_dir.specs.declared.file_faults.FileFault.TheVariants.{BadName, NotFound, DirectoryFull}
 use Rattle.archive8.specs.declared.faults.DeleteFault.{DeleteFault}
 use Rattle.archive8.specs.declared.faults.DeleteFault.TheVariants.{Archive, Name}
 use Rattle.archive8.specs.declared.deleting.DeletedImage.{DeletedImage}

@@ -8,7 +8,7 @@ use Rattle.bin_tape.specs.Fault.{IsFault}
 use Rattle.char_pack.specs.Packing.{frames}
 use Rattle.char_pack.specs.Texts.{text}
 use Rattle.os8_dir.specs.Files.{FileData, files_of}
-use Rattle.os8_files.specs.declared.faults.FileFault.TheVariants.{NotFound, BadName}
+use Rattle.os8_dir.specs.declared.file_faults.FileFault.TheVariants.{NotFound, BadName}
 use Rattle.script8.specs.declared.faults.SessionFault.{SessionFault}
 use Rattle.script8.specs.declared.faults.SessionFault.TheVariants.{File, Memory}
 use Rattle.script8.specs.declared.faults.SessionFault.TheVariants as session

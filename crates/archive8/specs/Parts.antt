@@ -12,8 +12,8 @@ use Rattle.char_pack.specs.declared.forms.PutForm.{PutForm}
 use Rattle.os8_dir.specs.Files.{FileData, files_of}
 use Rattle.os8_files.specs.Mounted.{Mounted}
 use Rattle.os8_files.specs.Puts.{HasPutWith, PutsFileWith, blocks_filled}
-use Rattle.os8_files.specs.declared.faults.FileFault.{FileFault}
-use Rattle.os8_files.specs.declared.faults.FileFault.TheVariants as file
+use Rattle.os8_dir.specs.declared.file_faults.FileFault.{FileFault}
+use Rattle.os8_dir.specs.declared.file_faults.FileFault.TheVariants as file
 use Rattle.script8.specs.declared.faults.SessionFault.{SessionFault}
 use Rattle.script8.specs.declared.faults.SessionFault.TheVariants.{File, Memory}
 use Rattle.script8.specs.declared.faults.SessionFault.TheVariants as session

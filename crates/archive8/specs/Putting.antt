@@ -10,7 +10,7 @@ use Rattle.os8_files.specs.Mounted.{Mounted}
 use Rattle.os8_files.specs.Calls.{IsLargest, IsOver, IsReady}
 use Rattle.os8_files.specs.Puts.{HasPutWith, HasNoEntryWith, blocks_filled, file_with}
 use Rattle.os8_files.specs.Service.{information_of}
-use Rattle.os8_files.specs.declared.faults.FileFault.TheVariants.{BadName, NoRoom, DirectoryFull, NothingWritten}
+use Rattle.os8_dir.specs.declared.file_faults.FileFault.TheVariants.{BadName, NoRoom, DirectoryFull, NothingWritten}
 use Rattle.script8.specs.declared.faults.SessionFault.{SessionFault}
 use Rattle.script8.specs.declared.faults.SessionFault.TheVariants.{File, BadText}
 use Rattle.archive8.specs.declared.faults.ArchiveFault.{ArchiveFault}

@@ -7,7 +7,7 @@ use Rattle.os8_dir.specs.Files.{files_of, limit_of}
 use Rattle.os8_files.specs.Mounted.{Mounted}
 use Rattle.os8_files.specs.Calls.{IsThere}
 use Rattle.os8_files.specs.Renames.{HasRenamed, entries_of}
-use Rattle.os8_files.specs.declared.faults.FileFault.TheVariants.{BadName, NotFound, DirectoryFull}
+use Rattle.os8_dir.specs.declared.file_faults.FileFault.TheVariants.{BadName, NotFound, DirectoryFull}
 use Rattle.script8.specs.declared.faults.SessionFault.{SessionFault}
 use Rattle.script8.specs.declared.faults.SessionFault.TheVariants.{File}
 use Rattle.archive8.specs.declared.faults.ArchiveFault.TheVariants.{Image, Directory, Refused}

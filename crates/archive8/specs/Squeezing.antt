@@ -6,7 +6,7 @@ use Rattle.os8_dir.specs.Files.{files_of, above_of, capacity_of, limit_of}
 use Rattle.os8_files.specs.Mounted.{Mounted}
 use Rattle.os8_files.specs.Calls.{HasMoved, entries_moved, info_of}
 use Rattle.os8_files.specs.Failed.{lowest_or}
-use Rattle.os8_files.specs.declared.faults.FileFault.TheVariants.{DirectoryFull}
+use Rattle.os8_dir.specs.declared.file_faults.FileFault.TheVariants.{DirectoryFull}
 use Rattle.script8.specs.declared.faults.SessionFault.{SessionFault}
 use Rattle.script8.specs.declared.faults.SessionFault.TheVariants.{File}
 use Rattle.archive8.specs.declared.faults.ArchiveFault.{ArchiveFault}

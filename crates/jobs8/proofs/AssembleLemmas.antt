@@ -7,7 +7,7 @@ use Rattle.os8_dir.specs.Files.{files_of, above_of}
 use Rattle.os8_files.specs.Holds.{times}
 use Rattle.os8_files.specs.Laws.{KeepsHolds}
 use Rattle.os8_files.specs.Mounted.{Mounted}
-use Rattle.os8_files.specs.declared.faults.FileFault.TheVariants as file
+use Rattle.os8_dir.specs.declared.file_faults.FileFault.TheVariants as file
 use Rattle.pal_asm.specs.declared.faults.AsmFault.TheVariants as asm
 use Rattle.pal_blocks.specs.Progress.{IsAssembling}
 use Rattle.jobs8.specs.Calls.{NoCallFailed, TurnsOver, LeavesJobs, WorkCalls, IfFile, WorkTellsRoom}

@@ -7,7 +7,7 @@ use Rattle.os8_files.specs.Failed.{extent_or}
 use Rattle.os8_files.specs.Laws.{KeepsPlaces, KeepsOtherPlaces, MovesOne, ReadsLowest}
 use Rattle.os8_files.specs.Mounted.{Mounted}
 use Rattle.os8_files.specs.Puts.{PutsFile}
-use Rattle.os8_files.specs.declared.faults.FileFault.{FileFault}
+use Rattle.os8_dir.specs.declared.file_faults.FileFault.{FileFault}
 use Rattle.os8_files.specs.declared.tokens.Squeezed.{Squeezed}
 use Rattle.os8_files.specs.declared.tokens.Squeezed.TheVariants.{Moved, Nothing}
 use Rattle.jobs8.specs.Calls.{WorkCalls, ReadsFew, MovesFew}

@@ -7,7 +7,7 @@ use Rattle.os8_dir.specs.Entries.{contains, IsNamed}
 use Rattle.os8_dir.specs.Files.{Files, files_of}
 use Rattle.os8_files.specs.Holds.{times}
 use Rattle.os8_files.specs.Mounted.{Mounted}
-use Rattle.os8_files.specs.declared.faults.FileFault.TheVariants as file
+use Rattle.os8_dir.specs.declared.file_faults.FileFault.TheVariants as file
 use Rattle.pal_blocks.specs.Blocks.{blocks_in, blocks_among, blocks_of_each, AreFiles, assembling_turns}
 use Rattle.pal_blocks.specs.Progress.{IsAssembling}
 use Rattle.pal_blocks.specs.declared.assembling.Assembling as parts

@@ -7,8 +7,8 @@ use Rattle.os8_files.specs.Failed.{Survives}
 use Rattle.os8_files.specs.Holds.{times}
 use Rattle.os8_files.specs.Laws.{KeepsHolds}
 use Rattle.os8_files.specs.Mounted.{Mounted, Begun}
-use Rattle.os8_files.specs.declared.faults.FileFault.{FileFault}
-use Rattle.os8_files.specs.declared.faults.FileFault.TheVariants as file
+use Rattle.os8_dir.specs.declared.file_faults.FileFault.{FileFault}
+use Rattle.os8_dir.specs.declared.file_faults.FileFault.TheVariants as file
 use Rattle.os8_files.specs.declared.tokens.Squeezed as tokens
 use Rattle.os8_files.specs.declared.tokens.Squeezed.TheVariants as token
 use Rattle.jobs8.specs.Calls.{NoCallFailed, TurnsOver, LeavesJobs, TellsSqueeze, WorkTellsRoom}

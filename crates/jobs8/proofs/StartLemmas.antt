@@ -7,8 +7,8 @@ use Rattle.os8_dir.specs.Files.{files_of, above_of}
 use Rattle.os8_files.specs.Holds.{with_hold, times}
 use Rattle.os8_files.specs.Mounted.{Mounted}
 use Rattle.os8_files.specs.Service.{count_of}
-use Rattle.os8_files.specs.declared.faults.FileFault.{FileFault}
-use Rattle.os8_files.specs.declared.faults.FileFault.TheVariants as file
+use Rattle.os8_dir.specs.declared.file_faults.FileFault.{FileFault}
+use Rattle.os8_dir.specs.declared.file_faults.FileFault.TheVariants as file
 use Rattle.jobs8.specs.Steps.{HasBegunLoading, BeginsLoading, TurnsJob, plain_after, jobs_after, left_of, HoldsAgain, HasBegunAssembly, BeginsAssembly, is_assembled}
 use Rattle.jobs8.specs.Calls.{StartsOver, StartsAssembling, StartsLoading, StartsSqueezing, TakesTurn, NumberTurnsOver, IfFile, NumberTellsRoom, CallsOf, TellsSqueeze, LeavesJobs}
 use Rattle.jobs8.specs.Faults.{fault_of_file}

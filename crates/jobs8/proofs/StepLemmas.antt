@@ -8,8 +8,8 @@ use Rattle.char_pack.specs.Packing.{frames}
 use Rattle.os8_dir.specs.Files.{files_of}
 use Rattle.os8_files.specs.Mounted.{Mounted}
 use Rattle.os8_files.specs.Holds.{without_hold}
-use Rattle.os8_files.specs.declared.faults.FileFault.{FileFault}
-use Rattle.os8_files.specs.declared.faults.FileFault.TheVariants as file
+use Rattle.os8_dir.specs.declared.file_faults.FileFault.{FileFault}
+use Rattle.os8_dir.specs.declared.file_faults.FileFault.TheVariants as file
 use Rattle.jobs8.specs.Calls.{NoCallFailed, IfFile, TellsFailures, TurnsOver}
 use Rattle.jobs8.specs.Steps.{LeavesHold, TurnsLoading, HasReadOne, LoadsOn}
 use Rattle.jobs8.specs.Steps.{is_memory}

@@ -9,8 +9,8 @@ use Rattle.os8_files.specs.Laws.{KeepsHolds}
 use Rattle.os8_files.specs.Mounted.{Mounted}
 use Rattle.os8_files.specs.Puts as puts
 use Rattle.os8_files.specs.Puts.{PutsFile, HasKept, HasNoEntry, PutFailed, blocks_filled}
-use Rattle.os8_files.specs.declared.faults.FileFault.{FileFault}
-use Rattle.os8_files.specs.declared.faults.FileFault.TheVariants as file
+use Rattle.os8_dir.specs.declared.file_faults.FileFault.{FileFault}
+use Rattle.os8_dir.specs.declared.file_faults.FileFault.TheVariants as file
 use Rattle.pal_asm.specs.Faults.{fault_of}
 use Rattle.pal_asm.specs.declared.faults.AsmFault.{AsmFault}
 use Rattle.pal_asm.specs.declared.faults.AsmFault.TheVariants as asm

@@ -7,8 +7,8 @@ use Rattle.os8_files.specs.Laws.{KeepsPlaces, KeepsOtherPlaces, ReadsOne, ReadsL
 use Rattle.os8_files.specs.Mounted.{Mounted}
 use Rattle.os8_files.specs.Puts.{PutsFile, TellsRoom}
 use Rattle.pal_blocks.specs.Sources.{assembled_words}
-use Rattle.os8_files.specs.declared.faults.FileFault.{FileFault}
-use Rattle.os8_files.specs.declared.faults.FileFault.TheVariants as file
+use Rattle.os8_dir.specs.declared.file_faults.FileFault.{FileFault}
+use Rattle.os8_dir.specs.declared.file_faults.FileFault.TheVariants as file
 use Rattle.os8_files.specs.declared.tokens.Squeezed as tokens
 use Rattle.os8_files.specs.declared.tokens.Squeezed.TheVariants as token
 use Rattle.jobs8.specs.declared.faults.JobFault.{JobFault}

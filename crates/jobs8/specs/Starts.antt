@@ -3,7 +3,7 @@ use Rattle.std.specs.Prelude.{◌≡◌, ◌⊎◌, ℕ, ◌+◌, true, false, S
 use Rattle.std.specs.FinMap.{get}
 use Rattle.os8_dir.specs.Entries.{contains}
 use Rattle.os8_files.specs.Service.{count_of}
-use Rattle.os8_files.specs.declared.faults.FileFault.TheVariants as file
+use Rattle.os8_dir.specs.declared.file_faults.FileFault.TheVariants as file
 use Rattle.jobs8.specs.declared.faults.JobFault.{JobFault}
 use Rattle.jobs8.specs.declared.faults.JobFault.TheVariants.{TooManyJobs, File, Memory}
 use Rattle.jobs8.specs.Jobs.{Job, assembling, loading, squeezing, least_free, with_job, held_by}

@@ -5,8 +5,8 @@ use Rattle.os8_dir.specs.Entries.{contains}
 use Rattle.os8_dir.specs.Files.{Files, FileData}
 use Rattle.os8_dir.specs.Names.{padded}
 use Rattle.os8_files.specs.Service.{used_of, count_of}
-use Rattle.os8_files.specs.declared.faults.FileFault.{FileFault}
-use Rattle.os8_files.specs.declared.faults.FileFault.TheVariants as file
+use Rattle.os8_dir.specs.declared.file_faults.FileFault.{FileFault}
+use Rattle.os8_dir.specs.declared.file_faults.FileFault.TheVariants as file
 use Rattle.jobs8.specs.Jobs.{Job, held_by, disturbed}
 use Rattle.pal_blocks.specs.Blocks.{blocks_in}
 

@@ -6,7 +6,7 @@ use Rattle.os8_dir.specs.Files.{files_of, above_of, Files, FileData}
 use Rattle.os8_files.specs.Holds.{with_hold, without_hold, times}
 use Rattle.os8_files.specs.Laws.{KeepsHeld, ReadsOne}
 use Rattle.os8_files.specs.Mounted.{Mounted}
-use Rattle.os8_files.specs.declared.faults.FileFault.{FileFault}
+use Rattle.os8_dir.specs.declared.file_faults.FileFault.{FileFault}
 use Rattle.jobs8.specs.declared.faults.JobFault.{JobFault}
 use Rattle.jobs8.specs.declared.turned.Turned.TheVariants.{Working, Squeezed, Assembled, Loaded}
 use Rattle.jobs8.specs.declared.loading.Loading.{Loading}
@@ -34,7 +34,7 @@ use Rattle.jobs8.specs.Jobs.{held_by, held_by_work}
 use Rattle.pal_blocks.specs.Progress.{IsAssembling}
 use Rattle.pal_blocks.specs.Turns.{TakesBlock}
 use Rattle.jobs8.specs.declared.assembly.Assembly.{Assembly}
-use Rattle.os8_files.specs.declared.faults.FileFault.TheVariants as file
+use Rattle.os8_dir.specs.declared.file_faults.FileFault.TheVariants as file
 use Rattle.os8_files.specs.declared.tokens.Squeezed.TheVariants as token
 use Rattle.os8_files.specs.declared.tokens.Squeezed as tokens
 use Rattle.jobs8.specs.declared.faults.JobFault.TheVariants as fault

@@ -4,7 +4,7 @@ use Rattle.char_pack.specs.Packing.{frames}
 use Rattle.core_load.specs.Load.{IsLoaded}
 use Rattle.pal_asm.specs.Faults.{fault_of}
 use Rattle.os8_files.specs.Service.{count_of}
-use Rattle.os8_files.specs.declared.faults.FileFault.TheVariants as file
+use Rattle.os8_dir.specs.declared.file_faults.FileFault.TheVariants as file
 use Rattle.jobs8.specs.declared.faults.JobFault.{JobFault}
 use Rattle.jobs8.specs.declared.faults.JobFault.TheVariants.{NoJob, File, Asm, Tape, Memory}
 use Rattle.jobs8.specs.declared.turned.Turned.{Turned}

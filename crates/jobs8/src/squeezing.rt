@@ -1,7 +1,7 @@
 //! A job that moves files down, a file a turn.
 ghost use Rattle.std.specs.Prelude.{◌≡◌, ◌≤◌, Result};
 ghost use Rattle.os8_files.specs.Calls.{Squeezes};
-ghost use Rattle.os8_files.specs.declared.faults.FileFault as fault;
+ghost use Rattle.os8_dir.specs.declared.file_faults.FileFault as fault;
 ghost use Rattle.os8_files.specs.declared.tokens.Squeezed as token;
 ghost use Rattle.jobs8.specs.Steps.{SqueezeTurns};
 

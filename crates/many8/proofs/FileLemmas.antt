@@ -14,8 +14,8 @@ use Rattle.os8_dir.specs.Reading.{directory_of}
 use Rattle.os8_dir.specs.Found.{IsDirectory, Placed, extent_of, files_at, find}
 use Rattle.os8_dir.specs.Files.{FileData, files_of, held_of, joined, run}
 use Rattle.os8_files.specs.Failed.{extent_or}
-use Rattle.os8_files.specs.declared.faults.FileFault.TheVariants.{NotFound, NoRoom, DirectoryFull, Busy, BadName, TooLong, TentativeOpen, Device, Stopped, NothingWritten}
-use Rattle.os8_files.specs.declared.faults.FileFault.TheVariants as file-fault
+use Rattle.os8_dir.specs.declared.file_faults.FileFault.TheVariants.{NotFound, NoRoom, DirectoryFull, Busy, BadName, TooLong, TentativeOpen, Device, Stopped, NothingWritten}
+use Rattle.os8_dir.specs.declared.file_faults.FileFault.TheVariants as file-fault
 use Rattle.script8.specs.declared.faults.SessionFault.{SessionFault}
 use Rattle.script8.specs.declared.faults.SessionFault.TheVariants.{BadLine, NoJob, TooManyJobs, File, Asm, Tape, BadText, Reader, Writer, Memory, TooManyBreaks}
 use Rattle.archive8.specs.declared.faults.ArchiveFault.{ArchiveFault}

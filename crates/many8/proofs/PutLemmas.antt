@@ -15,8 +15,8 @@ use Rattle.os8_files.specs.Mounted.{Mounted}
 use Rattle.os8_files.specs.Calls.{IsReady, rooms_or}
 use Rattle.os8_files.specs.Failed.{with_list}
 use Rattle.os8_files.specs.Puts.{HasPutWith, blocks_filled}
-use Rattle.os8_files.specs.declared.faults.FileFault.TheVariants.{NotFound, NoRoom, DirectoryFull, Busy, BadName, TooLong, TentativeOpen, Device, Stopped, NothingWritten}
-use Rattle.os8_files.specs.declared.faults.FileFault.TheVariants as file
+use Rattle.os8_dir.specs.declared.file_faults.FileFault.TheVariants.{NotFound, NoRoom, DirectoryFull, Busy, BadName, TooLong, TentativeOpen, Device, Stopped, NothingWritten}
+use Rattle.os8_dir.specs.declared.file_faults.FileFault.TheVariants as file
 use Rattle.script8.specs.declared.faults.SessionFault.{SessionFault}
 use Rattle.script8.specs.declared.faults.SessionFault.TheVariants.{BadLine, NoJob, TooManyJobs, File, Asm, Tape, BadText, Reader, Writer, Memory, TooManyBreaks}
 use Rattle.archive8.specs.Putting.{information_for}

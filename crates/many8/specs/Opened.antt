@@ -12,7 +12,7 @@ use Rattle.os8_dir.specs.Reading.{directory_of}
 use Rattle.os8_dir.specs.Files.{FileData, files_of, run}
 use Rattle.os8_dir.specs.declared.faults.DirFault.{DirFault}
 use Rattle.os8_files.specs.Failed.{extent_or}
-use Rattle.os8_files.specs.declared.faults.FileFault.TheVariants.{NotFound}
+use Rattle.os8_dir.specs.declared.file_faults.FileFault.TheVariants.{NotFound}
 use Rattle.script8.specs.declared.faults.SessionFault.{SessionFault}
 use Rattle.script8.specs.declared.faults.SessionFault.TheVariants.{File, Memory}
 use Rattle.script8.specs.declared.faults.SessionFault.TheVariants as session

@@ -1,7 +1,7 @@
 -- What steps of the code that puts many files come to. No contract of a public function cites these.
 use Rattle.std.specs.Prelude.{◌≡◌, ℕ, ◌+◌, ◌<◌, Option, Result, Ok, Err, List, ◌++◌, length, map}
 use Rattle.os8_files.specs.Mounted.{Mounted}
-use Rattle.os8_files.specs.declared.faults.FileFault.TheVariants.{Device}
+use Rattle.os8_dir.specs.declared.file_faults.FileFault.TheVariants.{Device}
 use Rattle.script8.specs.declared.faults.SessionFault.{SessionFault}
 use Rattle.script8.specs.declared.faults.SessionFault.TheVariants.{File, Memory}
 use Rattle.many8.specs.Putting.{ArePut, HasPutFile, IsRefusedAt, IsRefusedFile, blocks_in}

@@ -6,7 +6,7 @@ use Rattle.os8_dir.specs.Entries.{Listed, IsNamed, end_of}
 use Rattle.os8_dir.specs.Reading.{block, directory_of}
 use Rattle.os8_files.specs.Mounted.{Mounted}
 use Rattle.os8_files.specs.Puts.{HasPutWith, blocks_filled}
-use Rattle.os8_files.specs.declared.faults.FileFault.TheVariants.{BadName, NoRoom, DirectoryFull, NothingWritten}
+use Rattle.os8_dir.specs.declared.file_faults.FileFault.TheVariants.{BadName, NoRoom, DirectoryFull, NothingWritten}
 use Rattle.script8.specs.declared.faults.SessionFault.{SessionFault}
 use Rattle.script8.specs.declared.faults.SessionFault.TheVariants.{File, BadText}
 use Rattle.archive8.specs.Opening.{IsUnopened}

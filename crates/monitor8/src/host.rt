@@ -1,165 +1,27 @@
-//! The program over the files and the streams of a host. What it does with bytes is in the functions that it calls; here
-//! files are read and written, and exit statuses are given.
+//! The program over the files and the streams of a host: what the words ask for is done by the command, and exit statuses are given.
 
-use crate::listings::write_out;
-use crate::{
-    ProgramLine, RimTextFault, SourceFault, Task, TaskFault, put_program, rim_text, tape_text, task,
-};
-use bin_tape::TapeFault;
-use command8::RimForm;
-use core_image::CoreFault;
-use disk8::{DiskFault, blank_tape};
+use crate::runs::run_image;
+use command8::{RimForm, Task, TaskFault, task};
 use host8::Unwritten;
+use image_file8::{Ended, print_line, tell_text};
+use image_host8::{
+    check_images, copy_file, create_image, create_tape, delete_files, get_bin, get_blocks,
+    get_file, get_files, list_files, list_places, put_file, put_files, rename_file, squeeze_files,
+};
+use report8::{ProgramLine, put_program};
 use script8::{SessionFault, put_reply};
-use session8::read_all;
 use std::alloc::{AllocError, Global};
 use std::env::{self, Env};
 use std::fs::{File, Files};
-use std::io::{self, ErrorKind, Input, IsTerminal, Write};
+use std::io::{self, ErrorKind, Input, IsTerminal};
 use std::process::ExitCode;
 use std::time::Clock;
-use volume_image::{ImageFault, MemoryVolume};
-
-mod archives;
-mod assembling;
-mod changes;
-mod checks;
-mod hints;
-mod images;
-mod many;
-mod progress;
-mod runs;
-mod streams;
-mod tapes;
-mod teletypes;
-mod traces;
-
-use archives::{asked_of, bytes_of_file, get_bin, get_blocks, list_files, list_places, put_file};
-use assembling::assemble_files;
-use changes::{copy_file, delete_files, rename_file, squeeze_files};
-use checks::check_images;
-use hints::tell_rim;
-use images::{Content, make_file};
-use many::{get_files, put_files};
-use runs::run_image;
-use streams::Output;
-use tapes::write_source;
-use teletypes::run_teletype;
-use traces::{profile_tape, trace_tape};
+use tape_host8::{
+    assemble_files, list_tape, profile_tape, run_teletype, trace_tape, write_rim, write_source,
+};
 
 /// The status that a shell tells of a program that SIGPIPE has ended.
 const ABANDONED: u8 = 141;
-
-/// The blocks of the volume of a DECtape.
-const TAPE_BLOCKS: usize = 737;
-
-/// Why the program ends before its work is done.
-#[derive(Drop)]
-enum Ended {
-    Line(ProgramLine),
-    Fault(SessionFault),
-    NoText,
-
-    /// Words that `clap` or the program refuses.
-    Refused(TaskFault),
-    Told,
-
-    /// Another program works on a file for this.
-    Busy(Content),
-
-    /// What a file for this holds that could not be written.
-    Unwritten(Content, Unwritten),
-
-    /// Standard output takes no more of what is data.
-    Unprinted,
-
-    /// Standard output is a pipe that nobody reads any more.
-    Abandoned,
-
-    /// The words can't all be followed, as was told.
-    Misused,
-}
-
-impl From<AllocError> for Ended {
-    ghost use Rattle.std.specs.Prelude.{◌≡◌};
-    ghost use Rattle.monitor8.specs.declared.host.Ended.TheVariants.{Fault};
-    ghost use Rattle.script8.specs.declared.faults.SessionFault.TheVariants.{Memory};
-
-    ghost from_gives = { λ _ ended. ended ≡ Fault Memory };
-
-    fn from(error: AllocError) -> Ended {
-        Ended::Fault(error.into())
-    }
-}
-
-impl From<SessionFault> for Ended {
-    fn from(fault: SessionFault) -> Ended {
-        Ended::Fault(fault)
-    }
-}
-
-impl From<TaskFault> for Ended {
-    fn from(fault: TaskFault) -> Ended {
-        match fault {
-            TaskFault::Memory => Ended::Fault(SessionFault::Memory),
-            _ => Ended::Refused(fault),
-        }
-    }
-}
-
-impl From<SourceFault> for Ended {
-    fn from(fault: SourceFault) -> Ended {
-        match fault {
-            SourceFault::NoWord => Ended::Line(ProgramLine::NoWord),
-            SourceFault::NoStart(start) => Ended::Line(ProgramLine::NoStart(start)),
-            SourceFault::Names(line, why) => Ended::Line(ProgramLine::Names(line, why)),
-            SourceFault::Session(fault) => Ended::Fault(fault),
-        }
-    }
-}
-
-impl From<RimTextFault> for Ended {
-    fn from(fault: RimTextFault) -> Ended {
-        match fault {
-            RimTextFault::Rim(fault) => Ended::Line(ProgramLine::Rim(fault)),
-            RimTextFault::Session(fault) => Ended::Fault(fault),
-        }
-    }
-}
-
-impl From<TapeFault> for Ended {
-    fn from(fault: TapeFault) -> Ended {
-        Ended::Fault(fault.into())
-    }
-}
-
-impl From<CoreFault> for Ended {
-    fn from(fault: CoreFault) -> Ended {
-        Ended::Line(ProgramLine::Core(fault))
-    }
-}
-
-impl From<DiskFault> for Ended {
-    fn from(fault: DiskFault) -> Ended {
-        Ended::Line(ProgramLine::Disk(fault))
-    }
-}
-
-impl From<ImageFault> for Ended {
-    fn from(fault: ImageFault) -> Ended {
-        Ended::Line(ProgramLine::Image(fault))
-    }
-}
-
-/// A failed call for what is read.
-impl From<io::Error> for Ended {
-    fn from(error: io::Error) -> Ended {
-        match error.kind() {
-            ErrorKind::OutOfMemory => Ended::Fault(SessionFault::Memory),
-            _ => Ended::Fault(SessionFault::Reader),
-        }
-    }
-}
 
 /// Does what the words of the command line ask for, as `command8::task` reads them: a subcommand, and the files that it works on.
 /// The exit status is 0, 1 after a fault, and 2 for words that are refused. The line of a fault is on standard output, and for
@@ -231,11 +93,8 @@ where
         Task::CreateTape(image) => create_tape(rt, &image),
         Task::List(image) => list_files(rt, &image),
         Task::ListLong(image) => list_places(rt, &image),
-        Task::Get(image, file, form) => {
-            let given = bytes_of_file(rt, &image, &asked_of(file), form)?;
-            print_line(rt, &given)
-        }
-        Task::GetBin(image, file) => get_bin(rt, &image, &asked_of(file)),
+        Task::Get(image, file, form) => get_file(rt, &image, file, form),
+        Task::GetBin(image, file) => get_bin(rt, &image, file),
         Task::GetMany(form) => get_files(rt, &form),
         Task::GetBlocks(form) => get_blocks(rt, &form),
         Task::Put(form) => put_file(rt, &form),
@@ -332,93 +191,5 @@ fn no_words(error: io::Error) -> Ended {
     match error.kind() {
         ErrorKind::OutOfMemory => Ended::Fault(SessionFault::Memory),
         _ => Ended::NoText,
-    }
-}
-
-/// Lists the tape on standard input.
-fn list_tape<R: Input + Print + Eprint + AllocGlobal>(rt: &R) -> Result<(), Ended> {
-    let frames = read_all(rt.alloc(), &mut rt.reader())?;
-    let listed = tape_text(rt.alloc(), &mut frames.as_slice(), &mut io::writer(rt));
-    if let Err(SessionFault::Tape(_)) = &listed {
-        tell_rim(rt, &frames);
-    }
-    listed?;
-    Ok(())
-}
-
-/// Writes the words of the RIM tape on standard input.
-fn write_rim<R: Input + Print + AllocGlobal>(rt: &R, form: RimForm) -> Result<(), Ended> {
-    rim_text(rt.alloc(), &mut rt.reader(), &mut io::writer(rt), form)?;
-    Ok(())
-}
-
-/// Writes an empty volume to a file, in place of any file of that name.
-fn create_image<R: Files<File = File> + Print + Eprint + AllocGlobal>(
-    rt: &R,
-    image: &str,
-    blocks: usize,
-) -> Result<(), Ended> {
-    let bytes = MemoryVolume::create(rt.alloc(), blocks)?.to_bytes(rt.alloc())?;
-    make_image(rt, image, &bytes, blocks)
-}
-
-/// Writes an empty volume to a file of a DECtape, in place of any file of that name.
-fn create_tape<R: Files<File = File> + Print + Eprint + AllocGlobal>(
-    rt: &R,
-    image: &str,
-) -> Result<(), Ended> {
-    let blocks = TAPE_BLOCKS;
-    let bytes = MemoryVolume::create(rt.alloc(), blocks)?.to_bytes(rt.alloc())?;
-    let tape = blank_tape(rt.alloc(), &bytes)?;
-    make_image(rt, image, &tape, blocks)
-}
-
-/// Makes the file of a new volume of so many blocks, and tells of it.
-fn make_image<R: Files<File = File> + Print + Eprint + AllocGlobal>(
-    rt: &R,
-    image: &str,
-    bytes: &[u8],
-    blocks: usize,
-) -> Result<(), Ended> {
-    make_file(rt, image, bytes, Content::Image)?;
-    let mut line = Vec::new(rt.alloc());
-    put_program(&ProgramLine::Created(blocks), &mut line)?;
-    print_line(rt, &line)
-}
-
-fn print_line<R: Print>(rt: &R, line: &[u8]) -> Result<(), Ended> {
-    write_out(&mut io::writer(rt), line)?;
-    Ok(())
-}
-
-/// Writes data to standard output, and says why where that takes no more.
-fn print_data<R: Print>(rt: &R, data: &[u8]) -> Result<(), Ended> {
-    let mut output = Output::new(rt);
-    if output.write_all(data).is_err() {
-        return Err(unprinted(&output));
-    }
-    Ok(())
-}
-
-/// How a command ends that could not write its data.
-fn unprinted<R>(output: &Output<'_, R>) -> Ended {
-    if output.is_abandoned {
-        return Ended::Abandoned;
-    }
-    Ended::Unprinted
-}
-
-/// Tells a line on standard error that is no fault.
-fn tell_line<R: Eprint + AllocGlobal>(rt: &R, line: &ProgramLine) -> Result<(), Ended> {
-    let mut text = Vec::new(rt.alloc());
-    put_program(line, &mut text)?;
-    tell_text(rt, &text);
-    Ok(())
-}
-
-/// Writes a text to standard error.
-fn tell_text<R: Eprint>(rt: &R, text: &[u8]) {
-    if let Ok(text) = str::from_utf8(text) {
-        let _ = rt.eprint(text);
     }
 }

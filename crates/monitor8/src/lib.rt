@@ -1,28 +1,16 @@
-//! The whole programming system as functions over readers and writers: the listing of a tape, the files of the host, and what
-//! the command line asks for, over the session of `session8`.
+//! The whole programming system: what the command line asks for, over the files of the host and the session of `session8`; and the public
+//! calls of the crates below that a program may want.
 #![tactic(auto)]
 
-mod cores;
-mod given;
+mod hints;
 mod host;
-mod line_ends;
-mod listings;
-mod prefixes;
-mod programs;
-mod rims;
-mod sources;
-mod starts;
+mod runs;
 
 pub use command8::{Task, TaskFault, plain_words, task};
-pub use cores::core_tape;
-pub use given::given_cells;
 pub use host::program;
-pub use line_ends::with_line_feeds;
-pub use listings::tape_text;
-pub use prefixes::with_prefix;
-pub use programs::{ProgramLine, put_program};
-pub use rims::{RimTextFault, rim_text};
+pub use report8::{
+    ProgramLine, RimTextFault, SourceFault, core_tape, first_cell, given_cells, put_program,
+    put_source, rim_text, source_text, tape_text, with_line_feeds, with_prefix,
+};
 pub use script8::SessionFault;
 pub use session8::{Ran, Session, laws};
-pub use sources::{SourceFault, put_source, source_text};
-pub use starts::first_cell;

@@ -16,8 +16,8 @@ use Rattle.os8_files.specs.Mounted.{Mounted}
 use Rattle.os8_files.specs.Service.{blocks_of}
 use Rattle.os8_files.specs.Calls.{HasFailed, HasBlock, HasRead, StopsInPart}
 use Rattle.os8_files.specs.WriteSteps.{with_segments, HasDirectory, KeepsHigh, RewritesDirectory}
-use Rattle.os8_files.specs.declared.faults.FileFault.{FileFault}
-use Rattle.os8_files.specs.declared.faults.FileFault.TheVariants.{NotFound, NoRoom, DirectoryFull, Busy, BadName, TooLong, TentativeOpen, Device, Stopped, Memory, NothingWritten}
+use Rattle.os8_dir.specs.declared.file_faults.FileFault.{FileFault}
+use Rattle.os8_dir.specs.declared.file_faults.FileFault.TheVariants.{NotFound, NoRoom, DirectoryFull, Busy, BadName, TooLong, TentativeOpen, Device, Stopped, Memory, NothingWritten}
 use Rattle.os8_files.proofs.LookupLemmas.{told, blocks_found, find_within, whole-run, blocks-run}
 use Rattle.os8_files.proofs.WrittenLemmas.{block-segments, run-high, held-kept, block-joined}
 

@@ -8,8 +8,8 @@ use Rattle.os8_files.specs.Mounted.{Mounted}
 use Rattle.os8_files.specs.Calls.{ReadsBlock, HoldsFile, DeletesFile, Enters, WritesBlock, ClosesFile, Squeezes}
 use Rattle.os8_files.specs.Holds.{with_hold, without_hold}
 use Rattle.os8_files.specs.Laws.{KeepsHeld}
-use Rattle.os8_files.specs.declared.faults.FileFault.{FileFault}
-use Rattle.os8_files.specs.declared.faults.FileFault.TheVariants.{NotFound, NoRoom, DirectoryFull, Busy, BadName, TooLong, TentativeOpen, Device, Stopped, Memory, NothingWritten}
+use Rattle.os8_dir.specs.declared.file_faults.FileFault.{FileFault}
+use Rattle.os8_dir.specs.declared.file_faults.FileFault.TheVariants.{NotFound, NoRoom, DirectoryFull, Busy, BadName, TooLong, TentativeOpen, Device, Stopped, Memory, NothingWritten}
 use Rattle.os8_files.specs.declared.tokens.Squeezed.{Squeezed}
 use Rattle.os8_files.specs.declared.tokens.Squeezed.TheVariants.{Moved, Nothing}
 use Rattle.os8_files.proofs.MapLemmas.{get-without, get-with}

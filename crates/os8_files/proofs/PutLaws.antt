@@ -6,8 +6,8 @@ use Rattle.os8_files.specs.Mounted.{Mounted}
 use Rattle.os8_files.specs.Failed.{Survives}
 use Rattle.os8_files.specs.Laws.{KeepsHeld, IsStopped}
 use Rattle.os8_files.specs.Puts.{PutsFile, PutsFileWith}
-use Rattle.os8_files.specs.declared.faults.FileFault.{FileFault}
-use Rattle.os8_files.specs.declared.faults.FileFault.TheVariants.{NotFound, NoRoom, DirectoryFull, Busy, BadName, TooLong, TentativeOpen, Device, Stopped, Memory, NothingWritten}
+use Rattle.os8_dir.specs.declared.file_faults.FileFault.{FileFault}
+use Rattle.os8_dir.specs.declared.file_faults.FileFault.TheVariants.{NotFound, NoRoom, DirectoryFull, Busy, BadName, TooLong, TentativeOpen, Device, Stopped, Memory, NothingWritten}
 use Rattle.os8_files.proofs.LeaveLemmas.{Leaves, steady, same, broken}
 use Rattle.os8_files.proofs.KeptLemmas.{same-files, has-failed, blocks-same, held-other, kept-with}
 use Rattle.os8_files.proofs.StoppedLemmas.{running, stopped}

@@ -14,8 +14,8 @@ use Rattle.os8_files.specs.Service.{count_of}
 use Rattle.os8_files.specs.Calls.{IsOf, IsOver, KeepsBlocks, HasWritten, HasEntered, HasFailed, WritesBlock, Enters, ClosesFile, HasClosed, PlaceFailed, RisesBy, info_of, new_held, entries_with, list_with, files_with, rooms_of, Spent, counted_more, differing}
 use Rattle.os8_files.specs.Puts.{HasPutWith, HasKept, PutFailedWith, PutsFileWith, file_with, blocks_filled, all_written, entries_put_with, list_put_with}
 use Rattle.os8_files.specs.Steps.{IsBeginning, HasFilled, FillsFile}
-use Rattle.os8_files.specs.declared.faults.FileFault.{FileFault}
-use Rattle.os8_files.specs.declared.faults.FileFault.TheVariants.{NotFound, NoRoom, DirectoryFull, Busy, BadName, TooLong, TentativeOpen, Device, Stopped, Memory, NothingWritten}
+use Rattle.os8_dir.specs.declared.file_faults.FileFault.{FileFault}
+use Rattle.os8_dir.specs.declared.file_faults.FileFault.TheVariants.{NotFound, NoRoom, DirectoryFull, Busy, BadName, TooLong, TentativeOpen, Device, Stopped, Memory, NothingWritten}
 use Rattle.os8_files.proofs.PlaceLemmas.{some-same}
 use Rattle.os8_files.proofs.SurviveLemmas.{keeps-trans}
 

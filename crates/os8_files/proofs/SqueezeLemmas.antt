@@ -15,8 +15,8 @@ use Rattle.os8_files.specs.Calls.{IsReady, HasFailed, HasMoved, MoveMissed, Move
 use Rattle.os8_files.specs.Failed.{with_list, lowest_or, extent_or}
 use Rattle.os8_files.proofs.CountLemmas.{differing-same}
 use Rattle.os8_files.specs.WriteSteps.{HasDirectory, HasBrokenOff, KeepsHigh, RewritesDirectory, CopiesBlocks, with_run}
-use Rattle.os8_files.specs.declared.faults.FileFault.{FileFault}
-use Rattle.os8_files.specs.declared.faults.FileFault.TheVariants.{NotFound, NoRoom, DirectoryFull, Busy, BadName, TooLong, TentativeOpen, Device, Stopped, Memory, NothingWritten}
+use Rattle.os8_dir.specs.declared.file_faults.FileFault.{FileFault}
+use Rattle.os8_dir.specs.declared.file_faults.FileFault.TheVariants.{NotFound, NoRoom, DirectoryFull, Busy, BadName, TooLong, TentativeOpen, Device, Stopped, Memory, NothingWritten}
 use Rattle.os8_files.proofs.LookupLemmas.{find_within}
 use Rattle.os8_files.proofs.MapLemmas.{files-same}
 use Rattle.os8_files.proofs.WrittenLemmas.{run-high, held-kept}

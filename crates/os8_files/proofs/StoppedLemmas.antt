@@ -4,8 +4,8 @@ use Rattle.std.specs.Global.{Vec}
 use Rattle.os8_files.specs.Mounted.{Mounted}
 use Rattle.os8_files.specs.Laws.{IsStopped}
 use Rattle.os8_files.specs.Calls.{ReadsBlock, ListsFiles, HoldsFile, Enters, WritesBlock, ClosesFile, DeletesFile, Squeezes}
-use Rattle.os8_files.specs.declared.faults.FileFault.{FileFault}
-use Rattle.os8_files.specs.declared.faults.FileFault.TheVariants.{NotFound, NoRoom, DirectoryFull, Busy, BadName, TooLong, TentativeOpen, Device, Stopped, Memory, NothingWritten}
+use Rattle.os8_dir.specs.declared.file_faults.FileFault.{FileFault}
+use Rattle.os8_dir.specs.declared.file_faults.FileFault.TheVariants.{NotFound, NoRoom, DirectoryFull, Busy, BadName, TooLong, TentativeOpen, Device, Stopped, Memory, NothingWritten}
 use Rattle.os8_files.specs.declared.tokens.Squeezed.{Squeezed}
 use Rattle.os8_files.specs.declared.tokens.Squeezed.TheVariants.{Moved, Nothing}
 

@@ -13,8 +13,8 @@ use Rattle.os8_files.specs.Mounted.{Mounted, Begun}
 use Rattle.os8_files.specs.Failed.{KeepsDirectory, FoundAgain, StandInFull, extent_or}
 use Rattle.os8_files.specs.Calls.{IsReady, IsFree, IsHeld, IsLargest, IsOver, KeepsBlocks, IsWritten, rooms_of, HasFailed, HasStopped, RisesBy, StopsInPart, counted_more, differing, info_of, entries_with, list_with}
 use Rattle.os8_files.specs.Laws.{KeepsOtherPlaces}
-use Rattle.os8_files.specs.declared.faults.FileFault.{FileFault}
-use Rattle.os8_files.specs.declared.faults.FileFault.TheVariants.{NoRoom, DirectoryFull, Busy, Device, Stopped, Memory}
+use Rattle.os8_dir.specs.declared.file_faults.FileFault.{FileFault}
+use Rattle.os8_dir.specs.declared.file_faults.FileFault.TheVariants.{NoRoom, DirectoryFull, Busy, Device, Stopped, Memory}
 
 -- how many blocks words fill
 abbrev pub blocks_filled : List ℕ → ℕ

@@ -8,8 +8,8 @@ use Rattle.os8_dir.specs.Renaming.{renamed}
 use Rattle.os8_files.specs.Mounted.{Mounted, Begun}
 use Rattle.os8_files.specs.Failed.{extent_or, with_list, StandInFull}
 use Rattle.os8_files.specs.Calls.{IsReady, IsThere, IsFree, IsHeld, KeepsBlocks, IsWritten, WritesFew, HasFailed, HasStopped, StopsInPart, info_of}
-use Rattle.os8_files.specs.declared.faults.FileFault.{FileFault}
-use Rattle.os8_files.specs.declared.faults.FileFault.TheVariants.{NotFound, DirectoryFull, Busy, BadName, TentativeOpen, Device, Stopped, Memory}
+use Rattle.os8_dir.specs.declared.file_faults.FileFault.{FileFault}
+use Rattle.os8_dir.specs.declared.file_faults.FileFault.TheVariants.{NotFound, DirectoryFull, Busy, BadName, TentativeOpen, Device, Stopped, Memory}
 
 -- how many entries the directory has
 abbrev pub entries_of : List (List ℕ) → ℕ

@@ -4,8 +4,8 @@ use Rattle.os8_dir.specs.Files.{files_of, limit_of, above_of, capacity_of, run}
 use Rattle.os8_files.specs.Mounted.{Mounted, Begun, IsBegun}
 use Rattle.os8_files.specs.Failed.{KeepsDirectory, FoundAgain}
 use Rattle.os8_files.specs.Calls.{HasFailed, KeepsBlocks, RisesBy, Spent, counted_more, info_of, IsFree, IsHeld, IsReady, IsOver, entries_with, new_held, HasClosed, PlaceFailed}
-use Rattle.os8_files.specs.declared.faults.FileFault.{FileFault}
-use Rattle.os8_files.specs.declared.faults.FileFault.TheVariants.{Device, DirectoryFull, Busy, Memory, NothingWritten}
+use Rattle.os8_dir.specs.declared.file_faults.FileFault.{FileFault}
+use Rattle.os8_dir.specs.declared.file_faults.FileFault.TheVariants.{Device, DirectoryFull, Busy, Memory, NothingWritten}
 use Rattle.std.specs.FinMap.{insert}
 use Rattle.os8_dir.specs.Entries.{Listed}
 use Rattle.os8_dir.specs.Reading.{directory_of}

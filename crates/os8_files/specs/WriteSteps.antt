@@ -7,8 +7,8 @@ use Rattle.os8_dir.specs.Reading.{directory_of, block}
 use Rattle.os8_dir.specs.Segments.{segment_of, segment_count, HoldsSegments}
 use Rattle.os8_files.specs.Mounted.{Mounted}
 use Rattle.os8_files.specs.Calls.{WritesFew, HasFailed, HasMissed, RisesBy, StopsInPart, counted_more}
-use Rattle.os8_files.specs.declared.faults.FileFault.{FileFault}
-use Rattle.os8_files.specs.declared.faults.FileFault.TheVariants.{Device, Memory}
+use Rattle.os8_dir.specs.declared.file_faults.FileFault.{FileFault}
+use Rattle.os8_dir.specs.declared.file_faults.FileFault.TheVariants.{Device, Memory}
 
 -- so many segments of a directory stand in blocks 1, 2 and so on
 abbrev pub with_segments : ℕ → Listed → List (List ℕ) → List (List ℕ)

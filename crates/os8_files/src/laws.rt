@@ -14,7 +14,7 @@ ghost use Rattle.os8_files.specs.Renames.{RenamesFile};
 ghost use Rattle.os8_files.specs.Holds.{with_hold, without_hold, times};
 ghost use Rattle.os8_files.specs.Failed.{KeepsDirectory, Survives};
 ghost use Rattle.os8_files.specs.Laws.{KeepsHeld, KeepsHolds, IsHeldThrough, KeepsPlaces, KeepsOtherPlaces, MovesOne, ReadsOne, ReadsLowest, IsStopped, extent_on};
-ghost use Rattle.os8_files.specs.declared.faults.FileFault.{FileFault};
+ghost use Rattle.os8_dir.specs.declared.file_faults.FileFault.{FileFault};
 ghost use Rattle.os8_files.specs.declared.tokens.Squeezed.{Squeezed};
 
 use os8_dir::laws::{

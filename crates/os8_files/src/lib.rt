@@ -7,7 +7,6 @@
 
 mod begun;
 mod copying;
-mod faults;
 mod holds;
 pub mod laws;
 mod lengths;
@@ -15,6 +14,6 @@ mod segments;
 mod service;
 mod tokens;
 
-pub use faults::FileFault;
+pub use os8_dir::FileFault;
 pub use service::FileService;
 pub use tokens::{Hold, Squeezed, Tentative};

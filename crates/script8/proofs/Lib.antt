@@ -1,3 +1,4 @@
+pub mod ByteLemmas
 pub mod CutLemmas
 pub mod ItemLemmas
 pub mod LawLemmas

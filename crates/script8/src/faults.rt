@@ -2,7 +2,7 @@ ghost use Rattle.std.specs.Prelude.{◌≡◌};
 ghost use Rattle.script8.specs.declared.faults.SessionFault.TheVariants.{Memory};
 
 use bin_tape::TapeFault;
-use os8_files::FileFault;
+use os8_dir::FileFault;
 use pal_asm::AsmFault;
 use std::alloc::AllocError;
 use thiserror::Error;

@@ -9,7 +9,7 @@ use crate::text_lines::{put, put_name, put_number};
 use crate::{Entry, JobEntry, SessionFault};
 use arrayvec::ArrayVec;
 use bin_tape::TapeFault;
-use os8_files::FileFault;
+use os8_dir::FileFault;
 use pal_asm::{AsmFault, Code};
 
 /// Puts the text of a fault into an empty line.

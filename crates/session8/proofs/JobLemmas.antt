@@ -2,7 +2,7 @@
 use Rattle.std.proofs.Common.{Result, ◌≡◌, ◌≢◌, ◌⊎◌, inl, inr, arith, ℕ, zero, suc, Bool, true, false, List, [], ◌∷◌, ◌++◌, get_or, slice_set, length, ◌<◌, ◌≤◌, true≢false, IsErrOf, Option, Some, None, Ok, Err, refl, ap, sym, subst, ◌∙◌}
 use Rattle.os8_dir.specs.Names.{parsed_name}
 use Rattle.os8_files.specs.Mounted.{Mounted}
-use Rattle.os8_files.specs.declared.faults.FileFault.TheVariants as file
+use Rattle.os8_dir.specs.declared.file_faults.FileFault.TheVariants as file
 use Rattle.jobs8.specs.Calls as calls
 use Rattle.jobs8.specs.Calls.{LeavesJobs, NumberTurnsOver, Outlives, TakesTurn, TurnsOver, StartsOver, StartsAssembling, StartsLoading, StartsSqueezing}
 use Rattle.jobs8.specs.Jobs.{Job, Work, Assembling, Loading, Squeezing, IsLowest, IsTaken, job_of, with_job, lowest_job, turns_left}

@@ -1,4 +1,3 @@
-pub mod ByteLemmas
 pub mod JobLemmas
 pub mod QuietLemmas
 pub mod DoesLemmas

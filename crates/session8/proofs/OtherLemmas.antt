@@ -4,8 +4,8 @@ use Rattle.std.specs.FinMap.{insert, remove}
 use Rattle.char_pack.specs.Texts.{stored}
 use Rattle.os8_dir.specs.Entries.{contains}
 use Rattle.os8_dir.specs.Names.{parsed_name}
-use Rattle.os8_files.specs.declared.faults.FileFault.{FileFault}
-use Rattle.os8_files.specs.declared.faults.FileFault.TheVariants as file
+use Rattle.os8_dir.specs.declared.file_faults.FileFault.{FileFault}
+use Rattle.os8_dir.specs.declared.file_faults.FileFault.TheVariants as file
 use Rattle.jobs8.specs.Jobs.{Job, Work, Assembling, Loading, Squeezing, assembling, loading, job_of, with_job, least_free, held_by, held_by_work, disturbed, disturbed_job}
 use Rattle.jobs8.specs.Starts.{AssembleStarts, LoadStarts, IsBusy, new_assembling, new_loading, new_squeezing}
 use Rattle.jobs8.specs.State as jobs

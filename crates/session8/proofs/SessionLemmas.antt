@@ -11,8 +11,8 @@ use Rattle.os8_files.specs.Calls.{DeletesFile, HasDeleted, IsLargest, IsOver}
 use Rattle.os8_files.specs.Failed.{listed_or, Survives}
 use Rattle.os8_files.specs.Mounted.{Mounted, Begun}
 use Rattle.os8_files.specs.Puts.{PutsFile, PutFailed, HasPut, HasKept, blocks_filled, plain_file}
-use Rattle.os8_files.specs.declared.faults.FileFault.{FileFault}
-use Rattle.os8_files.specs.declared.faults.FileFault.TheVariants as file
+use Rattle.os8_dir.specs.declared.file_faults.FileFault.{FileFault}
+use Rattle.os8_dir.specs.declared.file_faults.FileFault.TheVariants as file
 use Rattle.os8_files.specs.Laws.{KeepsHolds}
 use Rattle.jobs8.specs.Jobs.{Job, held_by, disturbed}
 use Rattle.jobs8.specs.Settled as settled

@@ -7,14 +7,15 @@ use Rattle.script8.specs.Replies.{fault_line}
 use Rattle.script8.specs.declared.faults.SessionFault.{SessionFault}
 use Rattle.script8.specs.declared.faults.SessionFault.TheVariants as fault
 use Rattle.script8.specs.declared.items.Item.{Item}
-use Rattle.session8.specs.Reading.{IsRead, IsReadWithin, IsTaken, TakesBytes}
+use Rattle.script8.specs.Reading.{IsRead, IsReadWithin, TakesBytes}
+use Rattle.session8.specs.Reading.{IsTaken}
 use Rattle.session8.specs.declared.endings.Ending.{Ending}
 use Rattle.session8.specs.declared.endings.Ending.TheVariants as ending
 use Rattle.session8.specs.declared.pending.Begun.TheVariants.{Ran}
 use Rattle.session8.specs.State.{State}
 use Rattle.session8.specs.RunSteps.{RunsItems, RunsNext, RunsPrefix, RunsGiven, RunsRead, IsRunTo, IsEnded, StartsWithItems, items_in, fault_of}
 use Rattle.session8.specs.Script.{all_lines, WritesAnswers, WritesPrefix, RunsText}
-use Rattle.session8.proofs.ByteLemmas.{appends_more, consumes_more, consumes_none}
+use Rattle.script8.proofs.ByteLemmas.{appends_more, consumes_more, consumes_none}
 use Rattle.session8.proofs.ToldLemmas.{prefix_all, prefix_none, prefix_more, behind_more, writes_prefix_more, writes_append}
 
 -- a last line behind what is written

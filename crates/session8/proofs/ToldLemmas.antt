@@ -1,7 +1,7 @@
 -- Runs of items, one behind another.
 use Rattle.std.proofs.Common.{ℕ, ◌≡◌, ◌≢◌, ◌⊎◌, inl, inr, IfErr, OnOk, refl, sym, ◌∙◌, ap, subst, if◌then◌else◌, true, false, List, [], ◌∷◌, ◌++◌, append_assoc, append-nil, Option, Some, None, Result, Ok, Err}
 use Rattle.std.specs.Io.KnownBytes.{Appends}
-use Rattle.session8.proofs.ByteLemmas.{appends_more}
+use Rattle.script8.proofs.ByteLemmas.{appends_more}
 use Rattle.script8.specs.Replies.{answer_lines, reply_lines, fault_line, IsShort}
 use Rattle.script8.specs.declared.entries.Entry.{Entry}
 use Rattle.script8.specs.declared.entries.Entry.TheVariants as kinds

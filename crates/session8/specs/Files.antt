@@ -6,8 +6,8 @@ use Rattle.char_pack.specs.Texts.{host_text, is_storable, stored}
 use Rattle.os8_dir.specs.Entries.{contains}
 use Rattle.os8_dir.specs.Files.{FileData}
 use Rattle.os8_dir.specs.Names.{parsed_name}
-use Rattle.os8_files.specs.declared.faults.FileFault.{FileFault}
-use Rattle.os8_files.specs.declared.faults.FileFault.TheVariants as file
+use Rattle.os8_dir.specs.declared.file_faults.FileFault.{FileFault}
+use Rattle.os8_dir.specs.declared.file_faults.FileFault.TheVariants as file
 use Rattle.jobs8.specs.Jobs.{held_by, disturbed}
 use Rattle.jobs8.specs.State.{State, IsThere, IsFull, HasPut}
 

@@ -2,7 +2,7 @@
 use Rattle.std.specs.Prelude.{◌≡◌, ◌⊎◌, ◌<◌, ℕ, true, false, Option, Some, None, Err, List, length}
 use Rattle.char_pack.specs.Texts.{is_storable, stored}
 use Rattle.os8_dir.specs.Names.{parsed_name}
-use Rattle.os8_files.specs.declared.faults.FileFault.TheVariants as file
+use Rattle.os8_dir.specs.declared.file_faults.FileFault.TheVariants as file
 use Rattle.jobs8.specs.Jobs.{Job, job_of, with_job, least_free}
 use Rattle.jobs8.specs.State as jobs
 use Rattle.jobs8.specs.State.{IsThere, PutRefused}

@@ -4,7 +4,7 @@ use Rattle.std.specs.Prelude.{◌≡◌, ℕ, Some, List, Ok, Err}
 use Rattle.char_pack.specs.Texts.{stored}
 use Rattle.os8_dir.specs.Names.{parsed_name}
 use Rattle.os8_files.specs.Puts.{TellsRoom}
-use Rattle.os8_files.specs.declared.faults.FileFault.{FileFault}
+use Rattle.os8_dir.specs.declared.file_faults.FileFault.{FileFault}
 use Rattle.jobs8.specs.Calls.{NumberTellsRoom}
 use Rattle.jobs8.specs.Jobs.{job_of}
 use Rattle.script8.specs.declared.entries.Entry.{Entry}

@@ -11,7 +11,8 @@ use Rattle.script8.specs.declared.items.Item.{Item}
 use Rattle.session8.specs.Script.{WritesAnswers, WritesPrefix, AnswersPrefix, AreDue, IsPrefixOf, turn_lines}
 use Rattle.session8.specs.State.{State}
 use Rattle.session8.specs.System.{Answer, MayAnswer}
-use Rattle.session8.specs.Reading.{IsReadWithin, IsTaken}
+use Rattle.script8.specs.Reading.{IsReadWithin}
+use Rattle.session8.specs.Reading.{IsTaken}
 use Rattle.session8.specs.declared.endings.Ending.{Ending}
 use Rattle.session8.specs.declared.endings.Ending.TheVariants.{Reader, Writer, Memory}
 use Rattle.session8.specs.declared.pending.Begun.{Begun}

@@ -14,7 +14,8 @@ use Rattle.script8.specs.declared.replies.LineReply.TheVariants.{Working, Finish
 use Rattle.jobs8.specs.Jobs.{lowest_job}
 use Rattle.session8.specs.State.{State}
 use Rattle.session8.specs.System.{Answer, MayAnswer}
-use Rattle.session8.specs.Reading.{IsReadWithin, IsTaken}
+use Rattle.script8.specs.Reading.{IsReadWithin}
+use Rattle.session8.specs.Reading.{IsTaken}
 
 -- The machine may give these answers to turns of the lowest job, one after another. None is want of memory.
 abbrev pub Turns : State → List (ℕ × Answer) → State → Type 0

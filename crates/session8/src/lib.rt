@@ -5,10 +5,8 @@ mod consoles;
 mod endings;
 pub mod laws;
 mod pending;
-mod readings;
 mod sessions;
 mod watchers;
 
-pub use readings::{MOST, read_all};
 pub use sessions::{Ran, Session};
 pub use watchers::Watcher;

@@ -4,7 +4,7 @@ ghost use Rattle.std.specs.Prelude.{◌≡◌, ◌≤◌, ◌<◌, [], length, d
 ghost use Rattle.script8.specs.Items.{WaitsForLines};
 ghost use Rattle.session8.specs.ReadSteps.{ReadsPiece};
 
-use crate::readings::{MOST, read_piece};
+use script8::readings::{MOST, read_piece};
 use script8::{SessionFault, lines_left, one_line_wanted};
 use std::alloc::Global;
 use std::io::Read;

@@ -4,7 +4,7 @@ ghost use Rattle.char_pack.specs.Texts as spec;
 ghost use Rattle.os8_dir.specs.Entries.{IsNamed};
 ghost use Rattle.os8_dir.specs.Names.{parsed_name};
 ghost use Rattle.os8_files.specs.Puts.{TellsRoom};
-ghost use Rattle.os8_files.specs.declared.faults.FileFault.TheVariants.{Busy, Stopped};
+ghost use Rattle.os8_dir.specs.declared.file_faults.FileFault.TheVariants.{Busy, Stopped};
 ghost use Rattle.script8.specs.declared.entries.Entry.TheVariants as entry;
 ghost use Rattle.script8.specs.declared.entries.FileEntry.TheVariants as filing;
 ghost use Rattle.script8.specs.declared.faults.SessionFault.TheVariants.{BadText, File};

@@ -1,7 +1,7 @@
 use Rattle.std.proofs.Common.{◌≡◌, ◌+◌, ◌++◌, ℕ, List, [], drop, length, map}
 use Rattle.os8_files.specs.Mounted.{Mounted}
 use Rattle.os8_files.specs.Calls.{IsReady}
-use Rattle.os8_files.specs.declared.faults.FileFault.{FileFault}
+use Rattle.os8_dir.specs.declared.file_faults.FileFault.{FileFault}
 use Rattle.archive8.specs.Asking.{asked_for, AreAsked}
 use Rattle.archive8.specs.Deleting.{AreDeleted, IsRefusedAt}
 use Rattle.archive8.proofs.DeleteLemmas.{DeletesSo}

@@ -2,7 +2,7 @@ use Rattle.std.proofs.Common.{◌∙◌, ◌≡◌, ◌*◌, ◌/◌, ◌<◌, �
 use Rattle.os8_dir.specs.Files.{files_of}
 use Rattle.os8_files.specs.Puts.{PutsFile, blocks_filled}
 use Rattle.pal_blocks.specs.Progress.{IsAssembling}
-use Rattle.os8_files.specs.declared.faults.FileFault.TheVariants as file
+use Rattle.os8_dir.specs.declared.file_faults.FileFault.TheVariants as file
 use Rattle.jobs8.specs.Steps.{TurnsJob}
 use Rattle.jobs8.specs.Steps.{is_memory}
 use Rattle.jobs8.specs.Faults.{fault_of_file}

@@ -1,7 +1,7 @@
 use Rattle.std.proofs.Common.{◌-◌, Err, List, Ok, drop, length, subst, sym, take}
 use Rattle.std.specs.Option.{option_copied}
 use Rattle.std.proofs.lemmas.Result.{err_from_is_err_and}
-use Rattle.os8_files.specs.declared.faults.FileFault.TheVariants.{BadName}
+use Rattle.os8_dir.specs.declared.file_faults.FileFault.TheVariants.{BadName}
 use Rattle.script8.specs.declared.faults.SessionFault.TheVariants.{File}
 use Rattle.many8.specs.PutSteps.{PutsFiles}
 use Rattle.many8.specs.declared.putting.NewFile.{NewFile}

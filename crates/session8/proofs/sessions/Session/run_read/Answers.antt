@@ -2,11 +2,11 @@ use Rattle.std.proofs.Common.{ℕ, ◌≡◌, ◌≤◌, ◌+◌, ◌++◌, ◌�
 use Rattle.std.proofs.lemmas.Result.{err_from_is_err_and}
 use Rattle.script8.specs.Items.{WaitsForLines}
 use Rattle.std.specs.Io.KnownBytes.{Consumes}
-use Rattle.session8.specs.Reading.{IsRead, TakesBytes}
+use Rattle.script8.specs.Reading.{IsRead, TakesBytes}
 use Rattle.session8.specs.ReadSteps.{ReadsPiece}
 use Rattle.session8.specs.RunSteps.{RunsGiven, IsRunTo}
 use Rattle.session8.specs.Session.{state_of}
-use Rattle.session8.proofs.ByteLemmas.{consumes_none}
+use Rattle.script8.proofs.ByteLemmas.{consumes_none}
 use Rattle.session8.proofs.QuietLemmas.{quiet_first, quiet_second, later_trans}
 use Rattle.session8.proofs.TextLemmas.{none_run, run_fed, run_on, run_stopped, run_unread, run_cut, run_over, takes_more}
 use Rattle.session8.proofs.sessions.Session.run_read.Goals as goal

@@ -1,6 +1,6 @@
 use Rattle.std.proofs.Common.{◌≡◌, ◌<◌, ◌≤◌, false, vec_len}
 use Rattle.script8.specs.Items.{WaitsForLines}
-use Rattle.session8.specs.Reading.{TakesBytes}
+use Rattle.script8.specs.Reading.{TakesBytes}
 use Rattle.session8.specs.RunSteps.{IsRunTo}
 use Rattle.session8.specs.Session.{state_of, NoCallFailed, IsLater}
 use Rattle.session8.proofs.sessions.Session.run_read.Given as goal

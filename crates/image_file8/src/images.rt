@@ -1,0 +1,208 @@
+//! Images in files of the host. An image that a command may change is held from before it is read until the program ends.
+
+use crate::Ended;
+use command8::ImageForm;
+use disk8::{DiskFile, Layout};
+use host8::{HeldFile, HoldFault, Unwritten, hold, look, make};
+use report8::ProgramLine;
+use script8::SessionFault;
+use script8::readings::MOST;
+use std::fs::{File, Files};
+use std::mem;
+
+/// What a file of the host is to hold.
+#[derive(Clone, Copy)]
+pub enum Content {
+    Image,
+    Tape,
+    Listing,
+}
+
+impl Content {
+    /// The word for it in what is said of the file.
+    pub fn name(self) -> &'static str {
+        match self {
+            Content::Image => "image",
+            Content::Tape => "tape",
+            Content::Listing => "listing",
+        }
+    }
+}
+
+/// The image in a file, which is held unless it may not be written, or is only looked at.
+#[derive(Drop)]
+pub struct Image {
+    held: Option<HeldFile>,
+    bytes: Vec<u8>,
+
+    /// The whole file, where it holds more than the image.
+    disk: Option<DiskFile>,
+
+    /// Whether it was told that the file is written in its place.
+    is_told: bool,
+}
+
+impl Image {
+    /// Holds an image file and reads it. Where another program holds it, nothing is read.
+    pub fn open<R: Files<File = File> + Eprint + AllocGlobal>(
+        rt: &R,
+        form: &ImageForm,
+    ) -> Result<Image, Ended> {
+        let found = hold(rt, &form.file);
+        if let Err(HoldFault::Unwritable) = &found {
+            return Image::look(rt, form);
+        }
+        let held = found.map_err(unread)?;
+        tell_of_lock(rt, &held, Content::Image);
+        let file = taken(held.read(rt, MOST))?;
+        let (bytes, disk) = volume_in(rt, file, form.layout)?;
+        Ok(Image {
+            held: Some(held),
+            bytes,
+            disk,
+            is_told: false,
+        })
+    }
+
+    /// Reads an image file, and holds nothing: it can't be saved.
+    pub fn look<R: Files + AllocGlobal>(rt: &R, form: &ImageForm) -> Result<Image, Ended> {
+        Ok(Image {
+            held: None,
+            bytes: seen(rt, form)?,
+            disk: None,
+            is_told: false,
+        })
+    }
+
+    /// What the image held when it was read or saved.
+    pub fn bytes(&self) -> &[u8] {
+        &self.bytes
+    }
+
+    /// Has the file hold these bytes, and gives those that it held in their place. Where it holds them already, nothing is written. No
+    /// memory is taken.
+    pub fn save<R: Files<File = File> + Eprint>(
+        &mut self,
+        rt: &R,
+        bytes: &mut Vec<u8>,
+    ) -> Result<(), Ended> {
+        if self.bytes.as_slice() == bytes.as_slice() {
+            return Ok(());
+        }
+        let Some(held) = &mut self.held else {
+            return Err(Ended::Unwritten(Content::Image, Unwritten::AsItWas));
+        };
+        if !self.is_told {
+            tell_of_place(rt, held, Content::Image);
+        }
+        match &mut self.disk {
+            None => write(rt, held, bytes, Content::Image)?,
+            Some(disk) => {
+                if !disk.lay(bytes) {
+                    return Err(Ended::Unwritten(Content::Image, Unwritten::AsItWas));
+                }
+                write(rt, held, disk.bytes(), Content::Image)?;
+            }
+        }
+        self.is_told = true;
+        mem::swap(&mut self.bytes, bytes);
+        Ok(())
+    }
+}
+
+/// Makes a file that holds these bytes, in place of any of its name.
+pub fn make_file<R: Files<File = File> + Eprint + AllocGlobal>(
+    rt: &R,
+    name: &str,
+    bytes: &[u8],
+    content: Content,
+) -> Result<(), Ended> {
+    let found = hold(rt, name);
+    if let Err(HoldFault::Absent) = &found {
+        return make(rt, name, bytes).map_err(|fault| unmade(fault, content));
+    }
+    let mut held = found.map_err(|fault| unmade(fault, content))?;
+    tell_of_lock(rt, &held, content);
+    tell_of_place(rt, &held, content);
+    write(rt, &mut held, bytes, content)
+}
+
+/// The bytes of an image that is only looked at.
+pub fn seen<R: Files + AllocGlobal>(rt: &R, form: &ImageForm) -> Result<Vec<u8>, Ended> {
+    let (bytes, _disk) = volume_in(rt, bytes_of(rt, &form.file)?, form.layout)?;
+    Ok(bytes)
+}
+
+/// The bytes of a file that is only looked at.
+pub fn bytes_of<R: Files + AllocGlobal>(rt: &R, name: &str) -> Result<Vec<u8>, Ended> {
+    taken(look(rt, name, MOST))
+}
+
+/// The image of the volume in a file of these bytes, and the file where it holds more than that.
+fn volume_in<R: AllocGlobal>(
+    rt: &R,
+    file: Vec<u8>,
+    layout: Option<Layout>,
+) -> Result<(Vec<u8>, Option<DiskFile>), Ended> {
+    let Some(layout) = layout else {
+        return Ok((file, None));
+    };
+    let disk = DiskFile::new(file, layout)?;
+    let image = disk.volume(rt.alloc())?;
+    Ok((image, Some(disk)))
+}
+
+/// The bytes of an image file, if they are not too many.
+fn taken(found: Result<Vec<u8>, HoldFault>) -> Result<Vec<u8>, Ended> {
+    let bytes = found.map_err(unread)?;
+    if bytes.len() > MOST {
+        return Err(Ended::Line(ProgramLine::HostRead));
+    }
+    Ok(bytes)
+}
+
+fn unread(fault: HoldFault) -> Ended {
+    match fault {
+        HoldFault::Busy => Ended::Busy(Content::Image),
+        HoldFault::Memory => Ended::Fault(SessionFault::Memory),
+        _ => Ended::Line(ProgramLine::HostRead),
+    }
+}
+
+fn unmade(fault: HoldFault, content: Content) -> Ended {
+    match fault {
+        HoldFault::Busy => Ended::Busy(content),
+        HoldFault::Memory => Ended::Fault(SessionFault::Memory),
+        _ => Ended::Unwritten(content, Unwritten::AsItWas),
+    }
+}
+
+fn tell_of_place<R: Eprint>(rt: &R, held: &HeldFile, content: Content) {
+    if !held.is_alone() {
+        let _ = eprintln!(rt;
+            "note: the {} is written in its place, and is not whole if that breaks off",
+            content.name()
+        );
+    }
+}
+
+fn write<R: Files<File = File>>(
+    rt: &R,
+    held: &mut HeldFile,
+    bytes: &[u8],
+    content: Content,
+) -> Result<(), Ended> {
+    if let Err(left) = held.write(rt, bytes) {
+        return Err(Ended::Unwritten(content, left));
+    }
+    Ok(())
+}
+
+fn tell_of_lock<R: Eprint>(rt: &R, held: &HeldFile, content: Content) {
+    if !held.has_lock() {
+        let _ = eprintln!(rt;
+            "note: the file system has no locks, so let no other program work on the {}",
+            content.name()
+        );
+    }
+}

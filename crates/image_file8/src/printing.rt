@@ -1,0 +1,26 @@
+//! Lines on standard output and on standard error.
+
+use crate::Ended;
+use report8::{ProgramLine, put_program, write_out};
+use std::io;
+
+/// Prints lines on standard output.
+pub fn print_line<R: Print>(rt: &R, line: &[u8]) -> Result<(), Ended> {
+    write_out(&mut io::writer(rt), line)?;
+    Ok(())
+}
+
+/// Tells a line on standard error that is no fault.
+pub fn tell_line<R: Eprint + AllocGlobal>(rt: &R, line: &ProgramLine) -> Result<(), Ended> {
+    let mut text = Vec::new(rt.alloc());
+    put_program(line, &mut text)?;
+    tell_text(rt, &text);
+    Ok(())
+}
+
+/// Writes a text to standard error.
+pub fn tell_text<R: Eprint>(rt: &R, text: &[u8]) {
+    if let Ok(text) = str::from_utf8(text) {
+        let _ = rt.eprint(text);
+    }
+}

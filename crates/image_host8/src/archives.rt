@@ -1,0 +1,134 @@
+//! Files in and out of the image file of a volume. Only `put` writes one here, and only once the whole new image stands in memory.
+
+use archive8::{ArchiveFault, Asked, GetForm, NewImage, list, list_long, put};
+use command8::{BlocksForm, FileForm, ImageForm, PutOneForm};
+use image_file8::{
+    Ended, Image, bytes_of_file, core_of_file, made, print_line, refused, seen, tell_bad_text,
+    tell_line,
+};
+use many8::{BlocksFault, blocks_of};
+use report8::ProgramLine;
+use script8::{LineReply, Reply, SessionFault, put_reply, read_all};
+use std::fs::{File, Files};
+use std::io::Input;
+use word12::Word;
+
+/// Lists the files of the volume in an image file.
+pub fn list_files<R: Files + Print + Eprint + AllocGlobal>(
+    rt: &R,
+    image: &ImageForm,
+) -> Result<(), Ended> {
+    let bytes = seen(rt, image)?;
+    let text = made(rt, bytes.len(), list(rt.alloc(), &bytes))?;
+    print_line(rt, &text)
+}
+
+/// Lists them in the directory's order, with where they lie and their information words.
+pub fn list_places<R: Files + Print + Eprint + AllocGlobal>(
+    rt: &R,
+    image: &ImageForm,
+) -> Result<(), Ended> {
+    let bytes = seen(rt, image)?;
+    let text = made(rt, bytes.len(), list_long(rt.alloc(), &bytes))?;
+    print_line(rt, &text)
+}
+
+/// Writes what a file has on the volume in an image file.
+pub fn get_file<R: Files + Print + Eprint + AllocGlobal>(
+    rt: &R,
+    image: &ImageForm,
+    file: FileForm,
+    form: GetForm,
+) -> Result<(), Ended> {
+    let given = bytes_of_file(rt, image, &asked_of(file), form)?;
+    print_line(rt, &given)
+}
+
+/// Writes the BIN tape of a core image on the volume in an image file, and tells on standard error where its program starts.
+pub fn get_bin<R: Files + Print + Eprint + AllocGlobal>(
+    rt: &R,
+    image: &ImageForm,
+    file: FileForm,
+) -> Result<(), Ended> {
+    let (frames, start) = core_of_file(rt, image, &asked_of(file))?;
+    print_line(rt, &frames)?;
+    tell_line(rt, &ProgramLine::Start(start))
+}
+
+/// Writes blocks of an image file, whatever its directory says.
+pub fn get_blocks<R: Files + Print + Eprint + AllocGlobal>(
+    rt: &R,
+    form: &BlocksForm,
+) -> Result<(), Ended> {
+    let bytes = seen(rt, &form.image)?;
+    match blocks_of(rt.alloc(), &bytes, form.first, form.count, form.form) {
+        Ok(given) => print_line(rt, &given),
+        Err(BlocksFault::Archive(fault)) => Err(refused(rt, bytes.len(), fault)),
+        Err(BlocksFault::NoBlocks(blocks)) => Err(Ended::Line(ProgramLine::OnlyBlocks(blocks))),
+    }
+}
+
+/// Makes the bytes on standard input a file on the volume in an image file, and writes the image back.
+pub fn put_file<R: Files<File = File> + Input + Print + Eprint + AllocGlobal>(
+    rt: &R,
+    form: &PutOneForm,
+) -> Result<(), Ended> {
+    let mut held = Image::open(rt, &form.image)?;
+    let given = read_all(rt.alloc(), &mut rt.reader())?;
+    let done = put(
+        rt.alloc(),
+        held.bytes(),
+        form.name.as_bytes(),
+        &given,
+        form.form,
+        given_words(&form.info),
+    );
+    if let Err(ArchiveFault::Refused(SessionFault::BadText)) = &done {
+        tell_bad_text(rt, &given);
+    }
+    let new = made(rt, held.bytes().len(), done)?;
+    store(rt, &mut held, new)
+}
+
+/// The information words that are given, if any are.
+pub fn given_words(info: &Option<Vec<Word>>) -> Option<&[Word]> {
+    match info {
+        Some(words) => Some(words.as_slice()),
+        None => None,
+    }
+}
+
+/// Writes back an image with a file that was put into it, and tells of that.
+pub fn store<R: Files<File = File> + Print + Eprint + AllocGlobal>(
+    rt: &R,
+    held: &mut Image,
+    new: NewImage,
+) -> Result<(), Ended> {
+    let stored = Reply::Line(LineReply::Stored {
+        name: new.name,
+        blocks: new.blocks,
+    });
+    let mut line = Vec::new(rt.alloc());
+    put_reply(None, &Ok(stored), &mut line)?;
+    save_and_print(rt, held, new.bytes, &line)
+}
+
+/// Has an image file hold these bytes, and then prints the lines that tell of the change.
+pub fn save_and_print<R: Files<File = File> + Print + Eprint>(
+    rt: &R,
+    held: &mut Image,
+    bytes: Vec<u8>,
+    lines: &[u8],
+) -> Result<(), Ended> {
+    let mut bytes = bytes;
+    held.save(rt, &mut bytes)?;
+    print_line(rt, lines)
+}
+
+/// The file that is meant by the words of the command line.
+pub fn asked_of(file: FileForm) -> Asked {
+    match file {
+        FileForm::Name(name) => Asked::Name(name),
+        FileForm::At(place) => Asked::At(place),
+    }
+}

@@ -1,0 +1,154 @@
+//! Changes of the files of a volume by their names alone. Each writes an image file once, and only once the whole new image stands in
+//! memory; where a name is refused nothing is written.
+
+use crate::archives::{asked_of, save_and_print, store};
+use archive8::{
+    ArchiveFault, Asked, CopyFault, DeleteFault, RenameFault, copy, delete, rename, squeeze,
+};
+use command8::{CopyForm, DeleteForm, FileForm, ImageForm};
+use image_file8::{Ended, Image, made, refused, seen};
+use os8_dir::Name;
+use report8::{ProgramLine, put_program};
+use script8::{LineReply, Reply, SessionFault, put_reply};
+use std::alloc::{AllocError, Global};
+use std::fs::{File, Files};
+
+/// Takes files out of the volume in an image file, all or none.
+pub fn delete_files<R: Files<File = File> + Print + Eprint + AllocGlobal>(
+    rt: &R,
+    form: DeleteForm,
+) -> Result<(), Ended> {
+    let DeleteForm {
+        image,
+        names,
+        places,
+    } = form;
+    let mut held = Image::open(rt, &image)?;
+    let asked = all_asked(rt.alloc(), names, &places)?;
+    let new = match delete(rt.alloc(), held.bytes(), &asked) {
+        Ok(new) => new,
+        Err(DeleteFault::Archive(fault)) => return Err(refused(rt, held.bytes().len(), fault)),
+        Err(DeleteFault::Name(place, fault)) => {
+            tell_asked(rt, &asked, place);
+            return Err(Ended::Fault(SessionFault::File(fault)));
+        }
+    };
+    let lines = deleted_lines(rt, &new.names)?;
+    save_and_print(rt, &mut held, new.bytes, &lines)
+}
+
+/// The files of some names, and then those of some first blocks.
+fn all_asked(
+    alloc: Global,
+    names: Vec<String>,
+    places: &[usize],
+) -> Result<Vec<Asked>, AllocError> {
+    let mut asked = Vec::new(alloc);
+    for name in names {
+        asked.push(Asked::Name(name))?;
+    }
+    for place in places {
+        asked.push(Asked::At(*place))?;
+    }
+    Ok(asked)
+}
+
+/// Says which of several files is refused.
+fn tell_asked<R: Eprint>(rt: &R, asked: &[Asked], place: usize) {
+    if asked.len() < 2 || place >= asked.len() {
+        return;
+    }
+    let _ = match &asked[place] {
+        Asked::Name(name) => eprintln!(rt; "note: {name} is refused, and no file is taken out"),
+        Asked::At(block) => eprintln!(rt;
+            "note: --at {block} is refused, and no file is taken out"
+        ),
+    };
+}
+
+/// The lines of files that were taken out.
+fn deleted_lines<R: AllocGlobal>(rt: &R, names: &[Name]) -> Result<Vec<u8>, Ended> {
+    let mut lines = Vec::new(rt.alloc());
+    for name in names {
+        let deleted = Reply::Line(LineReply::Deleted(*name));
+        put_reply(None, &Ok(deleted), &mut lines)?;
+    }
+    Ok(lines)
+}
+
+/// Gives a file of the volume in an image file another name.
+pub fn rename_file<R: Files<File = File> + Print + Eprint + AllocGlobal>(
+    rt: &R,
+    image: &ImageForm,
+    file: FileForm,
+    new: &str,
+) -> Result<(), Ended> {
+    let mut held = Image::open(rt, image)?;
+    let done = rename(rt.alloc(), held.bytes(), &asked_of(file), new.as_bytes());
+    let new = match done {
+        Ok(new) => new,
+        Err(RenameFault::Archive(fault)) => return Err(refused(rt, held.bytes().len(), fault)),
+        Err(RenameFault::Exists) => return Err(Ended::Line(ProgramLine::Exists)),
+    };
+    let renamed = ProgramLine::Renamed(new.old_name, new.new_name);
+    save_and_tell(rt, &mut held, new.bytes, &renamed)
+}
+
+/// Moves the files of the volume in an image file together.
+pub fn squeeze_files<R: Files<File = File> + Print + Eprint + AllocGlobal>(
+    rt: &R,
+    image: &ImageForm,
+) -> Result<(), Ended> {
+    let mut held = Image::open(rt, image)?;
+    let new = made(rt, held.bytes().len(), squeeze(rt.alloc(), held.bytes()))?;
+    save_and_tell(rt, &mut held, new.bytes, &ProgramLine::Squeezed(new.moved))
+}
+
+/// Has an image file hold these bytes, and then prints the line that tells of the change.
+fn save_and_tell<R: Files<File = File> + Print + Eprint + AllocGlobal>(
+    rt: &R,
+    held: &mut Image,
+    bytes: Vec<u8>,
+    told: &ProgramLine,
+) -> Result<(), Ended> {
+    let mut line = Vec::new(rt.alloc());
+    put_program(told, &mut line)?;
+    save_and_print(rt, held, bytes, &line)
+}
+
+/// Copies a file of the volume in an image file to the volume in another.
+pub fn copy_file<R: Files<File = File> + Print + Eprint + AllocGlobal>(
+    rt: &R,
+    form: CopyForm,
+) -> Result<(), Ended> {
+    let CopyForm {
+        image,
+        file,
+        to,
+        new,
+    } = form;
+    let mut held = Image::open(rt, &to)?;
+    let from = seen(rt, &image)?;
+    let new_name = match &new {
+        Some(name) => Some(name.as_bytes()),
+        None => None,
+    };
+    let done = copy(rt.alloc(), &from, &asked_of(file), held.bytes(), new_name);
+    match done {
+        Ok(new) => store(rt, &mut held, new),
+        Err(CopyFault::From(fault)) => Err(refused_of(rt, &image.file, from.len(), fault)),
+        Err(CopyFault::To(fault)) => Err(refused_of(rt, &to.file, held.bytes().len(), fault)),
+    }
+}
+
+/// How a command of two images ends of which one is refused, or a file of it; which it is, is said.
+fn refused_of<R: Eprint>(rt: &R, image: &str, size: usize, fault: ArchiveFault) -> Ended {
+    let told = fault;
+    match fault {
+        ArchiveFault::Refused(SessionFault::Memory) => {}
+        _ => {
+            let _ = eprintln!(rt; "note: {image} is the image that refuses");
+        }
+    }
+    refused(rt, size, told)
+}

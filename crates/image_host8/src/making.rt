@@ -1,0 +1,44 @@
+//! New volumes in files of the host.
+
+use disk8::blank_tape;
+use image_file8::{Content, Ended, make_file, print_line};
+use report8::{ProgramLine, put_program};
+use std::fs::{File, Files};
+use volume_image::MemoryVolume;
+
+/// The blocks of the volume of a DECtape.
+const TAPE_BLOCKS: usize = 737;
+
+/// Writes an empty volume to a file, in place of any file of that name.
+pub fn create_image<R: Files<File = File> + Print + Eprint + AllocGlobal>(
+    rt: &R,
+    image: &str,
+    blocks: usize,
+) -> Result<(), Ended> {
+    let bytes = MemoryVolume::create(rt.alloc(), blocks)?.to_bytes(rt.alloc())?;
+    make_image(rt, image, &bytes, blocks)
+}
+
+/// Writes an empty volume to a file of a DECtape, in place of any file of that name.
+pub fn create_tape<R: Files<File = File> + Print + Eprint + AllocGlobal>(
+    rt: &R,
+    image: &str,
+) -> Result<(), Ended> {
+    let blocks = TAPE_BLOCKS;
+    let bytes = MemoryVolume::create(rt.alloc(), blocks)?.to_bytes(rt.alloc())?;
+    let tape = blank_tape(rt.alloc(), &bytes)?;
+    make_image(rt, image, &tape, blocks)
+}
+
+/// Makes the file of a new volume of so many blocks, and tells of it.
+fn make_image<R: Files<File = File> + Print + Eprint + AllocGlobal>(
+    rt: &R,
+    image: &str,
+    bytes: &[u8],
+    blocks: usize,
+) -> Result<(), Ended> {
+    make_file(rt, image, bytes, Content::Image)?;
+    let mut line = Vec::new(rt.alloc());
+    put_program(&ProgramLine::Created(blocks), &mut line)?;
+    print_line(rt, &line)
+}

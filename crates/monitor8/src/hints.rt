@@ -1,0 +1,28 @@
+//! What a person at a terminal is told of a line of a script that is none.
+
+use command8::SCRIPT_LINES;
+
+/// What is said of a line whose first word is no command.
+const COMMANDS: &str =
+    "a line begins with STORE, DELETE, DIRECT, ASSEMBLE, LOAD, SQUEEZE, TURN, FINISH, START, STEP, GO, RUN, KEY, DONE, SWITCHES, EXAMINE, DEPOSIT, REGISTERS, BREAK or PRINTED";
+
+/// What a line of a script is told that is none: the form of the command that its first word names, in letters of either size, with
+/// what it does; else all commands.
+pub fn line_hint(line: &[u8]) -> &'static str {
+    let word = first_word(line);
+    for form in SCRIPT_LINES.lines().skip(1) {
+        let form = form.trim_start();
+        if first_word(form.as_bytes()).eq_ignore_ascii_case(word) {
+            return form;
+        }
+    }
+    COMMANDS
+}
+
+/// The first word of a line, none of one that is no text.
+fn first_word(line: &[u8]) -> &[u8] {
+    match str::from_utf8(line) {
+        Ok(text) => text.split_whitespace().next().unwrap_or("").as_bytes(),
+        Err(_) => b"",
+    }
+}

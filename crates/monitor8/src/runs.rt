@@ -1,0 +1,154 @@
+//! Runs of scripts over the volume of an image file.
+
+use crate::hints::line_hint;
+use command8::{ImageForm, RunForm, Saving};
+use image_file8::{Ended, Image, refused_image};
+use report8::ProgramLine;
+use script8::{LineReply, Reply, SessionFault};
+use session8::{Session, Watcher};
+use std::fs::{File, Files};
+use std::io::{self, BufWriter, Input, IsTerminal};
+use volume_image::MemoryVolume;
+
+/// Runs the script on standard input over the volume of an image file, and writes the image back when it is to be, if it changed. The
+/// memory for that is taken before the script.
+pub fn run_image<R: Files<File = File> + Input + Print + Eprint + AllocGlobal>(
+    rt: &R,
+    named: &ImageForm,
+    form: RunForm,
+) -> Result<(), Ended>
+where
+    R::Reader: IsTerminal,
+{
+    let image = match form.saving {
+        Saving::Never => Image::look(rt, named)?,
+        Saving::AtEnd | Saving::Always => Image::open(rt, named)?,
+    };
+    let bytes = image.bytes().to_vec(rt.alloc())?;
+    let mut writer = BufWriter::new(rt.alloc(), io::writer(rt))?;
+    let mut session = mounted(rt, &bytes)?;
+    let mut reader = rt.reader();
+    let mut run = Run::new(rt, image, bytes, form.saving, reader.is_terminal());
+    let ran = session.run_watched(rt.alloc(), &mut reader, &mut writer, &mut run);
+    run.end(&session.into_store())?;
+    match ran {
+        Ok(()) if !(form.is_strict && run.is_refused) => Ok(()),
+        _ => Err(Ended::Told),
+    }
+}
+
+/// A session over the volume of an image.
+fn mounted<R: Eprint + AllocGlobal>(rt: &R, bytes: &[u8]) -> Result<Session<MemoryVolume>, Ended> {
+    let volume = MemoryVolume::from_bytes(rt.alloc(), bytes).map_err(|fault| refused_image(
+        rt,
+        bytes.len(),
+        ProgramLine::Image(fault),
+    ))?;
+    Session::mount(rt.alloc(), volume).map_err(|(_, fault)| refused_image(
+        rt,
+        bytes.len(),
+        ProgramLine::Directory(fault),
+    ))
+}
+
+/// What goes on beside a script: its image is written when it is to be, refusals are seen, and a person at a terminal is told the form of
+/// a bad line.
+#[derive(Drop)]
+struct Run<'a, R> {
+    rt: &'a R,
+    image: Image,
+    bytes: Vec<u8>,
+    saving: Saving,
+    is_terminal: bool,
+    hint: &'static str,
+    is_refused: bool,
+
+    /// Why the image could not be written.
+    failed: Option<Ended>,
+}
+
+impl<'a, R: Files<File = File> + Eprint> Run<'a, R> {
+    /// A run over an image, whose bytes are given once more.
+    fn new(
+        rt: &'a R,
+        image: Image,
+        bytes: Vec<u8>,
+        saving: Saving,
+        is_terminal: bool,
+    ) -> Run<'a, R> {
+        Run {
+            rt,
+            image,
+            bytes,
+            saving,
+            is_terminal,
+            hint: "",
+            is_refused: false,
+            failed: None,
+        }
+    }
+
+    /// Has the file hold the image of a store.
+    fn save(&mut self, store: &MemoryVolume) -> Result<(), Ended> {
+        store.put_bytes(&mut self.bytes)?;
+        self.image.save(self.rt, &mut self.bytes)
+    }
+
+    /// Ends the run with the store that it leaves.
+    fn end(&mut self, store: &MemoryVolume) -> Result<(), Ended> {
+        if let Some(ended) = self.failed.take() {
+            return Err(ended);
+        }
+        match self.saving {
+            Saving::Never => Ok(()),
+            Saving::AtEnd | Saving::Always => self.save(store),
+        }
+    }
+}
+
+impl<'a, R: Files<File = File> + Eprint> Watcher<MemoryVolume> for Run<'a, R> {
+    fn begins(&mut self, lines: &[u8]) {
+        if self.is_terminal {
+            self.hint = line_hint(lines);
+        }
+    }
+
+    fn goes_on(&mut self, store: &MemoryVolume, answer: &Result<Reply, SessionFault>) -> bool {
+        if let Err(fault) = answer {
+            self.is_refused = true;
+            if self.is_terminal && *fault == SessionFault::BadLine {
+                let _ = eprintln!(self.rt; "note: {}", self.hint);
+            }
+        }
+        if self.saving != Saving::Always || !may_have_changed(answer) {
+            return true;
+        }
+        self.failed = self.save(store).err();
+        self.failed.is_none()
+    }
+}
+
+/// Whether the image may be another behind this answer; it is not where the console or a list of files was asked for, or a job was begun.
+fn may_have_changed(answer: &Result<Reply, SessionFault>) -> bool {
+    match answer {
+        Ok(Reply::Report(_)) => false,
+        Ok(Reply::Line(said)) => match said {
+            LineReply::Stored { .. }
+            | LineReply::Deleted(_)
+            | LineReply::Working(_)
+            | LineReply::Assembled { .. }
+            | LineReply::Loaded { .. }
+            | LineReply::Squeezed(_)
+            | LineReply::Finished => true,
+            LineReply::Job(_)
+            | LineReply::Started(_)
+            | LineReply::Steps { .. }
+            | LineReply::Key(_)
+            | LineReply::Done
+            | LineReply::Switches(_)
+            | LineReply::Core { .. }
+            | LineReply::Break { .. } => false,
+        },
+        Err(_) => true,
+    }
+}

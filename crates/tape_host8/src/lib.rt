@@ -1,0 +1,17 @@
+//! The commands on tapes, sources and machines, over the files and the streams of the host: what they do with bytes is in the functions
+//! that they call.
+#![tactic(auto)]
+
+mod assembling;
+mod listings;
+mod sources;
+mod streams;
+mod tapes;
+mod teletypes;
+mod traces;
+
+pub use assembling::assemble_files;
+pub use listings::{list_tape, write_rim};
+pub use sources::write_source;
+pub use teletypes::run_teletype;
+pub use traces::{profile_tape, trace_tape};

@@ -1,0 +1,38 @@
+//! Tapes on standard input, whose words are listed.
+
+use command8::RimForm;
+use image_file8::Ended;
+use report8::{rim_text, tape_text};
+use rim_tape::RimFault;
+use script8::{SessionFault, read_all};
+use std::io::{self, Input};
+
+/// Lists the tape on standard input.
+pub fn list_tape<R: Input + Print + Eprint + AllocGlobal>(rt: &R) -> Result<(), Ended> {
+    let frames = read_all(rt.alloc(), &mut rt.reader())?;
+    let listed = tape_text(rt.alloc(), &mut frames.as_slice(), &mut io::writer(rt));
+    if let Err(SessionFault::Tape(_)) = &listed {
+        tell_rim(rt, &frames);
+    }
+    listed?;
+    Ok(())
+}
+
+/// Writes the words of the RIM tape on standard input.
+pub fn write_rim<R: Input + Print + AllocGlobal>(rt: &R, form: RimForm) -> Result<(), Ended> {
+    rim_text(rt.alloc(), &mut rt.reader(), &mut io::writer(rt), form)?;
+    Ok(())
+}
+
+/// Says that frames which are no BIN tape are a RIM tape, where they are one.
+fn tell_rim<R: Eprint + AllocGlobal>(rt: &R, frames: &[u8]) {
+    match rim_tape::read(rt.alloc(), frames) {
+        // memory is asked for only where the frames are a tape
+        Ok(_) | Err(RimFault::Memory) => {
+            let _ = rt.eprint(
+                "note: the frames are a RIM tape: addresses and words in turn, and no check sum; a BIN tape is wanted\n",
+            );
+        }
+        Err(_) => {}
+    }
+}

@@ -1,0 +1,32 @@
+//! Programs in files: a BIN tape is a file of the host, or what a file of a volume begins with; a core image
+//! is such a file whole.
+
+use archive8::{Asked, GetForm};
+use command8::ImageForm;
+use image_file8::{Ended, bytes_of, bytes_of_file, core_of_file};
+use std::fs::Files;
+use word12::Cell;
+
+/// How the name of a core image ends.
+const CORE_IMAGE: &str = ".SV";
+
+/// The BIN tape of a program, and the cell where it starts, if that is told.
+pub fn program_of<R: Files + Eprint + AllocGlobal>(
+    rt: &R,
+    file: &str,
+    name: &Option<String>,
+) -> Result<(Vec<u8>, Option<Cell>), Ended> {
+    let Some(name) = name else {
+        return Ok((bytes_of(rt, file)?, None));
+    };
+    let image = ImageForm {
+        file: String::from_str(rt.alloc(), file)?,
+        layout: None,
+    };
+    let asked = Asked::Name(String::from_str(rt.alloc(), name)?);
+    if name.ends_with(CORE_IMAGE) {
+        let (frames, start) = core_of_file(rt, &image, &asked)?;
+        return Ok((frames, Some(start)));
+    }
+    Ok((bytes_of_file(rt, &image, &asked, GetForm::Tape)?, None))
+}

@@ -1,0 +1,79 @@
+//! A program of a tape at the Teletype: standard input is the keyboard, and standard output the paper.
+
+use crate::streams::{Output, unprinted};
+use crate::tapes::program_of;
+use command8::TeletypeForm;
+use core_load::{Core, load};
+use cpu8::Machine;
+use image_file8::{Ended, tell_line};
+use report8::{ProgramLine, first_cell};
+use script8::SessionFault;
+use std::fs::Files;
+use std::io::Input;
+use terminal8::{Form, Input as Keys, TerminalFault, Why, run};
+use word12::{Cell, Word};
+
+/// Loads a tape or a core image into a new machine, and runs it at the Teletype.
+pub fn run_teletype<R: Files + Input + Print + Eprint + AllocGlobal>(
+    rt: &R,
+    form: &TeletypeForm,
+) -> Result<(), Ended> {
+    let (frames, start) = program_of(rt, &form.file, &form.name)?;
+    let mut machine = machine_of(rt, &frames, form.start.or(start), form.switches)?;
+    let struck = if form.is_raw { Form::Raw } else { Form::Text };
+    let keys = if form.is_live {
+        Keys::Live
+    } else {
+        Keys::Ending
+    };
+    let steps = form.steps.unwrap_or(u64::MAX);
+    let mut output = Output::new(rt);
+    match run(
+        &mut machine,
+        steps,
+        struck,
+        keys,
+        &mut rt.reader(),
+        &mut output,
+    ) {
+        Ok(stopped) => tell_end(rt, &machine, stopped.why),
+        Err(TerminalFault::Reader) => Err(Ended::Fault(SessionFault::Reader)),
+        Err(TerminalFault::Writer) => Err(unprinted(&output)),
+    }
+}
+
+/// A machine that stands where the program of a tape is to begin: at its first word where no other start is known.
+pub fn machine_of<R: AllocGlobal>(
+    rt: &R,
+    frames: &[u8],
+    start: Option<Cell>,
+    switches: Option<Word>,
+) -> Result<Machine, Ended> {
+    let mut core = Core::new(rt.alloc()).map_err(SessionFault::from)?;
+    load(rt.alloc(), frames, &mut core).map_err(SessionFault::from)?;
+    let Some(first) = first_cell(frames) else {
+        return Err(Ended::Line(ProgramLine::NothingToRun));
+    };
+    let mut machine = Machine::new(core);
+    if let Some(word) = switches {
+        machine.switches(word);
+    }
+    machine.start(start.unwrap_or(first));
+    Ok(machine)
+}
+
+/// Tells on standard error why a machine goes no further: a HLT and the end of the keys are ends of a program's own.
+fn tell_end<R: Eprint + AllocGlobal>(rt: &R, machine: &Machine, why: Why) -> Result<(), Ended> {
+    let cell = machine.next_cell();
+    let line = match why {
+        Why::Halt => ProgramLine::Halted(cell, machine.ac(), machine.l()),
+        Why::Keys => ProgramLine::KeysEnd(cell),
+        Why::Unassigned => ProgramLine::Unassigned(cell, machine.core().get(cell)),
+        Why::Limit => ProgramLine::Limit(cell),
+    };
+    tell_line(rt, &line)?;
+    match why {
+        Why::Halt | Why::Keys => Ok(()),
+        Why::Unassigned | Why::Limit => Err(Ended::Told),
+    }
+}

@@ -1,0 +1,89 @@
+//! A program of a tape whose steps are told or counted.
+
+use crate::streams::{Output, print_data, unprinted};
+use crate::tapes::program_of;
+use crate::teletypes::machine_of;
+use command8::TraceForm;
+use cpu8::Machine;
+use image_file8::Ended;
+use profile8::{count_fetches, no_counts, profile_text};
+use report8::{ProgramLine, given_cells, put_program};
+use script8::SessionFault;
+use std::fs::Files;
+use std::io::Write;
+use terminal8::{Form, Terminal, keys_of};
+use trace8::{TraceFault, trace};
+
+/// How many steps are told where nothing else is said.
+const TRACED: u64 = 1_000;
+
+/// How many are counted: some three seconds of the machine.
+const PROFILED: u64 = 1_000_000;
+
+/// The frames of a program, a machine that stands at its start, and its keys.
+#[derive(Drop)]
+struct Begun {
+    frames: Vec<u8>,
+    machine: Machine,
+    keys: Vec<u8>,
+}
+
+/// Prints a line for each step of a program, and how far it went.
+pub fn trace_tape<R: Files + Print + Eprint + AllocGlobal>(
+    rt: &R,
+    form: &TraceForm,
+) -> Result<(), Ended> {
+    let begun = begin(rt, form)?;
+    let given = given_cells(rt.alloc(), &begun.frames)?;
+    let mut terminal = Terminal::new(begun.machine, &begun.keys);
+    let most = form.steps.unwrap_or(TRACED);
+    let mut output = Output::new(rt);
+    match trace(rt.alloc(), &mut terminal, most, &given, &mut output) {
+        Ok(ended) => print_data(rt, &end_of(rt, &terminal, ended)?),
+        Err(TraceFault::Memory) => Err(Ended::Fault(SessionFault::Memory)),
+        Err(TraceFault::Writer) => Err(unprinted(&output)),
+    }
+}
+
+/// Prints how often each cell was fetched, which cells of the tape never were, and how far the program went.
+pub fn profile_tape<R: Files + Print + Eprint + AllocGlobal>(
+    rt: &R,
+    form: &TraceForm,
+) -> Result<(), Ended> {
+    let begun = begin(rt, form)?;
+    let given = given_cells(rt.alloc(), &begun.frames)?;
+    let mut terminal = Terminal::new(begun.machine, &begun.keys);
+    let mut counts = no_counts(rt.alloc())?;
+    let most = form.steps.unwrap_or(PROFILED);
+    let ended = count_fetches(&mut terminal, most, &mut counts);
+    print_data(rt, &profile_text(rt.alloc(), &counts, &given)?)?;
+    print_data(rt, &end_of(rt, &terminal, ended)?)
+}
+
+/// The line of a run's end.
+fn end_of<R: AllocGlobal>(
+    rt: &R,
+    terminal: &Terminal<'_>,
+    ended: terminal8::Ended,
+) -> Result<Vec<u8>, Ended> {
+    let mut line = Vec::new(rt.alloc());
+    let cell = terminal.machine().next_cell();
+    put_program(&ProgramLine::Steps(ended, cell), &mut line)?;
+    Ok(line)
+}
+
+/// Loads the program, and starts the machine.
+fn begin<R: Files + Eprint + AllocGlobal>(rt: &R, form: &TraceForm) -> Result<Begun, Ended> {
+    let (frames, start) = program_of(rt, &form.file, &form.name)?;
+    let machine = machine_of(rt, &frames, form.start.or(start), form.switches)?;
+    let text: &[u8] = match &form.keys {
+        Some(keys) => keys.as_bytes(),
+        None => b"",
+    };
+    let keys = keys_of(rt.alloc(), Form::Text, text)?;
+    Ok(Begun {
+        frames,
+        machine,
+        keys,
+    })
+}
