@@ -61,7 +61,8 @@ pub fn source_text<R: Read, W: Write>(
     writer: &mut W,
 ) -> Result<(), SourceFault>
     ensures source { WritesSource starts.now (option_map (λ names. names.items) names.now)
-        (R.remaining reader.old) (R.remaining reader.new) (W.contents writer.old) (W.contents writer.new) result }
+        (R.remaining reader.old) (R.remaining reader.new)
+        (W.contents writer.old) (W.contents writer.new) result }
     ensures taken { (count : ℕ) × TakesBytes (R.remaining reader.old) (R.remaining reader.new) count
         × (count ≤ 16777217)
         × (count ≡ 16777217 → result ≡ Err (Session fault.Reader)) }

@@ -29,7 +29,11 @@ impl<'k> Model for Terminal<'k> {
 
     ghost Value = { spec.Terminal };
 
-    ghost view = { λ t. record { machine = t.machine; looks = map (λ key. Some key) t.keys.now; since = t.since } };
+    ghost view = { λ t. record {
+      machine = t.machine;
+      looks = map (λ key. Some key) t.keys.now;
+      since = t.since;
+    } };
 }
 
 impl<'k> Terminal<'k> {
