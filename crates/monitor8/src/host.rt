@@ -3,14 +3,13 @@
 use crate::runs::run_image;
 use command8::{RimForm, Task, TaskFault, task};
 use host8::Unwritten;
-use image_file8::{Ended, print_line, tell_text};
+use image_file8::{Ended, print_line, tell_text, texts_of};
 use image_host8::{
     check_images, copy_file, create_image, create_tape, delete_files, get_bin, get_blocks,
     get_file, get_files, list_files, list_places, put_file, put_files, rename_file, squeeze_files,
 };
 use report8::{ProgramLine, put_program};
 use script8::{SessionFault, put_reply};
-use std::alloc::{AllocError, Global};
 use std::env::{self, Env};
 use std::fs::{File, Files};
 use std::io::{self, ErrorKind, Input, IsTerminal};
@@ -177,14 +176,6 @@ fn read_words<R: Env + AllocGlobal>(rt: &R) -> Result<Task, Ended> {
     let texts = texts_of(rt.alloc(), &words)?;
     let task = task(rt.alloc(), &texts)?;
     Ok(task)
-}
-
-fn texts_of(alloc: Global, words: &[String]) -> Result<Vec<&str>, AllocError> {
-    let mut texts: Vec<&str> = Vec::new(alloc);
-    for word in words {
-        texts.push(word.as_str())?;
-    }
-    Ok(texts)
 }
 
 fn no_words(error: io::Error) -> Ended {

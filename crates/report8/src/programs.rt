@@ -18,7 +18,7 @@ use volume_image::ImageFault;
 use word12::{Cell, Word};
 
 /// What the program prints beside the lines of a session.
-#[derive(Clone, Copy, PartialEq, Eq, Debug)]
+#[derive(Clone, Copy)]
 pub enum ProgramLine {
     /// A volume of so many blocks was written.
     Created(usize),

@@ -4,7 +4,7 @@ use crate::streams::print_data;
 use assemble8::{SourceFault, assemble_sources, fault_text, further_faults};
 use command8::AssembleForm;
 use host8::{HoldFault, look};
-use image_file8::{Content, Ended, make_file, tell_text};
+use image_file8::{Content, Ended, make_file, tell_text, texts_of};
 use report8::{ProgramLine, with_line_feeds};
 use script8::SessionFault;
 use source_listing::{ListingForm, list_sources};
@@ -198,12 +198,4 @@ fn slices_of(alloc: Global, texts: &[Vec<u8>]) -> Result<Vec<&[u8]>, AllocError>
         slices.push(text.as_slice())?;
     }
     Ok(slices)
-}
-
-fn texts_of(alloc: Global, words: &[String]) -> Result<Vec<&str>, AllocError> {
-    let mut texts: Vec<&str> = Vec::new(alloc);
-    for word in words {
-        texts.push(word.as_str())?;
-    }
-    Ok(texts)
 }
