@@ -6,29 +6,16 @@
 set -eu
 top=$(cd "$(dirname "${BASH_SOURCE[0]}")/.." && pwd)
 . "$top/bench/seconds.sh"
-program=$top/crates/pdp8/out/pdp8
+. "$top/bench/programs.sh"
 alone=$top/crates/cpu_bench/out/cpu_bench
 (cd "$top/crates/cpu_bench" && rt run <stdin >/dev/null) 2>/dev/null
-
-folder=$(mktemp -d)
-trap 'rm -rf "$folder"' EXIT
-cp "$top"/bench/cpu/*.pal "$folder"
-cd "$folder"
-"$top/pdp8" create V 20 >/dev/null
 
 run_alone() { "$alone" <"$1.bin"; }
 run_break() { "$alone" break <"$1.bin"; }
 run_script() { "$program" run V <"$1"; }
 
-# A program's words as a script, with its start.
-deposits() {
-    "$program" tape <"$1.bin" | sed 's/^\(.\) /DEPOSIT \1/'
-    echo START 00200
-}
-
 for source in *.pal; do
     name=${source%.pal}
-    palbart "$source" >/dev/null
     for verb in GO STEP; do
         { deposits "$name"; yes "$verb 1000000" | head -n 400; } >"$name.$verb"
     done

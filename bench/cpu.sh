@@ -7,36 +7,21 @@
 set -eu
 top=$(cd "$(dirname "${BASH_SOURCE[0]}")/.." && pwd)
 . "$top/bench/seconds.sh"
-for package in simh palbart; do
-    dpkg -s $package >/dev/null 2>&1 || { apt-get update && apt-get install -y $package; } >&2
-done
+. "$top/bench/programs.sh"
+dpkg -s simh >/dev/null 2>&1 || { apt-get update && apt-get install -y simh; } >&2
 simh=/usr/bin/pdp8
-program=$top/crates/pdp8/out/pdp8
 ours=$top/crates/cpu_bench/out/cpu_bench
 (cd "$top/crates/cpu_bench" && rt run <stdin >/dev/null) 2>/dev/null
-
-folder=$(mktemp -d)
-trap 'rm -rf "$folder"' EXIT
-cp "$top"/bench/cpu/*.pal "$folder"
-cd "$folder"
-"$top/pdp8" create V 20 >/dev/null
 
 run_ours() { "$ours" <"$1.bin"; }
 run_script() { "$program" run V <"$1"; }
 run_simh() { "$simh" "$1.sim" </dev/null; }
-
-# A program's words as a script, with its start.
-deposits() {
-    "$program" tape <"$1.bin" | sed 's/^\(.\) /DEPOSIT \1/'
-    echo START 00200
-}
 
 # 64 breaks from this cell on.
 breaks() { for k in $(seq 0 63); do printf 'BREAK %05o ON\n' $((8#$1 + k)); done; }
 
 for source in *.pal; do
     name=${source%.pal}
-    palbart "$source" >/dev/null
     printf 'load %s.bin\ngo 200\nex ac\nex l\nex pc\nquit\n' "$name" >"$name.sim"
     { deposits "$name"; yes 'GO 1000000' | head -n 400; echo REGISTERS; } >"$name.go"
     { breaks 70000; cat "$name.go"; } >"$name.breaks"

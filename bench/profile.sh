@@ -6,20 +6,13 @@
 set -eu
 top=$(cd "$(dirname "${BASH_SOURCE[0]}")/.." && pwd)
 . "$top/bench/seconds.sh"
-dpkg -s palbart valgrind >/dev/null 2>&1 || { apt-get update && apt-get install -y palbart valgrind; } >&2
-program=$top/crates/pdp8/out/pdp8
+. "$top/bench/programs.sh"
+dpkg -s valgrind >/dev/null 2>&1 || { apt-get update && apt-get install -y valgrind; } >&2
 steps=100000000
-
-folder=$(mktemp -d)
-trap 'rm -rf "$folder"' EXIT
-cp "$top"/bench/cpu/*.pal "$folder"
-cd "$folder"
-"$top/pdp8" create V 20 >/dev/null
 
 for source in *.pal; do
     name=${source%.pal}
-    palbart "$source" >/dev/null
-    { "$program" tape <"$name.bin" | sed 's/^\(.\) /DEPOSIT \1/'; echo START 00200; } >"$name.start"
+    deposits "$name" >"$name.start"
     { cat "$name.start"; yes 'GO 1000000' | head -n $((steps / 1000000)); } >"$name.go"
 done
 run_script() { "$program" run V <"$1.go" >/dev/null; }
@@ -36,7 +29,6 @@ for name in isz copy multiply operate indirect; do
         'BEGIN { a -= script; b -= teletype; c -= profile; printf "%-10s %8.3f %8.3f %8.3f %8.2f %8.2f\n", name, a, b, c, a / b, a / c }'
 done
 
-instructions() { valgrind --tool=callgrind --callgrind-out-file=/dev/null "$program" "$@" 2>&1 >/dev/null | awk '/Collected/ { print $4 }'; }
 part=1000000
 printf '%-10s %8s %8s %8s    instructions of the host a step\n' program GO teletype profile
 for name in isz copy multiply operate indirect; do

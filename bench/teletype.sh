@@ -7,19 +7,12 @@
 set -eu
 top=$(cd "$(dirname "${BASH_SOURCE[0]}")/.." && pwd)
 . "$top/bench/seconds.sh"
-dpkg -s palbart valgrind >/dev/null 2>&1 || { apt-get update && apt-get install -y palbart valgrind; } >&2
-program=$top/crates/pdp8/out/pdp8
-
-folder=$(mktemp -d)
-trap 'rm -rf "$folder"' EXIT
-cp "$top"/bench/cpu/*.pal "$folder"
-cd "$folder"
-"$top/pdp8" create V 20 >/dev/null
+. "$top/bench/programs.sh"
+dpkg -s valgrind >/dev/null 2>&1 || { apt-get update && apt-get install -y valgrind; } >&2
 
 for source in *.pal; do
     name=${source%.pal}
-    palbart "$source" >/dev/null
-    { "$program" tape <"$name.bin" | sed 's/^\(.\) /DEPOSIT \1/'; echo START 00200; yes 'GO 1000000' | head -n 400; } >"$name.go"
+    { deposits "$name"; yes 'GO 1000000' | head -n 400; } >"$name.go"
 done
 run_script() { "$program" run V <"$1.go" >/dev/null; }
 run_teletype() { "$program" teletype "$1.bin" --start 00200 </dev/null >/dev/null 2>&1; }
@@ -33,7 +26,6 @@ for name in isz copy multiply operate indirect; do
         'BEGIN { a -= script; b -= teletype; printf "%-10s %8.3f %8.3f %6.2f\n", name, a, b, a / b }'
 done
 
-instructions() { valgrind --tool=callgrind --callgrind-out-file=/dev/null "$program" "$@" 2>&1 >/dev/null | awk '/Collected/ { print $4 }'; }
 steps=1000000
 printf '%-10s %8s %8s    instructions of the host a step\n' program GO teletype
 for name in isz copy multiply operate indirect; do

@@ -4,8 +4,8 @@ use Rattle.clap.specs.Simple.{filled, with_index}
 use Rattle.clap.specs.Words.{Row, Text, first_of, new_rule}
 use Rattle.disk8.specs.declared.layouts.Layout.{Layout}
 use Rattle.disk8.specs.declared.layouts.Layout.TheVariants.{Dectape}
-use Rattle.command8.specs.declared.forms.FileForm.{FileForm}
-use Rattle.command8.specs.declared.kinds.Task.{Task}
+use Rattle.task8.specs.declared.forms.FileForm.{FileForm}
+use Rattle.task8.specs.declared.tasks.Task.{Task}
 use Rattle.command8.specs.declared.verbs.Verb.TheVariants as verb
 use Rattle.word12.specs.declared.sizes.TheConstants.{MOST_BLOCKS}
 use Rattle.command8.specs.Found.{layout_of, place_of, values_of}

@@ -6,22 +6,22 @@ use Rattle.clap.specs.Walk.{answers_to, finished, nothing_held, rows_after}
 use Rattle.clap.specs.Simple.{App, Shape, built, built_leaf, help_shape, inherited, label_of, marked_built}
 use Rattle.clap.specs.Words.{Row, Text}
 use Rattle.char_pack.specs.declared.forms.GetForm.{GetForm}
-use Rattle.command8.specs.declared.forms.BlocksForm.{BlocksForm}
-use Rattle.command8.specs.declared.forms.CheckForm.{CheckForm}
-use Rattle.command8.specs.declared.forms.CopyForm.{CopyForm}
-use Rattle.command8.specs.declared.forms.DeleteForm.{DeleteForm}
-use Rattle.command8.specs.declared.forms.GetManyForm.{GetManyForm}
-use Rattle.command8.specs.declared.forms.PutManyForm.{PutManyForm}
-use Rattle.command8.specs.declared.forms.PutOneForm.{PutOneForm}
-use Rattle.command8.specs.declared.kinds.AssembleForm.{AssembleForm}
-use Rattle.command8.specs.declared.kinds.SourceForm.{SourceForm}
-use Rattle.command8.specs.declared.kinds.TeletypeForm.{TeletypeForm}
-use Rattle.command8.specs.declared.kinds.TraceForm.{TraceForm}
-use Rattle.command8.specs.declared.kinds.RimForm.{RimForm}
-use Rattle.command8.specs.declared.kinds.RunForm.{RunForm}
-use Rattle.command8.specs.declared.kinds.Task.{Task}
-use Rattle.command8.specs.declared.kinds.Task.TheVariants.{Tape, Rim, Source, Run, Create, CreateTape, ListLong, Get, GetBin, GetMany, GetBlocks, Put, PutMany, Delete, Rename, Copy, Squeeze, Check, Assemble, Teletype, Trace, Profile}
-use Rattle.command8.specs.declared.kinds.Task.TheVariants as task
+use Rattle.task8.specs.declared.forms.BlocksForm.{BlocksForm}
+use Rattle.task8.specs.declared.forms.CheckForm.{CheckForm}
+use Rattle.task8.specs.declared.forms.CopyForm.{CopyForm}
+use Rattle.task8.specs.declared.forms.DeleteForm.{DeleteForm}
+use Rattle.task8.specs.declared.forms.GetManyForm.{GetManyForm}
+use Rattle.task8.specs.declared.forms.PutManyForm.{PutManyForm}
+use Rattle.task8.specs.declared.forms.PutOneForm.{PutOneForm}
+use Rattle.task8.specs.declared.tasks.AssembleForm.{AssembleForm}
+use Rattle.task8.specs.declared.tasks.SourceForm.{SourceForm}
+use Rattle.task8.specs.declared.tasks.TeletypeForm.{TeletypeForm}
+use Rattle.task8.specs.declared.tasks.TraceForm.{TraceForm}
+use Rattle.task8.specs.declared.tasks.RimForm.{RimForm}
+use Rattle.task8.specs.declared.tasks.RunForm.{RunForm}
+use Rattle.task8.specs.declared.tasks.Task.{Task}
+use Rattle.task8.specs.declared.tasks.Task.TheVariants.{Tape, Rim, Source, Run, Create, CreateTape, ListLong, Get, GetBin, GetMany, GetBlocks, Put, PutMany, Delete, Rename, Copy, Squeeze, Check, Assemble, Teletype, Trace, Profile}
+use Rattle.task8.specs.declared.tasks.Task.TheVariants as task
 use Rattle.command8.specs.declared.verbs.Verb.{Verb}
 use Rattle.command8.specs.declared.verbs.Verb.TheVariants as verb
 use Rattle.command8.specs.Refusals.{word}

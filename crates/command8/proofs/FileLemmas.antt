@@ -8,9 +8,9 @@ use Rattle.char_pack.specs.declared.forms.GetForm.{GetForm}
 use Rattle.char_pack.specs.declared.forms.GetForm.TheVariants as get_as
 use Rattle.char_pack.specs.declared.forms.PutForm.{PutForm}
 use Rattle.char_pack.specs.declared.forms.PutForm.TheVariants as put_as
-use Rattle.command8.specs.declared.forms.FileForm.{FileForm}
-use Rattle.command8.specs.declared.forms.FileForm.TheVariants.{Name, At}
-use Rattle.command8.specs.declared.kinds.Task.{Task}
+use Rattle.task8.specs.declared.forms.FileForm.{FileForm}
+use Rattle.task8.specs.declared.forms.FileForm.TheVariants.{Name, At}
+use Rattle.task8.specs.declared.tasks.Task.{Task}
 use Rattle.command8.specs.declared.verbs.Verb.TheVariants as verb
 use Rattle.word12.specs.Octal.{octal_from, octal_of}
 use Rattle.word12.specs.declared.sizes.TheConstants.{MOST_BLOCKS}

@@ -3,10 +3,10 @@ use Rattle.std.proofs.Common.{◌≡◌, ◌∙◌, if◌then◌else◌, ℕ, Bo
 use Rattle.std.specs.Prelude.{length, nat_eq}
 use Rattle.clap.specs.Simple.{filled, with_index}
 use Rattle.clap.specs.Words.{Row, new_rule, Text, first_of, one_of}
-use Rattle.command8.specs.declared.kinds.TraceForm.{TraceForm}
-use Rattle.command8.specs.declared.kinds.RimForm.{RimForm}
-use Rattle.command8.specs.declared.kinds.RimForm.TheVariants.{Lines, Bin}
-use Rattle.command8.specs.declared.kinds.Task.{Task}
+use Rattle.task8.specs.declared.tasks.TraceForm.{TraceForm}
+use Rattle.task8.specs.declared.tasks.RimForm.{RimForm}
+use Rattle.task8.specs.declared.tasks.RimForm.TheVariants.{Lines, Bin}
+use Rattle.task8.specs.declared.tasks.Task.{Task}
 use Rattle.command8.specs.declared.verbs.Verb.TheVariants as verb
 use Rattle.word12.specs.Octal.{octal_from, octal_of}
 use Rattle.command8.specs.Refusals.{word}

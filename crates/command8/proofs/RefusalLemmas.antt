@@ -3,8 +3,8 @@ use Rattle.std.proofs.Common.{◌≡◌, ◌∙◌, ◌&&◌, ◌||◌, ◌≤�
 use Rattle.std.specs.Prelude.{find, slice_get, unwrap_or}
 use Rattle.std.specs.Str.{bytes_eq}
 use Rattle.clap.specs.Words.{Row, Text, first_of, one_of}
-use Rattle.command8.specs.declared.kinds.TaskFault.{TaskFault}
-use Rattle.command8.specs.declared.kinds.TaskFault.TheVariants.{Words, Memory, LookAndKeep, InputTwice, CrossAlone, Start, Switches, SourceStart, Refused}
+use Rattle.command8.specs.declared.faults.TaskFault.{TaskFault}
+use Rattle.command8.specs.declared.faults.TaskFault.TheVariants.{Words, Memory, LookAndKeep, InputTwice, CrossAlone, Start, Switches, SourceStart, Refused}
 use Rattle.command8.specs.declared.refusals.What.{What}
 use Rattle.command8.specs.declared.refusals.What.TheVariants as what
 use Rattle.command8.specs.declared.verbs.Verb.{Verb}

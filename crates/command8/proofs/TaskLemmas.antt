@@ -15,9 +15,9 @@ use Rattle.clap.specs.declared.parser.matches.ArgMatches.{ArgMatches}
 use Rattle.clap.specs.declared.error.Error.{Error}
 use Rattle.clap.specs.declared.error.kind.ErrorKind.TheVariants.{OutOfMemory}
 use Rattle.command8.specs.CommandSteps.{IsCommand}
-use Rattle.command8.specs.declared.kinds.Task.{Task}
-use Rattle.command8.specs.declared.kinds.TaskFault.{TaskFault}
-use Rattle.command8.specs.declared.kinds.TaskFault.TheVariants.{Words, Memory, LookAndKeep, InputTwice, CrossAlone, Start, Switches, SourceStart, Refused}
+use Rattle.task8.specs.declared.tasks.Task.{Task}
+use Rattle.command8.specs.declared.faults.TaskFault.{TaskFault}
+use Rattle.command8.specs.declared.faults.TaskFault.TheVariants.{Words, Memory, LookAndKeep, InputTwice, CrossAlone, Start, Switches, SourceStart, Refused}
 use Rattle.command8.specs.declared.verbs.Verb.TheVariants as verb
 use Rattle.command8.specs.Tasks.{Answers, Asks, AsksBoth, AsksCrossAlone, AsksNoSourceStart, AsksNoStart, AsksNoSwitches, IsFaultOf, IsPastClap, IsRefusal, NamesInputTwice, assemble_app, check_app, copy_app, create_app, delete_app, get_app, list_app, pdp8, profile_app, put_app, rename_app, rim_app, run_app, source_app, squeeze_app, tape_app, teletype_app, trace_app}
 use Rattle.command8.specs.TaskSteps.{GivesMet, HasMet, IsRefused, IsWhole}

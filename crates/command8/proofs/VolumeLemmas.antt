@@ -6,10 +6,10 @@ use Rattle.clap.specs.Words.{IsUnsignedIn, Row, Text, first_of, one_of}
 use Rattle.clap.specs.declared.builder.value_parser.ValueParser.TheVariants.{Unsigned}
 use Rattle.disk8.specs.declared.layouts.Layout.{Layout}
 use Rattle.disk8.specs.declared.layouts.Layout.TheVariants.{First, Second, Dectape}
-use Rattle.command8.specs.declared.forms.ImageForm.{ImageForm}
-use Rattle.command8.specs.declared.kinds.Saving.{Saving}
-use Rattle.command8.specs.declared.kinds.Saving.TheVariants.{AtEnd, Never, Always}
-use Rattle.command8.specs.declared.kinds.Task.{Task}
+use Rattle.task8.specs.declared.forms.ImageForm.{ImageForm}
+use Rattle.task8.specs.declared.tasks.Saving.{Saving}
+use Rattle.task8.specs.declared.tasks.Saving.TheVariants.{AtEnd, Never, Always}
+use Rattle.task8.specs.declared.tasks.Task.{Task}
 use Rattle.command8.specs.declared.verbs.Verb.TheVariants as verb
 use Rattle.command8.specs.Found.{is_set, layout_of, values_of, volume_of}
 use Rattle.command8.specs.Refusals.{word}

@@ -19,36 +19,36 @@ use Rattle.word12.specs.Octal.{octal_of}
 use Rattle.word12.specs.declared.sizes.TheConstants.{MOST_BLOCKS}
 use Rattle.disk8.specs.declared.layouts.Layout.{Layout}
 use Rattle.disk8.specs.declared.layouts.Layout.TheVariants.{First, Second, Dectape}
-use Rattle.command8.specs.declared.forms.BlocksForm.{BlocksForm}
-use Rattle.command8.specs.declared.forms.CheckForm.{CheckForm}
-use Rattle.command8.specs.declared.forms.CopyForm.{CopyForm}
-use Rattle.command8.specs.declared.forms.DeleteForm.{DeleteForm}
-use Rattle.command8.specs.declared.forms.FileForm.{FileForm}
-use Rattle.command8.specs.declared.forms.FileForm.TheVariants.{Name, At}
-use Rattle.command8.specs.declared.forms.GetManyForm.{GetManyForm}
-use Rattle.command8.specs.declared.forms.ImageForm.{ImageForm}
-use Rattle.command8.specs.declared.forms.PutManyForm.{PutManyForm}
-use Rattle.command8.specs.declared.forms.PutOneForm.{PutOneForm}
-use Rattle.command8.specs.declared.forms.TextsForm.{TextsForm}
+use Rattle.task8.specs.declared.forms.BlocksForm.{BlocksForm}
+use Rattle.task8.specs.declared.forms.CheckForm.{CheckForm}
+use Rattle.task8.specs.declared.forms.CopyForm.{CopyForm}
+use Rattle.task8.specs.declared.forms.DeleteForm.{DeleteForm}
+use Rattle.task8.specs.declared.forms.FileForm.{FileForm}
+use Rattle.task8.specs.declared.forms.FileForm.TheVariants.{Name, At}
+use Rattle.task8.specs.declared.forms.GetManyForm.{GetManyForm}
+use Rattle.task8.specs.declared.forms.ImageForm.{ImageForm}
+use Rattle.task8.specs.declared.forms.PutManyForm.{PutManyForm}
+use Rattle.task8.specs.declared.forms.PutOneForm.{PutOneForm}
+use Rattle.task8.specs.declared.forms.TextsForm.{TextsForm}
 use Rattle.command8.specs.declared.refusals.Refusal.{Refusal}
 use Rattle.command8.specs.declared.verbs.Verb.{Verb}
 use Rattle.command8.specs.declared.verbs.Verb.TheVariants as verb
-use Rattle.command8.specs.declared.kinds.AssembleForm.{AssembleForm}
-use Rattle.command8.specs.declared.kinds.TeletypeForm.{TeletypeForm}
-use Rattle.command8.specs.declared.kinds.TraceForm.{TraceForm}
-use Rattle.command8.specs.declared.kinds.Runner.{Runner}
-use Rattle.command8.specs.declared.kinds.Runner.TheVariants as runner
-use Rattle.command8.specs.declared.kinds.RimForm.{RimForm}
-use Rattle.command8.specs.declared.kinds.RimForm.TheVariants.{Lines, Bin}
-use Rattle.command8.specs.declared.kinds.RunForm.{RunForm}
-use Rattle.command8.specs.declared.kinds.SourceForm.{SourceForm}
-use Rattle.command8.specs.declared.kinds.Saving.{Saving}
-use Rattle.command8.specs.declared.kinds.Saving.TheVariants.{AtEnd, Never, Always}
-use Rattle.command8.specs.declared.kinds.Task.{Task}
-use Rattle.command8.specs.declared.kinds.Task.TheVariants.{Tape, Rim, Source, Run, Create, CreateTape, ListLong, Get, GetBin, GetMany, GetBlocks, Put, PutMany, Delete, Rename, Copy, Squeeze, Check, Assemble, Teletype, Trace, Profile}
-use Rattle.command8.specs.declared.kinds.Task.TheVariants as task
-use Rattle.command8.specs.declared.kinds.TaskFault.{TaskFault}
-use Rattle.command8.specs.declared.kinds.TaskFault.TheVariants.{Words, Memory, LookAndKeep, InputTwice, CrossAlone, Start, Switches, SourceStart, Refused}
+use Rattle.task8.specs.declared.tasks.AssembleForm.{AssembleForm}
+use Rattle.task8.specs.declared.tasks.TeletypeForm.{TeletypeForm}
+use Rattle.task8.specs.declared.tasks.TraceForm.{TraceForm}
+use Rattle.command8.specs.declared.faults.Runner.{Runner}
+use Rattle.command8.specs.declared.faults.Runner.TheVariants as runner
+use Rattle.task8.specs.declared.tasks.RimForm.{RimForm}
+use Rattle.task8.specs.declared.tasks.RimForm.TheVariants.{Lines, Bin}
+use Rattle.task8.specs.declared.tasks.RunForm.{RunForm}
+use Rattle.task8.specs.declared.tasks.SourceForm.{SourceForm}
+use Rattle.task8.specs.declared.tasks.Saving.{Saving}
+use Rattle.task8.specs.declared.tasks.Saving.TheVariants.{AtEnd, Never, Always}
+use Rattle.task8.specs.declared.tasks.Task.{Task}
+use Rattle.task8.specs.declared.tasks.Task.TheVariants.{Tape, Rim, Source, Run, Create, CreateTape, ListLong, Get, GetBin, GetMany, GetBlocks, Put, PutMany, Delete, Rename, Copy, Squeeze, Check, Assemble, Teletype, Trace, Profile}
+use Rattle.task8.specs.declared.tasks.Task.TheVariants as task
+use Rattle.command8.specs.declared.faults.TaskFault.{TaskFault}
+use Rattle.command8.specs.declared.faults.TaskFault.TheVariants.{Words, Memory, LookAndKeep, InputTwice, CrossAlone, Start, Switches, SourceStart, Refused}
 use Rattle.command8.specs.Found.{first_no_octal, has, layout_of, number_in, place_of}
 pub use Rattle.command8.specs.Found.{is_set, values_of}
 use Rattle.command8.specs.Refusals.{blocks_word, puts_many, refusal_of, said, word}

@@ -1,11 +1,11 @@
 -- What is said of a refusal of words that `clap` takes, as it says it of those that it refuses.
 use Rattle.std.specs.Prelude.{ℕ, codes, List, Option, None, Some}
-use Rattle.command8.specs.declared.kinds.Runner.{Runner}
-use Rattle.command8.specs.declared.kinds.Runner.TheVariants as runner
+use Rattle.command8.specs.declared.faults.Runner.{Runner}
+use Rattle.command8.specs.declared.faults.Runner.TheVariants as runner
 use Rattle.command8.specs.declared.verbs.Verb.{Verb}
 use Rattle.command8.specs.declared.verbs.Verb.TheVariants as verb
-use Rattle.command8.specs.declared.kinds.TaskFault.{TaskFault}
-use Rattle.command8.specs.declared.kinds.TaskFault.TheVariants.{Words, Memory, LookAndKeep, InputTwice, CrossAlone, Start, Switches, SourceStart, Refused}
+use Rattle.command8.specs.declared.faults.TaskFault.{TaskFault}
+use Rattle.command8.specs.declared.faults.TaskFault.TheVariants.{Words, Memory, LookAndKeep, InputTwice, CrossAlone, Start, Switches, SourceStart, Refused}
 
 -- the line on the usage of a subcommand that runs a tape
 abbrev pub runner_usage : Runner → List ℕ

@@ -7,11 +7,12 @@ ghost use Rattle.command8.specs.Tasks.{assemble_app};
 ghost use Rattle.command8.specs.Tasks as spec;
 ghost use Rattle.command8.specs.TaskSteps.{Gives, HasSources};
 
+use crate::TaskFault;
 use crate::found::{is_set, value_if_given, values_of};
 use crate::parts::{Draft, flag, leaf, option, with_argument, words};
-use crate::{AssembleForm, Task, TaskFault};
 use clap::ArgMatches;
 use std::alloc::Global;
+use task8::{AssembleForm, Task};
 
 /// The subcommand `assemble`.
 pub fn assemble<'a>(alloc: Global) -> Draft<'a>

@@ -7,7 +7,7 @@ ghost use Rattle.command8.specs.Tasks.{copy_app, delete_app, flag_rule, option_r
 ghost use Rattle.command8.specs.TaskSteps.{Gives, Needs};
 ghost use Rattle.command8.specs.declared.verbs.Verb.TheVariants as verb;
 
-use crate::forms::{CopyForm, DeleteForm, ImageForm};
+use crate::TaskFault;
 use crate::found::{has, value_if_given, value_of, values_of};
 use crate::judging::{delete_missing, judged, moved_missing};
 use crate::parts::{
@@ -17,9 +17,9 @@ use crate::parts::{
 use crate::refusals::What;
 use crate::verbs::Verb;
 use crate::volume_words::{file_of, image_of, layout_of, places_of};
-use crate::{Task, TaskFault};
 use clap::ArgMatches;
 use std::alloc::Global;
+use task8::{CopyForm, DeleteForm, ImageForm, Task};
 use word12::MOST_BLOCKS;
 
 pub fn delete<'a>(alloc: Global) -> Draft<'a>

@@ -6,15 +6,15 @@ ghost use Rattle.command8.specs.Tasks.{check_app, list_app};
 ghost use Rattle.command8.specs.TaskSteps.{Gives, Needs};
 ghost use Rattle.command8.specs.declared.verbs.Verb.TheVariants as verb;
 
-use crate::forms::CheckForm;
+use crate::TaskFault;
 use crate::found::{is_set, values_of};
 use crate::judging::judged;
 use crate::parts::{Draft, flag, leaf, with_argument, with_image, with_layout, words};
 use crate::verbs::Verb;
 use crate::volume_words::{image_of, layout_of};
-use crate::{Task, TaskFault};
 use clap::ArgMatches;
 use std::alloc::Global;
+use task8::{CheckForm, Task};
 use word12::MOST_BLOCKS;
 
 pub fn list<'a>(alloc: Global) -> Draft<'a>

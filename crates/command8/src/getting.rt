@@ -9,7 +9,7 @@ ghost use Rattle.command8.specs.Tasks as spec;
 ghost use Rattle.command8.specs.TaskSteps.{Gives, Needs};
 ghost use Rattle.command8.specs.declared.verbs.Verb.TheVariants as verb;
 
-use crate::forms::{BlocksForm, GetManyForm};
+use crate::TaskFault;
 use crate::found::{has, is_set, value_of, values_of, word_at};
 use crate::judging::{get_missing, judged};
 use crate::parts::{
@@ -18,10 +18,10 @@ use crate::parts::{
 use crate::refusals::Place;
 use crate::verbs::Verb;
 use crate::volume_words::{file_of, image_of, number_of, places_of, texts_of};
-use crate::{Task, TaskFault};
 use char_pack::GetForm;
 use clap::ArgMatches;
 use std::alloc::Global;
+use task8::{BlocksForm, GetManyForm, Task};
 use word12::MOST_BLOCKS;
 
 pub fn get<'a>(alloc: Global) -> Draft<'a>

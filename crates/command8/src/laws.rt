@@ -1,8 +1,8 @@
 //! What plain command lines ask for.
 ghost use Rattle.std.specs.Prelude.{◌≡◌, ◌∷◌, [], ℕ, List, codes, false, true, None, Some};
 ghost use Rattle.clap.specs.Words.{IsUnsignedIn};
-ghost use Rattle.command8.specs.declared.kinds.RimForm.TheVariants.{Lines, Bin};
-ghost use Rattle.command8.specs.declared.kinds.Saving.TheVariants.{AtEnd, Never, Always};
+ghost use Rattle.task8.specs.declared.tasks.RimForm.TheVariants.{Lines, Bin};
+ghost use Rattle.task8.specs.declared.tasks.Saving.TheVariants.{AtEnd, Never, Always};
 ghost use Rattle.char_pack.specs.declared.forms.GetForm.TheVariants as get_as;
 ghost use Rattle.char_pack.specs.declared.forms.PutForm.TheVariants as put_as;
 ghost use Rattle.disk8.specs.declared.layouts.Layout.{Layout};

@@ -3,12 +3,11 @@
 
 mod assembling;
 mod changes;
+mod faults;
 mod file_commands;
-mod forms;
 mod found;
 mod getting;
 mod judging;
-mod kinds;
 mod laws;
 mod listings;
 mod numbers;
@@ -24,14 +23,7 @@ mod verbs;
 mod volume_words;
 mod volumes;
 
-pub use forms::{
-    BlocksForm, CheckForm, CopyForm, DeleteForm, FileForm, GetManyForm, ImageForm, PutManyForm,
-    PutOneForm, TextsForm,
-};
-pub use kinds::{
-    AssembleForm, RimForm, RunForm, Runner, Saving, SourceForm, Task, TaskFault, TeletypeForm,
-    TraceForm,
-};
+pub use faults::{Runner, TaskFault};
 pub use laws::plain_words;
 pub use refusals::{Pair, Place, Refusal, What};
 pub use runs::SCRIPT_LINES;

@@ -6,11 +6,12 @@ ghost use Rattle.command8.specs.CommandSteps.{IsDraft};
 ghost use Rattle.command8.specs.Tasks.{source_app, values_of};
 ghost use Rattle.command8.specs.TaskSteps.{Gives, IsNoStartOf};
 
+use crate::TaskFault;
 use crate::found::value_if_given;
 use crate::parts::{Draft, leaf, may_have, option, options, with_argument};
-use crate::{SourceForm, Task, TaskFault};
 use clap::ArgMatches;
 use std::alloc::{AllocError, Global};
+use task8::{SourceForm, Task};
 use word12::{Cell, octal_cell};
 
 /// The subcommand `source`.

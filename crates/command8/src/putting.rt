@@ -7,16 +7,16 @@ ghost use Rattle.command8.specs.Tasks as spec;
 ghost use Rattle.command8.specs.TaskSteps.{Gives, Needs};
 ghost use Rattle.command8.specs.declared.verbs.Verb.TheVariants as verb;
 
-use crate::forms::{PutManyForm, PutOneForm};
+use crate::TaskFault;
 use crate::found::{is_set, value_of, values_of};
 use crate::judging::{judged, put_missing, puts_many};
 use crate::parts::{Draft, flag, leaf, options, with_argument, with_image, with_layout, words};
 use crate::verbs::Verb;
 use crate::volume_words::{image_of, info_of, texts_of};
-use crate::{Task, TaskFault};
 use char_pack::PutForm;
 use clap::ArgMatches;
 use std::alloc::Global;
+use task8::{PutManyForm, PutOneForm, Task};
 use word12::MOST_BLOCKS;
 
 pub fn put<'a>(alloc: Global) -> Draft<'a>

@@ -7,14 +7,15 @@ ghost use Rattle.command8.specs.Tasks as spec;
 ghost use Rattle.command8.specs.TaskSteps.{Gives, Needs};
 ghost use Rattle.command8.specs.declared.verbs.Verb.TheVariants as verb;
 
+use crate::TaskFault;
 use crate::found::is_set;
 use crate::judging::judged;
 use crate::parts::{Draft, flag, leaf, with_argument, with_image, with_layout, with_lines};
 use crate::verbs::Verb;
 use crate::volume_words::image_of;
-use crate::{RunForm, Saving, Task, TaskFault};
 use clap::ArgMatches;
 use std::alloc::Global;
+use task8::{RunForm, Saving, Task};
 
 /// The forms of a script's lines, one a line behind the first, each with what it does (docs/SCRIPT.md).
 pub const SCRIPT_LINES: &str = "\

@@ -6,11 +6,12 @@ ghost use Rattle.command8.specs.Tasks.{rim_app, tape_app};
 ghost use Rattle.command8.specs.Tasks as spec;
 ghost use Rattle.command8.specs.TaskSteps.{Gives};
 
+use crate::TaskFault;
 use crate::found::is_set;
 use crate::parts::{Draft, flag, leaf, with_argument};
-use crate::{RimForm, Task, TaskFault};
 use clap::{ArgMatches, Command};
 use std::alloc::Global;
+use task8::{RimForm, Task};
 
 pub fn tape<'a>(alloc: Global) -> Command<'a>
     ensures { IsCommand result tape_app }

@@ -5,6 +5,7 @@ ghost use Rattle.command8.specs.Refusals.{word};
 ghost use Rattle.command8.specs.TaskSteps.{Gives, GivesMet, HasMet, IsWhole, Needs};
 ghost use Rattle.command8.specs.CommandSteps.{IsCommand, IsDraft};
 
+use crate::TaskFault;
 use crate::assembling::{assemble, assemble_asked};
 use crate::changes::{
     copy, copy_asked, delete, delete_asked, rename, rename_asked, squeeze, squeeze_asked,
@@ -20,9 +21,9 @@ use crate::teletypes::{teletype, teletype_asked};
 use crate::traces::{profile, profile_asked, trace, trace_asked};
 use crate::verbs::{Verb, verb_of};
 use crate::volumes::{create, create_asked};
-use crate::{Task, TaskFault};
 use clap::{ArgMatches, Command};
 use std::alloc::Global;
+use task8::Task;
 
 /// What the words of a command line ask for, the program's own name first (this project's profile). A request for help or the version
 /// comes back as an error of `clap`, as it gives it; words that `clap` takes are refused where a `TaskFault` says so.

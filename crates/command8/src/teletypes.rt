@@ -8,9 +8,10 @@ ghost use Rattle.command8.specs.declared.verbs.Verb.TheVariants as verb;
 
 use crate::found::{is_set, steps_of, text_of, value_if_given, value_of};
 use crate::parts::{Draft, flag, hidden, leaf, option, steps, with_argument, with_tape};
-use crate::{Runner, Task, TaskFault, TeletypeForm};
+use crate::{Runner, TaskFault};
 use clap::ArgMatches;
 use std::alloc::Global;
+use task8::{Task, TeletypeForm};
 use word12::{Cell, Word, octal_cell, octal_word};
 
 /// The subcommand `teletype`.

@@ -4,15 +4,16 @@ ghost use Rattle.clap.specs.Words.{App, found_of, rows_of, with_rule};
 ghost use Rattle.command8.specs.CommandSteps.{IsDraft};
 ghost use Rattle.command8.specs.Tasks.{IsTraceForm, is_limit, option_rule, profile_app, steps_rule, trace_app};
 ghost use Rattle.command8.specs.TaskSteps.{Gives, IsRunnerRefused, Needs};
-ghost use Rattle.command8.specs.declared.kinds.Runner.TheVariants as runner;
+ghost use Rattle.command8.specs.declared.faults.Runner.TheVariants as runner;
 ghost use Rattle.command8.specs.declared.verbs.Verb.TheVariants as verb;
 
 use crate::found::{steps_of, value_if_given, value_of};
 use crate::parts::{Draft, leaf, option, steps, with_argument, with_tape};
 use crate::teletypes::{start_of, switches_of, with_cells};
-use crate::{Runner, Task, TaskFault, TraceForm};
+use crate::{Runner, TaskFault};
 use clap::ArgMatches;
 use std::alloc::Global;
+use task8::{Task, TraceForm};
 
 /// The subcommand `trace`.
 pub fn trace<'a>(alloc: Global) -> Draft<'a>

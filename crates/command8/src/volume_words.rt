@@ -11,7 +11,6 @@ ghost use Rattle.command8.specs.TaskSteps.{Has, IsRefusedAs, IsRefusedBy};
 ghost use Rattle.command8.specs.declared.refusals.Place.TheVariants as place;
 
 use crate::TaskFault;
-use crate::forms::{FileForm, ImageForm, TextsForm};
 use crate::found::{has, is_set, text_of, value_of, values_of};
 use crate::numbers::number_in;
 use crate::refusals::{Place, Refusal};
@@ -19,6 +18,7 @@ use crate::verbs::Verb;
 use clap::ArgMatches;
 use disk8::Layout;
 use std::alloc::{AllocError, Global};
+use task8::{FileForm, ImageForm, TextsForm};
 use word12::{MOST_BLOCKS, Word, octal_word};
 
 /// The volume that a subcommand works on.

@@ -6,13 +6,14 @@ ghost use Rattle.command8.specs.Tasks.{create_app};
 ghost use Rattle.command8.specs.TaskSteps.{Gives, Needs};
 ghost use Rattle.command8.specs.declared.verbs.Verb.TheVariants as verb;
 
+use crate::TaskFault;
 use crate::found::{blocks_of, value_of};
 use crate::judging::{create_missing, judged};
 use crate::parts::{Draft, blocks, flag, leaf, with_argument, with_image};
 use crate::verbs::Verb;
-use crate::{Task, TaskFault};
 use clap::ArgMatches;
 use std::alloc::Global;
+use task8::Task;
 
 pub fn create<'a>(alloc: Global) -> Draft<'a>
     ensures { IsDraft result create_app }

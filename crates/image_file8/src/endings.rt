@@ -2,7 +2,6 @@
 
 use crate::images::Content;
 use bin_tape::TapeFault;
-use command8::TaskFault;
 use core_image::CoreFault;
 use disk8::DiskFault;
 use host8::Unwritten;
@@ -17,10 +16,6 @@ use volume_image::ImageFault;
 pub enum Ended {
     Line(ProgramLine),
     Fault(SessionFault),
-    NoText,
-
-    /// Words that `clap` or the program refuses.
-    Refused(TaskFault),
     Told,
 
     /// Another program works on a file for this.
@@ -54,15 +49,6 @@ impl From<AllocError> for Ended {
 impl From<SessionFault> for Ended {
     fn from(fault: SessionFault) -> Ended {
         Ended::Fault(fault)
-    }
-}
-
-impl From<TaskFault> for Ended {
-    fn from(fault: TaskFault) -> Ended {
-        match fault {
-            TaskFault::Memory => Ended::Fault(SessionFault::Memory),
-            _ => Ended::Refused(fault),
-        }
     }
 }
 

@@ -4,9 +4,9 @@ use crate::Ended;
 use crate::hints::refused_image;
 use crate::images::seen;
 use archive8::{ArchiveFault, Asked, GetForm, get};
-use command8::ImageForm;
 use report8::{ProgramLine, core_tape};
 use std::fs::Files;
+use task8::ImageForm;
 use word12::Cell;
 
 /// The BIN tape of a core image on the volume in an image file, and the cell where its program starts.
@@ -38,7 +38,10 @@ pub fn made<T: Drop, R: Eprint>(
     size: usize,
     done: Result<T, ArchiveFault>,
 ) -> Result<T, Ended> {
-    done.map_err(|fault| refused(rt, size, fault))
+    match done {
+        Ok(made) => Ok(made),
+        Err(fault) => Err(refused(rt, size, fault)),
+    }
 }
 
 /// How a command ends whose image, of so many bytes, or a file of it is refused. What may help is said.

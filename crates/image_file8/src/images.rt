@@ -1,7 +1,7 @@
 //! Images in files of the host. An image that a command may change is held from before it is read until the program ends.
 
 use crate::Ended;
-use command8::ImageForm;
+use crate::printing::print_line;
 use disk8::{DiskFile, Layout};
 use host8::{HeldFile, HoldFault, Unwritten, hold, look, make};
 use report8::ProgramLine;
@@ -9,6 +9,7 @@ use script8::SessionFault;
 use script8::readings::MOST;
 use std::fs::{File, Files};
 use std::mem;
+use task8::ImageForm;
 
 /// What a file of the host is to hold.
 #[derive(Clone, Copy)]
@@ -108,6 +109,18 @@ impl Image {
         mem::swap(&mut self.bytes, bytes);
         Ok(())
     }
+}
+
+/// Has an image file hold these bytes, and then prints the lines that tell of the change.
+pub fn save_and_print<R: Files<File = File> + Print + Eprint>(
+    rt: &R,
+    held: &mut Image,
+    bytes: Vec<u8>,
+    lines: &[u8],
+) -> Result<(), Ended> {
+    let mut bytes = bytes;
+    held.save(rt, &mut bytes)?;
+    print_line(rt, lines)
 }
 
 /// Makes a file that holds these bytes, in place of any of its name.

@@ -1,13 +1,20 @@
 //! Lines on standard output and on standard error.
 
 use crate::Ended;
-use report8::{ProgramLine, put_program, write_out};
+use report8::{ProgramLine, put_program, with_prefix, write_out};
 use std::io;
 
 /// Prints lines on standard output.
 pub fn print_line<R: Print>(rt: &R, line: &[u8]) -> Result<(), Ended> {
     write_out(&mut io::writer(rt), line)?;
     Ok(())
+}
+
+/// Prints the line of what is told of a name or of a file, with that before it.
+pub fn print_of<R: Print + AllocGlobal>(rt: &R, name: &str, text: &[u8]) -> Result<(), Ended> {
+    let prefix = format!(in rt.alloc(); "{name}: ")?;
+    let lines = with_prefix(rt.alloc(), prefix.as_bytes(), text)?;
+    print_line(rt, &lines)
 }
 
 /// Tells a line on standard error that is no fault.

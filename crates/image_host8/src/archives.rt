@@ -1,17 +1,15 @@
 //! Files in and out of the image file of a volume. Only `put` writes one here, and only once the whole new image stands in memory.
 
 use archive8::{ArchiveFault, Asked, GetForm, NewImage, list, list_long, put};
-use command8::{BlocksForm, FileForm, ImageForm, PutOneForm};
 use image_file8::{
-    Ended, Image, bytes_of_file, core_of_file, made, print_line, refused, seen, tell_bad_text,
-    tell_line,
+    Ended, Image, bytes_of_file, core_of_file, given_words, made, print_line, save_and_print, seen,
+    tell_bad_text, tell_line,
 };
-use many8::{BlocksFault, blocks_of};
 use report8::ProgramLine;
 use script8::{LineReply, Reply, SessionFault, put_reply, read_all};
 use std::fs::{File, Files};
 use std::io::Input;
-use word12::Word;
+use task8::{FileForm, ImageForm, PutOneForm};
 
 /// Lists the files of the volume in an image file.
 pub fn list_files<R: Files + Print + Eprint + AllocGlobal>(
@@ -55,19 +53,6 @@ pub fn get_bin<R: Files + Print + Eprint + AllocGlobal>(
     tell_line(rt, &ProgramLine::Start(start))
 }
 
-/// Writes blocks of an image file, whatever its directory says.
-pub fn get_blocks<R: Files + Print + Eprint + AllocGlobal>(
-    rt: &R,
-    form: &BlocksForm,
-) -> Result<(), Ended> {
-    let bytes = seen(rt, &form.image)?;
-    match blocks_of(rt.alloc(), &bytes, form.first, form.count, form.form) {
-        Ok(given) => print_line(rt, &given),
-        Err(BlocksFault::Archive(fault)) => Err(refused(rt, bytes.len(), fault)),
-        Err(BlocksFault::NoBlocks(blocks)) => Err(Ended::Line(ProgramLine::OnlyBlocks(blocks))),
-    }
-}
-
 /// Makes the bytes on standard input a file on the volume in an image file, and writes the image back.
 pub fn put_file<R: Files<File = File> + Input + Print + Eprint + AllocGlobal>(
     rt: &R,
@@ -90,14 +75,6 @@ pub fn put_file<R: Files<File = File> + Input + Print + Eprint + AllocGlobal>(
     store(rt, &mut held, new)
 }
 
-/// The information words that are given, if any are.
-pub fn given_words(info: &Option<Vec<Word>>) -> Option<&[Word]> {
-    match info {
-        Some(words) => Some(words.as_slice()),
-        None => None,
-    }
-}
-
 /// Writes back an image with a file that was put into it, and tells of that.
 pub fn store<R: Files<File = File> + Print + Eprint + AllocGlobal>(
     rt: &R,
@@ -111,18 +88,6 @@ pub fn store<R: Files<File = File> + Print + Eprint + AllocGlobal>(
     let mut line = Vec::new(rt.alloc());
     put_reply(None, &Ok(stored), &mut line)?;
     save_and_print(rt, held, new.bytes, &line)
-}
-
-/// Has an image file hold these bytes, and then prints the lines that tell of the change.
-pub fn save_and_print<R: Files<File = File> + Print + Eprint>(
-    rt: &R,
-    held: &mut Image,
-    bytes: Vec<u8>,
-    lines: &[u8],
-) -> Result<(), Ended> {
-    let mut bytes = bytes;
-    held.save(rt, &mut bytes)?;
-    print_line(rt, lines)
 }
 
 /// The file that is meant by the words of the command line.

@@ -1,17 +1,17 @@
 //! Changes of the files of a volume by their names alone. Each writes an image file once, and only once the whole new image stands in
 //! memory; where a name is refused nothing is written.
 
-use crate::archives::{asked_of, save_and_print, store};
+use crate::archives::{asked_of, store};
 use archive8::{
     ArchiveFault, Asked, CopyFault, DeleteFault, RenameFault, copy, delete, rename, squeeze,
 };
-use command8::{CopyForm, DeleteForm, FileForm, ImageForm};
-use image_file8::{Ended, Image, made, refused, seen};
+use image_file8::{Ended, Image, made, refused, save_and_print, seen};
 use os8_dir::Name;
 use report8::{ProgramLine, put_program};
 use script8::{LineReply, Reply, SessionFault, put_reply};
 use std::alloc::{AllocError, Global};
 use std::fs::{File, Files};
+use task8::{CopyForm, DeleteForm, FileForm, ImageForm};
 
 /// Takes files out of the volume in an image file, all or none.
 pub fn delete_files<R: Files<File = File> + Print + Eprint + AllocGlobal>(

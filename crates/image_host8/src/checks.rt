@@ -1,15 +1,13 @@
 //! What is told of images, of one or of many.
 
-use crate::many::print_of;
-use crate::progress::Progress;
 use archive8::{ArchiveFault, check};
-use command8::{CheckForm, ImageForm};
 use disk8::Layout;
-use image_file8::{Ended, print_line, refused, seen};
+use image_file8::{Ended, Progress, print_line, print_of, refused, seen};
 use report8::{ProgramLine, put_program};
 use std::fs::{File, Files};
 use std::time::Clock;
 use survey8::survey;
+use task8::{CheckForm, ImageForm};
 
 /// What is told of an image.
 #[derive(Drop)]

@@ -1,4 +1,4 @@
-//! The commands on the volumes in image files of the host: what they do with bytes is in the functions that they call; here image files
+//! The commands on the volumes in image files of the host, but for those on many files or blocks: what they do with bytes is in the functions that they call; here image files
 //! are read and written, and what a command prints is printed.
 #![tactic(auto)]
 
@@ -6,11 +6,8 @@ mod archives;
 mod changes;
 mod checks;
 mod making;
-mod many;
-mod progress;
 
-pub use archives::{get_bin, get_blocks, get_file, list_files, list_places, put_file};
+pub use archives::{get_bin, get_file, list_files, list_places, put_file};
 pub use changes::{copy_file, delete_files, rename_file, squeeze_files};
 pub use checks::check_images;
 pub use making::{create_image, create_tape};
-pub use many::{get_files, put_files};

@@ -1,15 +1,17 @@
 //! The program over the files and the streams of a host: what the words ask for is done by the command, and exit statuses are given.
 
 use crate::runs::run_image;
-use command8::{RimForm, Task, TaskFault, task};
+use command8::{TaskFault, task};
 use host8::Unwritten;
 use image_file8::{Ended, print_line, tell_text, texts_of};
 use image_host8::{
-    check_images, copy_file, create_image, create_tape, delete_files, get_bin, get_blocks,
-    get_file, get_files, list_files, list_places, put_file, put_files, rename_file, squeeze_files,
+    check_images, copy_file, create_image, create_tape, delete_files, get_bin, get_file,
+    list_files, list_places, put_file, rename_file, squeeze_files,
 };
+use many_host8::{get_blocks, get_files, put_files};
 use report8::{ProgramLine, put_program};
 use script8::{SessionFault, put_reply};
+use std::alloc::AllocError;
 use std::env::{self, Env};
 use std::fs::{File, Files};
 use std::io::{self, ErrorKind, Input, IsTerminal};
@@ -18,6 +20,7 @@ use std::time::Clock;
 use tape_host8::{
     assemble_files, list_tape, profile_tape, run_teletype, trace_tape, write_rim, write_source,
 };
+use task8::{RimForm, Task};
 
 /// The status that a shell tells of a program that SIGPIPE has ended.
 const ABANDONED: u8 = 141;
@@ -33,7 +36,7 @@ where
 {
     let task = match read_words(rt) {
         Ok(task) => task,
-        Err(ended) => return told(rt, ended, false),
+        Err(unread) => return told_unread(rt, unread),
     };
     let is_data = gives_data(&task);
     match done(rt, task) {
@@ -113,18 +116,6 @@ fn told<R: Print + Eprint + AllocGlobal>(rt: &R, ended: Ended, is_data: bool) ->
         Ended::Line(text) => put_program(&text, &mut line),
         Ended::Fault(SessionFault::Writer) | Ended::Told => return ExitCode::FAILURE,
         Ended::Fault(fault) => put_reply(None, &Err(fault), &mut line),
-        Ended::NoText => {
-            let _ = rt.eprint("error: a word of the command line is not UTF-8 text\n");
-            return ExitCode::from(2);
-        }
-        Ended::Refused(TaskFault::Words(error)) => {
-            let _ = error.print(rt);
-            return ExitCode::from(error.exit_code() as u8);
-        }
-        Ended::Refused(fault) => {
-            tell_refusal(rt, &fault);
-            return ExitCode::from(2);
-        }
         Ended::Busy(content) => {
             let _ = eprintln!(rt; "error: another program works on the {}", content.name());
             put_program(&ProgramLine::HostBusy, &mut line)
@@ -154,6 +145,25 @@ fn write_line<R: Print + Eprint>(rt: &R, line: &[u8], is_error: bool) {
     }
 }
 
+/// The status for words that ask for nothing, which is told.
+fn told_unread<R: Print + Eprint + AllocGlobal>(rt: &R, unread: Unread) -> ExitCode {
+    match unread {
+        Unread::NoText => {
+            let _ = rt.eprint("error: a word of the command line is not UTF-8 text\n");
+            ExitCode::from(2)
+        }
+        Unread::Task(TaskFault::Memory) => told(rt, Ended::Fault(SessionFault::Memory), false),
+        Unread::Task(TaskFault::Words(error)) => {
+            let _ = error.print(rt);
+            ExitCode::from(error.exit_code() as u8)
+        }
+        Unread::Task(fault) => {
+            tell_refusal(rt, &fault);
+            ExitCode::from(2)
+        }
+    }
+}
+
 /// Says why words are refused, as `clap` says it of those that it refuses itself.
 fn tell_refusal<R: Eprint>(rt: &R, fault: &TaskFault) {
     let _ = eprintln!(rt;
@@ -171,16 +181,44 @@ fn words_on(held: Unwritten) -> &'static str {
 }
 
 /// What the words of the command line ask for.
-fn read_words<R: Env + AllocGlobal>(rt: &R) -> Result<Task, Ended> {
-    let words: Vec<String> = env::args(rt).map_err(no_words)?.collect(rt.alloc())?;
+fn read_words<R: Env + AllocGlobal>(rt: &R) -> Result<Task, Unread> {
+    let words: Vec<String> = env::args(rt)?.collect(rt.alloc())?;
     let texts = texts_of(rt.alloc(), &words)?;
     let task = task(rt.alloc(), &texts)?;
     Ok(task)
 }
 
-fn no_words(error: io::Error) -> Ended {
-    match error.kind() {
-        ErrorKind::OutOfMemory => Ended::Fault(SessionFault::Memory),
-        _ => Ended::NoText,
+/// Why the words of the command line ask for nothing.
+#[derive(Drop)]
+enum Unread {
+    /// One of them is no UTF-8 text.
+    NoText,
+    Task(TaskFault),
+}
+
+impl From<AllocError> for Unread {
+    ghost use Rattle.std.specs.Prelude.{◌≡◌};
+    ghost use Rattle.command8.specs.declared.faults.TaskFault.TheVariants.{Memory};
+    ghost use Rattle.monitor8.specs.declared.host.Unread.TheVariants.{Task};
+
+    ghost from_gives = { λ _ unread. unread ≡ Task Memory };
+
+    fn from(error: AllocError) -> Unread {
+        Unread::Task(error.into())
+    }
+}
+
+impl From<TaskFault> for Unread {
+    fn from(fault: TaskFault) -> Unread {
+        Unread::Task(fault)
+    }
+}
+
+impl From<io::Error> for Unread {
+    fn from(error: io::Error) -> Unread {
+        match error.kind() {
+            ErrorKind::OutOfMemory => Unread::Task(TaskFault::Memory),
+            _ => Unread::NoText,
+        }
     }
 }

@@ -6,7 +6,7 @@ mod hints;
 mod host;
 mod runs;
 
-pub use command8::{Task, TaskFault, plain_words, task};
+pub use command8::{TaskFault, plain_words, task};
 pub use host::program;
 pub use report8::{
     ProgramLine, RimTextFault, SourceFault, core_tape, first_cell, given_cells, put_program,
@@ -14,3 +14,4 @@ pub use report8::{
 };
 pub use script8::SessionFault;
 pub use session8::{Ran, Session, laws};
+pub use task8::Task;

@@ -1,13 +1,13 @@
 //! Runs of scripts over the volume of an image file.
 
 use crate::hints::line_hint;
-use command8::{ImageForm, RunForm, Saving};
 use image_file8::{Ended, Image, refused_image};
 use report8::ProgramLine;
 use script8::{LineReply, Reply, SessionFault};
 use session8::{Session, Watcher};
 use std::fs::{File, Files};
 use std::io::{self, BufWriter, Input, IsTerminal};
+use task8::{ImageForm, RunForm, Saving};
 use volume_image::MemoryVolume;
 
 /// Runs the script on standard input over the volume of an image file, and writes the image back when it is to be, if it changed. The

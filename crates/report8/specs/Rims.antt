@@ -3,8 +3,8 @@ use Rattle.std.specs.Prelude.{ℕ, Result, Ok, Err, Option, List}
 use Rattle.std.specs.Io.KnownBytes.{Appends, Keeps}
 use Rattle.rim_tape.specs.Converted.{IsBinOf}
 use Rattle.rim_tape.specs.Fault.{IsFault}
-use Rattle.command8.specs.declared.kinds.RimForm.{RimForm}
-use Rattle.command8.specs.declared.kinds.RimForm.TheVariants.{Lines, Bin}
+use Rattle.task8.specs.declared.tasks.RimForm.{RimForm}
+use Rattle.task8.specs.declared.tasks.RimForm.TheVariants.{Lines, Bin}
 use Rattle.script8.specs.Reading.{IsRead}
 use Rattle.script8.specs.declared.faults.SessionFault.TheVariants.{Reader, Writer}
 use Rattle.script8.specs.declared.faults.SessionFault.TheVariants as session

@@ -12,11 +12,11 @@ ghost use Rattle.report8.specs.declared.rims.RimTextFault.TheVariants.{Rim, Sess
 use crate::listings::{listing, write_out};
 use bin_tape::laws::no_fault;
 use bin_tape::{TapeFault, TapeMap};
-use command8::RimForm;
 use rim_tape::{RimFault, bin_tape};
 use script8::{SessionFault, read_all};
 use std::alloc::Global;
 use std::io::{Read, Write};
+use task8::RimForm;
 
 /// Why nothing is written of a reader's RIM tape.
 #[derive(Clone, Copy, PartialEq, Eq, Debug)]

@@ -2,7 +2,6 @@
 
 use crate::streams::print_data;
 use assemble8::{SourceFault, assemble_sources, fault_text, further_faults};
-use command8::AssembleForm;
 use host8::{HoldFault, look};
 use image_file8::{Content, Ended, make_file, tell_text, texts_of};
 use report8::{ProgramLine, with_line_feeds};
@@ -11,6 +10,7 @@ use source_listing::{ListingForm, list_sources};
 use std::alloc::{AllocError, Global};
 use std::fs::{File, Files};
 use std::io::{Input, Read};
+use task8::AssembleForm;
 
 /// The name of a standard stream where a file's may stand.
 const STANDARD: &str = "-";

@@ -1,11 +1,11 @@
 //! Tapes on standard input, whose words are listed.
 
-use command8::RimForm;
 use image_file8::Ended;
 use report8::{rim_text, tape_text};
 use rim_tape::RimFault;
 use script8::{SessionFault, read_all};
 use std::io::{self, Input};
+use task8::RimForm;
 
 /// Lists the tape on standard input.
 pub fn list_tape<R: Input + Print + Eprint + AllocGlobal>(rt: &R) -> Result<(), Ended> {

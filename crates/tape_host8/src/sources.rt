@@ -1,11 +1,11 @@
 //! Sources of tapes.
 
 use crate::tapes::program_of;
-use command8::SourceForm;
 use image_file8::{Ended, bytes_of};
 use report8::{put_source, source_text};
 use std::fs::Files;
 use std::io::{self, Input};
+use task8::SourceForm;
 
 /// Writes the source of a tape. The program of a core image starts where that tells, unless other cells are given.
 pub fn write_source<R: Files + Input + Print + Eprint + AllocGlobal>(

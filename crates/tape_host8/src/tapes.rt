@@ -2,9 +2,9 @@
 //! is such a file whole.
 
 use archive8::{Asked, GetForm};
-use command8::ImageForm;
 use image_file8::{Ended, bytes_of, bytes_of_file, core_of_file};
 use std::fs::Files;
+use task8::ImageForm;
 use word12::Cell;
 
 /// How the name of a core image ends.

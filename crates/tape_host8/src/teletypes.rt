@@ -2,7 +2,6 @@
 
 use crate::streams::{Output, unprinted};
 use crate::tapes::program_of;
-use command8::TeletypeForm;
 use core_load::{Core, load};
 use cpu8::Machine;
 use image_file8::{Ended, tell_line};
@@ -10,6 +9,7 @@ use report8::{ProgramLine, first_cell};
 use script8::SessionFault;
 use std::fs::Files;
 use std::io::Input;
+use task8::TeletypeForm;
 use terminal8::{Form, Input as Keys, TerminalFault, Why, run};
 use word12::{Cell, Word};
 

@@ -3,7 +3,6 @@
 use crate::streams::{Output, print_data, unprinted};
 use crate::tapes::program_of;
 use crate::teletypes::machine_of;
-use command8::TraceForm;
 use cpu8::Machine;
 use image_file8::Ended;
 use profile8::{count_fetches, no_counts, profile_text};
@@ -11,6 +10,7 @@ use report8::{ProgramLine, given_cells, put_program};
 use script8::SessionFault;
 use std::fs::Files;
 use std::io::Write;
+use task8::TraceForm;
 use terminal8::{Form, Terminal, keys_of};
 use trace8::{TraceFault, trace};
 

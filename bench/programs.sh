@@ -1,0 +1,22 @@
+# The programs of bench/cpu/ for the scripts beside it that run them: works in a fresh folder, with the tape of each and an image V for
+# scripts. Takes palbart from Debian's packages where it is missing.
+dpkg -s palbart >/dev/null 2>&1 || { apt-get update && apt-get install -y palbart; } >&2
+program=$top/crates/pdp8/out/pdp8
+
+folder=$(mktemp -d)
+trap 'rm -rf "$folder"' EXIT
+cp "$top"/bench/cpu/*.pal "$folder"
+cd "$folder"
+"$top/pdp8" create V 20 >/dev/null
+for source in *.pal; do
+    palbart "$source" >/dev/null
+done
+
+# A program's words as a script, with its start.
+deposits() {
+    "$program" tape <"$1.bin" | sed 's/^\(.\) /DEPOSIT \1/'
+    echo START 00200
+}
+
+# The instructions of the host's processor that a call of the program takes, by valgrind.
+instructions() { valgrind --tool=callgrind --callgrind-out-file=/dev/null "$program" "$@" 2>&1 >/dev/null | awk '/Collected/ { print $4 }'; }

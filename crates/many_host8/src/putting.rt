@@ -1,0 +1,112 @@
+//! Files of the host to the volume in an image file, which is written once, and only once the whole new image stands in memory.
+
+use crate::sets::is_added;
+use crate::texts::{check_extensions, is_one_of};
+use archive8::PutForm;
+use image_file8::{Ended, Image, bytes_of, given_words, refused, save_and_print, tell_bad_text};
+use many8::{ManyFault, NewFile, put_all, volume_name};
+use os8_dir::{FileFault, Name};
+use report8::ProgramLine;
+use script8::{LineReply, Reply, SessionFault, put_reply};
+use std::alloc::AllocError;
+use std::collections::BTreeSet;
+use std::fs::{File, Files};
+use task8::{PutManyForm, TextsForm};
+
+/// Makes files of the host files of the volume in an image file, all or none, and tells of each.
+pub fn put_files<R: Files<File = File> + Print + Eprint + AllocGlobal>(
+    rt: &R,
+    form: &PutManyForm,
+) -> Result<(), Ended> {
+    check_extensions(rt, &form.texts)?;
+    let mut held = Image::open(rt, &form.image)?;
+    let files = files_of(rt, form)?;
+    let new = match put_all(rt.alloc(), held.bytes(), &files, given_words(&form.info)) {
+        Ok(new) => new,
+        Err(ManyFault::Archive(fault)) => return Err(refused(rt, held.bytes().len(), fault)),
+        Err(ManyFault::File(place, fault)) => {
+            if place < files.len() && place < form.files.len() {
+                tell_unput(rt, &form.files[place]);
+                if fault == SessionFault::BadText {
+                    tell_bad_text(rt, &files[place].bytes);
+                }
+            }
+            return Err(Ended::Fault(fault));
+        }
+    };
+    let lines = stored_lines(rt, &files, &new.blocks)?;
+    save_and_print(rt, &mut held, new.bytes, &lines)
+}
+
+/// The lines of files that were put, which take so many blocks.
+fn stored_lines<R: AllocGlobal>(
+    rt: &R,
+    files: &[NewFile],
+    blocks: &[usize],
+) -> Result<Vec<u8>, Ended> {
+    let mut lines = Vec::new(rt.alloc());
+    for (file, blocks) in files.iter().zip(blocks.iter()) {
+        let stored = Reply::Line(LineReply::Stored {
+            name: file.name,
+            blocks: *blocks,
+        });
+        put_reply(None, &Ok(stored), &mut lines)?;
+    }
+    Ok(lines)
+}
+
+/// The files of the host that are to be put, by their own names.
+fn files_of<R: Files<File = File> + Eprint + AllocGlobal>(
+    rt: &R,
+    form: &PutManyForm,
+) -> Result<Vec<NewFile>, Ended> {
+    let mut files = Vec::new(rt.alloc());
+    let mut names = BTreeSet::new(rt.alloc());
+    for path in &form.files {
+        let Some(name) = volume_name(path.as_bytes()) else {
+            tell_unput(rt, path);
+            let _ = rt.eprint(
+                "note: a file's name is 1 to 6 letters or digits, then nothing, or a dot and 1 or 2 more\n",
+            );
+            return Err(Ended::Fault(SessionFault::File(FileFault::BadName)));
+        };
+        if !is_added(&mut names, name)? {
+            tell_unput(rt, path);
+            return Err(Ended::Line(ProgramLine::SameName));
+        }
+        add(&mut files, read_file(rt, path, name, &form.texts)?)?;
+    }
+    Ok(files)
+}
+
+fn add(files: &mut Vec<NewFile>, file: NewFile) -> Result<(), AllocError> {
+    files.push(file)?;
+    Ok(())
+}
+
+/// A file of the host as one that is to be put.
+fn read_file<R: Files<File = File> + Eprint + AllocGlobal>(
+    rt: &R,
+    path: &str,
+    name: Name,
+    texts: &TextsForm,
+) -> Result<NewFile, Ended> {
+    let bytes = match bytes_of(rt, path) {
+        Ok(bytes) => bytes,
+        Err(ended) => {
+            tell_unput(rt, path);
+            return Err(ended);
+        }
+    };
+    let form = if is_one_of(texts, name) {
+        PutForm::Text
+    } else {
+        PutForm::Frames
+    };
+    Ok(NewFile { name, bytes, form })
+}
+
+/// Says which of several files of the host is refused.
+fn tell_unput<R: Eprint>(rt: &R, path: &str) {
+    let _ = eprintln!(rt; "note: {path} is refused, and no file is put");
+}

@@ -1,0 +1,13 @@
+//! What can be asked of the program: the tasks, as the words of a command line tell them. No words are read here, and no task is done.
+#![tactic(auto)]
+
+mod forms;
+mod tasks;
+
+pub use forms::{
+    BlocksForm, CheckForm, CopyForm, DeleteForm, FileForm, GetManyForm, ImageForm, PutManyForm,
+    PutOneForm, TextsForm,
+};
+pub use tasks::{
+    AssembleForm, RimForm, RunForm, Saving, SourceForm, Task, TeletypeForm, TraceForm,
+};
