@@ -14,8 +14,8 @@ use Rattle.terminal8.specs.declared.outcomes.Why.{Why}
 use Rattle.terminal8.specs.declared.outcomes.Why.TheVariants as why
 use Rattle.volume_image.specs.declared.faults.ImageFault.{ImageFault}
 use Rattle.volume_image.specs.declared.faults.ImageFault.TheVariants as image
+use Rattle.script8.specs.Faults.{directory_fault_text}
 use Rattle.script8.specs.Shown.{shown}
-use Rattle.survey8.specs.Lines.{fault_text}
 use Rattle.report8.specs.declared.programs.ProgramLine.{ProgramLine}
 use Rattle.report8.specs.declared.programs.ProgramLine.TheVariants as line
 
@@ -104,7 +104,7 @@ program_text (line.Start cell) = codes "START " ++ octal5 cell
 program_text (line.Core fault) = core_text fault
 program_text (line.Rim fault) = rim_text fault
 program_text (line.Image fault) = image_text fault
-program_text (line.Directory fault) = fault_text fault
+program_text (line.Directory fault) = directory_fault_text fault
 
 -- a line of the program
 abbrev pub program_line : ProgramLine → List ℕ

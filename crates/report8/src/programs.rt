@@ -10,9 +10,8 @@ use disk8::DiskFault;
 use os8_dir::{DirFault, Name};
 use pal_names::Why as Unnamed;
 use rim_tape::RimFault;
-use script8::SessionFault;
 use script8::text_lines::{TextLine, put, put_name, put_number};
-use survey8::put_fault_text;
+use script8::{SessionFault, put_directory_fault};
 use terminal8::{Ended, Why};
 use volume_image::ImageFault;
 use word12::{Cell, Word};
@@ -185,7 +184,7 @@ fn put_line(text: &mut TextLine, line: ProgramLine)
         ProgramLine::Core(fault) => put_core(text, fault),
         ProgramLine::Rim(fault) => put_rim(text, fault),
         ProgramLine::Image(fault) => put_image(text, fault),
-        ProgramLine::Directory(fault) => put_fault_text(text, fault),
+        ProgramLine::Directory(fault) => put_directory_fault(text, fault),
     }
 }
 

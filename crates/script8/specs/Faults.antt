@@ -1,4 +1,4 @@
--- The faults of a session, and their texts.
+-- The faults of a session and of a directory, and their texts.
 use Rattle.std.specs.Prelude.{ℕ, codes, decimal, List, ◌∷◌, ◌++◌}
 use Rattle.word12.specs.Octal.{octal4}
 use Rattle.bin_tape.specs.declared.faults.TapeFault.{TapeFault}
@@ -9,6 +9,8 @@ use Rattle.pal_asm.specs.declared.faults.Code.TheVariants.{IC, SY, NU, UA, DT, R
 use Rattle.pal_asm.specs.declared.faults.AsmFault.{AsmFault}
 use Rattle.pal_asm.specs.declared.faults.AsmFault.TheVariants.{At}
 use Rattle.pal_asm.specs.declared.faults.AsmFault.TheVariants as asm
+use Rattle.os8_dir.specs.declared.faults.DirFault.{DirFault}
+use Rattle.os8_dir.specs.declared.faults.DirFault.TheVariants as directory
 use Rattle.os8_dir.specs.declared.file_faults.FileFault.{FileFault}
 use Rattle.os8_dir.specs.declared.file_faults.FileFault.TheVariants.{NotFound, NoRoom, DirectoryFull, Busy, BadName, TooLong, TentativeOpen, Device, Stopped, NothingWritten}
 use Rattle.os8_dir.specs.declared.file_faults.FileFault.TheVariants as file
@@ -82,6 +84,18 @@ file_fault_text Device = codes "? 4.8 DEVICE"
 file_fault_text Stopped = codes "? 4.9 STOPPED"
 file_fault_text file.Memory = codes "? 10 MEMORY"
 file_fault_text NothingWritten = codes "? 4.11 NOTHING WRITTEN"
+
+-- the text of a fault of a directory
+abbrev pub directory_fault_text : DirFault → List ℕ
+directory_fault_text (directory.BadLink number) = codes "? DIRECTORY 1 BAD LINK " ++ decimal number
+directory_fault_text (directory.BadCount number) = codes "? DIRECTORY 2 BAD COUNT " ++ decimal number
+directory_fault_text directory.EntryPastSegment = codes "? DIRECTORY 3 ENTRY PAST SEGMENT"
+directory_fault_text directory.PastVolume = codes "? DIRECTORY 4 PAST VOLUME"
+directory_fault_text directory.SameName = codes "? DIRECTORY 5 SAME NAME"
+directory_fault_text directory.WrongFirstBlock = codes "? DIRECTORY 6 WRONG FIRST BLOCK"
+directory_fault_text directory.MixedInfo = codes "? DIRECTORY 7 MIXED INFO"
+directory_fault_text directory.Device = codes "? DIRECTORY 8 DEVICE"
+directory_fault_text directory.Memory = codes "? 10 MEMORY"
 
 -- the text of a fault
 abbrev pub fault_text : SessionFault → List ℕ

@@ -1,7 +1,7 @@
 //! The texts of refusals.
 ghost use Rattle.std.specs.Prelude.{◌≡◌, ◌≤◌, ◌++◌, option_copied};
 ghost use Rattle.arrayvec.specs.ArrayVec.{array_vec_len};
-ghost use Rattle.script8.specs.Faults.{fault_text, code_text, asm_fault_text, tape_fault_text, file_fault_text};
+ghost use Rattle.script8.specs.Faults.{fault_text, code_text, asm_fault_text, tape_fault_text, file_fault_text, directory_fault_text};
 ghost use Rattle.script8.specs.Replies.{fault_prefix, job_prefix, job_of as the_job, job_of_turn};
 
 use crate::line_replies::put_job;
@@ -9,7 +9,7 @@ use crate::text_lines::{put, put_name, put_number};
 use crate::{Entry, JobEntry, SessionFault};
 use arrayvec::ArrayVec;
 use bin_tape::TapeFault;
-use os8_dir::FileFault;
+use os8_dir::{DirFault, FileFault};
 use pal_asm::{AsmFault, Code};
 
 /// Puts the text of a fault into an empty line.
@@ -57,6 +57,31 @@ fn put_file_fault(line: &mut ArrayVec<u8, 80>, fault: FileFault)
         FileFault::Stopped => put(line, b"? 4.9 STOPPED"),
         FileFault::Memory => put(line, b"? 10 MEMORY"),
         FileFault::NothingWritten => put(line, b"? 4.11 NOTHING WRITTEN"),
+    }
+}
+
+/// Puts the text of a fault of a directory into an empty line (this project's profile).
+pub fn put_directory_fault(line: &mut ArrayVec<u8, 80>, fault: DirFault)
+    requires { array_vec_len line.old ≡ 0 }
+    ensures text { line.new.items ≡ line.old.items ++ directory_fault_text fault }
+    ensures short { array_vec_len line.new ≤ 60 }
+{
+    match fault {
+        DirFault::BadLink(number) => {
+            put(line, b"? DIRECTORY 1 BAD LINK ");
+            put_number(line, number as u64);
+        }
+        DirFault::BadCount(number) => {
+            put(line, b"? DIRECTORY 2 BAD COUNT ");
+            put_number(line, number as u64);
+        }
+        DirFault::EntryPastSegment => put(line, b"? DIRECTORY 3 ENTRY PAST SEGMENT"),
+        DirFault::PastVolume => put(line, b"? DIRECTORY 4 PAST VOLUME"),
+        DirFault::SameName => put(line, b"? DIRECTORY 5 SAME NAME"),
+        DirFault::WrongFirstBlock => put(line, b"? DIRECTORY 6 WRONG FIRST BLOCK"),
+        DirFault::MixedInfo => put(line, b"? DIRECTORY 7 MIXED INFO"),
+        DirFault::Device => put(line, b"? DIRECTORY 8 DEVICE"),
+        DirFault::Memory => put(line, b"? 10 MEMORY"),
     }
 }
 

@@ -1,26 +1,14 @@
 -- The lines of what is found in a directory (this project's profile).
 use Rattle.std.specs.Prelude.{ℕ, zero, suc, ◌+◌, ◌&&◌, Bool, false, not, codes, decimal, nat_le, nat_lt, if◌then◌else◌, List, [], ◌∷◌, ◌++◌, length}
 use Rattle.os8_dir.specs.declared.faults.DirFault.{DirFault}
-use Rattle.os8_dir.specs.declared.faults.DirFault.TheVariants.{BadLink, BadCount, EntryPastSegment, PastVolume, SameName, WrongFirstBlock, MixedInfo, Device, Memory}
+use Rattle.script8.specs.Faults.{directory_fault_text}
 use Rattle.script8.specs.Shown.{shown}
 use Rattle.survey8.specs.declared.parts.Part.{Part}
 use Rattle.survey8.specs.declared.parts.Part.TheVariants.{Segment, Fault, File, Empty}
 use Rattle.survey8.specs.Findings.{Finding, Told, Unsound, findings}
 
--- what the program prints of a fault of a directory
-abbrev pub fault_text : DirFault → List ℕ
-fault_text (BadLink number) = codes "? DIRECTORY 1 BAD LINK " ++ decimal number
-fault_text (BadCount number) = codes "? DIRECTORY 2 BAD COUNT " ++ decimal number
-fault_text EntryPastSegment = codes "? DIRECTORY 3 ENTRY PAST SEGMENT"
-fault_text PastVolume = codes "? DIRECTORY 4 PAST VOLUME"
-fault_text SameName = codes "? DIRECTORY 5 SAME NAME"
-fault_text WrongFirstBlock = codes "? DIRECTORY 6 WRONG FIRST BLOCK"
-fault_text MixedInfo = codes "? DIRECTORY 7 MIXED INFO"
-fault_text Device = codes "? DIRECTORY 8 DEVICE"
-fault_text Memory = codes "? 10 MEMORY"
-
 abbrev pub fault_line : DirFault → List ℕ
-fault_line fault = fault_text fault ++ 0o12 ∷ []
+fault_line fault = directory_fault_text fault ++ 0o12 ∷ []
 
 -- a block, and how many from it on
 abbrev pub extent_text : ℕ → ℕ → List ℕ

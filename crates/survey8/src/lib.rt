@@ -14,6 +14,5 @@ mod reading;
 mod surveys;
 
 pub use answers::Survey;
-pub use lines::put_fault_text;
 pub use parts::Part;
 pub use surveys::survey;

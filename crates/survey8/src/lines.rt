@@ -1,44 +1,20 @@
 //! The lines of what is found in a directory.
 ghost use Rattle.std.specs.Prelude.{◌≡◌, ◌+◌, ◌≤◌, ◌++◌, ◌∷◌, [], codes, OnOk};
 ghost use Rattle.arrayvec.specs.ArrayVec.{array_vec_len};
-ghost use Rattle.survey8.specs.Lines.{extent_text, fault_line, fault_text, part_line};
+ghost use Rattle.survey8.specs.Lines.{extent_text, fault_line, part_line};
 
 use crate::Part;
 use os8_dir::DirFault;
+use script8::put_directory_fault;
 use script8::text_lines::{TextLine, put, put_name, put_number};
 use std::alloc::AllocError;
-
-/// Puts the text of a fault of a directory into an empty line (this project's profile).
-pub fn put_fault_text(line: &mut TextLine, fault: DirFault)
-    requires { array_vec_len line.old ≡ 0 }
-    ensures text { line.new.items ≡ line.old.items ++ fault_text fault }
-    ensures short { array_vec_len line.new ≤ 60 }
-{
-    match fault {
-        DirFault::BadLink(number) => {
-            put(line, b"? DIRECTORY 1 BAD LINK ");
-            put_number(line, number as u64);
-        }
-        DirFault::BadCount(number) => {
-            put(line, b"? DIRECTORY 2 BAD COUNT ");
-            put_number(line, number as u64);
-        }
-        DirFault::EntryPastSegment => put(line, b"? DIRECTORY 3 ENTRY PAST SEGMENT"),
-        DirFault::PastVolume => put(line, b"? DIRECTORY 4 PAST VOLUME"),
-        DirFault::SameName => put(line, b"? DIRECTORY 5 SAME NAME"),
-        DirFault::WrongFirstBlock => put(line, b"? DIRECTORY 6 WRONG FIRST BLOCK"),
-        DirFault::MixedInfo => put(line, b"? DIRECTORY 7 MIXED INFO"),
-        DirFault::Device => put(line, b"? DIRECTORY 8 DEVICE"),
-        DirFault::Memory => put(line, b"? 10 MEMORY"),
-    }
-}
 
 /// Appends the line of a fault of a directory.
 pub(crate) fn put_fault(fault: DirFault, out: &mut Vec<u8>) -> Result<(), AllocError>
     ensures { OnOk result (out.new.items ≡ out.old.items ++ fault_line fault) }
 {
     let mut line = TextLine::new();
-    put_fault_text(&mut line, fault);
+    put_directory_fault(&mut line, fault);
     put(&mut line, b"\n");
     out.extend_from_slice(line.as_slice())
 }
