@@ -2,7 +2,7 @@
 
 use archive8::{ArchiveFault, check};
 use disk8::Layout;
-use image_file8::{Ended, Progress, print_line, print_of, refused, seen};
+use image_file8::{Ended, Progress, made, print_line, print_of, seen};
 use report8::{ProgramLine, put_program};
 use std::fs::{File, Files};
 use std::time::Clock;
@@ -76,7 +76,7 @@ fn check_one<R: Print + Eprint + AllocGlobal>(
     image: &[u8],
     is_all: bool,
 ) -> Result<(), Ended> {
-    let told = told_of(rt, image, is_all).map_err(|fault| refused(rt, image.len(), fault))?;
+    let told = made(rt, image.len(), told_of(rt, image, is_all))?;
     print_line(rt, &told.text)?;
     if told.is_sound {
         return Ok(());
