@@ -1,5 +1,5 @@
-//! The commands on the volumes in image files of the host, but for those on many files or blocks: what they do with bytes is in the functions that they call; here image files
-//! are read and written, and what a command prints is printed.
+//! The commands on the volumes in image files of the host, but for those on many files or blocks: what they do with bytes is in the
+//! functions that they call; here image files are read and written, and what a command prints is printed.
 #![tactic(auto)]
 
 mod archives;
