@@ -1,7 +1,7 @@
 #!/usr/bin/env bash
-# first.sh [-p PROCESSORS] [BEFORE [AFTER]]: what the first call of ./pdp8 takes in a fresh clone of two commits, one after the other:
-# the processor seconds of each crate's proof, all that the call takes, and its wall seconds. BEFORE is the last commit that proved
-# one crate after the other, AFTER is HEAD. The machine is to be idle but for this.
+# first.sh [-p PROCESSORS] [COMMIT]: what someone waits for in a fresh clone of a commit, HEAD where none is given, in one run: the first answer
+# of ./pdp8, ./prove, `./check quick` from nothing, and the same where all programs are built. Prints the wall seconds and the processor
+# seconds of each, and their ratios to those of ./prove. The machine is to be idle but for this.
 set -eu
 top=$(cd "$(dirname "${BASH_SOURCE[0]}")/.." && pwd)
 processors=$(nproc)
@@ -9,24 +9,28 @@ if [ "${1-}" = -p ]; then
     processors=$2
     shift 2
 fi
+commit=$(git -C "$top" rev-parse "${1-HEAD}")
 room=$(mktemp -d)
 trap 'rm -rf "$room"' EXIT
-for which in "before ${1-3e85e6c}" "after ${2-HEAD}"; do
-    name=${which% *} commit=$(git -C "$top" rev-parse "${which#* }")
-    git clone -q "$top" "$room/$name"
-    git -C "$room/$name" checkout -q "$commit"
-    call=(build/program)
-    [ -x "$room/$name/build/program" ] || call=(env -C crates/pdp8 rt run)
-    # (the program runs without words at the end, and says so by its status)
-    taskset -c "0-$((processors - 1))" python3 "$top/tests/spent.py" "$room/$name" "${call[@]}" >"$room/$name.spent" || true
-    [ -x "$room/$name/crates/pdp8/out/pdp8" ] || { echo "first.sh: $commit is not proved" >&2; exit 1; }
+for clone in one two; do
+    git clone -q "$top" "$room/$clone"
+    git -C "$room/$clone" checkout -q "$commit"
 done
-printf '%-16s%9s%9s%9s\n' "$processors processors" before after ratio
-awk 'NR == FNR { before[$1] = $2; next }
-    { after[$1] = $2; order[++n] = $1 }
-    END {
-        for (k = 1; k <= n; k++) {
-            name = order[k]
-            printf "%-16s%9s%9s%9s\n", name, name in before ? before[name] : "", after[name], before[name] ? sprintf("%.2f", after[name] / before[name]) : ""
-        }
-    }' "$room/before.spent" "$room/after.spent"
+
+# Runs a command in a clone, and notes its name, its wall seconds and its processor seconds.
+measure() {
+    local name=$1 clone=$2 TIMEFORMAT='%R %U %S'
+    shift 2
+    echo "first.sh: $name" >&2
+    { time (cd "$room/$clone" && taskset -c "0-$((processors - 1))" "$@") <"$top/examples/add-one.bin" >"$room/said" 2>&1; } 2>"$room/time" ||
+        { tail -n 20 "$room/said" >&2; echo "first.sh: $name failed" >&2; exit 1; }
+    awk -v name="$name" '{ printf "%s|%.1f|%.1f\n", name, $1, $2 + $3 }' "$room/time" >>"$room/figures"
+}
+
+measure 'first answer' one ./pdp8 tape
+measure './prove' one ./prove
+measure './check quick' two ./check quick
+measure './check quick, built' two ./check quick
+printf '%-24s%9s%11s%13s%13s\n' "$processors processors" wall processor 'of the wall' 'of processor'
+awk -F '|' '{ name[NR] = $1; wall[NR] = $2; used[NR] = $3 }
+    END { for (k = 1; k <= NR; k++) printf "%-24s%9.1f%11.1f%13.3f%13.3f\n", name[k], wall[k], used[k], wall[k] / wall[2], used[k] / used[2] }' "$room/figures"

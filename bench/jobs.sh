@@ -9,7 +9,7 @@ top=$(cd "$(dirname "${BASH_SOURCE[0]}")/.." && pwd)
 . "$top/bench/sources.sh"
 ours=$top/crates/asm_bench/out/asm_bench
 (cd "$top/crates/asm_bench" && rt run <stdin >/dev/null) 2>/dev/null
-"$top/pdp8" --version >/dev/null
+"$top/prove" >/dev/null
 pdp8=$top/crates/pdp8/out/pdp8
 
 folder=$(mktemp -d)

@@ -27,9 +27,9 @@ class Crates:
     def is_program(self, name):
         return os.path.exists(f"{self.top}/crates/{name}/src/main.rt")
 
-    def files(self, name):
-        """The files that a proof of the crate reads."""
-        folders = [f"{self.top}/crates/{name}/{part}" for part in PARTS]
+    def files(self, name, parts=PARTS):
+        """The files of a crate: all that a proof of it reads, or those of some of its folders."""
+        folders = [f"{self.top}/crates/{name}/{part}" for part in parts]
         return sorted(f"{at}/{file}" for folder in folders for at, _, files in os.walk(folder) for file in files)
 
     def words(self, name, library):
@@ -49,3 +49,8 @@ class Crates:
 def toolchain():
     """The folder of the toolchain, whose commands are on the path."""
     return os.path.dirname(os.path.dirname(os.path.realpath(shutil.which("rt") or "/")))
+
+
+def kit():
+    """The toolchain's identity, one line."""
+    return open(f"{toolchain()}/KIT-ID", encoding="utf-8").read().strip()

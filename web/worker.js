@@ -2,6 +2,8 @@
 // lines, and tell what of its output was shown.
 import { command, Held } from './host.js';
 
+const FAULT = 'pdp8: a check failed: this is a fault of pdp8 itself; please report it, with the command and its files';
+
 const parts = [];
 let ended = false, shown = 0, sent = 0, wake = () => {};
 let shared = null, wanted = false, promises = false;
@@ -66,7 +68,7 @@ async function begin({ module, words, files, input, locked, terminal, patience, 
     try {
         status = await command(module, own, ['pdp8', ...words], host);
     } catch (error) {
-        failed = String(error);
+        failed = error instanceof WebAssembly.RuntimeError ? FAULT : String(error);
     }
     own.tell();
     postMessage({ status, failed });

@@ -1,15 +1,17 @@
 #!/usr/bin/env python3
-"""program: proves the crates that the program pdp8 stands on, as many side by side as there are processors, and builds it.
+"""proved.py [--status]: proves the crates that the program pdp8 stands on, as many side by side as there are processors, and builds it.
 
 Each crate is proved once, over what the crates below it state, by the toolchain's prover. What it states is kept in its out/program/
-with a sum of all that the proof rests on, so that a run that was broken off goes on behind the last crate that was whole, and a changed
-source has its crate and those above it proved again. What is done is told on standard error; the log of a crate that fails is shown,
-and named.
+with a sum of all that the proof rests on, so that a run that was broken off goes on after the last crate that was whole, and a changed
+source has its crate and those above it proved again. What is proved is shown on standard error; the log of a crate that fails is shown,
+and named. --status prints which program a call of ./pdp8 runs; the status is 0 where it is the proved one.
 """
-import fcntl, hashlib, os, shlex, shutil, signal, subprocess, sys, time
+import hashlib, os, shlex, shutil, subprocess, sys, time
 
 sys.dont_write_bytecode = True
-from crates import TOP, Crates, toolchain
+from crates import TOP, Crates, kit, toolchain
+from unproved import Build
+from working import Group, Progress, heed_signals, lock
 
 PROGRAM = "pdp8"
 MADE = f"{TOP}/crates/{PROGRAM}/out/{PROGRAM}"
@@ -53,23 +55,35 @@ class Wanted:
     def library(self, name):
         return f"{self.kept(name)}/{name}.rlib"
 
+    def mark(self, name):
+        """What is kept of a crate's proof: the sum of what it rests on, and of the program also the sum of its bytes."""
+        if name != PROGRAM:
+            return self.sums[name]
+        return f"{self.sums[name]} {hashlib.sha256(open(MADE, 'rb').read()).hexdigest()}"
+
     def is_proved(self, name):
         """Whether the crate was proved as it stands here."""
-        made = MADE if name == PROGRAM else self.library(name)
         try:
-            return os.path.exists(made) and open(f"{self.kept(name)}/sum", encoding="utf-8").read() == self.sums[name]
+            is_there = name == PROGRAM or os.path.exists(self.library(name))
+            return is_there and open(f"{self.kept(name)}/sum", encoding="utf-8").read() == self.mark(name)
         except OSError:
             return False
 
+    def keep(self, name):
+        """Notes that the crate is proved as it stands here."""
+        os.makedirs(self.kept(name), exist_ok=True)
+        with open(f"{self.kept(name)}/sum", "w", encoding="utf-8") as kept:
+            kept.write(self.mark(name))
+
     def command(self, name, jobs):
         """What proves a crate, in its folder."""
-        kit = toolchain()
-        words = [f"{kit}/bin/rattle", "build", *self.all.words(name, self.library), "--jobs", str(jobs)]
+        words = [f"{toolchain()}/bin/rattle", "build", *self.all.words(name, self.library), "--jobs", str(jobs)]
         if name != PROGRAM:
             return [*words, "--statements", "-o", self.library(name)]
-        built = [*words, "--toolchain", f"{kit}/toolchain", "-o", f"{self.kept(name)}/{name}.o"]
-        link = [f"{kit}/bin/rattle-link", "--target", "x86_64-unknown-linux-gnu", "--toolchain", f"{kit}/toolchain", "-o", MADE]
-        link += [f"{self.kept(name)}/{name}.o", f"{kit}/c/libos_c.a", f"{kit}/c/liblibc_c.a"]
+        tools = ["--toolchain", f"{toolchain()}/toolchain"]
+        built = [*words, *tools, "-o", f"{self.kept(name)}/{name}.o"]
+        link = [f"{toolchain()}/bin/rattle-link", "--target", "x86_64-unknown-linux-gnu", *tools, "-o", MADE]
+        link += [f"{self.kept(name)}/{name}.o", *(f"{toolchain()}/c/{it}" for it in ("libos_c.a", "liblibc_c.a"))]
         return ["sh", "-c", f"{shlex.join(built)} && {shlex.join(link)}"]
 
     def chain(self, name):
@@ -83,70 +97,21 @@ class Proof:
 
     def __init__(self, wanted, name, jobs, group):
         self.wanted, self.name, self.jobs, self.begun = wanted, name, jobs, time.monotonic()
-        self.log, self.kept = f"{LOGS}/{name}.log", wanted.kept(name)
-        shutil.rmtree(self.kept, ignore_errors=True)
-        os.makedirs(self.kept)
-        how = {"cwd": f"{TOP}/crates/{name}", "stdin": subprocess.DEVNULL, "stderr": subprocess.STDOUT}
+        self.log = f"{LOGS}/{name}.log"
+        shutil.rmtree(wanted.kept(name), ignore_errors=True)
+        os.makedirs(wanted.kept(name))
         with open(self.log, "wb") as log:
-            join = lambda: os.setpgid(0, group.number)
-            self.run = subprocess.Popen(wanted.command(name, jobs), stdout=log, preexec_fn=join, **how)
+            self.run = group.start(wanted.command(name, jobs), cwd=f"{TOP}/crates/{name}", stdout=log, stderr=subprocess.STDOUT)
 
     def has_ended(self):
         return self.run.poll() is not None
 
-    def keep(self):
-        """Notes what the proof rests on, once the crate is proved. Returns whether it is."""
+    def has_proved(self):
+        """Whether the crate is proved, which is then noted."""
         if self.run.returncode:
             return False
-        with open(f"{self.kept}/sum", "w", encoding="utf-8") as kept:
-            kept.write(self.wanted.sums[self.name])
+        self.wanted.keep(self.name)
         return True
-
-
-class Group:
-    """The provers, all of which end when this program does, however it does."""
-
-    def __init__(self):
-        ends, self.held = os.pipe()
-        # the shell reads until this program's end of the pipe is closed
-        self.guard = subprocess.Popen(["sh", "-c", "read _; kill -9 0"], stdin=ends, preexec_fn=os.setpgrp)
-        self.number = self.guard.pid
-        os.close(ends)
-
-    def end(self):
-        os.close(self.held)
-        self.guard.wait()
-
-
-class Progress:
-    """What standard error shows: on a terminal one line that is written over, else a line for each crate."""
-
-    def __init__(self, count):
-        self.count, self.begun, self.is_live, self.shown = count, time.monotonic(), sys.stderr.isatty(), ""
-
-    def clock(self):
-        seconds = int(time.monotonic() - self.begun)
-        return f"{seconds // 60}:{seconds % 60:02}"
-
-    def show(self, done, running):
-        if self.is_live:
-            line = f"proving {min(done + 1, self.count)} of {self.count}, {', '.join(running)}, {self.clock()}"
-            line = line[: shutil.get_terminal_size().columns - 1]
-            if line != self.shown:
-                print(f"\r\033[K{line}", end="", file=sys.stderr, flush=True)
-                self.shown = line
-
-    def tell(self, line):
-        print("\r\033[K" * self.is_live + line, file=sys.stderr, flush=True)
-        self.shown = ""
-
-    def has_proved(self, done, proof):
-        if not self.is_live:
-            self.tell(f"proved {done} of {self.count}, {proof.name}, {time.monotonic() - proof.begun:.0f} s, {self.clock()} in all")
-
-    def clear(self):
-        if self.is_live:
-            print("\r\033[K", end="", file=sys.stderr, flush=True)
 
 
 def jobs_that_fit():
@@ -157,7 +122,8 @@ def jobs_that_fit():
 
 def share(wanted, ready, idle):
     """The crate that is to be proved next, of those that are ready, and its jobs: the one with the longest chain above it goes first. A
-    second job costs a prover nearly half its processor seconds again and gains it little time, so it gets only what no other crate waits for."""
+    second job costs a prover nearly half its processor seconds again and gains it little time, so it gets only what no other crate waits
+    for."""
     return max(ready, key=wanted.chain), max(1, idle // len(ready))
 
 
@@ -172,60 +138,70 @@ def prove(wanted, progress, group):
             name, jobs = share(wanted, ready, processors - taken)
             running[name] = Proof(wanted, name, min(jobs, most - taken), group)
             continue
-        progress.show(len(done), running)
+        progress.show(f"proving {min(len(done) + 1, len(wanted.names))} of {len(wanted.names)}, {', '.join(running)}")
         time.sleep(0.1)
         for proof in [it for it in running.values() if it.has_ended()]:
             del running[proof.name]
-            if not proof.keep():
+            if not proof.has_proved():
                 return proof
             done.add(proof.name)
-            progress.has_proved(len(done), proof)
+            if not progress.is_live:
+                seconds = f"{time.monotonic() - proof.begun:.0f} s"
+                progress.say(f"proved {len(done)} of {len(wanted.names)}, {proof.name}, {seconds}, {progress.clock()} in all")
     return None
 
 
-def lock(progress):
-    """Waits until no other run of this program works in this tree, and keeps others out until this one ends."""
-    folder = os.open(f"{TOP}/build", os.O_RDONLY)
-    try:
-        fcntl.flock(folder, fcntl.LOCK_EX | fcntl.LOCK_NB)
-    except BlockingIOError:
-        progress.tell("another run is proving the program: waiting for it")
-        fcntl.flock(folder, fcntl.LOCK_EX)
-    except OSError:
-        pass  # a file system without locks
-
-
-def break_off(*_):
-    raise KeyboardInterrupt
-
-
-def main():
-    signal.signal(signal.SIGTERM, break_off)
-    signal.signal(signal.SIGHUP, break_off)
-    wanted = Wanted()
-    progress = Progress(len(wanted.names))
-    lock(progress)
-    if all(map(wanted.is_proved, wanted.names)):
-        os.utime(MADE)  # a source may be newer, though it is what was proved
+def status(wanted):
+    """Prints which program a call of ./pdp8 runs. The status is 0 where it is the proved one."""
+    if wanted.is_proved(PROGRAM):
+        print(f"./pdp8 runs the proved program ({kit()})")
         return 0
-    progress.tell(f"proving and building the program pdp8, {len(wanted.names)} crates; this takes some minutes, once")
+    if Build(PROGRAM).is_current():
+        print("./pdp8 runs the program that was built with checks and is not proved here; ./prove proves it")
+    else:
+        print("the next call of ./pdp8 builds the program with checks and no proof; ./prove builds it proved")
+    return 1
+
+
+def prove_program(wanted):
+    """Proves what is not proved yet and builds the program. The exit status."""
+    progress, group = Progress(), None
+    lock(f"{TOP}/build", progress, "another run proves the program: this one waits for it")
+    if wanted.is_proved(PROGRAM):
+        os.utime(MADE)  # a source may be newer, though it is what was proved
+        print(f"pdp8 is proved as its sources stand, with {kit()}")
+        return 0
+    progress.say(f"proving and building the program pdp8, {len(wanted.names)} crates; this takes some 25 minutes on four processors, once")
     os.makedirs(LOGS, exist_ok=True)
     group = Group()
     try:
         failed = prove(wanted, progress, group)
     except KeyboardInterrupt:
-        progress.tell("broken off; the next call goes on from here")
+        progress.say("broken off; the next ./prove goes on from here")
         return 130
     finally:
         group.end()
     progress.clear()
     if failed:
         sys.stderr.write(open(failed.log, encoding="utf-8", errors="replace").read())
-        progress.tell(f"{failed.name} is not proved; its log is {failed.log}")
+        progress.say(f"{failed.name} is not proved; its log is {failed.log}")
         return 70
     shutil.rmtree(LOGS, ignore_errors=True)
+    print(f"pdp8 is proved, with {kit()}; ./pdp8 runs the proved program now")
     return 0
 
 
+def main(words):
+    if words not in ([], ["--status"]):
+        print("prove: usage: ./prove, or ./prove --status", file=sys.stderr)
+        return 2
+    heed_signals()
+    try:
+        return status(Wanted()) if words else prove_program(Wanted())
+    except OSError as error:
+        print(f"prove: {error.filename or 'the build'}: {error.strerror}", file=sys.stderr)
+        return 70
+
+
 if __name__ == "__main__":
-    sys.exit(main())
+    sys.exit(main(sys.argv[1:]))

@@ -1,0 +1,151 @@
+#!/usr/bin/env python3
+"""page.py [--proved | --unproved] FOLDER: makes the page's folder: the files of web/, examples/, and pdp8.wasm, which is the program.
+
+Where the program is proved as its sources stand, its module for WebAssembly is made of what was proved: the prover is called for the program's
+crate as build/proved.py calls it, over the same libraries. A stand-in for the toolchain's clang keeps the LLVM module that the prover hands
+on, and makes no native object of it. Else, or with --unproved, it is made of the module that build/unproved.py keeps, with its checks. The
+toolchain's clang and its linker make a WebAssembly module of either and of web/runtime.c. The foot of the page says which it is. A module
+is made again only where a source of the program, the toolchain, runtime.c or this file has changed. --proved refuses to make the other page.
+"""
+import glob, hashlib, os, shutil, subprocess, sys
+
+sys.dont_write_bytecode = True
+from crates import TOP, kit, toolchain
+from proved import MADE, PROGRAM, Wanted
+from unproved import Build, ready
+
+# A call of it is `.. -c -x ir module.bc -o module.o ..`: the object, which nothing would use, stays empty.
+STAND_IN = """#!/bin/sh
+last= given= object=
+for word; do
+    case $word in *.bc) given=$word ;; esac
+    [ "$last" = -o ] && object=$word
+    last=$word
+done
+[ -n "$given" ] || exec "{clang}" "$@"
+cp "$given" "{module}" && : >"$object"
+"""
+WASM = ["--target=wasm64-unknown-unknown", "--no-default-config", "-mcpu=lime1", "-O3", "-ffunction-sections"]
+OF_MODULE = ["-Wno-override-module", "-c", "-x", "ir"]
+LINK = ["-mwasm64", "--no-entry", "--gc-sections", "--strip-all", "--allow-undefined", "-z", "stack-size=4194304", "--stack-first", "--export=main"]
+MARK = "<!-- which program this is -->"
+UNPROVED = "built with checks of sources that were not proved here, and compiled for WebAssembly. A failed check ends a run and says so."
+
+
+class Page:
+    """How the module of the page is made, of a program that is proved or not."""
+
+    def __init__(self, wanted, library):
+        self.wanted, self.library = wanted, library
+        self.work = f"{TOP}/target/wasm/{'proved' if library else 'unproved'}"
+        self.made = f"{self.work}/{PROGRAM}.wasm"
+
+    def sum(self):
+        """The sum of all that the module is made of."""
+        whole = hashlib.sha256((self.wanted.sums[PROGRAM] if self.library else Build(PROGRAM).sum).encode())
+        for path in (f"{TOP}/web/runtime.c", os.path.abspath(__file__)):
+            whole.update(open(path, "rb").read())
+        return whole.hexdigest()
+
+    def is_current(self):
+        kept = f"{self.work}/sum"
+        return os.path.exists(self.made) and os.path.exists(kept) and open(kept, encoding="utf-8").read() == self.sum()
+
+    def run(self, words, folder=TOP):
+        """Runs a tool. Where it fails, what it says is shown, and that is the end."""
+        ran = subprocess.run(words, cwd=folder, stdin=subprocess.DEVNULL, stdout=subprocess.PIPE, stderr=subprocess.STDOUT)
+        if ran.returncode:
+            sys.stderr.buffer.write(ran.stdout)
+            sys.exit(70)
+
+    def lay_toolchain(self):
+        """A folder like the toolchain's, whose clang keeps the module that it is given, and compiles nothing of it."""
+        own = f"{toolchain()}/toolchain"
+        os.makedirs(f"{self.work}/toolchain/bin")
+        os.symlink(f"{own}/lib", f"{self.work}/toolchain/lib")
+        for tool in os.listdir(f"{own}/bin"):
+            if tool != "clang":
+                os.symlink(f"{own}/bin/{tool}", f"{self.work}/toolchain/bin/{tool}")
+        with open(f"{self.work}/toolchain/bin/clang", "w", encoding="utf-8") as script:
+            script.write(STAND_IN.format(module=f"{self.work}/{PROGRAM}.bc", clang=f"{own}/bin/clang"))
+        os.chmod(f"{self.work}/toolchain/bin/clang", 0o755)
+
+    def object_of_proof(self):
+        """Compiles what was proved."""
+        self.lay_toolchain()
+        words = [f"{toolchain()}/bin/rattle", "build", *self.wanted.all.words(PROGRAM, self.library)]
+        words += ["--jobs", str(len(os.sched_getaffinity(0))), "--cpu=x86-64"]
+        self.run([*words, "--toolchain", f"{self.work}/toolchain", "-o", f"{self.work}/{PROGRAM}.o"], f"{TOP}/crates/{PROGRAM}")
+        made = f"{self.work}/{PROGRAM}.wasm.o"
+        self.run([self.clang(), *WASM, *OF_MODULE, f"{self.work}/{PROGRAM}.bc", "-o", made])
+        return [made]
+
+    def object_of_build(self):
+        """Has the linker compile the module of the build with checks, in parts, without what nothing reaches."""
+        if ready(PROGRAM, to_module=True):
+            sys.exit(70)
+        made = f"{self.work}/{PROGRAM}.bc"
+        self.run([self.clang(), *WASM, "-O0", "-Xclang", "-disable-llvm-passes", "-emit-llvm", *OF_MODULE, Build(PROGRAM).module, "-o", made])
+        return ["--lto-O3", f"--lto-partitions={len(os.sched_getaffinity(0))}", made]
+
+    def clang(self):
+        return f"{toolchain()}/toolchain/bin/clang"
+
+    def build(self):
+        """Makes the module."""
+        shutil.rmtree(self.work, ignore_errors=True)
+        os.makedirs(self.work)
+        of = self.sum()
+        words = self.object_of_proof() if self.library else self.object_of_build()
+        self.run([self.clang(), *WASM, "-ffreestanding", "-fno-builtin", "-c", f"{TOP}/web/runtime.c", "-o", f"{self.work}/runtime.o"])
+        os.symlink(self.clang(), f"{self.work}/wasm-ld")
+        self.run([f"{self.work}/wasm-ld", *LINK, "-o", self.made, *words, f"{self.work}/runtime.o"])
+        with open(f"{self.work}/sum", "w", encoding="utf-8") as kept:
+            kept.write(of)
+
+    def lay(self, folder):
+        """Lays all files of the page into a folder."""
+        os.makedirs(f"{folder}/examples", exist_ok=True)
+        for path in glob.glob(f"{TOP}/web/*.css") + glob.glob(f"{TOP}/web/*.js"):
+            shutil.copy(path, folder)
+        text = open(f"{TOP}/web/index.html", encoding="utf-8").read()
+        which = f"proved with {kit()} and then compiled for WebAssembly." if self.library else UNPROVED
+        with open(f"{folder}/index.html", "w", encoding="utf-8") as page:
+            page.write(text.replace(MARK, which))
+        for path in glob.glob(f"{TOP}/examples/*"):
+            shutil.copy(path, f"{folder}/examples")
+        shutil.copy(self.made, folder)
+
+
+def library_of(wanted):
+    """Where the libraries lie of which the proved program was made: where build/proved.py keeps them, or where the toolchain's gate left
+    them; nothing where the program is not proved as its sources stand."""
+    below = [it for it in wanted.names if it != PROGRAM]
+    if not wanted.is_proved(PROGRAM):
+        return None
+    if all(map(wanted.is_proved, below)):
+        return wanted.library
+    left = lambda name: f"{TOP}/crates/{name}/out/rlib/{name}.rlib"
+    marks = [f"{left(it)}/format" for it in below]
+    is_left = all(os.path.exists(it) and os.path.getmtime(it) <= os.path.getmtime(MADE) for it in marks)
+    return left if is_left else None
+
+
+def main(words):
+    which, folder = words if len(words) == 2 else ("", *words)
+    wanted = Wanted()
+    library = None if which == "--unproved" else library_of(wanted)
+    if which == "--proved" and not library:
+        print("page: the program is not proved as its sources stand; ./prove proves it", file=sys.stderr)
+        return 70
+    page = Page(wanted, library)
+    if not page.is_current():
+        what = "proved" if library else "unproved"
+        print(f"page: compiling the {what} program for WebAssembly; this takes two minutes or so, once", file=sys.stderr, flush=True)
+        page.build()
+    page.lay(os.path.abspath(folder))
+    return 0
+
+
+if __name__ == "__main__":
+    sys.exit(main(sys.argv[1:]))

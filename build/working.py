@@ -1,0 +1,72 @@
+"""What the builds of the program share: what they show on standard error, the processes that they start, and the lock that keeps two
+builds of one kind apart.
+"""
+import fcntl, os, shutil, signal, subprocess, sys, time
+
+
+class Progress:
+    """What standard error shows: lines, and on a terminal one more line that is written over."""
+
+    def __init__(self):
+        self.begun, self.is_live, self.shown = time.monotonic(), sys.stderr.isatty(), ""
+
+    def clock(self):
+        seconds = int(time.monotonic() - self.begun)
+        return f"{seconds // 60}:{seconds % 60:02}"
+
+    def show(self, what):
+        """Shows on a terminal what the build does now, and for how long it has run."""
+        if self.is_live:
+            line = f"{what}, {self.clock()}"[: shutil.get_terminal_size().columns - 1]
+            if line != self.shown:
+                print(f"\r\033[K{line}", end="", file=sys.stderr, flush=True)
+                self.shown = line
+
+    def say(self, line):
+        self.clear()
+        print(line, file=sys.stderr, flush=True)
+
+    def clear(self):
+        if self.is_live and self.shown:
+            print("\r\033[K", end="", file=sys.stderr, flush=True)
+        self.shown = ""
+
+
+class Group:
+    """The processes of a build, all of which end when the build does, however it ends."""
+
+    def __init__(self):
+        ends, self.own_end = os.pipe()
+        # the shell reads until this program's end of the pipe is closed
+        self.guard = subprocess.Popen(["sh", "-c", "read _; kill -9 0"], stdin=ends, preexec_fn=os.setpgrp)
+        self.number = self.guard.pid
+        os.close(ends)
+
+    def start(self, words, **how):
+        return subprocess.Popen(words, stdin=subprocess.DEVNULL, preexec_fn=lambda: os.setpgid(0, self.number), **how)
+
+    def end(self):
+        os.close(self.own_end)
+        self.guard.wait()
+
+
+def lock(folder, progress, waiting):
+    """Waits until no other build holds a folder, and holds it until this program ends. Says `waiting` where it has to wait."""
+    number = os.open(folder, os.O_RDONLY)
+    try:
+        fcntl.flock(number, fcntl.LOCK_EX | fcntl.LOCK_NB)
+    except BlockingIOError:
+        progress.say(waiting)
+        fcntl.flock(number, fcntl.LOCK_EX)
+    except OSError:
+        pass  # a file system without locks
+
+
+def heed_signals():
+    """Has the signals that end a program break it off as Ctrl-C does."""
+
+    def break_off(*_):
+        raise KeyboardInterrupt
+
+    signal.signal(signal.SIGTERM, break_off)
+    signal.signal(signal.SIGHUP, break_off)
