@@ -10,6 +10,7 @@ dpkg -s palbart >/dev/null 2>&1 || { apt-get update && apt-get install -y palbar
 folder=$(mktemp -d)
 trap 'rm -rf "$folder"' EXIT
 cd "$folder"
+"$top/prove" >/dev/null
 program=$top/crates/pdp8/out/pdp8
 
 printf '*200\n\tCLL STA\t\t/ AC IS 7777\n\tTAD ONE\n\tHLT\nONE,\t1\n$\n' >add.pal

@@ -1,6 +1,7 @@
 # The programs of bench/cpu/ for the scripts beside it that run them: works in a fresh folder, with the tape of each and an image V for
 # scripts. Takes palbart from Debian's packages where it is missing.
 dpkg -s palbart >/dev/null 2>&1 || { apt-get update && apt-get install -y palbart; } >&2
+"$top/prove" >/dev/null
 program=$top/crates/pdp8/out/pdp8
 
 folder=$(mktemp -d)

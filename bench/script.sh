@@ -6,6 +6,7 @@
 set -eu
 top=$(cd "$(dirname "${BASH_SOURCE[0]}")/.." && pwd)
 . "$top/bench/seconds.sh"
+"$top/prove" >/dev/null
 program=$top/crates/pdp8/out/pdp8
 folder=$(mktemp -d)
 trap 'rm -rf "$folder"' EXIT

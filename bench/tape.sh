@@ -25,6 +25,7 @@ run_on() {
 
 make_tape 16777216 >"$folder/long.bin"
 make_tape 1677721 >"$folder/short.bin"
+"$top/prove" >/dev/null
 "$top/pdp8" tape <"$folder/short.bin" | tail -n 1
 long=$(seconds run_on "$folder/long.bin" "$top/crates/pdp8/out/pdp8" tape)
 short=$(seconds run_on "$folder/short.bin" "$top/crates/pdp8/out/pdp8" tape)
