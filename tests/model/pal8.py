@@ -7,7 +7,7 @@ first, and a pool is the list of all that was asked of its page.
 """
 from __future__ import annotations
 
-from dataclasses import dataclass, field
+from dataclasses import dataclass, field, replace
 from typing import Optional, Union
 
 from assembler import PERMANENT
@@ -43,10 +43,13 @@ class Fault(Exception):
 
 @dataclass(frozen=True)
 class Token:
-    """`run`, `character`, `here`, `sign`, `opening`, `closing`, `blank`, `string` or `bad`, with its text, or a character's byte."""
+    """`run`, `character`, `here`, `sign`, `opening`, `closing`, `blank`, `string` or `bad`, with its text, or a character's byte, and where
+    it stands among the characters that are there."""
 
     kind: str
     text: str = ""
+    start: int = field(default=0, compare=False)
+    end: int = field(default=0, compare=False)
 
 
 @dataclass
@@ -153,17 +156,19 @@ def statement_at(text: str, at: int) -> tuple[Optional[Statement], int]:
             stop = text.find("\r", at + 1)
             is_cut = close < 0 or 0 <= stop < close
             end = (stop if stop >= 0 else len(text)) if is_cut else close
-            tokens.append(Token("string", text[at + 1 : end]))
-            at = end if is_cut else end + 1
+            behind = end if is_cut else end + 1
+            tokens.append(Token("string", text[at + 1 : end], at, behind))
+            at = behind
         elif head in ([Token("run", "EJECT")], [Token("run", "XLIST")]) and text[at] not in ENDS:
             while at < len(text) and text[at] not in ";\r":
                 at += 1
         elif text[at] in ENDS:
             return Statement(line, meaningful(tokens), text[at], is_cut), at + 1
         else:
+            start = at
             token, at = token_at(text, at)
             if token:
-                tokens.append(token)
+                tokens.append(replace(token, start=start, end=at))
     return None, at
 
 
@@ -350,7 +355,7 @@ class Judged:
     tags: list[str]
     body: Body
     location: int
-    field: int
+    in_field: int
     size: int = 0
     definitions: list[tuple[str, int]] = field(default_factory=list)
 
@@ -529,7 +534,7 @@ class Words:
                 words = self.words_of(now, k)
             except Fault as fault:
                 raise Fault(fault.code, now.line)
-            cell = 0o10000 * now.field + now.location
+            cell = 0o10000 * now.in_field + now.location
             self.words += [(cell + n, word) for n, word in enumerate(words)]
             self.clashes = self.clashes or self.clash(now.line)
         if self.clashes:
@@ -574,7 +579,7 @@ class Words:
             if isinstance(term, Literal):
                 inner = self.value(term.value, now, k)
                 page = now.location // 0o200 if term.opening == "(" else 0
-                return 0o200 * page + self.ask((now.field, page, inner))
+                return 0o200 * page + self.ask((now.in_field, page, inner))
             return now.location if term == "." else self.last_value(term, now, k)
 
         if isinstance(value, Expression):
@@ -585,7 +590,7 @@ class Words:
             return word
         if value.is_indirect:
             raise Fault("II")
-        return PERMANENT[value.operation] | 0o600 | self.ask((now.field, now.location // 0o200, address))
+        return PERMANENT[value.operation] | 0o600 | self.ask((now.in_field, now.location // 0o200, address))
 
     def ask(self, ask: Ask) -> int:
         """Asks for a cell, and gives its offset on its page."""
