@@ -8,3 +8,4 @@ pub mod Text
 pub mod Drafting
 pub mod Steps
 pub mod Laws
+pub mod Judging

@@ -47,7 +47,7 @@ pub fn takes_blank_before(kind: Kind) -> bool
 }
 
 #[inline(always)]
-fn is_comma(kind: Kind) -> bool
+pub fn is_comma(kind: Kind) -> bool
     ensures { result ≡ is_comma kind }
 {
     matches!(kind, Kind::Comma)

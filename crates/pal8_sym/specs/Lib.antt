@@ -1,0 +1,3 @@
+pub mod Permanent
+pub mod Laws
+pub mod Steps
