@@ -1,7 +1,7 @@
 """PAL8, the assembler of OS/8, by its definitions: what a source means, or its first fault. So far it knows the language with literals,
 links and conditions; of the reserved names that come later it takes none.
 
-A place, a name and a condition rest on the statements before alone, so each statement is judged behind those before it; literals and
+A place, a name and a condition rest on the statements before alone, so each statement is judged after those before it; literals and
 links rest on all names, and so come last. It is slow, and keeps no table: a name is looked for among the statements before, the newest
 first, and a pool is the list of all that was asked of its page.
 """
@@ -65,7 +65,7 @@ class Statement:
 
 @dataclass(frozen=True)
 class Literal:
-    """`(` or `[`, and what stands behind it."""
+    """`(` or `[`, and what stands after it."""
 
     opening: str
     value: "Value"
@@ -123,7 +123,7 @@ def behind_tags(tokens: list[Token]) -> list[Token]:
 
 
 def token_at(text: str, at: int) -> tuple[Optional[Token], int]:
-    """The token that begins at a place, or a comment as None, and the place behind it."""
+    """The token that begins at a place, or a comment as None, and the place after it."""
     c = text[at]
     if c == "/":
         return None, (text + "\r").index("\r", at)
@@ -146,7 +146,7 @@ def token_at(text: str, at: int) -> tuple[Optional[Token], int]:
 
 
 def statement_at(text: str, at: int) -> tuple[Optional[Statement], int]:
-    """The statement that begins at a place, or None where nothing ends it, and the place behind its end."""
+    """The statement that begins at a place, or None where nothing ends it, and the place after its end."""
     tokens: list[Token] = []
     line, is_cut = 1 + text.count("\r", 0, at), False
     while at < len(text):
@@ -173,7 +173,7 @@ def statement_at(text: str, at: int) -> tuple[Optional[Statement], int]:
 
 
 def meaningful(tokens: list[Token]) -> list[Token]:
-    """Tokens without the blanks that mean nothing: at an end, beside a sign, behind an opening, before a closing."""
+    """Tokens without the blanks that mean nothing: at an end, beside a sign, after an opening, before a closing."""
     kept: list[Token] = []
     for k, token in enumerate(tokens):
         before = tokens[k - 1].kind if k else "sign"
@@ -210,7 +210,7 @@ def free_name(token: Token) -> Optional[str]:
 
 
 class Reader:
-    """Reads a value from tokens, one behind the other."""
+    """Reads a value from tokens, one after the other."""
 
     def __init__(self, tokens: list[Token], radix: int, has_literals: bool) -> None:
         self.tokens, self.radix, self.has_literals = tokens, radix, has_literals
@@ -281,7 +281,7 @@ class Reader:
 
 
 def whole(read, reader: Reader):
-    """What a reader reads, where nothing is left behind it."""
+    """What a reader reads, where nothing is left after it."""
     value = read()
     if reader.tokens:
         raise Fault("SY")
@@ -289,7 +289,7 @@ def whole(read, reader: Reader):
 
 
 def argument(tokens: list[Token], radix: int) -> Expression:
-    """What stands behind a reserved name: a blank and an expression, or one that begins with `+` or `-`."""
+    """What stands after a reserved name: a blank and an expression, or one that begins with `+` or `-`."""
     if not tokens or tokens[0].kind != "blank" and tokens[0] not in (Token("sign", "+"), Token("sign", "-")):
         raise Fault("SY")
     reader = Reader(tokens[1:] if tokens[0].kind == "blank" else tokens, radix, False)
@@ -365,7 +365,7 @@ def permanent(name: str) -> Optional[int]:
 
 
 class Source:
-    """A source's selected statements, each judged behind those before it, up to the first selected `$`."""
+    """A source's selected statements, each judged after those before it, up to the first selected `$`."""
 
     def __init__(self, text: bytes) -> None:
         self.text = live_text(text)

@@ -1,5 +1,5 @@
 //! Reads a PAL8 source on standard input by the lexer, to measure it and to hold it to the plain model: it prints how many statements and
-//! tokens there are, and a number that is made of all that the lexer tells of them.
+//! tokens there are, and a number that is made of all that the lexer says of them.
 #![tactic(auto)]
 
 use pal8_lex::{End, Kind, Lexer, Operator, Pool, Token};

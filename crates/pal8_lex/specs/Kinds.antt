@@ -6,7 +6,7 @@ use Rattle.pal8_lex.specs.declared.tokens.Kind.TheVariants.{Name, Number, Charac
 use Rattle.pal8_lex.specs.declared.rules.Head.{Head}
 use Rattle.pal8_lex.specs.declared.rules.Head.TheVariants.{Empty, One, Text, Listing, More}
 
--- a blank behind a sign or an opening means nothing
+-- a blank after a sign or an opening means nothing
 abbrev pub takes_blank_behind : Kind → Bool
 takes_blank_behind (Name name) = true
 takes_blank_behind (Number n) = true
@@ -57,7 +57,7 @@ head_of_name name =
     else (if nat_eq name (name_number (codes "XLIST")) then Listing
     else One))
 
--- what stands behind the tags, where it is this token alone
+-- what stands after the tags, where it is this token alone
 abbrev pub head_of_one : Kind → Head
 head_of_one (Name name) = head_of_name name
 head_of_one (Number n) = One
@@ -72,7 +72,7 @@ head_of_one (Closing pool) = One
 head_of_one String = One
 head_of_one Bad = One
 
--- A token more: a `,` behind a single one makes a tag of it.
+-- A token more: a `,` after a single one makes a tag of it.
 abbrev pub head_with : Kind → Head → Head
 head_with kind Empty = head_of_one kind
 head_with kind One = if is_comma kind then Empty else More

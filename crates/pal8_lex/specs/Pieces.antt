@@ -17,7 +17,7 @@ use Rattle.pal8_lex.specs.declared.rules.Shape.TheVariants as shape
 use Rattle.pal8_lex.specs.declared.rules.Effect.{Effect}
 use Rattle.pal8_lex.specs.declared.rules.Effect.TheVariants as effect
 
--- Bytes with their places: the first one, and those behind it, the newest first. A blank, a comment and a title have a piece for each byte.
+-- Bytes with their places: the first one, and those after it, the newest first. A blank, a comment and a title have a piece for each byte.
 pub record Piece : Type 0 where
   pub shape : Shape
   pub first : ℕ × ℕ
@@ -48,7 +48,7 @@ takes_blank shape.ClosedString = true
 takes_blank shape.Comment = false
 takes_blank shape.Title = false
 
--- A blank means something behind what takes one, and behind such a blank.
+-- A blank means something after what takes one, and after such a blank.
 abbrev pub behind_blank : Open → Open
 behind_blank behind.Start = behind.Start
 behind_blank behind.Blank = behind.Blank
@@ -69,7 +69,7 @@ open_by shape.ClosedString first others before = behind.Term
 open_by shape.Comment first others before = behind.Comment
 open_by shape.Title first others before = behind.Title
 
--- what the next byte stands behind
+-- what the next byte stands after
 abbrev pub open_of : List Piece → Open
 open_of [] = behind.Start
 open_of (p ∷ older) = open_by p.shape p.first.0 p.others (open_of older)
@@ -78,7 +78,7 @@ abbrev pub head_by : Option Kind → Head → Head
 head_by None before = before
 head_by (Some k) before = head_with k before
 
--- what stands behind the tags
+-- what stands after the tags
 abbrev pub head_of : List Piece → Head
 head_of [] = heads.Empty
 head_of (p ∷ older) = head_by (kind_of p) (head_of older)
@@ -93,7 +93,7 @@ is_blank (behind.String delimiter) = false
 is_blank behind.Comment = false
 is_blank behind.Title = false
 
--- the place behind a first byte and these
+-- the place after a first byte and these
 abbrev pub end_behind : ℕ → List (ℕ × ℕ) → ℕ
 end_behind first [] = first + 1
 end_behind first (x ∷ older) = x.1 + 1
@@ -156,7 +156,7 @@ with_effect (effect.Completes c) x (p ∷ older) = grown (shape.Mark (kind.Chara
 abbrev pub with_byte : ℕ × ℕ → List Piece → List Piece
 with_byte x before = with_effect (effect_of (open_of before) (head_of before) x.0) x before
 
--- the pieces of the statement that goes on behind these bytes
+-- the pieces of the statement that goes on after these bytes
 abbrev pub pieces : List (ℕ × ℕ) → List Piece
 pieces [] = []
 pieces (x ∷ older) = if ends (pieces older) x.0 then [] else with_byte x (pieces older)

@@ -24,7 +24,7 @@ pub record Progress : Type 0 where
   pub end : Option End
   pub draft : Present
 
--- the line behind an end
+-- the line after an end
 abbrev pub line_behind : End → ℕ → ℕ
 line_behind end.Semicolon line = line
 line_behind end.Line line = limit (line + 1)
@@ -40,7 +40,7 @@ anew_by (Some e) l = record { place = l.place; line = line_behind e l.line; end 
 abbrev pub anew : Progress → Progress
 anew l = anew_by l.end l
 
--- how a lexer stands behind a text, where a statement goes on or begins
+-- how a lexer stands after a text, where a statement goes on or begins
 abbrev pub behind_text : List ℕ → Progress
 behind_text text = record { place = limit (length text); line = line_after (live text); end = None; draft = present_of (pieces (live text)) }
 
@@ -74,7 +74,7 @@ takes_room effect.GoesOn = true
 takes_room effect.Closes = false
 takes_room (effect.Completes c) = false
 
--- What a byte behind a text is answered: whether it ends a statement, which the lexer then shows. Where memory ran out the byte was not taken.
+-- What a byte after a text is answered: whether it ends a statement, which the lexer then shows. Where memory ran out the byte was not taken.
 abbrev pub Answers : List ℕ → ℕ → Result Bool AllocError → Progress → Type 0
 Answers text b (Ok true) new =
     (shown new ≡ Some (statement_of (as_read b) (live text))) × (statements (b ∷ text) ≡ statement_of (as_read b) (live text) ∷ statements text)

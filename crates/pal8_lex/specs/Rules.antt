@@ -1,4 +1,4 @@
--- What a byte of a statement does, by what it stands behind (PAL8, in this project's profile).
+-- What a byte of a statement does, by what it stands after (PAL8, in this project's profile).
 use Rattle.std.specs.Prelude.{ℕ, ◌+◌, nat_eq, nat_lt, nat_le, Bool, ◌&&◌, ◌||◌, if◌then◌else◌}
 use Rattle.word12.specs.Sixbit.{is_letter, is_digit}
 use Rattle.pal8_lex.specs.Text.{capital}
@@ -28,7 +28,7 @@ is_space b = nat_eq b 0o40 || nat_eq b 0o11
 abbrev pub is_end : ℕ → Bool
 is_end b = nat_eq b 0o73 || nat_eq b 0o15 || nat_eq b 0o74 || nat_eq b 0o76 || nat_eq b 0o44
 
--- behind TEXT alone each byte but CR is no end
+-- after TEXT alone each byte but CR is no end
 abbrev pub ends_behind : Head → ℕ → Bool
 ends_behind heads.Empty b = is_end b
 ends_behind heads.One b = is_end b
@@ -36,7 +36,7 @@ ends_behind heads.Text b = nat_eq b 0o15
 ends_behind heads.Listing b = is_end b
 ends_behind heads.More b = is_end b
 
--- CR ends each statement. In a comment, behind `"` and in a string nothing else does; in a title `;` does.
+-- CR ends each statement. In a comment, after `"` and in a string nothing else does; in a title `;` does.
 abbrev pub ends_by : Open → Head → ℕ → Bool
 ends_by behind.Start head b = ends_behind head b
 ends_by behind.Blank head b = ends_behind head b
@@ -84,7 +84,7 @@ begun_by b =
     else (if nat_eq b 0o42 then shape.Quote
     else shape.Mark (mark_of b)))))
 
--- Behind TEXT alone what is no blank begins a string, whatever it is; behind EJECT and XLIST everything is their title.
+-- After TEXT alone what is no blank begins a string, whatever it is; after EJECT and XLIST everything is their title.
 abbrev pub shape_of : Head → ℕ → Shape
 shape_of heads.Empty b = begun_by b
 shape_of heads.One b = begun_by b

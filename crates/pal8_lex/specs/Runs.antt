@@ -1,5 +1,5 @@
 -- Letters and digits that stand together: a name, or a number by either radix (PAL8, in this project's profile). A small letter is its
--- capital. Of a name six characters count. The characters behind the first one have the newest first.
+-- capital. Of a name six characters count. The characters after the first one have the newest first.
 use Rattle.std.specs.Prelude.{ℕ, ◌+◌, ◌-◌, ◌*◌, ◌/◌, nat_lt, nat_le, Bool, ◌||◌, if◌then◌else◌, Option, Some, None, unwrap_or, List, [], ◌∷◌}
 use Rattle.word12.specs.Sixbit.{is_letter, sixbit_code}
 use Rattle.pal_lex.specs.Text.{limit}
@@ -47,12 +47,12 @@ begun b =
       decimal = longer_number 10 0 (capital b);
     }
 
--- the weight of the character that comes behind a first one and these
+-- the weight of the character that comes after a first one and these
 abbrev pub weight_after : List (ℕ × ℕ) → ℕ
 weight_after [] = 0o100000000
 weight_after (x ∷ older) = weight_after older / 0o100
 
--- what a letter or a digit is with those behind it
+-- what a letter or a digit is with those after it
 abbrev pub run_of : ℕ → List (ℕ × ℕ) → Kind
 run_of first [] = begun first
 run_of first (x ∷ older) = longer (run_of first older) (weight_after older) x.0

@@ -27,7 +27,7 @@ is_string (behind.String delimiter) = true
 is_string behind.Comment = false
 is_string behind.Title = false
 
--- the statement that a byte ends behind these
+-- the statement that a byte ends after these
 abbrev pub statement_of : ℕ → List (ℕ × ℕ) → Statement
 statement_of b older = record {
   line = line_after older;

@@ -20,7 +20,7 @@ abbrev pub line_count : List (ℕ × ℕ) → ℕ
 line_count [] = 0
 line_count (x ∷ older) = (if nat_eq x.0 0o15 then 1 else 0) + line_count older
 
--- the line of the place behind these bytes: 1 and the lines that end before
+-- the line of the place after these bytes: 1 and the lines that end before
 abbrev pub line_after : List (ℕ × ℕ) → ℕ
 line_after bytes = limit (1 + line_count bytes)
 

@@ -79,7 +79,7 @@ fn kind_by(shape: Shape, byte: u8) -> Option<Kind>
     }
 }
 
-/// What a blank makes of what it stands behind.
+/// What a blank makes of what it stands after.
 #[inline(always)]
 fn behind_blank(state: Open) -> Open
     ensures { result ≡ behind_blank state }
@@ -91,7 +91,7 @@ fn behind_blank(state: Open) -> Open
     }
 }
 
-/// What stands behind a piece that a byte begins.
+/// What stands after a piece that a byte begins.
 #[inline(always)]
 fn open_by(shape: Shape, byte: u8, before: Open) -> Open
     ensures { result ≡ open_by shape byte [] before }
@@ -182,7 +182,7 @@ impl Draft {
         &self.string
     }
 
-    /// What the next byte stands behind.
+    /// What the next byte stands after.
     #[inline(always)]
     pub fn state(&self) -> Open
         ensures { result ≡ self.now.state }
@@ -190,7 +190,7 @@ impl Draft {
         self.state
     }
 
-    /// What stands behind the tags.
+    /// What stands after the tags.
     #[inline(always)]
     pub fn head(&self) -> Head
         ensures { result ≡ self.now.head }
@@ -198,7 +198,7 @@ impl Draft {
         self.head
     }
 
-    /// Puts a byte, at this place, behind the others. It ends no statement.
+    /// Puts a byte, at this place, after the others. It ends no statement.
     #[inline(always)]
     pub fn put(&mut self, byte: u8, place: u64) -> Result<(), AllocError>
         ensures refused { OnErr result (self.new ≡ self.old) }
@@ -241,7 +241,7 @@ impl Draft {
         Ok(())
     }
 
-    /// Puts a token behind the others, if there is one.
+    /// Puts a token after the others, if there is one.
     #[inline(always)]
     fn add(&mut self, kind: Option<Kind>, is_spaced: bool, place: u64) -> Result<(), AllocError>
         ensures refused { OnErr result (self.new ≡ self.old) }
@@ -269,7 +269,7 @@ impl Draft {
         }
     }
 
-    /// Comes behind the first byte of a piece.
+    /// Comes after the first byte of a piece.
     #[inline(always)]
     fn enter(&mut self, shape: Shape, byte: u8)
         ensures { self.new ≡ record {

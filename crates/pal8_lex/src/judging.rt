@@ -39,7 +39,7 @@ fn is_bad_number(radix: Radix, kind: Kind) -> bool
     }
 }
 
-/// Whether a byte of a statement stands in none, or a `"` has nothing behind it (PAL8, in this project's profile).
+/// Whether a byte of a statement stands in none, or a `"` has nothing after it (PAL8, in this project's profile).
 pub fn has_bad(tokens: &[Token]) -> bool
     ensures { result ≡ has_bad tokens.now }
 {

@@ -22,7 +22,7 @@ const EJECT: u64 = name!(b'E' b'J' b'E' b'C' b'T');
 
 const XLIST: u64 = name!(b'X' b'L' b'I' b'S' b'T');
 
-/// Whether a blank behind such a token means something, as far as it goes.
+/// Whether a blank after such a token means something, as far as it goes.
 #[inline(always)]
 pub fn takes_blank_behind(kind: Kind) -> bool
     ensures { result ≡ takes_blank_behind kind }
@@ -53,7 +53,7 @@ pub fn is_comma(kind: Kind) -> bool
     matches!(kind, Kind::Comma)
 }
 
-/// What begins behind the tags, where it is one token so far.
+/// What begins after the tags, where it is one token so far.
 #[inline(always)]
 pub fn head_of_one(kind: Kind) -> Head
     ensures { result ≡ head_of_one kind }
@@ -71,7 +71,7 @@ pub fn head_of_one(kind: Kind) -> Head
     }
 }
 
-/// What begins behind the tags, with one token more.
+/// What begins after the tags, with one token more.
 #[inline(always)]
 pub fn head_with(kind: Kind, before: Head) -> Head
     ensures { result ≡ head_with kind before }
@@ -89,7 +89,7 @@ pub fn head_with(kind: Kind, before: Head) -> Head
     }
 }
 
-/// What begins behind the tags, where the newest token, no comma, is this one now.
+/// What begins after the tags, where the newest token, no comma, is this one now.
 #[inline(always)]
 pub fn head_again(kind: Kind, before: Head) -> Head
     ensures { result ≡ head_again kind before }

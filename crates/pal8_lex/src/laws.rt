@@ -7,12 +7,12 @@ pub fn statements_stay()
     ensures { StatementsStay }
 {}
 
-/// The end of a line ends a statement, whatever it stands behind.
+/// The end of a line ends a statement, whatever it stands after.
 pub fn lines_end()
     ensures { LinesEnd }
 {}
 
-/// Behind the end of a statement the next one is a function of its own bytes.
+/// After the end of a statement the next one is a function of its own bytes.
 pub fn statements_begin_anew()
     ensures { StatementsBeginAnew }
 {}
@@ -22,7 +22,7 @@ pub fn pieces_are_whole()
     ensures { PiecesAreWhole }
 {}
 
-/// A blank at the beginning, beside a sign, behind an opening, before a closing or behind a blank means nothing.
+/// A blank at the beginning, beside a sign, after an opening, before a closing or after a blank means nothing.
 pub fn blanks_mean_nothing()
     ensures behind { BlanksBehindMeanNothing }
     ensures again { BlanksAreOne }

@@ -21,7 +21,7 @@ pub enum End {
     Dollar,
 }
 
-/// What the next byte of a statement stands behind.
+/// What the next byte of a statement stands after.
 #[derive(Clone, Copy)]
 pub enum Open {
     /// Nothing, or a sign or an opening: a blank means nothing.
@@ -30,18 +30,18 @@ pub enum Open {
     Blank,
     /// A name or a number, which may go on; the next character of the name has this weight.
     Run(u32),
-    /// Any other token, behind which a blank means something.
+    /// Any other token, after which a blank means something.
     Term,
     /// `"`
     Quote,
     /// A string's beginning, with this delimiter.
     String(u8),
     Comment,
-    /// What EJECT or XLIST have behind them, which means nothing.
+    /// What EJECT or XLIST have after them, which means nothing.
     Title,
 }
 
-/// What stands in a statement behind its tags, which are pairs of a token and `,`.
+/// What stands in a statement after its tags, which are pairs of a token and `,`.
 #[derive(Clone, Copy)]
 pub enum Head {
     Empty,
@@ -250,7 +250,7 @@ pub fn effect_of(state: Open, head: Head, byte: u8) -> Effect
     }
 }
 
-/// Whether what comes next stands behind a blank that means something.
+/// Whether what comes next stands after a blank that means something.
 #[inline(always)]
 pub fn is_blank(state: Open) -> bool
     ensures { result ≡ is_blank state }

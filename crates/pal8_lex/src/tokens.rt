@@ -113,11 +113,11 @@ pub enum Kind {
     Closing(Pool),
     /// The string of a TEXT, with its delimiters.
     String,
-    /// A byte that stands in no statement, or a `"` with nothing behind it.
+    /// A byte that stands in no statement, or a `"` with nothing after it.
     Bad,
 }
 
-/// A token, with the places in its text of its first byte and behind its last one, from 0; each is 2^64 - 1 where it would be more.
+/// A token, with the places in its text of its first byte and after its last one, from 0; each is 2^64 - 1 where it would be more.
 #[derive(Clone, Copy)]
 pub struct Token {
     pub kind: Kind,

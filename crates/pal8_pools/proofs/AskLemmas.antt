@@ -66,7 +66,7 @@ pub cells_stay : CellsStay
 cells_stay [] asks a is = refl
 cells_stay (b ∷ later) asks a is = cell_stays b (later ++ asks) a (asked_later later asks a is) ∙ cells_stay later asks a is
 
--- ## Ranks tell values apart
+-- ## Ranks keep values apart
 
 pub rank_is_below : (pool : List ℕ) (v : ℕ) → is_among pool v ≡ true → rank pool v < length pool
 rank_is_below [] v among = absurd cc

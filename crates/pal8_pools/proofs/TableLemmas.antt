@@ -143,7 +143,7 @@ pub marks_size : (old : PoolTable) (values counts : List ℕ) (marks : List Bool
     → length marks ≡ 0o100000
 marks_size old values counts marks is sizes room = omega (arith, sizes.punched_are, made_count (length counts) sizes.whole_or_none (ap has_room is ∙ room))
 
--- ## Behind the table's making
+-- ## After the table's making
 
 -- where there is no room nothing was asked, so no page is full
 not_full : (a : Ask) (asks words : List Ask) (old : PoolTable) → Holds old asks words → a.field < 8 → a.page < 32 → has_room old ≡ false → rank (pool_of (a ∷ asks) a.field a.page) a.value ≡ 0

@@ -44,7 +44,7 @@ abbrev pub with_punched : Bool → Ask → List Ask → List Ask
 with_punched true a punched = a ∷ punched
 with_punched false a punched = punched
 
--- What an ask answers behind these asks: the address of its cell; or that its page is full, and nothing changes; or that there was no room
+-- What an ask answers after these asks: the address of its cell; or that its page is full, and nothing changes; or that there was no room
 -- and no memory.
 abbrev pub Answers : Ask → Bool → List Ask → List Ask → PoolTable → PoolTable → Result ℕ PoolFault → Type 0
 Answers a is_punched asks punched old new (Ok address) =
