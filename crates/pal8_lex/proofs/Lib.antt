@@ -1,0 +1,4 @@
+pub mod DraftLemmas
+pub mod LastLemmas
+pub mod LawLemmas
+pub mod WorkedSources

@@ -1,0 +1,11 @@
+pub mod Kinds
+pub mod Pieces
+pub mod Reading
+pub mod Rules
+pub mod Runs
+pub mod Statements
+pub mod Text
+pub mod Drafting
+pub mod Steps
+pub mod Laws
+pub mod Judging

@@ -1,0 +1,85 @@
+-- What a lexer was given, and what it answers.
+use Rattle.std.specs.Prelude.{◌≡◌, ℕ, ◌+◌, Bool, true, false, length, Option, Some, None, Result, Ok, Err, List, [], ◌∷◌}
+use Rattle.std.specs.declared.alloc.AllocError.{AllocError}
+use Rattle.pal_lex.specs.Text.{limit}
+use Rattle.pal8_lex.specs.Text.{as_read, is_dropped, line_after, live}
+use Rattle.pal8_lex.specs.Rules.{effect_of}
+use Rattle.pal8_lex.specs.Pieces.{ends, head_of, open_of, pieces}
+use Rattle.pal8_lex.specs.Drafting.{Present, present_of}
+use Rattle.pal8_lex.specs.Statements.{Statement, is_string, statement_of, statements}
+use Rattle.pal8_lex.specs.declared.rules.End.{End}
+use Rattle.pal8_lex.specs.declared.rules.End.TheVariants as end
+use Rattle.pal8_lex.specs.declared.rules.Shape.{Shape}
+use Rattle.pal8_lex.specs.declared.rules.Shape.TheVariants as shape
+use Rattle.pal8_lex.specs.declared.rules.Effect.{Effect}
+use Rattle.pal8_lex.specs.declared.rules.Effect.TheVariants as effect
+
+-- How far a lexer is.
+pub record Progress : Type 0 where
+  -- how many bytes came, as far as a number of 64 bits goes
+  pub place : ℕ
+  -- the line of the newest statement
+  pub line : ℕ
+  -- what ended it, if it is ended
+  pub end : Option End
+  pub draft : Present
+
+-- the line after an end
+abbrev pub line_behind : End → ℕ → ℕ
+line_behind end.Semicolon line = line
+line_behind end.Line line = limit (line + 1)
+line_behind end.Open line = line
+line_behind end.Close line = line
+line_behind end.Dollar line = line
+
+abbrev pub anew_by : Option End → Progress → Progress
+anew_by None l = l
+anew_by (Some e) l = record { place = l.place; line = line_behind e l.line; end = None; draft = present_of [] }
+
+-- where the newest statement is ended, the next one begins
+abbrev pub anew : Progress → Progress
+anew l = anew_by l.end l
+
+-- how a lexer stands after a text, where a statement goes on or begins
+abbrev pub behind_text : List ℕ → Progress
+behind_text text = record { place = limit (length text); line = line_after (live text); end = None; draft = present_of (pieces (live text)) }
+
+-- The lexer was given this text.
+unfoldable pub HasRead : Progress → List ℕ → Type 0
+HasRead l text = anew l ≡ behind_text text
+
+abbrev pub shown_by : Option End → Progress → Option Statement
+shown_by None l = None
+shown_by (Some e) l = Some record { line = l.line; tokens = l.draft.tokens; string = l.draft.string; is_cut = is_string l.draft.state; end = e }
+
+-- the statement that a lexer shows, if the newest one is ended
+abbrev pub shown : Progress → Option Statement
+shown l = shown_by l.end l
+
+abbrev pub takes_room_by : Shape → Bool
+takes_room_by shape.Run = true
+takes_room_by shape.Blank = false
+takes_room_by (shape.Mark k) = true
+takes_room_by shape.Quote = true
+takes_room_by shape.OpenString = true
+takes_room_by shape.ClosedString = true
+takes_room_by shape.Comment = false
+takes_room_by shape.Title = false
+
+-- what has this effect is a token more, or a byte of a string
+abbrev pub takes_room : Effect → Bool
+takes_room (effect.Begins s) = takes_room_by s
+takes_room effect.Lengthens = false
+takes_room effect.GoesOn = true
+takes_room effect.Closes = false
+takes_room (effect.Completes c) = false
+
+-- What a byte after a text is answered: whether it ends a statement, which the lexer then shows. Where memory ran out the byte was not taken.
+abbrev pub Answers : List ℕ → ℕ → Result Bool AllocError → Progress → Type 0
+Answers text b (Ok true) new =
+    (shown new ≡ Some (statement_of (as_read b) (live text))) × (statements (b ∷ text) ≡ statement_of (as_read b) (live text) ∷ statements text)
+    × HasRead new (b ∷ text)
+Answers text b (Ok false) new = (statements (b ∷ text) ≡ statements text) × HasRead new (b ∷ text)
+Answers text b (Err refused) new =
+    (is_dropped b ≡ false) × (ends (pieces (live text)) (as_read b) ≡ false)
+    × (takes_room (effect_of (open_of (pieces (live text))) (head_of (pieces (live text))) (as_read b)) ≡ true) × HasRead new text

@@ -1,0 +1,5 @@
+mod Rows
+pub mod AskLemmas
+pub mod ValueLemmas
+pub mod TableLemmas
+pub mod CellLemmas

@@ -1,0 +1,4 @@
+pub mod Permanent
+pub mod Laws
+pub mod Steps
+pub mod Symbols

@@ -1,0 +1,10 @@
+//! The names of PAL8, the assembler of OS/8, that have a meaning of their own: the reserved ones, and the permanent ones with their values (in
+//! this project's profile), and what the names of a source stand for. What PAL III has stands in its own table, which this one asks.
+#![tactic(auto)]
+
+pub mod laws;
+mod permanent_names;
+mod symbols;
+
+pub use permanent_names::{Meaning, Standing, is_reserved, permanent};
+pub use symbols::Symbols;

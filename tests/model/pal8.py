@@ -1,0 +1,619 @@
+"""PAL8, the assembler of OS/8, by its definitions: what a source means, or its first fault. So far it knows the language with literals,
+links and conditions; of the reserved names that come later it takes none.
+
+A place, a name and a condition rest on the statements before alone, so each statement is judged after those before it; literals and
+links rest on all names, and so come last. It is slow, and keeps no table: a name is looked for among the statements before, the newest
+first, and a pool is the list of all that was asked of its page.
+"""
+from __future__ import annotations
+
+from dataclasses import dataclass, field, replace
+from typing import Optional, Union
+
+from assembler import PERMANENT
+
+OPERATIONS = ("AND", "TAD", "ISZ", "DCA", "JMS", "JMP")
+SOFT = dict(
+    IOT=0o6000, OPR=0o7000, BSW=0o7002, CDI=0o6203, MQL=0o7421, MQA=0o7501, SWP=0o7521, ACL=0o7701,
+    SKON=0o6000, SRQ=0o6003, GTF=0o6004, RTF=0o6005, SGT=0o6006, CAF=0o6007,
+    KCF=0o6030, KIE=0o6035, TFL=0o6040, TSK=0o6045, RPE=0o6010, RCC=0o6016, PCE=0o6020,
+    DTRA=0o6761, DTCA=0o6762, DTXA=0o6764, DTLA=0o6766, DTSF=0o6771, DTRB=0o6772, DTLB=0o6774,
+    DCMA=0o6601, DMAR=0o6603, DMAW=0o6605, DCEA=0o6611, DSAC=0o6612, DEAL=0o6615, DEAC=0o6616, DFSE=0o6621, DFSC=0o6622,
+    DMAC=0o6626, DCXA=0o6641, DXAL=0o6643, DXAC=0o6645, DMMT=0o6646,
+)  # fmt: skip
+RESERVED = frozenset(
+    name[:6]
+    for name in "DECIMAL OCTAL FIELD PAUSE I Z PAGE ZBLOCK TEXT FILENAME DEVICE RELOC ENPUNCH NOPUNCH EJECT XLIST IFDEF IFNDEF IFZERO IFNZRO"
+    " EXPUNGE FIXTAB FIXMRI".split()
+)
+CONDITIONS = ("IFZERO", "IFNZRO", "IFDEF", "IFNDEF")
+SIGNS = "+-!&^%=,*"
+OPERATORS = "+-!&^%"
+ENDS = ";\r<>$"
+CORE_END = 0o10000
+
+
+class Fault(Exception):
+    """A code, with the line of its statement."""
+
+    def __init__(self, code: str, line: int = 0) -> None:
+        super().__init__(code, line)
+        self.code, self.line = code, line
+
+
+@dataclass(frozen=True)
+class Token:
+    """`run`, `character`, `here`, `sign`, `opening`, `closing`, `blank`, `string` or `bad`, with its text, or a character's byte, and where
+    it stands among the characters that are there."""
+
+    kind: str
+    text: str = ""
+    start: int = field(default=0, compare=False)
+    end: int = field(default=0, compare=False)
+
+
+@dataclass
+class Statement:
+    line: int
+    tokens: list[Token]
+    end: str
+    is_cut: bool = False
+
+
+# Terms and values
+
+
+@dataclass(frozen=True)
+class Literal:
+    """`(` or `[`, and what stands after it."""
+
+    opening: str
+    value: "Value"
+
+
+Term = Union[str, int, Literal]
+"""A name, a number, or a literal; `.` is the name of the present place."""
+
+
+@dataclass(frozen=True)
+class Expression:
+    """Terms, each with the operator before it; the first one's is `+` or `-`."""
+
+    parts: tuple[tuple[str, Term], ...]
+
+
+@dataclass(frozen=True)
+class Reference:
+    operation: str
+    is_indirect: bool
+    address: Optional[Expression]
+
+
+Value = Union[Expression, Reference]
+
+
+@dataclass
+class Body:
+    """The form of a body, with its name, its value and its string, as far as it has them."""
+
+    form: str
+    name: str = ""
+    value: Optional[Value] = None
+    string: str = ""
+
+
+# Text and statements
+
+
+def live_text(text: bytes) -> str:
+    """The characters that are there: CR, FF, NUL and rubout are not, and LF is CR."""
+    return "".join(chr(b) for b in text if b not in b"\r\f\0\x7f").replace("\n", "\r")
+
+
+def is_coded(c: str) -> bool:
+    return c.isascii() and c.isalnum()
+
+
+def behind_tags(tokens: list[Token]) -> list[Token]:
+    """The tokens without blanks, and without the pairs of a token and `,` in front."""
+    tokens = [token for token in tokens if token.kind != "blank"]
+    while len(tokens) > 1 and tokens[1] == Token("sign", ","):
+        tokens = tokens[2:]
+    return tokens
+
+
+def token_at(text: str, at: int) -> tuple[Optional[Token], int]:
+    """The token that begins at a place, or a comment as None, and the place after it."""
+    c = text[at]
+    if c == "/":
+        return None, (text + "\r").index("\r", at)
+    if is_coded(c):
+        end = at
+        while end < len(text) and is_coded(text[end]):
+            end += 1
+        return Token("run", text[at:end].upper()), end
+    if c in " \t":
+        end = at
+        while end < len(text) and text[end] in " \t":
+            end += 1
+        return Token("blank"), end
+    if c == '"':
+        if at + 1 == len(text) or text[at + 1] == "\r":
+            return Token("bad"), at + 1
+        return Token("character", text[at + 1]), at + 2
+    kinds = {".": "here", "(": "opening", "[": "opening", ")": "closing", "]": "closing"}
+    return Token(kinds.get(c, "sign" if c in SIGNS else "bad"), c), at + 1
+
+
+def statement_at(text: str, at: int) -> tuple[Optional[Statement], int]:
+    """The statement that begins at a place, or None where nothing ends it, and the place after its end."""
+    tokens: list[Token] = []
+    line, is_cut = 1 + text.count("\r", 0, at), False
+    while at < len(text):
+        head = behind_tags(tokens)
+        if head == [Token("run", "TEXT")] and text[at] not in " \t\r":
+            close = text.find(text[at], at + 1)
+            stop = text.find("\r", at + 1)
+            is_cut = close < 0 or 0 <= stop < close
+            end = (stop if stop >= 0 else len(text)) if is_cut else close
+            behind = end if is_cut else end + 1
+            tokens.append(Token("string", text[at + 1 : end], at, behind))
+            at = behind
+        elif head in ([Token("run", "EJECT")], [Token("run", "XLIST")]) and text[at] not in ENDS:
+            while at < len(text) and text[at] not in ";\r":
+                at += 1
+        elif text[at] in ENDS:
+            return Statement(line, meaningful(tokens), text[at], is_cut), at + 1
+        else:
+            start = at
+            token, at = token_at(text, at)
+            if token:
+                tokens.append(replace(token, start=start, end=at))
+    return None, at
+
+
+def meaningful(tokens: list[Token]) -> list[Token]:
+    """Tokens without the blanks that mean nothing: at an end, beside a sign, after an opening, before a closing."""
+    kept: list[Token] = []
+    for k, token in enumerate(tokens):
+        before = tokens[k - 1].kind if k else "sign"
+        behind = tokens[k + 1].kind if k + 1 < len(tokens) else "sign"
+        if token.kind != "blank" or before not in ("sign", "opening") and behind not in ("sign", "closing"):
+            kept.append(token)
+    return kept
+
+
+def statements(text: str) -> list[Statement]:
+    found, at = [], 0
+    while at < len(text):
+        statement, at = statement_at(text, at)
+        if statement:
+            found.append(statement)
+    return found
+
+
+# What a statement says
+
+
+def is_number(run: str, radix: int) -> bool:
+    return all(c in "0123456789"[:radix] for c in run) and int(run, radix) <= 4095
+
+
+def name_in(token: Token) -> Optional[str]:
+    """The name that a token is, of which six characters count."""
+    return token.text[:6] if token.kind == "run" and token.text[0].isalpha() else None
+
+
+def free_name(token: Token) -> Optional[str]:
+    name = name_in(token)
+    return None if name in RESERVED else name
+
+
+class Reader:
+    """Reads a value from tokens, one after the other."""
+
+    def __init__(self, tokens: list[Token], radix: int, has_literals: bool) -> None:
+        self.tokens, self.radix, self.has_literals = tokens, radix, has_literals
+
+    def next(self) -> Token:
+        return self.tokens[0] if self.tokens else Token("end")
+
+    def take(self) -> Token:
+        token = self.next()
+        self.tokens = self.tokens[1:]
+        return token
+
+    def term(self) -> Term:
+        token = self.take()
+        if token.kind == "here":
+            return "."
+        if token.kind == "character":
+            return 0o200 | ord(token.text)
+        if token.kind == "run" and token.text[0].isdigit():
+            return int(token.text, self.radix)
+        if token.kind == "run" and free_name(token):
+            return free_name(token)
+        if token.kind == "opening" and self.has_literals:
+            value = self.value()
+            if self.next() == Token("closing", {"(": ")", "[": "]"}[token.text]):
+                self.take()
+            return Literal(token.text, value)
+        raise Fault("SY")
+
+    def terms(self, first: str, has_blanks: bool) -> Expression:
+        parts = [(first, self.term())]
+        while True:
+            token = self.next()
+            if token.kind == "blank" and has_blanks:
+                self.take()
+                parts.append(("!", self.term()))
+            elif token.kind == "sign" and token.text in OPERATORS:
+                self.take()
+                parts.append((token.text, self.term()))
+            else:
+                return Expression(tuple(parts))
+
+    def expression(self) -> Expression:
+        first = self.next()
+        if first in (Token("sign", "+"), Token("sign", "-")):
+            self.take()
+            return self.terms(first.text, True)
+        return self.terms("+", True)
+
+    def value(self) -> Value:
+        name = name_in(self.next())
+        behind = self.tokens[1].kind if len(self.tokens) > 1 else "end"
+        if name in OPERATIONS and behind in ("blank", "closing", "end"):
+            self.take()
+            return self.reference(name)
+        return self.expression()
+
+    def reference(self, operation: str) -> Reference:
+        is_indirect = False
+        while self.next().kind == "blank":
+            self.take()
+            name = name_in(self.next())
+            if name not in ("I", "Z"):
+                return Reference(operation, is_indirect, self.terms("+", False))
+            self.take()
+            is_indirect = is_indirect or name == "I"
+        return Reference(operation, is_indirect, None)
+
+
+def whole(read, reader: Reader):
+    """What a reader reads, where nothing is left after it."""
+    value = read()
+    if reader.tokens:
+        raise Fault("SY")
+    return value
+
+
+def argument(tokens: list[Token], radix: int) -> Expression:
+    """What stands after a reserved name: a blank and an expression, or one that begins with `+` or `-`."""
+    if not tokens or tokens[0].kind != "blank" and tokens[0] not in (Token("sign", "+"), Token("sign", "-")):
+        raise Fault("SY")
+    reader = Reader(tokens[1:] if tokens[0].kind == "blank" else tokens, radix, False)
+    return whole(reader.expression, reader)
+
+
+def body_of(tokens: list[Token], radix: int) -> Body:
+    if not tokens:
+        return Body("nothing")
+    if tokens[0] == Token("sign", "*"):
+        reader = Reader(tokens[1:], radix, False)
+        return Body("origin", value=whole(reader.expression, reader))
+    name = name_in(tokens[0])
+    if name in RESERVED:
+        return reserved_body(name, tokens[1:], radix)
+    if name and len(tokens) > 1 and tokens[1] == Token("sign", "="):
+        reader = Reader(tokens[2:], radix, False)
+        return Body("definition", name, whole(reader.value, reader))
+    reader = Reader(tokens, radix, True)
+    return Body("word", value=whole(reader.value, reader))
+
+
+def reserved_body(name: str, rest: list[Token], radix: int) -> Body:
+    if name in ("DECIMA", "OCTAL", "EJECT", "XLIST", "PAGE") and not rest:
+        return Body(name)
+    if name in ("FIELD", "PAGE", "ZBLOCK", "IFZERO", "IFNZRO"):
+        return Body(name, value=argument(rest, radix))
+    if name in ("IFDEF", "IFNDEF") and len(rest) == 2 and rest[0].kind == "blank" and free_name(rest[1]):
+        return Body(name, free_name(rest[1]))
+    if name == "TEXT" and [token.kind for token in rest] in (["string"], ["blank", "string"]):
+        return Body(name, string=rest[-1].text)
+    raise Fault("SY")
+
+
+def said(statement: Statement, radix: int) -> tuple[list[str], Body]:
+    """The tags and the body of a statement, by the radix before it, or its first fault."""
+    tokens = statement.tokens
+    if any(token.kind == "bad" for token in tokens):
+        raise Fault("IC")
+    tags, rest = [], tokens
+    while len(rest) > 1 and rest[1] == Token("sign", ","):
+        tags, rest = tags + [rest[0]], rest[2:]
+    names_file = rest and name_in(rest[0]) in ("FILENA", "DEVICE")
+    for token in tags if names_file else tokens:
+        if token.kind == "run" and token.text[0].isdigit() and not is_number(token.text, radix):
+            raise Fault("NU")
+    if statement.is_cut or not all(free_name(tag) for tag in tags):
+        raise Fault("SY")
+    body = body_of(rest, radix)
+    if (statement.end == "<") != (body.form in CONDITIONS):
+        raise Fault("SY")
+    return [free_name(tag) for tag in tags], body
+
+
+# Places, names and conditions
+
+
+@dataclass
+class Judged:
+    """A selected statement, with what rests on those before it."""
+
+    line: int
+    tags: list[str]
+    body: Body
+    location: int
+    in_field: int
+    size: int = 0
+    definitions: list[tuple[str, int]] = field(default_factory=list)
+
+
+def permanent(name: str) -> Optional[int]:
+    return PERMANENT.get(name, SOFT.get(name))
+
+
+class Source:
+    """A source's selected statements, each judged after those before it, up to the first selected `$`."""
+
+    def __init__(self, text: bytes) -> None:
+        self.text = live_text(text)
+        self.judged: list[Judged] = []
+        self.brackets: list[bool] = []
+        self.radix, self.location, self.field = 8, 0o200, 0
+        self.last_line = self.first_faults()
+
+    def first_faults(self) -> int:
+        """Judges the statements up to the first selected `$`, and gives the line of that."""
+        for statement in statements(self.text):
+            is_selected = all(self.brackets)
+            holds = False
+            try:
+                if is_selected:
+                    holds = self.judge(statement)
+                if statement.end == ">" and not self.brackets:
+                    raise Fault("PH")
+            except Fault as fault:
+                raise Fault(fault.code, statement.line)
+            if statement.end == ">":
+                self.brackets.pop()
+            elif statement.end == "<":
+                self.brackets.append(is_selected and holds)
+            elif statement.end == "$" and is_selected:
+                if self.brackets:
+                    raise Fault("PH", statement.line)
+                return statement.line
+        raise Fault("PH" if self.brackets else "NE", 1 + self.text.count("\r"))
+
+    def definition_before(self, name: str, before: list[Judged]) -> Optional[int]:
+        """The last definition of a name in these statements."""
+        for older in reversed(before):
+            for defined, value in reversed(older.definitions):
+                if defined == name:
+                    return value
+        return None
+
+    def value_before(self, name: str, now: Judged) -> Optional[int]:
+        """The value of a name by the names before this statement, its own tags among them."""
+        if name in now.tags:
+            return now.location
+        value = self.definition_before(name, self.judged)
+        return permanent(name) if value is None else value
+
+    def judge(self, statement: Statement) -> bool:
+        """Judges a selected statement, and answers whether its condition holds."""
+        tags, body = said(statement, self.radix)
+        now = Judged(statement.line, tags, body, self.location, self.field)
+        for tag in tags:
+            if now.location >= CORE_END:
+                raise Fault("PF")
+            value = self.definition_before(tag, self.judged)
+            firm = PERMANENT.get(tag) if value is None else value
+            if firm is not None and firm != now.location:
+                raise Fault("DT")
+            now.definitions.append((tag, now.location))
+        value = None
+        if body.form != "word" and body.value is not None:
+            value = self.early_value(body.value, now)
+        holds = self.take_effect(now, value)
+        if now.size and now.location + now.size > CORE_END:
+            raise Fault("PF")
+        self.judged.append(now)
+        return holds
+
+    def take_effect(self, now: Judged, value: Optional[int]) -> bool:
+        form = now.body.form
+        if form in ("DECIMA", "OCTAL"):
+            self.radix = 10 if form == "DECIMA" else 8
+        elif form == "origin":
+            self.location = value
+        elif form == "FIELD":
+            if value > 7:
+                raise Fault("FD")
+            self.field, self.location = value, 0o200
+        elif form == "PAGE":
+            if value is not None and value > 0o37:
+                raise Fault("PG")
+            self.location = -(-self.location // 0o200) * 0o200 if value is None else 0o200 * value
+        elif form == "definition":
+            self.define(now, value)
+        now.size = {"word": 1, "TEXT": len(now.body.string) // 2 + 1, "ZBLOCK": value}.get(form, 0)
+        self.location += now.size
+        if form in ("IFDEF", "IFNDEF"):
+            return (self.value_before(now.body.name, now) is not None) == (form == "IFDEF")
+        return form in ("IFZERO", "IFNZRO") and (value == 0) == (form == "IFZERO")
+
+    def define(self, now: Judged, value: int) -> None:
+        name = now.body.name
+        is_fixed = name in PERMANENT or name in now.tags or any(name in older.tags for older in self.judged)
+        if is_fixed and self.value_before(name, now) != value:
+            raise Fault("RD")
+        now.definitions.append((name, value))
+
+    def early_value(self, value: Value, now: Judged) -> int:
+        """A value by the names before."""
+
+        def of_term(term: Term) -> int:
+            if isinstance(term, int):
+                return term
+            if term == ".":
+                if now.location >= CORE_END:
+                    raise Fault("PF")
+                return now.location
+            found = self.value_before(term, now)
+            if found is None:
+                raise Fault("UA")
+            return found
+
+        if isinstance(value, Expression):
+            return sum_of(value, of_term)
+        address = 0 if value.address is None else sum_of(value.address, of_term)
+        word = self.direct(value, address, now)
+        if word is None:
+            raise Fault("IR")
+        return word
+
+    def direct(self, reference: Reference, address: int, now: Judged) -> Optional[int]:
+        """A reference to page zero or the page of the place."""
+        word = PERMANENT[reference.operation] | (0o400 if reference.is_indirect else 0)
+        if address < 0o200:
+            return word | address
+        if address // 0o200 == now.location // 0o200:
+            return word | 0o200 | address % 0o200
+        return None
+
+
+def sum_of(expression: Expression, of_term) -> int:
+    """All operators have one rank, from left to right from 0, and each step gives twelve bits."""
+    total = 0
+    for operator, term in expression.parts:
+        value = of_term(term)
+        if operator == "%":
+            if value == 0:
+                raise Fault("DZ")
+            total = total // value
+        else:
+            steps = {"+": total + value, "-": total - value, "^": total * value, "!": total | value, "&": total & value}
+            total = steps[operator] % 0o10000
+    return total
+
+
+# Words and pools
+
+Ask = tuple[int, int, int]
+"""A field, a page of it, and a value."""
+
+
+def rank(asks: list[Ask], ask: Ask) -> int:
+    """How many different values were asked of the page before this one first was."""
+    values = [value for number, page, value in asks if (number, page) == ask[:2]]
+    return len(set(values[: values.index(ask[2])]))
+
+
+class Words:
+    """The words of a source, with what they ask of pools, up to the first fault."""
+
+    def __init__(self, source: Source) -> None:
+        self.source = source
+        self.asks: list[Ask] = []
+        self.words: list[tuple[int, int]] = []
+        self.clashes: Optional[Fault] = None
+        for k, now in enumerate(source.judged):
+            try:
+                words = self.words_of(now, k)
+            except Fault as fault:
+                raise Fault(fault.code, now.line)
+            cell = 0o10000 * now.in_field + now.location
+            self.words += [(cell + n, word) for n, word in enumerate(words)]
+            self.clashes = self.clashes or self.clash(now.line)
+        if self.clashes:
+            raise self.clashes
+        if not self.words:
+            raise Fault("NW", source.last_line)
+
+    def cell(self, ask: Ask) -> int:
+        return 0o10000 * ask[0] + 0o200 * ask[1] + 0o177 - rank(self.asks, ask)
+
+    def clash(self, line: int) -> Optional[Fault]:
+        """That a word's cell is a pool's, by what there is so far."""
+        both = {cell for cell, _ in self.words} & {self.cell(ask) for ask in self.asks}
+        if not both:
+            return None
+        return Fault("ZE" if min(both) % 0o10000 < 0o200 else "PE", line)
+
+    def words_of(self, now: Judged, k: int) -> list[int]:
+        if now.body.form == "word":
+            return [self.value(now.body.value, now, k)]
+        if now.body.form == "ZBLOCK":
+            return [0] * now.size
+        if now.body.form == "TEXT":
+            codes = [ord(c) % 0o100 for c in now.body.string] + [0, 0]
+            return [0o100 * codes[2 * n] + codes[2 * n + 1] for n in range(now.size)]
+        return []
+
+    def last_value(self, name: str, now: Judged, k: int) -> int:
+        """A name's value at last: before this statement, or else in the whole source, or else permanent."""
+        before, judged = self.source.definition_before, self.source.judged
+        if name in now.tags:
+            return now.location
+        for value in (before(name, judged[:k]), before(name, judged), permanent(name)):
+            if value is not None:
+                return value
+        raise Fault("UA")
+
+    def value(self, value: Value, now: Judged, k: int) -> int:
+        def of_term(term: Term) -> int:
+            if isinstance(term, int):
+                return term
+            if isinstance(term, Literal):
+                inner = self.value(term.value, now, k)
+                page = now.location // 0o200 if term.opening == "(" else 0
+                return 0o200 * page + self.ask((now.in_field, page, inner))
+            return now.location if term == "." else self.last_value(term, now, k)
+
+        if isinstance(value, Expression):
+            return sum_of(value, of_term)
+        address = 0 if value.address is None else sum_of(value.address, of_term)
+        word = self.source.direct(value, address, now)
+        if word is not None:
+            return word
+        if value.is_indirect:
+            raise Fault("II")
+        return PERMANENT[value.operation] | 0o600 | self.ask((now.in_field, now.location // 0o200, address))
+
+    def ask(self, ask: Ask) -> int:
+        """Asks for a cell, and gives its offset on its page."""
+        place = rank(self.asks + [ask], ask)
+        if place > 0o177:
+            raise Fault("PE" if ask[1] else "ZE")
+        self.asks.append(ask)
+        return 0o177 - place
+
+    def pool(self) -> list[tuple[int, int]]:
+        return sorted({(self.cell(ask), ask[2]) for ask in self.asks})
+
+
+def pairs(text: bytes) -> list[tuple[int, int]]:
+    """The pairs of a source's tape: its words, and then its pools by rising cell; or its first fault."""
+    words = Words(Source(text))
+    return words.words + words.pool()
+
+
+def answer(text: bytes) -> str:
+    """The cells that have words, each with the last one, a line each, or the line of the first fault."""
+    try:
+        meaning = dict(pairs(text))
+    except Fault as fault:
+        return f"? 5 {fault.code} {fault.line}\n"
+    return "".join(f"{cell // 0o10000} {cell % 0o10000:04o} {meaning[cell]:04o}\n" for cell in sorted(meaning))
