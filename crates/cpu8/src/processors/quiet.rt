@@ -13,11 +13,28 @@ ghost use Rattle.cpu8.specs.Unasked.{AreUnasked, finds_no_key, is_ksf};
 ghost use Rattle.cpu8.specs.QuietSteps.{AreMinded, AreQuiet, Does, DoesOrNot, is_quiet, is_settled, operates_on};
 
 use super::Processor;
+use super::operates::is_group1_unassigned;
 use crate::decoding::{
-    Device, GROUP_2_OR_3, Operation, device_of, field_of, has, operation_of, pulses_of,
+    Device, GROUP_2_OR_3, GROUP_3, HLT, Operation, device_of, field_of, has, operation_of,
+    pulses_of,
 };
 use core_load::Core;
 use word12::{Cell, FIELD, Word};
+
+/// An operate instruction that goes on. Each of these words is compiled for itself.
+macro_rules! each_for_itself {
+    ($processor:ident, $core:ident, $word:ident: $($one:literal)*) => {
+        match $word.get() {
+            $($one => $processor.operate_on($core, Word::low($one)),)*
+            _ => {
+                if !operates_on($word) {
+                    return false;
+                }
+                $processor.operate_on($core, $word);
+            }
+        }
+    };
+}
 
 impl Processor {
     /// Whether the machine runs, no interrupt request can be granted, and a quick printer has no character to end.
@@ -233,40 +250,27 @@ impl Processor {
         requires { 7 ≤ word / 0o1000 }
         ensures { DoesOrNot (with_core self.old core.now) word result (with_core self.new core.now) }
     {
-        match word.get() {
-            0o7000 => self.operate_on(core, Word::low(0o7000)),
-            0o7001 => self.operate_on(core, Word::low(0o7001)),
-            0o7004 => self.operate_on(core, Word::low(0o7004)),
-            0o7006 => self.operate_on(core, Word::low(0o7006)),
-            0o7010 => self.operate_on(core, Word::low(0o7010)),
-            0o7012 => self.operate_on(core, Word::low(0o7012)),
-            0o7020 => self.operate_on(core, Word::low(0o7020)),
-            0o7024 => self.operate_on(core, Word::low(0o7024)),
-            0o7040 => self.operate_on(core, Word::low(0o7040)),
-            0o7041 => self.operate_on(core, Word::low(0o7041)),
-            0o7100 => self.operate_on(core, Word::low(0o7100)),
-            0o7104 => self.operate_on(core, Word::low(0o7104)),
-            0o7106 => self.operate_on(core, Word::low(0o7106)),
-            0o7110 => self.operate_on(core, Word::low(0o7110)),
-            0o7112 => self.operate_on(core, Word::low(0o7112)),
-            0o7120 => self.operate_on(core, Word::low(0o7120)),
-            0o7200 => self.operate_on(core, Word::low(0o7200)),
-            0o7201 => self.operate_on(core, Word::low(0o7201)),
-            0o7204 => self.operate_on(core, Word::low(0o7204)),
-            0o7240 => self.operate_on(core, Word::low(0o7240)),
-            0o7300 => self.operate_on(core, Word::low(0o7300)),
-            0o7301 => self.operate_on(core, Word::low(0o7301)),
-            0o7410 => self.operate_on(core, Word::low(0o7410)),
-            0o7420 => self.operate_on(core, Word::low(0o7420)),
-            0o7430 => self.operate_on(core, Word::low(0o7430)),
-            0o7440 => self.operate_on(core, Word::low(0o7440)),
-            0o7450 => self.operate_on(core, Word::low(0o7450)),
-            0o7500 => self.operate_on(core, Word::low(0o7500)),
-            0o7510 => self.operate_on(core, Word::low(0o7510)),
-            0o7600 => self.operate_on(core, Word::low(0o7600)),
-            0o7640 => self.operate_on(core, Word::low(0o7640)),
-            0o7650 => self.operate_on(core, Word::low(0o7650)),
-            _ => return false,
+        each_for_itself! { self, core, word:
+            0o7000 0o7001 0o7004 0o7005 0o7006 0o7007 0o7010 0o7011 0o7012 0o7013
+            0o7020 0o7021 0o7024 0o7025 0o7026 0o7027 0o7030 0o7031 0o7032 0o7033
+            0o7040 0o7041 0o7044 0o7045 0o7046 0o7047 0o7050 0o7051 0o7052 0o7053
+            0o7060 0o7061 0o7064 0o7065 0o7066 0o7067 0o7070 0o7071 0o7072 0o7073
+            0o7100 0o7101 0o7104 0o7105 0o7106 0o7107 0o7110 0o7111 0o7112 0o7113
+            0o7120 0o7121 0o7124 0o7125 0o7126 0o7127 0o7130 0o7131 0o7132 0o7133
+            0o7140 0o7141 0o7144 0o7145 0o7146 0o7147 0o7150 0o7151 0o7152 0o7153
+            0o7160 0o7161 0o7164 0o7165 0o7166 0o7167 0o7170 0o7171 0o7172 0o7173
+            0o7200 0o7201 0o7204 0o7205 0o7206 0o7207 0o7210 0o7211 0o7212 0o7213
+            0o7220 0o7221 0o7224 0o7225 0o7226 0o7227 0o7230 0o7231 0o7232 0o7233
+            0o7240 0o7241 0o7244 0o7245 0o7246 0o7247 0o7250 0o7251 0o7252 0o7253
+            0o7260 0o7261 0o7264 0o7265 0o7266 0o7267 0o7270 0o7271 0o7272 0o7273
+            0o7300 0o7301 0o7304 0o7305 0o7306 0o7307 0o7310 0o7311 0o7312 0o7313
+            0o7320 0o7321 0o7324 0o7325 0o7326 0o7327 0o7330 0o7331 0o7332 0o7333
+            0o7340 0o7341 0o7344 0o7345 0o7346 0o7347 0o7350 0o7351 0o7352 0o7353
+            0o7360 0o7361 0o7364 0o7365 0o7366 0o7367 0o7370 0o7371 0o7372 0o7373
+            0o7400 0o7410 0o7420 0o7430 0o7440 0o7450 0o7460 0o7470
+            0o7500 0o7510 0o7520 0o7530 0o7540 0o7550 0o7560 0o7570
+            0o7600 0o7610 0o7620 0o7630 0o7640 0o7650 0o7660 0o7670
+            0o7700 0o7710 0o7720 0o7730 0o7740 0o7750 0o7760 0o7770
         }
         true
     }
@@ -284,6 +288,18 @@ impl Processor {
         } else {
             self.operate_on_l_and_ac(word);
         }
+    }
+}
+
+/// Whether an operate instruction goes on.
+#[inline(always)]
+fn operates_on(word: Word) -> bool
+    ensures { result ≡ operates_on word }
+{
+    if has(word, GROUP_2_OR_3) {
+        !has(word, GROUP_3) && !has(word, HLT)
+    } else {
+        !is_group1_unassigned(word)
     }
 }
 
