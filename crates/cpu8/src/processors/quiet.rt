@@ -7,31 +7,25 @@ ghost use Rattle.std.specs.Prelude.{◌≡◌, ◌<◌, ◌≤◌, ◌/◌, true
 ghost use Rattle.word12.specs.declared.sizes.TheConstants.{CORE};
 ghost use Rattle.cpu8.specs.State.{next_cell, with_core};
 ghost use Rattle.cpu8.specs.Step.{fetched};
+ghost use Rattle.cpu8.specs.Transfer.{read_row};
 ghost use Rattle.cpu8.specs.Go.{after, is_break};
 ghost use Rattle.cpu8.specs.Fetches.{AddsFetches, HaveRoom};
 ghost use Rattle.cpu8.specs.Unasked.{AreUnasked, finds_no_key, is_ksf};
 ghost use Rattle.cpu8.specs.QuietSteps.{AreMinded, AreQuiet, Does, DoesOrNot, is_quiet, is_settled, operates_on};
 
 use super::Processor;
-use super::operates::is_group1_unassigned;
 use crate::decoding::{
-    Device, GROUP_2_OR_3, GROUP_3, HLT, Operation, device_of, field_of, has, operation_of,
-    pulses_of,
+    Device, GROUP_2_OR_3, Operation, device_of, field_of, has, operation_of, pulses_of,
 };
 use core_load::Core;
 use word12::{Cell, FIELD, Word};
 
-/// An operate instruction that goes on. Each of these words is compiled for itself.
+/// Does the operate of this word, each of those that are listed by code of its own; any other is left.
 macro_rules! each_for_itself {
     ($processor:ident, $core:ident, $word:ident: $($one:literal)*) => {
         match $word.get() {
             $($one => $processor.operate_on($core, Word::low($one)),)*
-            _ => {
-                if !operates_on($word) {
-                    return false;
-                }
-                $processor.operate_on($core, $word);
-            }
+            _ => return false,
         }
     };
 }
@@ -218,7 +212,8 @@ impl Processor {
         }
     }
 
-    /// KSF, TSF or CDF; the other IOTs are not done here.
+    /// An IOT that changes no more than AC, PC, the data field and the flags of the Teletype, which it may clear; the others
+    /// are not done here. KSF, TSF and CDF come first.
     #[tactic(auto, unfolding(crate::specs::Step::executed))]
     #[inline(always)]
     fn transfer_quietly(&mut self, core: &Core, word: Word) -> bool
@@ -226,7 +221,7 @@ impl Processor {
         ensures { DoesOrNot (with_core self.old core.now) word result (with_core self.new core.now) }
     {
         if pulses_of(word) != 1 {
-            return false;
+            return self.transfer_rarely(core, word);
         }
         let keyboard_flag = self.teletype.keyboard_flag();
         let printer_flag = self.teletype.printer_flag();
@@ -240,7 +235,55 @@ impl Processor {
         true
     }
 
-    /// An operate instruction that goes on. The words of everyday use are each compiled for themselves.
+    /// An IOT that is none of these. Nothing that changes the instruction field or the buffer of it is named here, so that the
+    /// compiler sees that they stay.
+    #[tactic(auto, unfolding(crate::specs::Step::executed))]
+    #[inline(always)]
+    fn transfer_rarely(&mut self, core: &Core, word: Word) -> bool
+        requires { word / 0o1000 ≡ 6 }
+        ensures { DoesOrNot (with_core self.old core.now) word result (with_core self.new core.now) }
+    {
+        let pulses = pulses_of(word);
+        match device_of(word) {
+            Device::Keyboard => self.read_keyboard(word),
+            Device::Printer => {
+                if pulses >= 4 {
+                    return false;
+                }
+                let _printed = self.print(word);
+            }
+            Device::Fields => {
+                if pulses != 4 {
+                    return false;
+                }
+                return self.read_field_quietly(field_of(word));
+            }
+            Device::Interrupts => return false,
+            Device::Other => self.advance(),
+        }
+        true
+    }
+
+    /// RDF, RIF or RIB.
+    #[inline(always)]
+    fn read_field_quietly(&mut self, number: u8) -> bool
+        ensures reads { result ≡ true → self.new ≡ read_row self.old number }
+        ensures stays { result ≡ false → self.new ≡ self.old }
+        ensures buffer { self.new.instruction_buffer ≡ self.old.instruction_buffer }
+    {
+        let bits = match number {
+            1 => 8 * self.data_field,
+            2 => 8 * self.instruction_field,
+            3 => self.save_field,
+            _ => return false,
+        };
+        self.advance();
+        self.or_into_ac(bits);
+        true
+    }
+
+    /// An operate instruction that goes on: all of group 1 that are assigned, a row for each choice of CLA, CLL, CMA and CML, and
+    /// all of group 2 without HLT.
     #[inline(always)]
     fn operate_quietly<const MINDS: bool, const COUNTS: bool>(
         &mut self,
@@ -267,10 +310,14 @@ impl Processor {
             0o7320 0o7321 0o7324 0o7325 0o7326 0o7327 0o7330 0o7331 0o7332 0o7333
             0o7340 0o7341 0o7344 0o7345 0o7346 0o7347 0o7350 0o7351 0o7352 0o7353
             0o7360 0o7361 0o7364 0o7365 0o7366 0o7367 0o7370 0o7371 0o7372 0o7373
-            0o7400 0o7410 0o7420 0o7430 0o7440 0o7450 0o7460 0o7470
-            0o7500 0o7510 0o7520 0o7530 0o7540 0o7550 0o7560 0o7570
-            0o7600 0o7610 0o7620 0o7630 0o7640 0o7650 0o7660 0o7670
-            0o7700 0o7710 0o7720 0o7730 0o7740 0o7750 0o7760 0o7770
+            0o7400 0o7404 0o7410 0o7414 0o7420 0o7424 0o7430 0o7434
+            0o7440 0o7444 0o7450 0o7454 0o7460 0o7464 0o7470 0o7474
+            0o7500 0o7504 0o7510 0o7514 0o7520 0o7524 0o7530 0o7534
+            0o7540 0o7544 0o7550 0o7554 0o7560 0o7564 0o7570 0o7574
+            0o7600 0o7604 0o7610 0o7614 0o7620 0o7624 0o7630 0o7634
+            0o7640 0o7644 0o7650 0o7654 0o7660 0o7664 0o7670 0o7674
+            0o7700 0o7704 0o7710 0o7714 0o7720 0o7724 0o7730 0o7734
+            0o7740 0o7744 0o7750 0o7754 0o7760 0o7764 0o7770 0o7774
         }
         true
     }
@@ -288,18 +335,6 @@ impl Processor {
         } else {
             self.operate_on_l_and_ac(word);
         }
-    }
-}
-
-/// Whether an operate instruction goes on.
-#[inline(always)]
-fn operates_on(word: Word) -> bool
-    ensures { result ≡ operates_on word }
-{
-    if has(word, GROUP_2_OR_3) {
-        !has(word, GROUP_3) && !has(word, HLT)
-    } else {
-        !is_group1_unassigned(word)
     }
 }
 

@@ -61,7 +61,7 @@ impl Processor {
     }
 
     #[inline(always)]
-    fn print(&mut self, word: Word) -> Stepped
+    pub(super) fn print(&mut self, word: Word) -> Stepped
         ensures state { self.new ≡ (printer_row self.old word).0 }
         ensures answer { result ≡ (printer_row self.old word).1 }
     {
@@ -123,7 +123,7 @@ impl Processor {
     }
 
     #[inline(always)]
-    fn or_into_ac(&mut self, bits: u8)
+    pub(super) fn or_into_ac(&mut self, bits: u8)
         ensures { self.new ≡ record self.old { ac = bit_or self.old.ac bits } }
     {
         self.ac = self.ac.or(Word::low(u16::from(bits)));

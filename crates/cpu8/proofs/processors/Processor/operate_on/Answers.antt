@@ -10,7 +10,8 @@ returns-then-has c = record {
   stays = record {
     running = search rules;
     interrupts_on = search rules;
-    teletype = search rules;
+    requests = λ none. search rules;
+    busy = search rules;
     buffer = search rules;
     field = λ same. search rules;
   };
