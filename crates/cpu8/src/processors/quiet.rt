@@ -11,7 +11,7 @@ ghost use Rattle.cpu8.specs.Transfer.{read_row};
 ghost use Rattle.cpu8.specs.Go.{after, is_break};
 ghost use Rattle.cpu8.specs.Fetches.{AddsFetches, HaveRoom};
 ghost use Rattle.cpu8.specs.Unasked.{AreUnasked, finds_no_key, is_ksf};
-ghost use Rattle.cpu8.specs.QuietSteps.{AreMinded, AreQuiet, Does, DoesOrNot, is_quiet, is_settled, operates_on};
+ghost use Rattle.cpu8.specs.QuietSteps.{AreMinded, AreQuiet, Does, DoesOrNot, EndsOrNot, is_quiet, is_settled, operates_on};
 
 use super::Processor;
 use crate::decoding::{
@@ -64,7 +64,8 @@ impl Processor {
     }
 
     /// Makes up to n steps as long as they are quiet, no break is ahead and, if it asks, none is a KSF that finds the
-    /// keyboard flag clear. None of them leaves the instruction field, so breaks of other fields need not be minded.
+    /// keyboard flag clear. None of them leaves the instruction field, so breaks of other fields need not be minded. An
+    /// IOT of the interrupts or of the fields may come last, unless it asks.
     #[inline(always)]
     pub(crate) fn run_quietly<const MINDS: bool>(
         &mut self,
@@ -85,6 +86,9 @@ impl Processor {
         let _quick = quick;
         for made in 0..n {
             if !self.step_quietly::<MINDS, false>(core, asks) {
+                if !asks && self.end_by_transfer(core) {
+                    return made + 1;
+                }
                 return made;
             }
             if self.is_at_break::<MINDS>(breaks) {
@@ -231,6 +235,26 @@ impl Processor {
             Device::Fields => self.cdf(field_of(word)),
             Device::Interrupts => return false,
             Device::Other => self.advance(),
+        }
+        true
+    }
+
+    /// The IOT of the interrupts or of the fields that is next, if one is. It ends a run, so what it changes stays constant in
+    /// the loop.
+    #[tactic(auto, unfolding(crate::specs::Step::executed))]
+    #[inline(always)]
+    fn end_by_transfer(&mut self, core: &Core) -> bool
+        ensures { EndsOrNot (with_core self.old core.now) result (with_core self.new core.now) }
+    {
+        let word = core.get(self.next_cell());
+        match operation_of(word) {
+            Operation::Iot => {}
+            _ => return false,
+        }
+        match device_of(word) {
+            Device::Interrupts => self.control_interrupts(word),
+            Device::Fields => self.control_fields(word),
+            _ => return false,
         }
         true
     }

@@ -27,7 +27,7 @@ impl Processor {
     }
 
     #[inline(always)]
-    fn control_interrupts(&mut self, word: Word)
+    pub(super) fn control_interrupts(&mut self, word: Word)
         ensures { self.new ≡ interrupts_row self.old word }
     {
         match pulses_of(word) {
@@ -73,7 +73,7 @@ impl Processor {
     }
 
     #[inline(always)]
-    fn control_fields(&mut self, word: Word)
+    pub(super) fn control_fields(&mut self, word: Word)
         ensures { self.new ≡ fields_row self.old word }
     {
         let field = field_of(word);
