@@ -35,17 +35,8 @@ printing_step-quiet quick s h =
 
 -- ## One step more
 
--- requests that are gone make no machine less quiet
-quiet-fewer : (runs on ends old new : Bool) → (old ≡ false → new ≡ false) → (runs && (not (on && old) && not ends)) ≡ true → (runs && (not (on && new) && not ends)) ≡ true
-quiet-fewer true false ends old new fewer h = h
-quiet-fewer true true ends false new fewer h = rw (fewer refl) h
-quiet-fewer true true ends true new fewer h = absurd (true≢false (sym h))
-quiet-fewer false on ends old new fewer h = absurd (true≢false (sym h))
-
 pub stays-quiet : (quick : Bool) (old new : State) → is_quiet quick old ≡ true → Stays old new → is_quiet quick new ≡ true
-stays-quiet quick old new h stays =
-    rw (stays.running, stays.interrupts_on, stays.busy)
-    (quiet-fewer old.running old.interrupts_on (quick && old.teletype.busy) (is_requesting old.teletype) (is_requesting new.teletype) stays.requests h)
+stays-quiet quick old new h stays = rw (stays.running, stays.interrupts_on, stays.teletype) h
 
 -- where no field waits for a jump, none does then
 pub fields-same : (old new : State) → Stays old new → old.instruction_buffer ≡ old.instruction_field → new.instruction_buffer ≡ new.instruction_field

@@ -21,8 +21,7 @@ is_settled s = nat_eq s.instruction_buffer s.instruction_field && (not s.waiting
 pub record Stays (old new : State) : Type 0 where
   pub running : new.running ≡ old.running
   pub interrupts_on : new.interrupts_on ≡ old.interrupts_on
-  pub requests : is_requesting old.teletype ≡ false → is_requesting new.teletype ≡ false
-  pub busy : new.teletype.busy ≡ old.teletype.busy
+  pub teletype : new.teletype ≡ old.teletype
   pub buffer : new.instruction_buffer ≡ old.instruction_buffer
   pub field : old.instruction_buffer ≡ old.instruction_field → new.instruction_field ≡ old.instruction_field
 

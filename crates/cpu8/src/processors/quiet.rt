@@ -7,7 +7,6 @@ ghost use Rattle.std.specs.Prelude.{◌≡◌, ◌<◌, ◌≤◌, ◌/◌, true
 ghost use Rattle.word12.specs.declared.sizes.TheConstants.{CORE};
 ghost use Rattle.cpu8.specs.State.{next_cell, with_core};
 ghost use Rattle.cpu8.specs.Step.{fetched};
-ghost use Rattle.cpu8.specs.Transfer.{read_row};
 ghost use Rattle.cpu8.specs.Go.{after, is_break};
 ghost use Rattle.cpu8.specs.Fetches.{AddsFetches, HaveRoom};
 ghost use Rattle.cpu8.specs.Unasked.{AreUnasked, finds_no_key, is_ksf};
@@ -64,8 +63,8 @@ impl Processor {
     }
 
     /// Makes up to n steps as long as they are quiet, no break is ahead and, if it asks, none is a KSF that finds the
-    /// keyboard flag clear. None of them leaves the instruction field, so breaks of other fields need not be minded. An
-    /// IOT of the interrupts or of the fields may come last, unless it asks.
+    /// keyboard flag clear. None of them leaves the instruction field, so breaks of other fields need not be minded. Unless
+    /// it asks, the last may be any IOT that prints nothing.
     #[inline(always)]
     pub(crate) fn run_quietly<const MINDS: bool>(
         &mut self,
@@ -216,8 +215,7 @@ impl Processor {
         }
     }
 
-    /// An IOT that changes no more than AC, PC, the data field and the flags of the Teletype, which it may clear; the others
-    /// are not done here. KSF, TSF and CDF come first.
+    /// KSF, TSF or CDF; the other IOTs are not done here.
     #[tactic(auto, unfolding(crate::specs::Step::executed))]
     #[inline(always)]
     fn transfer_quietly(&mut self, core: &Core, word: Word) -> bool
@@ -225,7 +223,7 @@ impl Processor {
         ensures { DoesOrNot (with_core self.old core.now) word result (with_core self.new core.now) }
     {
         if pulses_of(word) != 1 {
-            return self.transfer_rarely(core, word);
+            return false;
         }
         let keyboard_flag = self.teletype.keyboard_flag();
         let printer_flag = self.teletype.printer_flag();
@@ -239,8 +237,7 @@ impl Processor {
         true
     }
 
-    /// The IOT of the interrupts or of the fields that is next, if one is. It ends a run, so what it changes stays constant in
-    /// the loop.
+    /// The IOT that is next, if one is and it prints nothing. It ends a run, so that what it changes stays constant in the loop.
     #[tactic(auto, unfolding(crate::specs::Step::executed))]
     #[inline(always)]
     fn end_by_transfer(&mut self, core: &Core) -> bool
@@ -253,56 +250,16 @@ impl Processor {
         }
         match device_of(word) {
             Device::Interrupts => self.control_interrupts(word),
-            Device::Fields => self.control_fields(word),
-            _ => return false,
-        }
-        true
-    }
-
-    /// An IOT that is none of these. Nothing that changes the instruction field or the buffer of it is named here, so that the
-    /// compiler sees that they stay.
-    #[tactic(auto, unfolding(crate::specs::Step::executed))]
-    #[inline(always)]
-    fn transfer_rarely(&mut self, core: &Core, word: Word) -> bool
-        requires { word / 0o1000 ≡ 6 }
-        ensures { DoesOrNot (with_core self.old core.now) word result (with_core self.new core.now) }
-    {
-        let pulses = pulses_of(word);
-        match device_of(word) {
             Device::Keyboard => self.read_keyboard(word),
             Device::Printer => {
-                if pulses >= 4 {
+                if pulses_of(word) >= 4 {
                     return false;
                 }
                 let _printed = self.print(word);
             }
-            Device::Fields => {
-                if pulses != 4 {
-                    return false;
-                }
-                return self.read_field_quietly(field_of(word));
-            }
-            Device::Interrupts => return false,
+            Device::Fields => self.control_fields(word),
             Device::Other => self.advance(),
         }
-        true
-    }
-
-    /// RDF, RIF or RIB.
-    #[inline(always)]
-    fn read_field_quietly(&mut self, number: u8) -> bool
-        ensures reads { result ≡ true → self.new ≡ read_row self.old number }
-        ensures stays { result ≡ false → self.new ≡ self.old }
-        ensures buffer { self.new.instruction_buffer ≡ self.old.instruction_buffer }
-    {
-        let bits = match number {
-            1 => 8 * self.data_field,
-            2 => 8 * self.instruction_field,
-            3 => self.save_field,
-            _ => return false,
-        };
-        self.advance();
-        self.or_into_ac(bits);
         true
     }
 

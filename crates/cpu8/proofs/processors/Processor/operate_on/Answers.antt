@@ -10,8 +10,7 @@ returns-then-has c = record {
   stays = record {
     running = search rules;
     interrupts_on = search rules;
-    requests = λ none. search rules;
-    busy = search rules;
+    teletype = search rules;
     buffer = search rules;
     field = λ same. search rules;
   };
