@@ -1,5 +1,6 @@
-# The programs of bench/cpu/ for the scripts beside it that run them: works in a fresh folder, with the tape of each and an image V for
-# scripts. Takes palbart from Debian's packages where it is missing.
+# The programs of bench/cpu/, and where `seed` is set those drawn from it, `rounds` times 4096 rounds of each, for the scripts beside it
+# that run them: works in a fresh folder, with the tape of each and an image V for scripts. Takes palbart from Debian's packages where it
+# is missing.
 dpkg -s palbart >/dev/null 2>&1 || { apt-get update && apt-get install -y palbart; } >&2
 "$top/prove" >/dev/null
 program=$top/crates/pdp8/out/pdp8
@@ -8,6 +9,7 @@ folder=$(mktemp -d)
 trap 'rm -rf "$folder"' EXIT
 cp "$top"/bench/cpu/*.pal "$folder"
 cd "$folder"
+[ -z "${seed:-}" ] || "$top/bench/draw_programs.py" "$seed" ${rounds:-}
 "$top/pdp8" create V 20 >/dev/null
 for source in *.pal; do
     palbart "$source" >/dev/null

@@ -5,7 +5,7 @@ use Rattle.tty8.specs.Teletype.{is_requesting}
 use Rattle.cpu8.specs.State.{State, place, next_cell}
 use Rattle.cpu8.specs.Decoding.{is_group_1, is_group_2, has_hlt}
 use Rattle.cpu8.specs.Operate.{is_group1_unassigned}
-use Rattle.cpu8.specs.Step.{executed}
+use Rattle.cpu8.specs.Step.{executed, fetched}
 use Rattle.cpu8.specs.Go.{after, answer, is_break}
 use Rattle.cpu8.specs.declared.outcomes.Stepped.TheVariants.{Ran}
 
@@ -35,6 +35,16 @@ pub record Does (old : State) (w : ℕ) (new : State) : Type 0 where
 abbrev pub DoesOrNot : State → ℕ → Bool → State → Type 0
 DoesOrNot old w true new = Does old w new
 DoesOrNot old w false new = new ≡ old
+
+-- the next instruction is done, prints nothing and goes on, and may change what decides of the quiet
+pub record Ends (old new : State) : Type 0 where
+  pub state : new ≡ (executed old (fetched old)).0
+  pub answer : Ran None ≡ (executed old (fetched old)).1
+
+-- that, or nothing
+abbrev pub EndsOrNot : State → Bool → State → Type 0
+EndsOrNot old true new = Ends old new
+EndsOrNot old false new = new ≡ old
 
 -- no cell of this field has a break
 abbrev pub IsUnbroken : List Bool → ℕ → Type 0

@@ -1,6 +1,6 @@
 //! Runs a program by the debugger, to measure it: the BIN tape on standard input is loaded, started at 00200 and run until
-//! it stops; with any argument there is a break in field 0, at a cell that no program comes to. Then AC, L and PC with its
-//! field are printed.
+//! it stops. The printer ends its character at once. With any argument there is a break in field 0, at a cell that no
+//! program comes to. Then AC, L and PC with its field are printed.
 //!
 //! A tape of three frames, which is no program, strikes a key first: so the compiler can't know that no interrupt is ever
 //! requested.
@@ -55,7 +55,7 @@ fn run(alloc: Global, machine: &mut Machine, has_break: bool) -> Result<(), Debu
     let mut printed = Vec::with_capacity(alloc, STEPS)?;
     for _ in 0..u64::MAX {
         printed.clear();
-        match debugger.go(machine, STEPS, false, &mut printed).why {
+        match debugger.go(machine, STEPS, true, &mut printed).why {
             Why::Limit => {}
             _ => return Ok(()),
         }

@@ -10,7 +10,7 @@ ghost use Rattle.cpu8.specs.Step.{fetched};
 ghost use Rattle.cpu8.specs.Go.{after, is_break};
 ghost use Rattle.cpu8.specs.Fetches.{AddsFetches, HaveRoom};
 ghost use Rattle.cpu8.specs.Unasked.{AreUnasked, finds_no_key, is_ksf};
-ghost use Rattle.cpu8.specs.QuietSteps.{AreMinded, AreQuiet, Does, DoesOrNot, is_quiet, is_settled, operates_on};
+ghost use Rattle.cpu8.specs.QuietSteps.{AreMinded, AreQuiet, Does, DoesOrNot, EndsOrNot, is_quiet, is_settled, operates_on};
 
 use super::Processor;
 use crate::decoding::{
@@ -18,6 +18,16 @@ use crate::decoding::{
 };
 use core_load::Core;
 use word12::{Cell, FIELD, Word};
+
+/// Does the operate of this word, each of those that are listed by code of its own; any other is left.
+macro_rules! each_for_itself {
+    ($processor:ident, $core:ident, $word:ident: $($one:literal)*) => {
+        match $word.get() {
+            $($one => $processor.operate_on($core, Word::low($one)),)*
+            _ => return false,
+        }
+    };
+}
 
 impl Processor {
     /// Whether the machine runs, no interrupt request can be granted, and a quick printer has no character to end.
@@ -53,7 +63,8 @@ impl Processor {
     }
 
     /// Makes up to n steps as long as they are quiet, no break is ahead and, if it asks, none is a KSF that finds the
-    /// keyboard flag clear. None of them leaves the instruction field, so breaks of other fields need not be minded.
+    /// keyboard flag clear. None of them leaves the instruction field, so breaks of other fields need not be minded. Unless
+    /// it asks, the last may be any IOT that prints nothing.
     #[inline(always)]
     pub(crate) fn run_quietly<const MINDS: bool>(
         &mut self,
@@ -74,6 +85,9 @@ impl Processor {
         let _quick = quick;
         for made in 0..n {
             if !self.step_quietly::<MINDS, false>(core, asks) {
+                if !asks && self.end_by_transfer(core) {
+                    return made + 1;
+                }
                 return made;
             }
             if self.is_at_break::<MINDS>(breaks) {
@@ -223,7 +237,34 @@ impl Processor {
         true
     }
 
-    /// An operate instruction that goes on. The words of everyday use are each compiled for themselves.
+    /// The IOT that is next, if one is and it prints nothing. It ends a run, so that what it changes stays constant in the loop.
+    #[tactic(auto, unfolding(crate::specs::Step::executed))]
+    #[inline(always)]
+    fn end_by_transfer(&mut self, core: &Core) -> bool
+        ensures { EndsOrNot (with_core self.old core.now) result (with_core self.new core.now) }
+    {
+        let word = core.get(self.next_cell());
+        match operation_of(word) {
+            Operation::Iot => {}
+            _ => return false,
+        }
+        match device_of(word) {
+            Device::Interrupts => self.control_interrupts(word),
+            Device::Keyboard => self.read_keyboard(word),
+            Device::Printer => {
+                if pulses_of(word) >= 4 {
+                    return false;
+                }
+                let _printed = self.print(word);
+            }
+            Device::Fields => self.control_fields(word),
+            Device::Other => self.advance(),
+        }
+        true
+    }
+
+    /// An operate instruction that goes on: all of group 1 that are assigned, a row for each choice of CLA, CLL, CMA and CML, and
+    /// all of group 2 without HLT.
     #[inline(always)]
     fn operate_quietly<const MINDS: bool, const COUNTS: bool>(
         &mut self,
@@ -233,40 +274,31 @@ impl Processor {
         requires { 7 ≤ word / 0o1000 }
         ensures { DoesOrNot (with_core self.old core.now) word result (with_core self.new core.now) }
     {
-        match word.get() {
-            0o7000 => self.operate_on(core, Word::low(0o7000)),
-            0o7001 => self.operate_on(core, Word::low(0o7001)),
-            0o7004 => self.operate_on(core, Word::low(0o7004)),
-            0o7006 => self.operate_on(core, Word::low(0o7006)),
-            0o7010 => self.operate_on(core, Word::low(0o7010)),
-            0o7012 => self.operate_on(core, Word::low(0o7012)),
-            0o7020 => self.operate_on(core, Word::low(0o7020)),
-            0o7024 => self.operate_on(core, Word::low(0o7024)),
-            0o7040 => self.operate_on(core, Word::low(0o7040)),
-            0o7041 => self.operate_on(core, Word::low(0o7041)),
-            0o7100 => self.operate_on(core, Word::low(0o7100)),
-            0o7104 => self.operate_on(core, Word::low(0o7104)),
-            0o7106 => self.operate_on(core, Word::low(0o7106)),
-            0o7110 => self.operate_on(core, Word::low(0o7110)),
-            0o7112 => self.operate_on(core, Word::low(0o7112)),
-            0o7120 => self.operate_on(core, Word::low(0o7120)),
-            0o7200 => self.operate_on(core, Word::low(0o7200)),
-            0o7201 => self.operate_on(core, Word::low(0o7201)),
-            0o7204 => self.operate_on(core, Word::low(0o7204)),
-            0o7240 => self.operate_on(core, Word::low(0o7240)),
-            0o7300 => self.operate_on(core, Word::low(0o7300)),
-            0o7301 => self.operate_on(core, Word::low(0o7301)),
-            0o7410 => self.operate_on(core, Word::low(0o7410)),
-            0o7420 => self.operate_on(core, Word::low(0o7420)),
-            0o7430 => self.operate_on(core, Word::low(0o7430)),
-            0o7440 => self.operate_on(core, Word::low(0o7440)),
-            0o7450 => self.operate_on(core, Word::low(0o7450)),
-            0o7500 => self.operate_on(core, Word::low(0o7500)),
-            0o7510 => self.operate_on(core, Word::low(0o7510)),
-            0o7600 => self.operate_on(core, Word::low(0o7600)),
-            0o7640 => self.operate_on(core, Word::low(0o7640)),
-            0o7650 => self.operate_on(core, Word::low(0o7650)),
-            _ => return false,
+        each_for_itself! { self, core, word:
+            0o7000 0o7001 0o7004 0o7005 0o7006 0o7007 0o7010 0o7011 0o7012 0o7013
+            0o7020 0o7021 0o7024 0o7025 0o7026 0o7027 0o7030 0o7031 0o7032 0o7033
+            0o7040 0o7041 0o7044 0o7045 0o7046 0o7047 0o7050 0o7051 0o7052 0o7053
+            0o7060 0o7061 0o7064 0o7065 0o7066 0o7067 0o7070 0o7071 0o7072 0o7073
+            0o7100 0o7101 0o7104 0o7105 0o7106 0o7107 0o7110 0o7111 0o7112 0o7113
+            0o7120 0o7121 0o7124 0o7125 0o7126 0o7127 0o7130 0o7131 0o7132 0o7133
+            0o7140 0o7141 0o7144 0o7145 0o7146 0o7147 0o7150 0o7151 0o7152 0o7153
+            0o7160 0o7161 0o7164 0o7165 0o7166 0o7167 0o7170 0o7171 0o7172 0o7173
+            0o7200 0o7201 0o7204 0o7205 0o7206 0o7207 0o7210 0o7211 0o7212 0o7213
+            0o7220 0o7221 0o7224 0o7225 0o7226 0o7227 0o7230 0o7231 0o7232 0o7233
+            0o7240 0o7241 0o7244 0o7245 0o7246 0o7247 0o7250 0o7251 0o7252 0o7253
+            0o7260 0o7261 0o7264 0o7265 0o7266 0o7267 0o7270 0o7271 0o7272 0o7273
+            0o7300 0o7301 0o7304 0o7305 0o7306 0o7307 0o7310 0o7311 0o7312 0o7313
+            0o7320 0o7321 0o7324 0o7325 0o7326 0o7327 0o7330 0o7331 0o7332 0o7333
+            0o7340 0o7341 0o7344 0o7345 0o7346 0o7347 0o7350 0o7351 0o7352 0o7353
+            0o7360 0o7361 0o7364 0o7365 0o7366 0o7367 0o7370 0o7371 0o7372 0o7373
+            0o7400 0o7404 0o7410 0o7414 0o7420 0o7424 0o7430 0o7434
+            0o7440 0o7444 0o7450 0o7454 0o7460 0o7464 0o7470 0o7474
+            0o7500 0o7504 0o7510 0o7514 0o7520 0o7524 0o7530 0o7534
+            0o7540 0o7544 0o7550 0o7554 0o7560 0o7564 0o7570 0o7574
+            0o7600 0o7604 0o7610 0o7614 0o7620 0o7624 0o7630 0o7634
+            0o7640 0o7644 0o7650 0o7654 0o7660 0o7664 0o7670 0o7674
+            0o7700 0o7704 0o7710 0o7714 0o7720 0o7724 0o7730 0o7734
+            0o7740 0o7744 0o7750 0o7754 0o7760 0o7764 0o7770 0o7774
         }
         true
     }

@@ -27,7 +27,7 @@ impl Processor {
     }
 
     #[inline(always)]
-    fn control_interrupts(&mut self, word: Word)
+    pub(super) fn control_interrupts(&mut self, word: Word)
         ensures { self.new ≡ interrupts_row self.old word }
     {
         match pulses_of(word) {
@@ -61,7 +61,7 @@ impl Processor {
     }
 
     #[inline(always)]
-    fn print(&mut self, word: Word) -> Stepped
+    pub(super) fn print(&mut self, word: Word) -> Stepped
         ensures state { self.new ≡ (printer_row self.old word).0 }
         ensures answer { result ≡ (printer_row self.old word).1 }
     {
@@ -73,7 +73,7 @@ impl Processor {
     }
 
     #[inline(always)]
-    fn control_fields(&mut self, word: Word)
+    pub(super) fn control_fields(&mut self, word: Word)
         ensures { self.new ≡ fields_row self.old word }
     {
         let field = field_of(word);
