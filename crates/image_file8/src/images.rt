@@ -132,7 +132,8 @@ pub fn make_file<R: Files<File = File> + Eprint + AllocGlobal>(
 ) -> Result<(), Ended> {
     let found = hold(rt, name);
     if let Err(HoldFault::Absent) = &found {
-        return make(rt, name, bytes).map_err(|fault| unmade(fault, content));
+        let _ = make(rt, name, bytes).map_err(|fault| unmade(fault, content))?;
+        return Ok(());
     }
     let mut held = found.map_err(|fault| unmade(fault, content))?;
     tell_of_lock(rt, &held, content);
