@@ -3,7 +3,7 @@
 use crate::Ended;
 use crate::printing::print_line;
 use disk8::{DiskFile, Layout};
-use host8::{HeldFile, HoldFault, Unwritten, hold, look, make};
+use host8::{Durability, HeldFile, HoldFault, Unwritten, hold, look, make};
 use report8::ProgramLine;
 use script8::SessionFault;
 use script8::readings::MOST;
@@ -40,7 +40,10 @@ pub struct Image {
     disk: Option<DiskFile>,
 
     /// Whether it was told that the file is written in its place.
-    is_told: bool,
+    is_place_told: bool,
+
+    /// Whether it was told that its folder can't be brought to the disk.
+    is_folder_told: bool,
 }
 
 impl Image {
@@ -61,7 +64,8 @@ impl Image {
             held: Some(held),
             bytes,
             disk,
-            is_told: false,
+            is_place_told: false,
+            is_folder_told: false,
         })
     }
 
@@ -71,7 +75,8 @@ impl Image {
             held: None,
             bytes: seen(rt, form)?,
             disk: None,
-            is_told: false,
+            is_place_told: false,
+            is_folder_told: false,
         })
     }
 
@@ -93,19 +98,22 @@ impl Image {
         let Some(held) = &mut self.held else {
             return Err(Ended::Unwritten(Content::Image, Unwritten::AsItWas));
         };
-        if !self.is_told {
+        if !self.is_place_told {
             tell_of_place(rt, held, Content::Image);
+            self.is_place_told = true;
         }
-        match &mut self.disk {
+        let durability = match &mut self.disk {
             None => write(rt, held, bytes, Content::Image)?,
             Some(disk) => {
                 if !disk.lay(bytes) {
                     return Err(Ended::Unwritten(Content::Image, Unwritten::AsItWas));
                 }
-                write(rt, held, disk.bytes(), Content::Image)?;
+                write(rt, held, disk.bytes(), Content::Image)?
             }
+        };
+        if !self.is_folder_told {
+            self.is_folder_told = tells_of_folder(rt, durability, Content::Image);
         }
-        self.is_told = true;
         mem::swap(&mut self.bytes, bytes);
         Ok(())
     }
@@ -132,13 +140,16 @@ pub fn make_file<R: Files<File = File> + Eprint + AllocGlobal>(
 ) -> Result<(), Ended> {
     let found = hold(rt, name);
     if let Err(HoldFault::Absent) = &found {
-        let _ = make(rt, name, bytes).map_err(|fault| unmade(fault, content))?;
+        let durability = make(rt, name, bytes).map_err(|fault| unmade(fault, content))?;
+        let _ = tells_of_folder(rt, durability, content);
         return Ok(());
     }
     let mut held = found.map_err(|fault| unmade(fault, content))?;
     tell_of_lock(rt, &held, content);
     tell_of_place(rt, &held, content);
-    write(rt, &mut held, bytes, content)
+    let durability = write(rt, &mut held, bytes, content)?;
+    let _ = tells_of_folder(rt, durability, content);
+    Ok(())
 }
 
 /// The bytes of an image that is only looked at.
@@ -205,11 +216,25 @@ fn write<R: Files<File = File>>(
     held: &mut HeldFile,
     bytes: &[u8],
     content: Content,
-) -> Result<(), Ended> {
-    if let Err(left) = held.write(rt, bytes) {
-        return Err(Ended::Unwritten(content, left));
+) -> Result<Durability, Ended> {
+    match held.write(rt, bytes) {
+        Ok(durability) => Ok(durability),
+        Err(left) => Err(Ended::Unwritten(content, left)),
     }
-    Ok(())
+}
+
+/// Says of a file that was written that a crash of the system may undo this, and answers whether that was to be said.
+fn tells_of_folder<R: Eprint>(rt: &R, durability: Durability, content: Content) -> bool {
+    match durability {
+        Durability::Certain => false,
+        Durability::Unknown => {
+            let _ = eprintln!(rt;
+                "note: the {} is written, but its folder is not synced: whether a crash keeps it isn't known",
+                content.name()
+            );
+            true
+        }
+    }
 }
 
 fn tell_of_lock<R: Eprint>(rt: &R, held: &HeldFile, content: Content) {
