@@ -1,7 +1,7 @@
 //! Images in files of the host. An image that a command may change is held from before it is read until the program ends.
 
 use crate::Ended;
-use crate::printing::print_line;
+use crate::printing::print_bytes;
 use disk8::{DiskFile, Layout};
 use host8::{Durability, HeldFile, HoldFault, Unwritten, hold, look, make};
 use report8::ProgramLine;
@@ -128,7 +128,7 @@ pub fn save_and_print<R: Files<File = File> + Print + Eprint>(
 ) -> Result<(), Ended> {
     let mut bytes = bytes;
     held.save(rt, &mut bytes)?;
-    print_line(rt, lines)
+    print_bytes(rt, lines)
 }
 
 /// Makes a file that holds these bytes, in place of any of its name.

@@ -8,12 +8,14 @@ mod hints;
 mod images;
 mod printing;
 mod progress;
+mod streams;
 mod words;
 
 pub use endings::Ended;
 pub use files::{bytes_of_file, core_of_file, made, refused};
 pub use hints::{refused_image, tell_bad_text};
 pub use images::{Content, Image, bytes_of, make_file, save_and_print, seen};
-pub use printing::{print_line, print_of, tell_line, tell_text};
+pub use printing::{print_bytes, print_of, tell_line, tell_text};
 pub use progress::Progress;
+pub use streams::{Output, unprinted};
 pub use words::{given_words, texts_of};

@@ -2,8 +2,8 @@
 
 use archive8::{ArchiveFault, Asked, GetForm, NewImage, list, list_long, put};
 use image_file8::{
-    Ended, Image, bytes_of_file, core_of_file, given_words, made, print_line, save_and_print, seen,
-    tell_bad_text, tell_line,
+    Ended, Image, bytes_of_file, core_of_file, given_words, made, print_bytes, save_and_print,
+    seen, tell_bad_text, tell_line,
 };
 use report8::ProgramLine;
 use script8::{LineReply, Reply, SessionFault, put_reply, read_all};
@@ -18,7 +18,7 @@ pub fn list_files<R: Files + Print + Eprint + AllocGlobal>(
 ) -> Result<(), Ended> {
     let bytes = seen(rt, image)?;
     let text = made(rt, bytes.len(), list(rt.alloc(), &bytes))?;
-    print_line(rt, &text)
+    print_bytes(rt, &text)
 }
 
 /// Lists them in the directory's order, with where they lie and their information words.
@@ -28,7 +28,7 @@ pub fn list_places<R: Files + Print + Eprint + AllocGlobal>(
 ) -> Result<(), Ended> {
     let bytes = seen(rt, image)?;
     let text = made(rt, bytes.len(), list_long(rt.alloc(), &bytes))?;
-    print_line(rt, &text)
+    print_bytes(rt, &text)
 }
 
 /// Writes what a file has on the volume in an image file.
@@ -39,7 +39,7 @@ pub fn get_file<R: Files + Print + Eprint + AllocGlobal>(
     form: GetForm,
 ) -> Result<(), Ended> {
     let given = bytes_of_file(rt, image, &asked_of(file), form)?;
-    print_line(rt, &given)
+    print_bytes(rt, &given)
 }
 
 /// Writes the BIN tape of a core image on the volume in an image file, and tells on standard error where its program starts.
@@ -49,7 +49,7 @@ pub fn get_bin<R: Files + Print + Eprint + AllocGlobal>(
     file: FileForm,
 ) -> Result<(), Ended> {
     let (frames, start) = core_of_file(rt, image, &asked_of(file))?;
-    print_line(rt, &frames)?;
+    print_bytes(rt, &frames)?;
     tell_line(rt, &ProgramLine::Start(start))
 }
 

@@ -1,9 +1,8 @@
 //! Sources in files of the host to a BIN tape and a listing, each written whole or not at all.
 
-use crate::streams::print_data;
 use assemble8::{SourceFault, assemble_sources, fault_text, further_faults};
 use host8::{HoldFault, look};
-use image_file8::{Content, Ended, make_file, tell_text, texts_of};
+use image_file8::{Content, Ended, make_file, print_bytes, tell_text, texts_of};
 use report8::{ProgramLine, with_line_feeds};
 use script8::SessionFault;
 use source_listing::{ListingForm, list_sources};
@@ -43,7 +42,7 @@ pub fn assemble_files<R: Files<File = File> + Input + Print + Eprint + AllocGlob
     }
     match &form.output {
         Some(name) => write_to(rt, name, &tape, Content::Tape),
-        None => print_data(rt, &tape),
+        None => print_bytes(rt, &tape),
     }
 }
 
@@ -90,7 +89,7 @@ fn write_to<R: Files<File = File> + Print + Eprint + AllocGlobal>(
     content: Content,
 ) -> Result<(), Ended> {
     if name == STANDARD {
-        return print_data(rt, bytes);
+        return print_bytes(rt, bytes);
     }
     make_file(rt, name, bytes, content)
 }
