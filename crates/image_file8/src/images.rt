@@ -1,6 +1,7 @@
 //! Images in files of the host. An image that a command may change is held from before it is read until the program ends.
 
 use crate::Ended;
+use crate::inputs::tell_of_limit;
 use crate::printing::print_bytes;
 use disk8::{DiskFile, Layout};
 use host8::{Durability, HeldFile, HoldFault, Unwritten, hold, look, make};
@@ -58,7 +59,7 @@ impl Image {
         }
         let held = found.map_err(unread)?;
         tell_of_lock(rt, &held, Content::Image);
-        let file = taken(held.read(rt, MOST))?;
+        let file = taken(rt, &form.file, held.read(rt, MOST))?;
         let (bytes, disk) = volume_in(rt, file, form.layout)?;
         Ok(Image {
             held: Some(held),
@@ -70,7 +71,7 @@ impl Image {
     }
 
     /// Reads an image file, and holds nothing: it can't be saved.
-    pub fn look<R: Files + AllocGlobal>(rt: &R, form: &ImageForm) -> Result<Image, Ended> {
+    pub fn look<R: Files + Eprint + AllocGlobal>(rt: &R, form: &ImageForm) -> Result<Image, Ended> {
         Ok(Image {
             held: None,
             bytes: seen(rt, form)?,
@@ -153,14 +154,14 @@ pub fn make_file<R: Files<File = File> + Eprint + AllocGlobal>(
 }
 
 /// The bytes of an image that is only looked at.
-pub fn seen<R: Files + AllocGlobal>(rt: &R, form: &ImageForm) -> Result<Vec<u8>, Ended> {
+pub fn seen<R: Files + Eprint + AllocGlobal>(rt: &R, form: &ImageForm) -> Result<Vec<u8>, Ended> {
     let (bytes, _disk) = volume_in(rt, bytes_of(rt, &form.file)?, form.layout)?;
     Ok(bytes)
 }
 
 /// The bytes of a file that is only looked at.
-pub fn bytes_of<R: Files + AllocGlobal>(rt: &R, name: &str) -> Result<Vec<u8>, Ended> {
-    taken(look(rt, name, MOST))
+pub fn bytes_of<R: Files + Eprint + AllocGlobal>(rt: &R, name: &str) -> Result<Vec<u8>, Ended> {
+    taken(rt, name, look(rt, name, MOST))
 }
 
 /// The image of the volume in a file of these bytes, and the file where it holds more than that.
@@ -177,10 +178,15 @@ fn volume_in<R: AllocGlobal>(
     Ok((image, Some(disk)))
 }
 
-/// The bytes of an image file, if they are not too many.
-fn taken(found: Result<Vec<u8>, HoldFault>) -> Result<Vec<u8>, Ended> {
+/// The bytes of a file, if they are not too many, which is said.
+fn taken<R: Eprint>(
+    rt: &R,
+    name: &str,
+    found: Result<Vec<u8>, HoldFault>,
+) -> Result<Vec<u8>, Ended> {
     let bytes = found.map_err(unread)?;
     if bytes.len() > MOST {
+        tell_of_limit(rt, name);
         return Err(Ended::Line(ProgramLine::HostRead));
     }
     Ok(bytes)

@@ -2,11 +2,11 @@
 
 use archive8::{ArchiveFault, Asked, GetForm, NewImage, list, list_long, put};
 use image_file8::{
-    Ended, Image, bytes_of_file, core_of_file, given_words, made, print_bytes, save_and_print,
-    seen, tell_bad_text, tell_line,
+    Ended, Image, bytes_of_file, core_of_file, given_words, input_bytes, made, print_bytes,
+    save_and_print, seen, tell_bad_text, tell_line,
 };
 use report8::ProgramLine;
-use script8::{LineReply, Reply, SessionFault, put_reply, read_all};
+use script8::{LineReply, Reply, SessionFault, put_reply};
 use std::fs::{File, Files};
 use std::io::Input;
 use task8::{FileForm, ImageForm, PutOneForm};
@@ -59,7 +59,7 @@ pub fn put_file<R: Files<File = File> + Input + Print + Eprint + AllocGlobal>(
     form: &PutOneForm,
 ) -> Result<(), Ended> {
     let mut held = Image::open(rt, &form.image)?;
-    let given = read_all(rt.alloc(), &mut rt.reader())?;
+    let given = input_bytes(rt)?;
     let done = put(
         rt.alloc(),
         held.bytes(),

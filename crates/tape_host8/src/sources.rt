@@ -1,7 +1,7 @@
 //! Sources of tapes.
 
 use crate::tapes::program_of;
-use image_file8::{Ended, Output, bytes_of};
+use image_file8::{Counted, Ended, Output, bytes_of};
 use report8::{put_source, source_text};
 use std::fs::Files;
 use std::io::Input;
@@ -29,7 +29,10 @@ fn put_source_of<R: Files + Input + Print + Eprint + AllocGlobal>(
         None => None,
     };
     let Some(file) = &form.file else {
-        source_text(rt.alloc(), &mut rt.reader(), &form.starts, &names, output)?;
+        let mut input = Counted::new(rt.reader());
+        let written = source_text(rt.alloc(), &mut input, &form.starts, &names, output);
+        input.tell_of_limit(rt);
+        written?;
         return Ok(());
     };
     let (frames, start) = program_of(rt, file, &form.name)?;
