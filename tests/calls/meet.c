@@ -108,6 +108,18 @@ int fcntl(int file, int how, ...)
     MET(int, how == F_DUPFD_CLOEXEC ? "dup" : "fcntl", -1, (int, int, ...), (file, how, given));
 }
 
+int open(const char *name, int how, ...)
+{
+    char call[4096];
+    const char *last = strrchr(name, '/');
+    va_list rest;
+    va_start(rest, how);
+    int mode = va_arg(rest, int);
+    va_end(rest);
+    snprintf(call, sizeof call, "open %s", last ? last + 1 : name);
+    MET(int, call, -1, (const char *, int, ...), (name, how, mode));
+}
+
 ssize_t write(int file, const void *bytes, size_t size)
 {
     MET(ssize_t, file == 1 ? "print" : "write", -1, (int, const void *, size_t), (file, bytes, size));
