@@ -6,9 +6,9 @@ use host8::Unwritten;
 use image_file8::{Ended, print_bytes, tell_text, texts_of, unprinted};
 use image_host8::{
     check_images, copy_file, create_image, create_tape, delete_files, get_bin, get_file,
-    list_files, list_places, put_file, rename_file, squeeze_files,
+    list_files, list_places, rename_file, squeeze_files,
 };
-use many_host8::{get_blocks, get_files, put_files};
+use many_host8::{get_blocks, get_files, put_file, put_files};
 use report8::{ProgramLine, put_program};
 use script8::{SessionFault, put_reply};
 use std::alloc::AllocError;
