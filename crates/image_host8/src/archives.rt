@@ -2,8 +2,8 @@
 
 use archive8::{Asked, GetForm, NewImage, list, list_long};
 use image_file8::{
-    Ended, Image, bytes_of_file, core_of_file, made, print_bytes,
-    save_and_print, seen, tell_bad_text, tell_line,
+    Ended, Image, bytes_of_file, core_of_file, made, print_bytes, save_and_print, seen,
+    tell_bad_text, tell_line,
 };
 use report8::ProgramLine;
 use script8::{LineReply, Reply, put_reply};

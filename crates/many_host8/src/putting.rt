@@ -25,12 +25,10 @@ pub fn put_file<R: Files<File = File> + Input + Print + Eprint + AllocGlobal>(
     form: &PutOneForm,
 ) -> Result<(), Ended> {
     let mut held = Image::open(rt, &form.image)?;
-    let bytes = if form.file.as_str() == STANDARD {
-        input_bytes(rt)?
-    } else {
-        bytes_of(rt, &form.file)?
-    };
-    if let (Some(name), false) = (Name::parse(form.name.as_bytes()), form.may_empty) {
+    let bytes = given_bytes(rt, &form.file)?;
+    if let Some(name) = Name::parse(form.name.as_bytes())
+        && !form.may_empty
+    {
         refuse_emptied(rt, held.bytes(), &form.file, name, &bytes)?;
     }
     let done = put(
@@ -48,6 +46,17 @@ pub fn put_file<R: Files<File = File> + Input + Print + Eprint + AllocGlobal>(
     let mut line = Vec::new(rt.alloc());
     put_stored(&mut line, new.name, new.blocks)?;
     save_and_print(rt, &mut held, new.bytes, &line)
+}
+
+/// The bytes of a file of the host, or of standard input.
+fn given_bytes<R: Files<File = File> + Input + Eprint + AllocGlobal>(
+    rt: &R,
+    name: &str,
+) -> Result<Vec<u8>, Ended> {
+    if name == STANDARD {
+        return input_bytes(rt);
+    }
+    bytes_of(rt, name)
 }
 
 /// Refuses an input of no byte that would replace a file of the volume in an image.

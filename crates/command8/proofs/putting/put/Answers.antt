@@ -8,7 +8,7 @@ pub returns : goal.returns
 returns c =
     let names = words_rule (codes "FILE") MOST_BLOCKS in
     let image = c.with_image.ensures (new_app (codes "put")) c.leaf-bare.ensures in
-    let named = c.with_argument-command.ensures (subcommand (codes "put") (image_rule ∷ [])) names image c.words-names.ensures in
+    let named = c.with_argument-command.ensures (subcommand (codes "put") (image_rule ∷ [])) names image c.words-files.ensures in
     let kinds = c.with_kinds.ensures (subcommand (codes "put") (image_rule ∷ names ∷ [])) named in
     let named_one = c.with_name.ensures (subcommand (codes "put") (image_rule ∷ names ∷ flag_rule (codes "text") ∷ options_rule (codes "text-of")
         ∷ flag_rule (codes "files") ∷ options_rule (codes "info") ∷ [])) kinds in
