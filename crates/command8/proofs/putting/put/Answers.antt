@@ -11,6 +11,6 @@ returns c =
     let named = c.with_argument-command.ensures (subcommand (codes "put") (image_rule ∷ [])) names image c.words-files.ensures in
     let kinds = c.with_kinds.ensures (subcommand (codes "put") (image_rule ∷ names ∷ [])) named in
     let named_one = c.with_name.ensures (subcommand (codes "put") (image_rule ∷ names ∷ flag_rule (codes "text") ∷ options_rule (codes "text-of")
-        ∷ flag_rule (codes "files") ∷ options_rule (codes "info") ∷ [])) kinds in
+    ∷ flag_rule (codes "files") ∷ options_rule (codes "info") ∷ [])) kinds in
     c.with_layout.ensures (subcommand (codes "put") (image_rule ∷ names ∷ flag_rule (codes "text") ∷ options_rule (codes "text-of")
     ∷ flag_rule (codes "files") ∷ options_rule (codes "info") ∷ option_rule (codes "as") ∷ flag_rule (codes "empty") ∷ [])) named_one
