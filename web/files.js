@@ -249,7 +249,7 @@ export class Files {
     }
 
     // Makes bytes a file of the volume.
-    put(name, bytes, ...form) { return this.page.programs.ask(['put', this.name, name, ...form], bytes); }
+    put(name, bytes, ...form) { return this.page.programs.ask(['put', this.name, '-', '--as', name, ...form], bytes); }
 
     // Changes the volume by lines of a script, and tells their replies.
     async #change(...lines) {

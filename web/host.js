@@ -1,6 +1,6 @@
 // What the program asks of its host: files, which lie in a map, and three streams. It decides nothing that the program decides.
 const utf8 = new TextEncoder(), text = new TextDecoder();
-const ENOENT = 2, EAGAIN = 11, EACCES = 13, EEXIST = 17, EINVAL = 22, ESPIPE = 29;
+const ENOENT = 2, EAGAIN = 11, EACCES = 13, EEXIST = 17, EISDIR = 21, EINVAL = 22, ESPIPE = 29;
 const O_CREAT = 0o100, O_EXCL = 0o200, O_TRUNC = 0o1000;
 
 // A file: bytes that may grow. Each has a number, as a name may lead to another file meanwhile.
@@ -56,7 +56,9 @@ function imports(memory, files, words, host) {
         const all = memory(at, 4096), end = all.indexOf(0);
         return text.decode(all.slice(0, end)).replace(/^\.\//, '');
     };
-    const opened = (file, name) => { open.set(next, { file, name, at: 0 }); return next++; };
+    const opened = (file, name, folder = false) => { open.set(next, { file, name, folder, at: 0 }); return next++; };
+    // The folder of the page's files has no other name; it is opened so that its names come to the disk.
+    const is_folder = name => name === '.' || files.has_folder?.(name);
     const copy = (number, least) => {
         next = Math.max(next, least);
         while (open.has(next)) next++;
@@ -80,6 +82,7 @@ function imports(memory, files, words, host) {
             const name = path(at);
             let file = files.get(name);
             if (file && (flags & O_CREAT) && (flags & O_EXCL)) return fail(EEXIST);
+            if (!file && !(flags & O_CREAT) && is_folder(name)) return opened(new Held(), name, true);
             if (!file) {
                 if (!(flags & O_CREAT)) return fail(ENOENT);
                 file = new Held();
@@ -97,6 +100,7 @@ function imports(memory, files, words, host) {
                 return part instanceof Promise ? part.then(it => give(at, it)) : give(at, part);
             }
             const own = open.get(number), part = own.file.bytes.subarray(own.at, own.at + Number(most));
+            if (own.folder) return BigInt(fail(EISDIR));
             own.at += part.length;
             return give(at, part);
         },
@@ -137,6 +141,8 @@ function imports(memory, files, words, host) {
             give(to, bytes);
             return to;
         },
+        // no file of the page is a link
+        readlink: () => BigInt(fail(EINVAL)),
         unlink(at) {
             const name = path(at), file = files.get(name);
             if (!file) return fail(ENOENT);

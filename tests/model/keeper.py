@@ -37,6 +37,11 @@ def found(volume: Volume, asked: Asked) -> tuple[Optional[Name], str]:
     return name, "" if name in volume.files else NOT_FOUND
 
 
+def emptying(path: str) -> Answer:
+    """What is said of an input of no byte that would replace a file."""
+    return [f"note: {path} is empty, and the volume has a file of its name: --empty puts it all the same", NOTHING], 1
+
+
 def refused(line: str) -> Answer:
     return [line], 1
 
@@ -70,7 +75,7 @@ class Keeper:
     def put_frames(self, image: str, typed: bytes, frames: bytes, info: Optional[tuple[int, ...]]) -> Answer:
         name = parsed_name(typed)
         if name is not None and not frames:
-            return refused(NOTHING)
+            return emptying("-") if name in self.volumes[image].files else refused(NOTHING)
         return self.put(image, name, packed(list(frames)), info)
 
     def put_all(self, image: str, given: list[tuple[bytes, bytes]], texts: list[str], info: Optional[tuple[int, ...]]) -> Answer:
@@ -82,6 +87,9 @@ class Keeper:
                 return [note, "note: a file's name is 1 to 6 letters or digits, then nothing, or a dot and 1 or 2 more", BAD_NAME], 1
             if name in names[:at]:
                 return [note, "? PUT 1 SAME NAME"], 1
+        for (path, content), name in zip(given, names):
+            if not content and name in before.files:
+                return emptying(path.decode())
         for (path, content), name in zip(given, names):
             is_text = name is not None and extension(name) in texts
             words = stored_host_text(content) if is_text else packed(list(content))

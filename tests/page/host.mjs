@@ -56,6 +56,11 @@ class Folder {
         }
     }
 
+    has_folder(name) {
+        const path = resolve(this.folder, name);
+        return existsSync(path) && statSync(path).isDirectory();
+    }
+
     changed(file) { this.stale.add(file); }
 
     write_back() {

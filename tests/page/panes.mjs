@@ -66,14 +66,14 @@ test('files are put in as texts and as frames, as put does it', async page => {
     await page.choose('#put-as', 'frames');
     writeFileSync(file('all.xy'), Buffer.from(Array.from({ length: 1000 }, (_, k) => k * 7 & 255)));
     await page.give('#put', file('all.xy'), join(top, 'examples/add-one.bin'));
-    native(['put', 'DISK', 'HELLO.PA', '--text'], readFileSync(join(top, 'examples/hello.pa')));
-    native(['put', 'DISK', 'GUESS.PA', '--text'], readFileSync(join(top, 'examples/guess.pa')));
-    native(['put', 'DISK', 'ALL.XY'], readFileSync(file('all.xy')));
+    native(['put', 'DISK', '-', '--as', 'HELLO.PA', '--text'], readFileSync(join(top, 'examples/hello.pa')));
+    native(['put', 'DISK', '-', '--as', 'GUESS.PA', '--text'], readFileSync(join(top, 'examples/guess.pa')));
+    native(['put', 'DISK', '-', '--as', 'ALL.XY'], readFileSync(file('all.xy')));
     await isTold(page, 'files-status', '? 4.5 BAD NAME');
     copyFileSync(join(top, 'examples/add-one.bin'), file('add.bn'));
     await page.give('#put', file('add.bn'));
     await isTold(page, 'files-status', 'STORED ADD.BN 1');
-    native(['put', 'DISK', 'ADD.BN'], readFileSync(file('add.bn')));
+    native(['put', 'DISK', '-', '--as', 'ADD.BN'], readFileSync(file('add.bn')));
     same(readFileSync(file('DISK')), (await page.home('#take-image')).bytes, 'the image');
 });
 
@@ -115,7 +115,7 @@ test('delete and squeeze are lines of a script', async page => {
 
 test('an image is taken by choice and by a drop', async page => {
     native(['create', 'V.os8', '100']);
-    native(['put', 'V.os8', 'NOTE', '--text'], 'a note\n');
+    native(['put', 'V.os8', '-', '--as', 'NOTE', '--text'], 'a note\n');
     await page.give('#image', file('V.os8'));
     await page.until(`document.getElementById('volume').value === 'V.os8'`);
     same(readFileSync(file('V.os8')), (await page.home('#take-image')).bytes, 'the image');
@@ -162,7 +162,7 @@ test('a file of 2 GB is refused, and the page stays live', async page => {
 
 test('the largest volume is shown in time', async page => {
     native(['create', 'LARGE', '4095']);
-    native(['put', 'LARGE', 'A', '--text'], 'x\n'.repeat(50000));
+    native(['put', 'LARGE', '-', '--as', 'A', '--text'], 'x\n'.repeat(50000));
     await page.give('#image', file('LARGE'));
     await page.until(`document.getElementById('volume').value === 'LARGE'`);
     const took = await page.look(`(async () => { const from = performance.now(); await geivottu.files.open('LARGE'); return performance.now() - from; })()`);
@@ -200,8 +200,8 @@ test('text and tape go to the volume', async page => {
     await page.fill('#source-name', 'GAME');
     await page.click('#to-volume');
     await isTold(page, 'source-status', 'STORED GAME.BN');
-    native(['put', 'DISK', 'GAME.PA', '--text'], readFileSync(file('guess.pa')));
-    native(['put', 'DISK', 'GAME.BN'], readFileSync(file('guess.bin')));
+    native(['put', 'DISK', '-', '--as', 'GAME.PA', '--text'], readFileSync(file('guess.pa')));
+    native(['put', 'DISK', '-', '--as', 'GAME.BN'], readFileSync(file('guess.bin')));
     await pane(page, 'files');
     same(readFileSync(file('DISK')), (await page.home('#take-image')).bytes, 'the image');
 });

@@ -31,7 +31,7 @@ try {
     const b = await best(3, () => inPage(200)) - await best(3, () => inPage(1));
     console.log(`a script of 200 million steps: native ${a.toFixed(2)} s, page ${b.toFixed(2)} s: ${(200 / b).toFixed(0)} million steps a second, ${(a / b).toFixed(2)} of native`);
 
-    await page.look(`(async () => { await geivottu.programs.ask(['create', 'L', '4095']); await geivottu.programs.ask(['put', 'L', 'A.PA', '--text'], 'X\\n'.repeat(90000)); })()`);
+    await page.look(`(async () => { await geivottu.programs.ask(['create', 'L', '4095']); await geivottu.programs.ask(['put', 'L', '-', '--as', 'A.PA', '--text'], 'X\\n'.repeat(90000)); })()`);
     const shown = await best(5, () => page.look(`(async () => { const from = performance.now(); await geivottu.files.open('L');
         await new Promise(requestAnimationFrame); return performance.now() - from; })()`));
     console.log(`an image of 4095 blocks is shown in ${shown.toFixed(0)} ms`);

@@ -92,6 +92,9 @@ into_use word = by_option (filled (option_rule (codes "into"))) (codes "into") w
 abbrev pub places_use : Text → Use
 places_use word = by_option (filled (options_rule (codes "at"))) (codes "at") word
 
+abbrev as_use : Text → Use
+as_use word = by_option (filled (option_rule (codes "as"))) (codes "as") word
+
 abbrev info_use : Text → Use
 info_use word = by_option (filled (options_rule (codes "info"))) (codes "info") word
 
@@ -265,26 +268,30 @@ plain_get_blocks name image first count n m image_is one two =
 
 -- ## Files that are put
 
--- the image, where it lies, the first name, and whether several files are put
-abbrev told_put : List Row → Option Text × Option Layout × Option Text × Bool
+-- the image, where it lies, the first file, the name that it gets, whether several are put, and whether files may be emptied
+abbrev told_put : List Row → Option Text × Option Layout × Option Text × Option Text × Bool × Bool
 told_put rows = (
   first_of (codes "IMAGE") rows,
   layout_of (codes "volume") (codes "dectape") rows,
-  first_of (codes "NAME") rows,
+  first_of (codes "FILE") rows,
+  first_of (codes "as") rows,
   puts_many rows,
+  is_set (codes "empty") rows,
 )
 
-asks_put : (image file : Text) (form : PutForm) (info : Option (List ℕ)) (rows : List Row) → told_put rows ≡ (Some image, None, Some file, false)
-    → put_form rows ≡ form
+asks_put : (image file member : Text) (form : PutForm) (info : Option (List ℕ)) (rows : List Row)
+    → told_put rows ≡ (Some image, None, Some file, Some member, false, false) → put_form rows ≡ form
     → ((given : Option (List ℕ)) → option_map (map (octal_of 4)) (all_of (codes "info") rows) ≡ option_map (map (λ word. Some word)) given → given ≡ info)
-    → (task : Task) → Seen verb.Put task → AsksFor (word verb.Put) rows task → IsPutOf image file form info task
-asks_put image file form info rows is how info_is task (a_put own) asks = (
+    → (task : Task) → Seen verb.Put task → AsksFor (word verb.Put) rows task → IsPutOf image file member form info task
+asks_put image file member form info rows is how info_is task (a_put own) asks = (
   image_is image None rows own.image (ap (λ p. p.0) is) (ap (λ p. p.1) is) asks.2.0,
-  some_eq own.name.bytes.items file (sym asks.2.1 ∙ ap (λ p. p.2) is),
-  asks.2.2 ∙ how,
-  info_is (option_map (λ words. words.items) own.info) asks.2.3,
+  some_eq own.file.bytes.items file (sym asks.2.1 ∙ ap (λ p. p.2) is),
+  some_eq own.name.bytes.items member (sym asks.2.2 ∙ ap (λ p. p.3) is),
+  asks.2.3 ∙ how,
+  asks.2.4 ∙ ap (λ p. p.5) is,
+  info_is (option_map (λ words. words.items) own.info) asks.2.5,
 )
-asks_put image file form info rows is how info_is task (a_put_many own) asks = absurd (true≢false (sym asks.1 ∙ ap (λ p. p.3) is))
+asks_put image file member form info rows is how info_is task (a_put_many own) asks = absurd (true≢false (sym asks.1 ∙ ap (λ p. p.4) is))
 
 no_info : (given : Option (List ℕ)) → None ≡ option_map (map (λ word. Some word)) given → given ≡ None
 no_info given is = no_value (map (λ word. Some word)) given is
@@ -295,61 +302,74 @@ one_info text word read None is = absurd (cc)
 one_info text word read (Some words) is =
     ap Some (one_number word words (ap (λ o. o ∷ []) (sym read) ∙ some_eq (octal_of 4 text ∷ []) (map (λ word. Some word) words) is))
 
-pub plain_put_frames : (name image file : Text) → IsPlain image → IsPlain file
-    → IsTakenAs (name ∷ codes "put" ∷ image ∷ file ∷ []) (IsPutOf image file put_as.Frames None)
-plain_put_frames name image file image_is file_is =
-    let uses = at_place image_built image ∷ at_place put_built file ∷ [] in
-    entered_as verb.Put uses (IsPutOf image file put_as.Frames None) (record {
-      pass = (no_option image image_is, record { found = refl; passes = refl; no_end = refl }, (no_option file file_is, record { found = refl; passes = refl; no_end = refl }, tt));
+pub plain_put_as : (name image file member : Text) → IsPlain image → IsPlain file → IsPlain member
+    → IsTakenAs (name ∷ codes "put" ∷ image ∷ file ∷ codes "--as" ∷ member ∷ []) (IsPutOf image file member put_as.Frames None)
+plain_put_as name image file member image_is file_is member_is =
+    let uses = at_place image_built image ∷ at_place put_built file ∷ as_use member ∷ [] in
+    entered_as verb.Put uses (IsPutOf image file member put_as.Frames None) (record {
+      pass = (no_option image image_is, record { found = refl; passes = refl; no_end = refl }, (no_option file file_is, record { found = refl; passes = refl; no_end = refl }, (no_option member member_is, record { read = refl; found = refl; takes_value = refl }, record { own = refl; one = refl; passes = refl }, tt)));
       settles = refl;
       defaults = refl;
       valid = refl;
     }) name
-    (asks_put image file put_as.Frames None (found_by verb.Put uses) refl refl no_info)
+    (asks_put image file member put_as.Frames None (found_by verb.Put uses) refl refl no_info)
 
-pub plain_put_text : (name image file : Text) → IsPlain image → IsPlain file
-    → IsTakenAs (name ∷ codes "put" ∷ image ∷ file ∷ codes "--text" ∷ []) (IsPutOf image file put_as.Text None)
-plain_put_text name image file image_is file_is =
-    let uses = at_place image_built image ∷ at_place put_built file ∷ text_use ∷ [] in
-    entered_as verb.Put uses (IsPutOf image file put_as.Text None) (record {
-      pass = (no_option image image_is, record { found = refl; passes = refl; no_end = refl }, (no_option file file_is, record { found = refl; passes = refl; no_end = refl }, (record { read = refl; found = refl; takes_value = refl }, refl, tt)));
+pub plain_put_input : (name image member : Text) → IsPlain image → IsPlain member
+    → IsTakenAs (name ∷ codes "put" ∷ image ∷ codes "-" ∷ codes "--as" ∷ member ∷ []) (IsPutOf image (codes "-") member put_as.Frames None)
+plain_put_input name image member image_is member_is =
+    let uses = at_place image_built image ∷ at_place put_built (codes "-") ∷ as_use member ∷ [] in
+    entered_as verb.Put uses (IsPutOf image (codes "-") member put_as.Frames None) (record {
+      pass = (no_option image image_is, record { found = refl; passes = refl; no_end = refl }, (record { no_long = refl; no_short = refl; no_dashes = refl }, record { found = refl; passes = refl; no_end = refl }, (no_option member member_is, record { read = refl; found = refl; takes_value = refl }, record { own = refl; one = refl; passes = refl }, tt)));
       settles = refl;
       defaults = refl;
       valid = refl;
     }) name
-    (asks_put image file put_as.Text None (found_by verb.Put uses) refl refl no_info)
+    (asks_put image (codes "-") member put_as.Frames None (found_by verb.Put uses) refl refl no_info)
 
-pub plain_put_info : (name image file info : Text) (n : ℕ) → IsPlain image → IsPlain file → octal_of 4 info ≡ Some n
-    → IsTakenAs (name ∷ codes "put" ∷ image ∷ file ∷ codes "--info" ∷ info ∷ []) (IsPutOf image file put_as.Frames (Some (n ∷ [])))
-plain_put_info name image file info n image_is file_is read =
-    let uses = at_place image_built image ∷ at_place put_built file ∷ info_use info ∷ [] in
-    entered_as verb.Put uses (IsPutOf image file put_as.Frames (Some (n ∷ []))) (record {
-      pass = (no_option image image_is, record { found = refl; passes = refl; no_end = refl }, (no_option file file_is, record { found = refl; passes = refl; no_end = refl }, (no_option info (word_plain info n read), record { read = refl; found = refl; takes_value = refl }, record { own = refl; one = refl; passes = refl }, tt)));
+pub plain_put_text : (name image file member : Text) → IsPlain image → IsPlain file → IsPlain member
+    → IsTakenAs (name ∷ codes "put" ∷ image ∷ file ∷ codes "--as" ∷ member ∷ codes "--text" ∷ []) (IsPutOf image file member put_as.Text None)
+plain_put_text name image file member image_is file_is member_is =
+    let uses = at_place image_built image ∷ at_place put_built file ∷ as_use member ∷ text_use ∷ [] in
+    entered_as verb.Put uses (IsPutOf image file member put_as.Text None) (record {
+      pass = (no_option image image_is, record { found = refl; passes = refl; no_end = refl }, (no_option file file_is, record { found = refl; passes = refl; no_end = refl }, (no_option member member_is, record { read = refl; found = refl; takes_value = refl }, record { own = refl; one = refl; passes = refl }, (record { read = refl; found = refl; takes_value = refl }, refl, tt))));
       settles = refl;
       defaults = refl;
       valid = refl;
     }) name
-    (asks_put image file put_as.Frames (Some (n ∷ [])) (found_by verb.Put uses) refl refl (one_info info n read))
+    (asks_put image file member put_as.Text None (found_by verb.Put uses) refl refl no_info)
+
+pub plain_put_info : (name image file member info : Text) (n : ℕ) → IsPlain image → IsPlain file → IsPlain member → octal_of 4 info ≡ Some n
+    → IsTakenAs (name ∷ codes "put" ∷ image ∷ file ∷ codes "--as" ∷ member ∷ codes "--info" ∷ info ∷ []) (IsPutOf image file member put_as.Frames (Some (n ∷ [])))
+plain_put_info name image file member info n image_is file_is member_is read =
+    let uses = at_place image_built image ∷ at_place put_built file ∷ as_use member ∷ info_use info ∷ [] in
+    entered_as verb.Put uses (IsPutOf image file member put_as.Frames (Some (n ∷ []))) (record {
+      pass = (no_option image image_is, record { found = refl; passes = refl; no_end = refl }, (no_option file file_is, record { found = refl; passes = refl; no_end = refl }, (no_option member member_is, record { read = refl; found = refl; takes_value = refl }, record { own = refl; one = refl; passes = refl }, (no_option info (word_plain info n read), record { read = refl; found = refl; takes_value = refl }, record { own = refl; one = refl; passes = refl }, tt))));
+      settles = refl;
+      defaults = refl;
+      valid = refl;
+    }) name
+    (asks_put image file member put_as.Frames (Some (n ∷ [])) (found_by verb.Put uses) refl refl (one_info info n read))
 
 -- whether texts are told, and the information words
 abbrev told_files : List Row → List Text × Bool × List Text × Option (List Text)
 told_files rows = (
-  values_of (codes "NAME") rows,
+  values_of (codes "FILE") rows,
   is_set (codes "text") rows,
   values_of (codes "text-of") rows,
   all_of (codes "info") rows,
 )
 
-asks_put_many : (image first : Text) (files : List Text) (rows : List Row) → told_put rows ≡ (Some image, None, Some first, true)
+asks_put_many : (image first : Text) (files : List Text) (rows : List Row) → told_put rows ≡ (Some image, None, Some first, None, true, false)
     → told_files rows ≡ (files, false, [], None) → (task : Task) → Seen verb.Put task → AsksFor (word verb.Put) rows task → IsPutManyOf image files task
-asks_put_many image first files rows is many task (a_put own) asks = absurd (true≢false (sym (ap (λ p. p.3) is) ∙ asks.1))
+asks_put_many image first files rows is many task (a_put own) asks = absurd (true≢false (sym (ap (λ p. p.4) is) ∙ asks.1))
 asks_put_many image first files rows is many task (a_put_many form) asks = (
   image_is image None rows form.image (ap (λ p. p.0) is) (ap (λ p. p.1) is) asks.2.0,
   sym asks.2.1 ∙ ap (λ p. p.0) many,
   asks.2.2.0 ∙ ap (λ p. p.1) many,
   sym asks.2.2.1 ∙ ap (λ p. p.2) many,
+  asks.2.3 ∙ ap (λ p. p.5) is,
   no_value (λ words. words.items) form.info
-      (sym (no_info (option_map (λ words. words.items) form.info) (sym (ap (λ p. option_map (map (octal_of 4)) p.3) many) ∙ asks.2.3))),
+      (sym (no_info (option_map (λ words. words.items) form.info) (sym (ap (λ p. option_map (map (octal_of 4)) p.3) many) ∙ asks.2.4))),
 )
 
 pub plain_put_files : (name image file other : Text) → IsPlain image → IsPlain file → IsPlain other
@@ -363,6 +383,18 @@ plain_put_files name image file other image_is file_is other_is =
       valid = refl;
     }) name
     (asks_put_many image file (file ∷ other ∷ []) (found_by verb.Put uses) refl refl)
+
+pub plain_put_own : (name image file : Text) → IsPlain image → IsPlain file
+    → IsTakenAs (name ∷ codes "put" ∷ image ∷ file ∷ []) (IsPutManyOf image (file ∷ []))
+plain_put_own name image file image_is file_is =
+    let uses = at_place image_built image ∷ at_place put_built file ∷ [] in
+    entered_as verb.Put uses (IsPutManyOf image (file ∷ [])) (record {
+      pass = (no_option image image_is, record { found = refl; passes = refl; no_end = refl }, (no_option file file_is, record { found = refl; passes = refl; no_end = refl }, tt));
+      settles = refl;
+      defaults = refl;
+      valid = refl;
+    }) name
+    (asks_put_many image file (file ∷ []) (found_by verb.Put uses) refl refl)
 
 pub plain_put_file : (name image file : Text) → IsPlain image → IsPlain file
     → IsTakenAs (name ∷ codes "put" ∷ image ∷ codes "--files" ∷ file ∷ []) (IsPutManyOf image (file ∷ []))

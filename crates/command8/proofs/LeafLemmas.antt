@@ -46,7 +46,7 @@ names_built = with_index 2 (filled (may_words_rule (codes "NAME") MOST_BLOCKS))
 
 -- and where one must
 abbrev pub put_built : Rule
-put_built = with_index 2 (filled (words_rule (codes "NAME") MOST_BLOCKS))
+put_built = with_index 2 (filled (words_rule (codes "FILE") MOST_BLOCKS))
 
 abbrev pub new_built : Rule
 new_built = with_index 3 (filled (new_rule (codes "NEW")))

@@ -66,7 +66,7 @@ get_leaf : IsLeaf (below get_app.top)
 get_leaf = record { parts = (word_part _ _ refl (refl, refl) refl refl, (word_part _ _ refl (refl, refl) refl refl, (appending_part _ _ refl refl refl refl (λ x. refl), (flag_part _ _ refl refl refl (λ x. refl), (flag_part _ _ refl refl refl (λ x. refl), (flag_part _ _ refl refl refl (λ x. refl), (option_part _ _ refl (refl, refl) refl refl (λ x. refl), (flag_part _ _ refl refl refl (λ x. refl), (flag_part _ _ refl refl refl (λ x. refl), (appending_part _ _ refl refl refl refl (λ x. refl), (flag_part _ _ refl refl refl (λ x. refl), (option_part _ _ refl (refl, refl) refl refl (λ x. refl), (flag_part _ _ refl refl refl (λ x. refl), (a_help refl, tt)))))))))))))); negates = refl; once = refl }
 
 put_leaf : IsLeaf (below put_app.top)
-put_leaf = record { parts = (word_part _ _ refl (refl, refl) refl refl, (word_part _ _ refl (refl, refl) refl refl, (flag_part _ _ refl refl refl (λ x. refl), (appending_part _ _ refl refl refl refl (λ x. refl), (flag_part _ _ refl refl refl (λ x. refl), (appending_part _ _ refl refl refl refl (λ x. refl), (option_part _ _ refl (refl, refl) refl refl (λ x. refl), (flag_part _ _ refl refl refl (λ x. refl), (a_help refl, tt))))))))); negates = refl; once = refl }
+put_leaf = record { parts = (word_part _ _ refl (refl, refl) refl refl, (word_part _ _ refl (refl, refl) refl refl, (flag_part _ _ refl refl refl (λ x. refl), (appending_part _ _ refl refl refl refl (λ x. refl), (flag_part _ _ refl refl refl (λ x. refl), (appending_part _ _ refl refl refl refl (λ x. refl), (option_part _ _ refl (refl, refl) refl refl (λ x. refl), (flag_part _ _ refl refl refl (λ x. refl), (option_part _ _ refl (refl, refl) refl refl (λ x. refl), (flag_part _ _ refl refl refl (λ x. refl), (a_help refl, tt))))))))))); negates = refl; once = refl }
 
 delete_leaf : IsLeaf (below delete_app.top)
 delete_leaf = record { parts = (word_part _ _ refl (refl, refl) refl refl, (word_part _ _ refl (refl, refl) refl refl, (appending_part _ _ refl refl refl refl (λ x. refl), (option_part _ _ refl (refl, refl) refl refl (λ x. refl), (flag_part _ _ refl refl refl (λ x. refl), (a_help refl, tt)))))); negates = refl; once = refl }

@@ -1,7 +1,8 @@
 -- What is refused of words that `clap` takes for a subcommand on volumes: the first that is wrong with them. Two arguments that don't go
 -- together come before one that is missing, that before a word too many, and that before a value that is none, of which those of
 -- `--volume` and `--to-volume` come before those of `--at` and `--info`, or the two numbers of blocks.
-use Rattle.std.specs.Prelude.{◌&&◌, ◌||◌, not, Bool, if◌then◌else◌, ℕ, codes, find, is_some, List, [], ◌∷◌, Option, None, Some, option_map, unwrap_or}
+use Rattle.std.specs.Prelude.{◌&&◌, ◌||◌, not, Bool, false, if◌then◌else◌, ℕ, codes, find, is_some, List, [], ◌∷◌, Option, None, Some, option_map, unwrap_or}
+use Rattle.std.specs.Str.{bytes_eq}
 use Rattle.clap.specs.Words.{Row, Text, first_of}
 use Rattle.word12.specs.declared.sizes.TheConstants.{MOST_BLOCKS}
 use Rattle.command8.specs.declared.refusals.Pair.{Pair}
@@ -64,11 +65,13 @@ are_both pair.BlocksTape values = is_set (codes "blocks") values && is_set (code
 are_both pair.BlocksBin values = is_set (codes "blocks") values && is_set (codes "bin") values
 are_both pair.TapeInto values = is_set (codes "tape") values && has (codes "into") values
 are_both pair.BinInto values = is_set (codes "bin") values && has (codes "into") values
+are_both pair.AsTextOf values = has (codes "as") values && has (codes "text-of") values
 
 abbrev pub pairs : List Pair
 pairs =
     pair.VolumeDectape ∷ pair.ToVolumeToDectape ∷ pair.SizeDectape ∷ pair.BlocksAt ∷ pair.BlocksInto ∷ pair.BlocksAll
-    ∷ pair.BlocksForce ∷ pair.BlocksTextOf ∷ pair.BlocksTape ∷ pair.BlocksBin ∷ pair.TapeInto ∷ pair.BinInto ∷ []
+    ∷ pair.BlocksForce ∷ pair.BlocksTextOf ∷ pair.BlocksTape ∷ pair.BlocksBin ∷ pair.TapeInto ∷ pair.BinInto
+    ∷ pair.AsTextOf ∷ []
 
 abbrev pub pair_of : List Row → Option Pair
 pair_of values = find (λ pair. are_both pair values) pairs
@@ -94,9 +97,14 @@ blocks_missing values =
     else if not (is_some (word_at (codes "NAME") 1 values)) then Some what.Count
     else None
 
--- files of the host are named, and none of the volume
+-- files of the host are put under their own names
 abbrev pub puts_many : List Row → Bool
-puts_many values = is_set (codes "files") values || is_some (word_at (codes "NAME") 1 values)
+puts_many values = not (has (codes "as") values)
+
+-- standard input is among these files
+abbrev pub names_input : List Text → Bool
+names_input [] = false
+names_input (name ∷ names) = bytes_eq name (codes "-") || names_input names
 
 -- of a file and the word behind it, which stands in the place of the name where `--at` tells the file
 abbrev pub moved_missing : Text → What → What → List Row → Option What
@@ -111,7 +119,7 @@ missing_of verb.Get values =
     else if not (names_some values) then Some what.Name
     else if has (codes "into") values || names_one values then None
     else Some what.Into
-missing_of verb.Put values = if has (codes "text-of") values && not (puts_many values) then Some what.Files else None
+missing_of verb.Put values = if puts_many values && names_input (values_of (codes "FILE") values) then Some what.As else None
 missing_of verb.Delete values = if has (codes "NAME") values || has (codes "at") values then None else Some what.Name
 missing_of verb.Rename values = moved_missing (codes "NEW") what.New what.NameAndNew values
 missing_of verb.Copy values = moved_missing (codes "TO") what.To what.NameAndTo values
@@ -119,11 +127,12 @@ missing_of which values = None
 
 -- ## A word too many
 
--- the third behind an image whose blocks are got, or the last where `--at` stands for a name
+-- the third behind an image whose blocks are got, the last where `--at` stands for a name, or the second file where one is given a name
 abbrev pub unexpected_of : List Row → Option Text
 unexpected_of values =
     if is_set (codes "blocks") values then word_at (codes "NAME") 2 values
     else if has (codes "at") values then first_of (codes "NEW") values
+    else if has (codes "as") values then word_at (codes "FILE") 1 values
     else None
 
 -- ## Values that are none

@@ -172,8 +172,9 @@ get_app =
 
 abbrev pub put_app : App
 put_app =
-    subcommand (codes "put") (image_rule ∷ words_rule (codes "NAME") MOST_BLOCKS ∷ flag_rule (codes "text")
-    ∷ options_rule (codes "text-of") ∷ flag_rule (codes "files") ∷ options_rule (codes "info") ∷ layout_rules)
+    subcommand (codes "put") (image_rule ∷ words_rule (codes "FILE") MOST_BLOCKS ∷ flag_rule (codes "text")
+    ∷ options_rule (codes "text-of") ∷ flag_rule (codes "files") ∷ options_rule (codes "info")
+    ∷ option_rule (codes "as") ∷ flag_rule (codes "empty") ∷ layout_rules)
 
 abbrev pub delete_app : App
 delete_app =
@@ -339,16 +340,18 @@ abbrev pub IsBlocksForm : List Row → BlocksForm → Type 0
 IsBlocksForm values form = IsImage values form.image × (number_in 0 4094 (blocks_word 0 values) ≡ Some form.first)
     × (number_in 1 MOST_BLOCKS (blocks_word 1 values) ≡ Some form.count) × (form.form ≡ get_form values)
 
--- a file is put so
+-- a file is put so under a name that is given
 abbrev pub IsPutOneForm : List Row → PutOneForm → Type 0
-IsPutOneForm values form = IsImage values form.image × (first_of (codes "NAME") values ≡ Some form.name.bytes.items)
-    × (form.form ≡ put_form values) × IsInfo values (option_map (λ words. words.items) form.info)
+IsPutOneForm values form = IsImage values form.image × (first_of (codes "FILE") values ≡ Some form.file.bytes.items)
+    × (first_of (codes "as") values ≡ Some form.name.bytes.items) × (form.form ≡ put_form values)
+    × (form.may_empty ≡ is_set (codes "empty") values) × IsInfo values (option_map (λ words. words.items) form.info)
 
 -- files of the host are put so
 abbrev pub IsPutManyForm : List Row → PutManyForm → Type 0
 IsPutManyForm values form = IsImage values form.image
-    × (values_of (codes "NAME") values ≡ map (λ file. file.bytes.items) form.files.items)
-    × AreTexts values form.texts × IsInfo values (option_map (λ words. words.items) form.info)
+    × (values_of (codes "FILE") values ≡ map (λ file. file.bytes.items) form.files.items)
+    × AreTexts values form.texts × (form.may_empty ≡ is_set (codes "empty") values)
+    × IsInfo values (option_map (λ words. words.items) form.info)
 
 -- files are taken out so
 abbrev pub IsDeleteForm : List Row → DeleteForm → Type 0
@@ -600,17 +603,18 @@ IsGetBlocksOf name first count kind (GetBlocks form) = IsImageOf name None form.
     × (form.count ≡ count) × (form.form ≡ kind)
 IsGetBlocksOf name first count kind task = ⊥
 
--- with these information words, if any
-abbrev pub IsPutOf : Text → Text → PutForm → Option (List ℕ) → Task → Type 0
-IsPutOf name member kind info (Put form) = IsImageOf name None form.image × (form.name.bytes.items ≡ member)
-    × (form.form ≡ kind) × (option_map (λ words. words.items) form.info ≡ info)
-IsPutOf name member kind info task = ⊥
+-- this file of the host under this name, with these information words, if any, and no file is emptied
+abbrev pub IsPutOf : Text → Text → Text → PutForm → Option (List ℕ) → Task → Type 0
+IsPutOf name file member kind info (Put form) = IsImageOf name None form.image × (form.file.bytes.items ≡ file)
+    × (form.name.bytes.items ≡ member) × (form.form ≡ kind) × (form.may_empty ≡ false)
+    × (option_map (λ words. words.items) form.info ≡ info)
+IsPutOf name file member kind info task = ⊥
 
--- as frames, with no information words of their own
+-- as frames, with no information words of their own, and no file is emptied
 abbrev pub IsPutManyOf : Text → List Text → Task → Type 0
 IsPutManyOf name members (PutMany form) = IsImageOf name None form.image
     × (map (λ file. file.bytes.items) form.files.items ≡ members) × (form.texts.is_usual ≡ false)
-    × (map (λ text. text.bytes.items) form.texts.extensions.items ≡ []) × (form.info ≡ None)
+    × (map (λ text. text.bytes.items) form.texts.extensions.items ≡ []) × (form.may_empty ≡ false) × (form.info ≡ None)
 IsPutManyOf name members task = ⊥
 
 abbrev pub IsDeleteOf : Text → List Text → List ℕ → Task → Type 0

@@ -1,8 +1,8 @@
 //! What is wrong with the words of a subcommand on volumes, as far as it is told before the values of its options are read.
-ghost use Rattle.std.specs.Prelude.{◌≡◌, codes, find, option_map, slice_get, IfErr, IfOk, None, ℕ, Option};
+ghost use Rattle.std.specs.Prelude.{◌≡◌, codes, find, map, option_map, slice_get, IfErr, IfOk, None, ℕ, Option};
 ghost use Rattle.clap.specs.Words.{found_of, rows_of};
 ghost use Rattle.command8.specs.Found as found_spec;
-ghost use Rattle.command8.specs.Refusals.{are_both, missing_of, refusal_of, values_refused, words_refused};
+ghost use Rattle.command8.specs.Refusals.{are_both, missing_of, names_input, refusal_of, values_refused, words_refused};
 ghost use Rattle.command8.specs.Refusals as spec;
 ghost use Rattle.command8.specs.TaskSteps.{IsRefusedBy};
 ghost use Rattle.command8.specs.declared.verbs.Verb.TheVariants as verb;
@@ -64,7 +64,7 @@ fn words_judged(
 }
 
 /// Arguments that don't go together.
-const PAIRS: [Pair; 12] = [
+const PAIRS: [Pair; 13] = [
     Pair::VolumeDectape,
     Pair::ToVolumeToDectape,
     Pair::SizeDectape,
@@ -77,6 +77,7 @@ const PAIRS: [Pair; 12] = [
     Pair::BlocksBin,
     Pair::TapeInto,
     Pair::BinInto,
+    Pair::AsTextOf,
 ];
 
 /// The first two arguments that were given and don't go together.
@@ -115,10 +116,12 @@ fn is_both(found: &ArgMatches<'_>, pair: Pair) -> bool
         Pair::BlocksBin => is_set(found, "blocks") && is_set(found, "bin"),
         Pair::TapeInto => is_set(found, "tape") && has(found, "into"),
         Pair::BinInto => is_set(found, "bin") && has(found, "into"),
+        Pair::AsTextOf => has(found, "as") && has(found, "text-of"),
     }
 }
 
-/// A word too many: the third behind an image whose blocks are got, or the last where `--at` stands for a name.
+/// A word too many: the third behind an image whose blocks are got, the last where `--at` stands for a name, or the second file where
+/// one is given a name.
 fn unexpected_of<'a>(found: &ArgMatches<'a>) -> Option<&'a str>
     ensures { option_map (λ text. text.now) result ≡ spec.unexpected_of (rows_of (found_of found.now)) }
 {
@@ -127,6 +130,9 @@ fn unexpected_of<'a>(found: &ArgMatches<'a>) -> Option<&'a str>
     }
     if has(found, "at") {
         return text_of(found, "NEW");
+    }
+    if has(found, "as") {
+        return word_at(found, "FILE", 1);
     }
     None
 }
@@ -203,21 +209,43 @@ fn is_alone(found: &ArgMatches<'_>, id: &str, other: &str) -> bool
     has(found, id) && word_at(found, id, 1).is_none() && !has(found, other)
 }
 
-/// What is missing where files are put.
+/// What is missing where files are put: a name for standard input.
 pub fn put_missing(found: &ArgMatches<'_>) -> Option<What>
     ensures { result ≡ missing_of verb.Put (rows_of (found_of found.now)) }
 {
-    if has(found, "text-of") && !puts_many(found) {
-        return Some(What::Files);
+    if puts_many(found) && puts_input(found) {
+        return Some(What::As);
     }
     None
 }
 
-/// Whether the words name files of the host.
+/// Whether files of the host are put under their own names.
 pub fn puts_many(found: &ArgMatches<'_>) -> bool
     ensures { result ≡ spec.puts_many (rows_of (found_of found.now)) }
 {
-    is_set(found, "files") || word_at(found, "NAME", 1).is_some()
+    !has(found, "as")
+}
+
+/// Whether standard input is among the files that are put.
+fn puts_input(found: &ArgMatches<'_>) -> bool
+    ensures { result ≡ names_input (found_spec.values_of (codes "FILE") (rows_of (found_of found.now))) }
+{
+    match found.get_strs("FILE") {
+        Some(names) => has_input(names),
+        None => false,
+    }
+}
+
+/// Whether standard input is among these files.
+fn has_input(names: &[&str]) -> bool
+    ensures { result ≡ names_input (map (λ name. name.now) names.now) }
+{
+    for name in names {
+        if *name == "-" {
+            return true;
+        }
+    }
+    false
 }
 
 /// What is missing where files are taken out.

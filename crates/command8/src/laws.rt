@@ -97,14 +97,20 @@ pub fn plain_words()
         (IsGetBlocksOf image n m get_as.Frames) }
     ensures put { (name image file : List ℕ) → IsPlain image → IsPlain file
         → IsTakenAs (name ∷ codes "put" ∷ image ∷ file ∷ [])
-        (IsPutOf image file put_as.Frames None) }
-    ensures put_text { (name image file : List ℕ) → IsPlain image → IsPlain file
-        → IsTakenAs (name ∷ codes "put" ∷ image ∷ file ∷ codes "--text" ∷ [])
-        (IsPutOf image file put_as.Text None) }
-    ensures put_info { (name image file info : List ℕ) (n : ℕ) → IsPlain image → IsPlain file
-        → octal_of 4 info ≡ Some n
-        → IsTakenAs (name ∷ codes "put" ∷ image ∷ file ∷ codes "--info" ∷ info ∷ [])
-        (IsPutOf image file put_as.Frames (Some (n ∷ []))) }
+        (IsPutManyOf image (file ∷ [])) }
+    ensures put_as { (name image file member : List ℕ) → IsPlain image → IsPlain file → IsPlain member
+        → IsTakenAs (name ∷ codes "put" ∷ image ∷ file ∷ codes "--as" ∷ member ∷ [])
+        (IsPutOf image file member put_as.Frames None) }
+    ensures put_input { (name image member : List ℕ) → IsPlain image → IsPlain member
+        → IsTakenAs (name ∷ codes "put" ∷ image ∷ codes "-" ∷ codes "--as" ∷ member ∷ [])
+        (IsPutOf image (codes "-") member put_as.Frames None) }
+    ensures put_text { (name image file member : List ℕ) → IsPlain image → IsPlain file → IsPlain member
+        → IsTakenAs (name ∷ codes "put" ∷ image ∷ file ∷ codes "--as" ∷ member ∷ codes "--text" ∷ [])
+        (IsPutOf image file member put_as.Text None) }
+    ensures put_info { (name image file member info : List ℕ) (n : ℕ) → IsPlain image → IsPlain file
+        → IsPlain member → octal_of 4 info ≡ Some n
+        → IsTakenAs (name ∷ codes "put" ∷ image ∷ file ∷ codes "--as" ∷ member ∷ codes "--info" ∷ info ∷ [])
+        (IsPutOf image file member put_as.Frames (Some (n ∷ []))) }
     ensures put_two { (name image file other : List ℕ) → IsPlain image → IsPlain file → IsPlain other
         → IsTakenAs (name ∷ codes "put" ∷ image ∷ file ∷ other ∷ [])
         (IsPutManyOf image (file ∷ other ∷ [])) }

@@ -22,8 +22,8 @@ pub enum What {
     Count,
     #[error("--into <FOLDER>")]
     Into,
-    #[error("--files")]
-    Files,
+    #[error("--as <NAME>")]
+    As,
 }
 
 /// Two arguments that don't go together.
@@ -53,6 +53,8 @@ pub enum Pair {
     TapeInto,
     #[error("'--bin' cannot be used with '--into <FOLDER>'")]
     BinInto,
+    #[error("'--as <NAME>' cannot be used with '--text-of <LIST>'")]
+    AsTextOf,
 }
 
 /// Where a value stands, and what it must be.

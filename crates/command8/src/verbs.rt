@@ -65,7 +65,7 @@ impl Verb {
             Verb::Create => "Usage: pdp8 create [OPTIONS] <IMAGE> [BLOCKS]",
             Verb::List => "Usage: pdp8 list [OPTIONS] <IMAGE>",
             Verb::Get => "Usage: pdp8 get [OPTIONS] <IMAGE> [NAME]...",
-            Verb::Put => "Usage: pdp8 put [OPTIONS] <IMAGE> <NAME>...",
+            Verb::Put => "Usage: pdp8 put [OPTIONS] <IMAGE> <FILE>...",
             Verb::Delete => "Usage: pdp8 delete [OPTIONS] <IMAGE> [NAME]...",
             Verb::Rename => "Usage: pdp8 rename [OPTIONS] <IMAGE> [NAME] [NEW]",
             Verb::Copy => "Usage: pdp8 copy [OPTIONS] <IMAGE> [NAME] [TO] [NEW]",

@@ -2,7 +2,8 @@
 
 use crate::LayFault;
 use crate::besides::Besides;
-use crate::held::{linked, made_beside};
+use crate::locks::has_taken_lock;
+use crate::new_files::{give_name, make_beside};
 use std::fs::{self, File, Files};
 use std::io::{Error, Write};
 
@@ -18,36 +19,36 @@ pub fn lay<R: Files<File = File> + AllocGlobal>(
         return Err(LayFault::Exists);
     }
     let mut besides = Besides::new(rt.alloc(), name)?;
-    let file = made_beside(rt, &mut besides)?;
-    let done = named(rt, file, besides.last(), name, bytes, replaces);
-    if done.is_err() || !replaces {
+    let mut file = make_beside(rt, &mut besides)?;
+    let named = put_named(rt, &mut file, besides.last(), name, bytes, replaces);
+    if named.is_err() {
         let _ = fs::remove_file(rt, besides.last());
     }
-    done
+    named
 }
 
 /// Writes a new file, and gives it a name, in place of another file of that name if it is to be replaced.
-fn named<R: Files<File = File>>(
+fn put_named<R: Files<File = File>>(
     rt: &R,
-    file: File,
+    file: &mut File,
     beside: &str,
     name: &str,
     bytes: &[u8],
     replaces: bool,
 ) -> Result<(), LayFault> {
+    has_taken_lock(file)?;
     put_all(file, bytes)?;
     if replaces {
         fs::rename(rt, beside, name)?;
         return Ok(());
     }
-    linked(rt, beside, name)?;
+    give_name(rt, beside, name)?;
     Ok(())
 }
 
-fn put_all(file: File, bytes: &[u8]) -> Result<(), Error> {
-    let mut own = file;
-    own.write_all(bytes)?;
-    own.flush()
+fn put_all(file: &mut File, bytes: &[u8]) -> Result<(), Error> {
+    file.write_all(bytes)?;
+    file.flush()
 }
 
 /// Makes a folder, unless there is one of that name.

@@ -3,11 +3,17 @@
 
 mod besides;
 mod faults;
+mod folders;
 mod held;
 mod laid;
+mod links;
+mod locks;
 mod looking;
+mod new_files;
 
 pub use faults::{HoldFault, LayFault, Unwritten};
-pub use held::{HeldFile, hold, make};
+pub use folders::Durability;
+pub use held::{HeldFile, hold};
 pub use laid::{lay, make_folder};
 pub use looking::look;
+pub use new_files::make;

@@ -24,7 +24,7 @@ pub enum Ended {
     /// What a file for this holds that could not be written.
     Unwritten(Content, Unwritten),
 
-    /// Standard output takes no more of what is data.
+    /// Standard output takes no more.
     Unprinted,
 
     /// Standard output is a pipe that nobody reads any more.

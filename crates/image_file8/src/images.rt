@@ -1,9 +1,10 @@
 //! Images in files of the host. An image that a command may change is held from before it is read until the program ends.
 
 use crate::Ended;
-use crate::printing::print_line;
+use crate::inputs::tell_of_limit;
+use crate::printing::print_bytes;
 use disk8::{DiskFile, Layout};
-use host8::{HeldFile, HoldFault, Unwritten, hold, look, make};
+use host8::{Durability, HeldFile, HoldFault, Unwritten, hold, look, make};
 use report8::ProgramLine;
 use script8::SessionFault;
 use script8::readings::MOST;
@@ -40,7 +41,10 @@ pub struct Image {
     disk: Option<DiskFile>,
 
     /// Whether it was told that the file is written in its place.
-    is_told: bool,
+    is_place_told: bool,
+
+    /// Whether it was told that its folder can't be brought to the disk.
+    is_folder_told: bool,
 }
 
 impl Image {
@@ -55,23 +59,25 @@ impl Image {
         }
         let held = found.map_err(unread)?;
         tell_of_lock(rt, &held, Content::Image);
-        let file = taken(held.read(rt, MOST))?;
+        let file = taken(rt, &form.file, held.read(rt, MOST))?;
         let (bytes, disk) = volume_in(rt, file, form.layout)?;
         Ok(Image {
             held: Some(held),
             bytes,
             disk,
-            is_told: false,
+            is_place_told: false,
+            is_folder_told: false,
         })
     }
 
     /// Reads an image file, and holds nothing: it can't be saved.
-    pub fn look<R: Files + AllocGlobal>(rt: &R, form: &ImageForm) -> Result<Image, Ended> {
+    pub fn look<R: Files + Eprint + AllocGlobal>(rt: &R, form: &ImageForm) -> Result<Image, Ended> {
         Ok(Image {
             held: None,
             bytes: seen(rt, form)?,
             disk: None,
-            is_told: false,
+            is_place_told: false,
+            is_folder_told: false,
         })
     }
 
@@ -93,19 +99,22 @@ impl Image {
         let Some(held) = &mut self.held else {
             return Err(Ended::Unwritten(Content::Image, Unwritten::AsItWas));
         };
-        if !self.is_told {
+        if !self.is_place_told {
             tell_of_place(rt, held, Content::Image);
+            self.is_place_told = true;
         }
-        match &mut self.disk {
+        let durability = match &mut self.disk {
             None => write(rt, held, bytes, Content::Image)?,
             Some(disk) => {
                 if !disk.lay(bytes) {
                     return Err(Ended::Unwritten(Content::Image, Unwritten::AsItWas));
                 }
-                write(rt, held, disk.bytes(), Content::Image)?;
+                write(rt, held, disk.bytes(), Content::Image)?
             }
+        };
+        if !self.is_folder_told {
+            self.is_folder_told = tells_of_folder(rt, durability, Content::Image);
         }
-        self.is_told = true;
         mem::swap(&mut self.bytes, bytes);
         Ok(())
     }
@@ -120,7 +129,7 @@ pub fn save_and_print<R: Files<File = File> + Print + Eprint>(
 ) -> Result<(), Ended> {
     let mut bytes = bytes;
     held.save(rt, &mut bytes)?;
-    print_line(rt, lines)
+    print_bytes(rt, lines)
 }
 
 /// Makes a file that holds these bytes, in place of any of its name.
@@ -132,23 +141,27 @@ pub fn make_file<R: Files<File = File> + Eprint + AllocGlobal>(
 ) -> Result<(), Ended> {
     let found = hold(rt, name);
     if let Err(HoldFault::Absent) = &found {
-        return make(rt, name, bytes).map_err(|fault| unmade(fault, content));
+        let durability = make(rt, name, bytes).map_err(|fault| unmade(fault, content))?;
+        let _ = tells_of_folder(rt, durability, content);
+        return Ok(());
     }
     let mut held = found.map_err(|fault| unmade(fault, content))?;
     tell_of_lock(rt, &held, content);
     tell_of_place(rt, &held, content);
-    write(rt, &mut held, bytes, content)
+    let durability = write(rt, &mut held, bytes, content)?;
+    let _ = tells_of_folder(rt, durability, content);
+    Ok(())
 }
 
 /// The bytes of an image that is only looked at.
-pub fn seen<R: Files + AllocGlobal>(rt: &R, form: &ImageForm) -> Result<Vec<u8>, Ended> {
+pub fn seen<R: Files + Eprint + AllocGlobal>(rt: &R, form: &ImageForm) -> Result<Vec<u8>, Ended> {
     let (bytes, _disk) = volume_in(rt, bytes_of(rt, &form.file)?, form.layout)?;
     Ok(bytes)
 }
 
 /// The bytes of a file that is only looked at.
-pub fn bytes_of<R: Files + AllocGlobal>(rt: &R, name: &str) -> Result<Vec<u8>, Ended> {
-    taken(look(rt, name, MOST))
+pub fn bytes_of<R: Files + Eprint + AllocGlobal>(rt: &R, name: &str) -> Result<Vec<u8>, Ended> {
+    taken(rt, name, look(rt, name, MOST))
 }
 
 /// The image of the volume in a file of these bytes, and the file where it holds more than that.
@@ -165,10 +178,15 @@ fn volume_in<R: AllocGlobal>(
     Ok((image, Some(disk)))
 }
 
-/// The bytes of an image file, if they are not too many.
-fn taken(found: Result<Vec<u8>, HoldFault>) -> Result<Vec<u8>, Ended> {
+/// The bytes of a file, if they are not too many, which is said.
+fn taken<R: Eprint>(
+    rt: &R,
+    name: &str,
+    found: Result<Vec<u8>, HoldFault>,
+) -> Result<Vec<u8>, Ended> {
     let bytes = found.map_err(unread)?;
     if bytes.len() > MOST {
+        tell_of_limit(rt, name);
         return Err(Ended::Line(ProgramLine::HostRead));
     }
     Ok(bytes)
@@ -204,11 +222,25 @@ fn write<R: Files<File = File>>(
     held: &mut HeldFile,
     bytes: &[u8],
     content: Content,
-) -> Result<(), Ended> {
-    if let Err(left) = held.write(rt, bytes) {
-        return Err(Ended::Unwritten(content, left));
+) -> Result<Durability, Ended> {
+    match held.write(rt, bytes) {
+        Ok(durability) => Ok(durability),
+        Err(left) => Err(Ended::Unwritten(content, left)),
     }
-    Ok(())
+}
+
+/// Says of a file that was written that a crash of the system may undo this, and answers whether that was to be said.
+fn tells_of_folder<R: Eprint>(rt: &R, durability: Durability, content: Content) -> bool {
+    match durability {
+        Durability::Certain => false,
+        Durability::Unknown => {
+            let _ = eprintln!(rt;
+                "note: the {} is written, but its folder is not synced: whether a crash keeps it isn't known",
+                content.name()
+            );
+            true
+        }
+    }
 }
 
 fn tell_of_lock<R: Eprint>(rt: &R, held: &HeldFile, content: Content) {

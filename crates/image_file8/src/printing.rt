@@ -1,12 +1,15 @@
 //! Lines on standard output and on standard error.
 
-use crate::Ended;
-use report8::{ProgramLine, put_program, with_prefix, write_out};
-use std::io;
+use crate::{Ended, Output};
+use report8::{ProgramLine, put_program, with_prefix};
+use std::io::Write;
 
-/// Prints lines on standard output.
-pub fn print_line<R: Print>(rt: &R, line: &[u8]) -> Result<(), Ended> {
-    write_out(&mut io::writer(rt), line)?;
+/// Prints lines or data on standard output.
+pub fn print_bytes<R: Print>(rt: &R, bytes: &[u8]) -> Result<(), Ended> {
+    let mut output = Output::new(rt);
+    if output.write_all(bytes).is_err() {
+        return Err(output.ended());
+    }
     Ok(())
 }
 
@@ -14,7 +17,7 @@ pub fn print_line<R: Print>(rt: &R, line: &[u8]) -> Result<(), Ended> {
 pub fn print_of<R: Print + AllocGlobal>(rt: &R, name: &str, text: &[u8]) -> Result<(), Ended> {
     let prefix = format!(in rt.alloc(); "{name}: ")?;
     let lines = with_prefix(rt.alloc(), prefix.as_bytes(), text)?;
-    print_line(rt, &lines)
+    print_bytes(rt, &lines)
 }
 
 /// Tells a line on standard error that is no fault.

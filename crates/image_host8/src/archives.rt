@@ -1,15 +1,14 @@
-//! Files in and out of the image file of a volume. Only `put` writes one here, and only once the whole new image stands in memory.
+//! Files out of the image file of a volume.
 
-use archive8::{ArchiveFault, Asked, GetForm, NewImage, list, list_long, put};
+use archive8::{Asked, GetForm, NewImage, list, list_long};
 use image_file8::{
-    Ended, Image, bytes_of_file, core_of_file, given_words, made, print_line, save_and_print, seen,
+    Ended, Image, bytes_of_file, core_of_file, made, print_bytes, save_and_print, seen,
     tell_bad_text, tell_line,
 };
 use report8::ProgramLine;
-use script8::{LineReply, Reply, SessionFault, put_reply, read_all};
+use script8::{LineReply, Reply, put_reply};
 use std::fs::{File, Files};
-use std::io::Input;
-use task8::{FileForm, ImageForm, PutOneForm};
+use task8::{FileForm, ImageForm};
 
 /// Lists the files of the volume in an image file.
 pub fn list_files<R: Files + Print + Eprint + AllocGlobal>(
@@ -18,7 +17,7 @@ pub fn list_files<R: Files + Print + Eprint + AllocGlobal>(
 ) -> Result<(), Ended> {
     let bytes = seen(rt, image)?;
     let text = made(rt, bytes.len(), list(rt.alloc(), &bytes))?;
-    print_line(rt, &text)
+    print_bytes(rt, &text)
 }
 
 /// Lists them in the directory's order, with where they lie and their information words.
@@ -28,7 +27,7 @@ pub fn list_places<R: Files + Print + Eprint + AllocGlobal>(
 ) -> Result<(), Ended> {
     let bytes = seen(rt, image)?;
     let text = made(rt, bytes.len(), list_long(rt.alloc(), &bytes))?;
-    print_line(rt, &text)
+    print_bytes(rt, &text)
 }
 
 /// Writes what a file has on the volume in an image file.
@@ -39,7 +38,7 @@ pub fn get_file<R: Files + Print + Eprint + AllocGlobal>(
     form: GetForm,
 ) -> Result<(), Ended> {
     let given = bytes_of_file(rt, image, &asked_of(file), form)?;
-    print_line(rt, &given)
+    print_bytes(rt, &given)
 }
 
 /// Writes the BIN tape of a core image on the volume in an image file, and tells on standard error where its program starts.
@@ -49,30 +48,8 @@ pub fn get_bin<R: Files + Print + Eprint + AllocGlobal>(
     file: FileForm,
 ) -> Result<(), Ended> {
     let (frames, start) = core_of_file(rt, image, &asked_of(file))?;
-    print_line(rt, &frames)?;
+    print_bytes(rt, &frames)?;
     tell_line(rt, &ProgramLine::Start(start))
-}
-
-/// Makes the bytes on standard input a file on the volume in an image file, and writes the image back.
-pub fn put_file<R: Files<File = File> + Input + Print + Eprint + AllocGlobal>(
-    rt: &R,
-    form: &PutOneForm,
-) -> Result<(), Ended> {
-    let mut held = Image::open(rt, &form.image)?;
-    let given = read_all(rt.alloc(), &mut rt.reader())?;
-    let done = put(
-        rt.alloc(),
-        held.bytes(),
-        form.name.as_bytes(),
-        &given,
-        form.form,
-        given_words(&form.info),
-    );
-    if let Err(ArchiveFault::Refused(SessionFault::BadText)) = &done {
-        tell_bad_text(rt, &given);
-    }
-    let new = made(rt, held.bytes().len(), done)?;
-    store(rt, &mut held, new)
 }
 
 /// Writes back an image with a file that was put into it, and tells of that.

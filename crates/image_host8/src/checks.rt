@@ -2,7 +2,7 @@
 
 use archive8::{ArchiveFault, check};
 use disk8::Layout;
-use image_file8::{Ended, Progress, made, print_line, print_of, seen};
+use image_file8::{Ended, Progress, made, print_bytes, print_of, seen};
 use report8::{ProgramLine, put_program};
 use std::fs::{File, Files};
 use std::time::Clock;
@@ -36,7 +36,7 @@ pub fn check_images<R: Files<File = File> + Print + Eprint + Clock + AllocGlobal
     }
     let mut line = Vec::new(rt.alloc());
     put_program(&ProgramLine::Images { count, refused }, &mut line)?;
-    print_line(rt, &line)?;
+    print_bytes(rt, &line)?;
     if refused > 0 {
         return Err(Ended::Told);
     }
@@ -77,7 +77,7 @@ fn check_one<R: Print + Eprint + AllocGlobal>(
     is_all: bool,
 ) -> Result<(), Ended> {
     let told = made(rt, image.len(), told_of(rt, image, is_all))?;
-    print_line(rt, &told.text)?;
+    print_bytes(rt, &told.text)?;
     if told.is_sound {
         return Ok(());
     }

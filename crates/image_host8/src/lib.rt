@@ -7,7 +7,7 @@ mod changes;
 mod checks;
 mod making;
 
-pub use archives::{get_bin, get_file, list_files, list_places, put_file};
+pub use archives::{get_bin, get_file, list_files, list_places};
 pub use changes::{copy_file, delete_files, rename_file, squeeze_files};
 pub use checks::check_images;
 pub use making::{create_image, create_tape};

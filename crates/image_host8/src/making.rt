@@ -1,7 +1,7 @@
 //! New volumes in files of the host.
 
 use disk8::blank_tape;
-use image_file8::{Content, Ended, make_file, print_line};
+use image_file8::{Content, Ended, make_file, print_bytes};
 use report8::{ProgramLine, put_program};
 use std::fs::{File, Files};
 use volume_image::MemoryVolume;
@@ -40,5 +40,5 @@ fn make_image<R: Files<File = File> + Print + Eprint + AllocGlobal>(
     make_file(rt, image, bytes, Content::Image)?;
     let mut line = Vec::new(rt.alloc());
     put_program(&ProgramLine::Created(blocks), &mut line)?;
-    print_line(rt, &line)
+    print_bytes(rt, &line)
 }

@@ -2,6 +2,7 @@ pub mod Opened
 pub mod Raw
 pub mod Putting
 pub mod Patterns
+pub mod Emptying
 pub mod Extensions
 pub mod HostNames
 pub mod Steps

@@ -4,6 +4,7 @@
 #![tactic(auto)]
 
 mod choosing;
+mod emptying;
 mod extensions;
 mod faults;
 mod host_names;
@@ -15,6 +16,7 @@ mod putting;
 mod raw;
 
 pub use choosing::{at_place, chosen};
+pub use emptying::empties;
 pub use extensions::{bad_extensions, is_text};
 pub use faults::{BlocksFault, ChoiceFault, ManyFault};
 pub use host_names::{host_name, volume_name};

@@ -4,7 +4,7 @@ use crate::sets::is_added;
 use crate::texts::{check_extensions, is_one_of};
 use archive8::GetForm;
 use host8::{LayFault, lay, make_folder};
-use image_file8::{Ended, Progress, made, print_line, print_of, seen};
+use image_file8::{Ended, Progress, made, print_bytes, print_of, seen};
 use many8::{ChoiceFault, OpenVolume, VolumeFile, at_place, chosen, host_name, open};
 use os8_dir::{FileFault, Name};
 use report8::{ProgramLine, put_program};
@@ -161,7 +161,7 @@ fn form_of(texts: &TextsForm, name: Name) -> GetForm {
 fn print_program<R: Print + AllocGlobal>(rt: &R, line: &ProgramLine) -> Result<(), Ended> {
     let mut text = Vec::new(rt.alloc());
     put_program(line, &mut text)?;
-    print_line(rt, &text)
+    print_bytes(rt, &text)
 }
 
 /// The path of a file in a folder.

@@ -2,16 +2,84 @@
 
 use crate::sets::is_added;
 use crate::texts::{check_extensions, is_one_of};
-use archive8::PutForm;
-use image_file8::{Ended, Image, bytes_of, given_words, refused, save_and_print, tell_bad_text};
-use many8::{ManyFault, NewFile, put_all, volume_name};
+use archive8::{ArchiveFault, PutForm, put};
+use image_file8::{
+    Ended, Image, bytes_of, given_words, input_bytes, made, refused, save_and_print, tell_bad_text,
+};
+use many8::{ManyFault, NewFile, empties, open, put_all, volume_name};
 use os8_dir::{FileFault, Name};
 use report8::ProgramLine;
 use script8::{LineReply, Reply, SessionFault, put_reply};
 use std::alloc::AllocError;
 use std::collections::BTreeSet;
 use std::fs::{File, Files};
-use task8::{PutManyForm, TextsForm};
+use std::io::Input;
+use task8::{PutManyForm, PutOneForm, TextsForm};
+
+/// The name of standard input where a file's may stand.
+const STANDARD: &str = "-";
+
+/// Makes a file of the host, or standard input, a file of the volume in an image file, with a name that is given, and tells of it.
+pub fn put_file<R: Files<File = File> + Input + Print + Eprint + AllocGlobal>(
+    rt: &R,
+    form: &PutOneForm,
+) -> Result<(), Ended> {
+    let mut held = Image::open(rt, &form.image)?;
+    let bytes = given_bytes(rt, &form.file)?;
+    if let Some(name) = Name::parse(form.name.as_bytes())
+        && !form.may_empty
+    {
+        refuse_emptied(rt, held.bytes(), &form.file, name, &bytes)?;
+    }
+    let done = put(
+        rt.alloc(),
+        held.bytes(),
+        form.name.as_bytes(),
+        &bytes,
+        form.form,
+        given_words(&form.info),
+    );
+    if let Err(ArchiveFault::Refused(SessionFault::BadText)) = &done {
+        tell_bad_text(rt, &bytes);
+    }
+    let new = made(rt, held.bytes().len(), done)?;
+    let mut line = Vec::new(rt.alloc());
+    put_stored(&mut line, new.name, new.blocks)?;
+    save_and_print(rt, &mut held, new.bytes, &line)
+}
+
+/// The bytes of a file of the host, or of standard input.
+fn given_bytes<R: Files<File = File> + Input + Eprint + AllocGlobal>(
+    rt: &R,
+    name: &str,
+) -> Result<Vec<u8>, Ended> {
+    if name == STANDARD {
+        return input_bytes(rt);
+    }
+    bytes_of(rt, name)
+}
+
+/// Refuses an input of no byte that would replace a file of the volume in an image.
+fn refuse_emptied<R: Eprint + AllocGlobal>(
+    rt: &R,
+    image: &[u8],
+    path: &str,
+    name: Name,
+    bytes: &[u8],
+) -> Result<(), Ended> {
+    if !bytes.is_empty() {
+        return Ok(());
+    }
+    let volume = made(rt, image.len(), open(rt.alloc(), image))?;
+    let files = volume.files(rt.alloc())?;
+    if !empties(&files, name, bytes) {
+        return Ok(());
+    }
+    let _ = eprintln!(rt;
+        "note: {path} is empty, and the volume has a file of its name: --empty puts it all the same"
+    );
+    Err(Ended::Fault(SessionFault::File(FileFault::NothingWritten)))
+}
 
 /// Makes files of the host files of the volume in an image file, all or none, and tells of each.
 pub fn put_files<R: Files<File = File> + Print + Eprint + AllocGlobal>(
@@ -21,6 +89,9 @@ pub fn put_files<R: Files<File = File> + Print + Eprint + AllocGlobal>(
     check_extensions(rt, &form.texts)?;
     let mut held = Image::open(rt, &form.image)?;
     let files = files_of(rt, form)?;
+    if !form.may_empty {
+        refuse_emptying(rt, held.bytes(), form, &files)?;
+    }
     let new = match put_all(rt.alloc(), held.bytes(), &files, given_words(&form.info)) {
         Ok(new) => new,
         Err(ManyFault::Archive(fault)) => return Err(refused(rt, held.bytes().len(), fault)),
@@ -38,6 +109,19 @@ pub fn put_files<R: Files<File = File> + Print + Eprint + AllocGlobal>(
     save_and_print(rt, &mut held, new.bytes, &lines)
 }
 
+/// Refuses files of no byte that would replace files of the volume in an image.
+fn refuse_emptying<R: Eprint + AllocGlobal>(
+    rt: &R,
+    image: &[u8],
+    form: &PutManyForm,
+    files: &[NewFile],
+) -> Result<(), Ended> {
+    for (path, file) in form.files.iter().zip(files.iter()) {
+        refuse_emptied(rt, image, path, file.name, &file.bytes)?;
+    }
+    Ok(())
+}
+
 /// The lines of files that were put, which take so many blocks.
 fn stored_lines<R: AllocGlobal>(
     rt: &R,
@@ -46,13 +130,16 @@ fn stored_lines<R: AllocGlobal>(
 ) -> Result<Vec<u8>, Ended> {
     let mut lines = Vec::new(rt.alloc());
     for (file, blocks) in files.iter().zip(blocks.iter()) {
-        let stored = Reply::Line(LineReply::Stored {
-            name: file.name,
-            blocks: *blocks,
-        });
-        put_reply(None, &Ok(stored), &mut lines)?;
+        put_stored(&mut lines, file.name, *blocks)?;
     }
     Ok(lines)
+}
+
+/// Appends the line of a file that was put.
+fn put_stored(lines: &mut Vec<u8>, name: Name, blocks: usize) -> Result<(), Ended> {
+    let stored = Reply::Line(LineReply::Stored { name, blocks });
+    put_reply(None, &Ok(stored), lines)?;
+    Ok(())
 }
 
 /// The files of the host that are to be put, by their own names.

@@ -3,12 +3,12 @@
 use crate::runs::run_image;
 use command8::{TaskFault, task};
 use host8::Unwritten;
-use image_file8::{Ended, print_line, tell_text, texts_of};
+use image_file8::{Ended, print_bytes, tell_text, texts_of, unprinted};
 use image_host8::{
     check_images, copy_file, create_image, create_tape, delete_files, get_bin, get_file,
-    list_files, list_places, put_file, rename_file, squeeze_files,
+    list_files, list_places, rename_file, squeeze_files,
 };
-use many_host8::{get_blocks, get_files, put_files};
+use many_host8::{get_blocks, get_files, put_file, put_files};
 use report8::{ProgramLine, put_program};
 use script8::{SessionFault, put_reply};
 use std::alloc::AllocError;
@@ -114,7 +114,10 @@ fn told<R: Print + Eprint + AllocGlobal>(rt: &R, ended: Ended, is_data: bool) ->
     let mut line = Vec::new(rt.alloc());
     let put = match ended {
         Ended::Line(text) => put_program(&text, &mut line),
-        Ended::Fault(SessionFault::Writer) | Ended::Told => return ExitCode::FAILURE,
+        Ended::Told => return ExitCode::FAILURE,
+        Ended::Fault(SessionFault::Writer) => return told_unprinted(rt, Ended::Unprinted),
+        Ended::Unprinted => return told_unprinted(rt, Ended::Unprinted),
+        Ended::Abandoned => return told_unprinted(rt, Ended::Abandoned),
         Ended::Fault(fault) => put_reply(None, &Err(fault), &mut line),
         Ended::Busy(content) => {
             let _ = eprintln!(rt; "error: another program works on the {}", content.name());
@@ -124,24 +127,30 @@ fn told<R: Print + Eprint + AllocGlobal>(rt: &R, ended: Ended, is_data: bool) ->
             let _ = eprintln!(rt; "error: the {} {}", content.name(), words_on(held));
             put_program(&ProgramLine::HostWrite, &mut line)
         }
-        Ended::Unprinted => put_reply(None, &Err(SessionFault::Writer), &mut line),
-        Ended::Abandoned => return ExitCode::from(ABANDONED),
         Ended::Misused => return ExitCode::from(2),
     };
     let text = match put {
         Ok(()) => line.as_slice(),
         Err(_) => b"? 10 MEMORY\n",
     };
-    write_line(rt, text, is_data);
-    ExitCode::FAILURE
+    if is_data {
+        tell_text(rt, text);
+        return ExitCode::FAILURE;
+    }
+    match print_bytes(rt, text) {
+        Ok(()) => ExitCode::FAILURE,
+        Err(ended) => told_unprinted(rt, ended),
+    }
 }
 
-/// Writes a line of characters to standard output, or to standard error.
-fn write_line<R: Print + Eprint>(rt: &R, line: &[u8], is_error: bool) {
-    if is_error {
-        tell_text(rt, line);
-    } else {
-        let _ = print_line(rt, line);
+/// The status where standard output takes no more, of which a line is written to standard error, unless nobody reads the output.
+fn told_unprinted<R: Eprint>(rt: &R, ended: Ended) -> ExitCode {
+    match ended {
+        Ended::Abandoned => ExitCode::from(ABANDONED),
+        _ => {
+            tell_text(rt, b"? 9 WRITER\n");
+            ExitCode::FAILURE
+        }
     }
 }
 
@@ -154,8 +163,11 @@ fn told_unread<R: Print + Eprint + AllocGlobal>(rt: &R, unread: Unread) -> ExitC
         }
         Unread::Task(TaskFault::Memory) => told(rt, Ended::Fault(SessionFault::Memory), false),
         Unread::Task(TaskFault::Words(error)) => {
-            let _ = error.print(rt);
-            ExitCode::from(error.exit_code() as u8)
+            let status = error.exit_code() as u8;
+            match error.print(rt) {
+                Err(why) if status == 0 => told_unprinted(rt, unprinted(why.kind())),
+                _ => ExitCode::from(status),
+            }
         }
         Unread::Task(fault) => {
             tell_refusal(rt, &fault);

@@ -1,12 +1,12 @@
 //! Runs of scripts over the volume of an image file.
 
 use crate::hints::line_hint;
-use image_file8::{Ended, Image, refused_image};
+use image_file8::{Counted, Ended, Image, Output, refused_image};
 use report8::ProgramLine;
 use script8::{LineReply, Reply, SessionFault};
 use session8::{Session, Watcher};
 use std::fs::{File, Files};
-use std::io::{self, BufWriter, Input, IsTerminal};
+use std::io::{BufWriter, Input, IsTerminal};
 use task8::{ImageForm, RunForm, Saving};
 use volume_image::MemoryVolume;
 
@@ -25,14 +25,17 @@ where
         Saving::AtEnd | Saving::Always => Image::open(rt, named)?,
     };
     let bytes = image.bytes().to_vec(rt.alloc())?;
-    let mut writer = BufWriter::new(rt.alloc(), io::writer(rt))?;
+    let mut writer = BufWriter::new(rt.alloc(), Output::new(rt))?;
     let mut session = mounted(rt, &bytes)?;
-    let mut reader = rt.reader();
+    let reader = rt.reader();
     let mut run = Run::new(rt, image, bytes, form.saving, reader.is_terminal());
-    let ran = session.run_watched(rt.alloc(), &mut reader, &mut writer, &mut run);
+    let mut input = Counted::new(reader);
+    let ran = session.run_watched(rt.alloc(), &mut input, &mut writer, &mut run);
+    input.tell_of_limit(rt);
     run.end(&session.into_store())?;
     match ran {
         Ok(()) if !(form.is_strict && run.is_refused) => Ok(()),
+        Err(SessionFault::Writer) => Err(writer.get_ref().ended()),
         _ => Err(Ended::Told),
     }
 }

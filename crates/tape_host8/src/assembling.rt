@@ -1,15 +1,15 @@
 //! Sources in files of the host to a BIN tape and a listing, each written whole or not at all.
 
-use crate::streams::print_data;
 use assemble8::{SourceFault, assemble_sources, fault_text, further_faults};
-use host8::{HoldFault, look};
-use image_file8::{Content, Ended, make_file, tell_text, texts_of};
-use report8::{ProgramLine, with_line_feeds};
+use image_file8::{
+    Content, Ended, bytes_of, input_bytes, make_file, print_bytes, tell_text, texts_of,
+};
+use report8::with_line_feeds;
 use script8::SessionFault;
 use source_listing::{ListingForm, list_sources};
 use std::alloc::{AllocError, Global};
 use std::fs::{File, Files};
-use std::io::{Input, Read};
+use std::io::Input;
 use task8::AssembleForm;
 
 /// The name of a standard stream where a file's may stand.
@@ -43,7 +43,7 @@ pub fn assemble_files<R: Files<File = File> + Input + Print + Eprint + AllocGlob
     }
     match &form.output {
         Some(name) => write_to(rt, name, &tape, Content::Tape),
-        None => print_data(rt, &tape),
+        None => print_bytes(rt, &tape),
     }
 }
 
@@ -90,7 +90,7 @@ fn write_to<R: Files<File = File> + Print + Eprint + AllocGlobal>(
     content: Content,
 ) -> Result<(), Ended> {
     if name == STANDARD {
-        return print_data(rt, bytes);
+        return print_bytes(rt, bytes);
     }
     make_file(rt, name, bytes, content)
 }
@@ -178,18 +178,13 @@ fn read_source<R: Files + Input + Eprint + AllocGlobal>(
     name: &str,
 ) -> Result<Vec<u8>, Ended> {
     if name == STANDARD {
-        let mut bytes = Vec::new(rt.alloc());
-        rt.reader().read_to_end(&mut bytes)?;
-        return Ok(bytes);
+        return input_bytes(rt);
     }
-    match look(rt, name, usize::MAX) {
-        Ok(bytes) => Ok(bytes),
-        Err(HoldFault::Memory) => Err(Ended::Fault(SessionFault::Memory)),
-        Err(_) => {
-            let _ = eprintln!(rt; "error: the source {name} can't be read");
-            Err(Ended::Line(ProgramLine::HostRead))
-        }
+    let read = bytes_of(rt, name);
+    if let Err(Ended::Line(_)) = &read {
+        let _ = eprintln!(rt; "error: the source {name} can't be read");
     }
+    read
 }
 
 fn slices_of(alloc: Global, texts: &[Vec<u8>]) -> Result<Vec<&[u8]>, AllocError> {

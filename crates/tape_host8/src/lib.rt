@@ -5,7 +5,6 @@
 mod assembling;
 mod listings;
 mod sources;
-mod streams;
 mod tapes;
 mod teletypes;
 mod traces;

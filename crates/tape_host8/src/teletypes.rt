@@ -1,10 +1,9 @@
 //! A program of a tape at the Teletype: standard input is the keyboard, and standard output the paper.
 
-use crate::streams::{Output, unprinted};
 use crate::tapes::program_of;
 use core_load::{Core, load};
 use cpu8::Machine;
-use image_file8::{Ended, tell_line};
+use image_file8::{Ended, Output, tell_line};
 use report8::{ProgramLine, first_cell};
 use script8::SessionFault;
 use std::fs::Files;
@@ -38,7 +37,7 @@ pub fn run_teletype<R: Files + Input + Print + Eprint + AllocGlobal>(
     ) {
         Ok(stopped) => tell_end(rt, &machine, stopped.why),
         Err(TerminalFault::Reader) => Err(Ended::Fault(SessionFault::Reader)),
-        Err(TerminalFault::Writer) => Err(unprinted(&output)),
+        Err(TerminalFault::Writer) => Err(output.ended()),
     }
 }
 

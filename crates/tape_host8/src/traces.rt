@@ -1,10 +1,9 @@
 //! A program of a tape whose steps are told or counted.
 
-use crate::streams::{Output, print_data, unprinted};
 use crate::tapes::program_of;
 use crate::teletypes::machine_of;
 use cpu8::Machine;
-use image_file8::Ended;
+use image_file8::{Ended, Output, print_bytes};
 use profile8::{count_fetches, no_counts, profile_text};
 use report8::{ProgramLine, given_cells, put_program};
 use script8::SessionFault;
@@ -39,9 +38,9 @@ pub fn trace_tape<R: Files + Print + Eprint + AllocGlobal>(
     let most = form.steps.unwrap_or(TRACED);
     let mut output = Output::new(rt);
     match trace(rt.alloc(), &mut terminal, most, &given, &mut output) {
-        Ok(ended) => print_data(rt, &end_of(rt, &terminal, ended)?),
+        Ok(ended) => print_bytes(rt, &end_of(rt, &terminal, ended)?),
         Err(TraceFault::Memory) => Err(Ended::Fault(SessionFault::Memory)),
-        Err(TraceFault::Writer) => Err(unprinted(&output)),
+        Err(TraceFault::Writer) => Err(output.ended()),
     }
 }
 
@@ -56,8 +55,8 @@ pub fn profile_tape<R: Files + Print + Eprint + AllocGlobal>(
     let mut counts = no_counts(rt.alloc())?;
     let most = form.steps.unwrap_or(PROFILED);
     let ended = count_fetches(&mut terminal, most, &mut counts);
-    print_data(rt, &profile_text(rt.alloc(), &counts, &given)?)?;
-    print_data(rt, &end_of(rt, &terminal, ended)?)
+    print_bytes(rt, &profile_text(rt.alloc(), &counts, &given)?)?;
+    print_bytes(rt, &end_of(rt, &terminal, ended)?)
 }
 
 /// The line of a run's end.

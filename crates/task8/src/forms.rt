@@ -69,10 +69,13 @@ pub struct BlocksForm {
     pub form: GetForm,
 }
 
-/// What a file is put as.
+/// What a file of the host is put as, under a name that is given.
 #[derive(Drop)]
 pub struct PutOneForm {
     pub image: ImageForm,
+
+    /// The file of the host; `-` is standard input.
+    pub file: String,
 
     /// Its name on the volume.
     pub name: String,
@@ -81,9 +84,12 @@ pub struct PutOneForm {
 
     /// Its information words, if any are given.
     pub info: Option<Vec<Word>>,
+
+    /// Whether an empty input may replace a file that has words.
+    pub may_empty: bool,
 }
 
-/// Which files of the host are put.
+/// Which files of the host are put, under their own names.
 #[derive(Drop)]
 pub struct PutManyForm {
     pub image: ImageForm,
@@ -95,6 +101,9 @@ pub struct PutManyForm {
 
     /// The information words of each, if any are given.
     pub info: Option<Vec<Word>>,
+
+    /// Whether an empty file may replace one that has words.
+    pub may_empty: bool,
 }
 
 /// Which files are taken out, at least one.

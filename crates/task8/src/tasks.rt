@@ -153,7 +153,7 @@ pub enum Task {
     /// Write what blocks of a volume have.
     GetBlocks(BlocksForm),
 
-    /// Make the bytes on standard input a file of a volume.
+    /// Make a file of the host, or standard input, a file of a volume with a given name.
     Put(PutOneForm),
 
     /// Make files of the host files of a volume.

@@ -1,5 +1,5 @@
 use Rattle.command8.proofs.ChangeLemmas.{plain_copy, plain_copy_as, plain_copy_at, plain_copy_dectape, plain_delete, plain_delete_at, plain_delete_two, plain_rename, plain_rename_at}
-use Rattle.command8.proofs.FileLemmas.{plain_get_all, plain_get_at, plain_get_bin, plain_get_blocks, plain_get_frames, plain_get_into, plain_get_tape, plain_get_text, plain_put_file, plain_put_files, plain_put_frames, plain_put_info, plain_put_text}
+use Rattle.command8.proofs.FileLemmas.{plain_get_all, plain_get_at, plain_get_bin, plain_get_blocks, plain_get_frames, plain_get_into, plain_get_tape, plain_get_text, plain_put_as, plain_put_file, plain_put_files, plain_put_info, plain_put_input, plain_put_own, plain_put_text}
 use Rattle.command8.proofs.PlainLemmas.{plain_assemble, plain_assemble_input, plain_assemble_output, plain_assemble_two, plain_profile, plain_profile_file, plain_profile_keys, plain_rim, plain_rim_bin, plain_source, plain_source_file, plain_source_names, plain_source_start, plain_tape, plain_teletype, plain_teletype_file, plain_teletype_start, plain_trace, plain_trace_file, plain_trace_keys}
 use Rattle.command8.proofs.VolumeLemmas.{plain_check, plain_check_all, plain_check_dectape, plain_check_two, plain_check_volume, plain_create, plain_create_tape, plain_list, plain_list_dectape, plain_list_long, plain_list_volume, plain_run, plain_run_both, plain_run_dectape, plain_run_keep, plain_run_look, plain_run_strict, plain_run_volume, plain_squeeze}
 use Rattle.command8.proofs.laws.plain_words.Goals as goal
@@ -34,7 +34,9 @@ returns c = record {
   get_into = plain_get_into;
   get_all = plain_get_all;
   get_blocks = plain_get_blocks;
-  put = plain_put_frames;
+  put = plain_put_own;
+  put_as = plain_put_as;
+  put_input = plain_put_input;
   put_text = plain_put_text;
   put_info = plain_put_info;
   put_two = plain_put_files;
