@@ -37,8 +37,8 @@ class Page:
 
     def __init__(self, wanted, library):
         self.wanted, self.library = wanted, library
-        self.work = f"{TOP}/target/wasm/{'proved' if library else 'unproved'}"
-        self.made = f"{self.work}/{PROGRAM}.wasm"
+        self.folder = f"{TOP}/target/wasm/{'proved' if library else 'unproved'}"
+        self.work, self.made = f"{self.folder}/work", f"{self.folder}/{PROGRAM}.wasm"
 
     def sum(self):
         """The sum of all that the module is made of."""
@@ -48,7 +48,7 @@ class Page:
         return whole.hexdigest()
 
     def is_current(self):
-        kept = f"{self.work}/sum"
+        kept = f"{self.folder}/sum"
         return os.path.exists(self.made) and os.path.exists(kept) and open(kept, encoding="utf-8").read() == self.sum()
 
     def run(self, words, folder=TOP):
@@ -93,14 +93,15 @@ class Page:
 
     def build(self):
         """Makes the module."""
-        shutil.rmtree(self.work, ignore_errors=True)
+        shutil.rmtree(self.folder, ignore_errors=True)
         os.makedirs(self.work)
         of = self.sum()
         words = self.object_of_proof() if self.library else self.object_of_build()
         self.run([self.clang(), *WASM, "-ffreestanding", "-fno-builtin", "-c", f"{TOP}/web/runtime.c", "-o", f"{self.work}/runtime.o"])
         os.symlink(self.clang(), f"{self.work}/wasm-ld")
         self.run([f"{self.work}/wasm-ld", *LINK, "-o", self.made, *words, f"{self.work}/runtime.o"])
-        with open(f"{self.work}/sum", "w", encoding="utf-8") as kept:
+        shutil.rmtree(self.work)  # the toolchain's gate refuses links
+        with open(f"{self.folder}/sum", "w", encoding="utf-8") as kept:
             kept.write(of)
 
     def lay(self, folder):
