@@ -7,12 +7,13 @@ on, and makes no native object of it. Else, or with --unproved, it is made of th
 toolchain's clang and its linker make a WebAssembly module of either and of web/runtime.c. The foot of the page says which it is. A module
 is made again only where a source of the program, the toolchain, runtime.c or this file has changed. --proved refuses to make the other page.
 """
-import glob, hashlib, os, shutil, subprocess, sys
+import glob, hashlib, os, shutil, subprocess, sys, tempfile
 
 sys.dont_write_bytecode = True
 from crates import TOP, kit, toolchain
 from proved import MADE, PROGRAM, Wanted
 from unproved import Build, ready
+from working import toolchain_with
 
 # A call of it is `.. -c -x ir module.bc -o module.o ..`: the object, which nothing would use, stays empty.
 STAND_IN = """#!/bin/sh
@@ -58,24 +59,12 @@ class Page:
             sys.stderr.buffer.write(ran.stdout)
             sys.exit(70)
 
-    def lay_toolchain(self):
-        """A folder like the toolchain's, whose clang keeps the module that it is given, and compiles nothing of it."""
-        own = f"{toolchain()}/toolchain"
-        os.makedirs(f"{self.work}/toolchain/bin")
-        os.symlink(f"{own}/lib", f"{self.work}/toolchain/lib")
-        for tool in os.listdir(f"{own}/bin"):
-            if tool != "clang":
-                os.symlink(f"{own}/bin/{tool}", f"{self.work}/toolchain/bin/{tool}")
-        with open(f"{self.work}/toolchain/bin/clang", "w", encoding="utf-8") as script:
-            script.write(STAND_IN.format(module=f"{self.work}/{PROGRAM}.bc", clang=f"{own}/bin/clang"))
-        os.chmod(f"{self.work}/toolchain/bin/clang", 0o755)
-
     def object_of_proof(self):
         """Compiles what was proved."""
-        self.lay_toolchain()
         words = [f"{toolchain()}/bin/rattle", "build", *self.wanted.all.words(PROGRAM, self.library)]
-        words += ["--jobs", str(len(os.sched_getaffinity(0))), "--cpu=x86-64"]
-        self.run([*words, "--toolchain", f"{self.work}/toolchain", "-o", f"{self.work}/{PROGRAM}.o"], f"{TOP}/crates/{PROGRAM}")
+        words += ["--jobs", str(len(os.sched_getaffinity(0))), "--cpu=x86-64", "-o", f"{self.work}/{PROGRAM}.o"]
+        with toolchain_with(STAND_IN.format(module=f"{self.work}/{PROGRAM}.bc", clang=self.clang())) as tools:
+            self.run([*words, "--toolchain", tools], f"{TOP}/crates/{PROGRAM}")
         made = f"{self.work}/{PROGRAM}.wasm.o"
         self.run([self.clang(), *WASM, *OF_MODULE, f"{self.work}/{PROGRAM}.bc", "-o", made])
         return [made]
@@ -98,9 +87,10 @@ class Page:
         of = self.sum()
         words = self.object_of_proof() if self.library else self.object_of_build()
         self.run([self.clang(), *WASM, "-ffreestanding", "-fno-builtin", "-c", f"{TOP}/web/runtime.c", "-o", f"{self.work}/runtime.o"])
-        os.symlink(self.clang(), f"{self.work}/wasm-ld")
-        self.run([f"{self.work}/wasm-ld", *LINK, "-o", self.made, *words, f"{self.work}/runtime.o"])
-        shutil.rmtree(self.work)  # the toolchain's gate refuses links
+        with tempfile.TemporaryDirectory(prefix="pdp8-linker-") as tools:
+            os.symlink(self.clang(), f"{tools}/wasm-ld")
+            self.run([f"{tools}/wasm-ld", *LINK, "-o", self.made, *words, f"{self.work}/runtime.o"])
+        shutil.rmtree(self.work)
         with open(f"{self.folder}/sum", "w", encoding="utf-8") as kept:
             kept.write(of)
 

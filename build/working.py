@@ -1,7 +1,9 @@
 """What the builds of the program share: what they show on standard error, the processes that they start, and the lock that keeps two
 builds of one kind apart.
 """
-import fcntl, os, shutil, signal, subprocess, sys, time
+import contextlib, fcntl, os, shutil, signal, subprocess, sys, tempfile, time
+
+from crates import toolchain
 
 
 class Progress:
@@ -48,6 +50,23 @@ class Group:
     def end(self):
         os.close(self.own_end)
         self.guard.wait()
+
+
+@contextlib.contextmanager
+def toolchain_with(clang):
+    """A folder like the toolchain's, whose clang is this script. It lies outside the tree, where the toolchain's gate would refuse its
+    links."""
+    own = f"{toolchain()}/toolchain"
+    with tempfile.TemporaryDirectory(prefix="pdp8-toolchain-") as folder:
+        os.makedirs(f"{folder}/bin")
+        os.symlink(f"{own}/lib", f"{folder}/lib")
+        for tool in os.listdir(f"{own}/bin"):
+            if tool != "clang":
+                os.symlink(f"{own}/bin/{tool}", f"{folder}/bin/{tool}")
+        with open(f"{folder}/bin/clang", "w", encoding="utf-8") as script:
+            script.write(clang)
+        os.chmod(f"{folder}/bin/clang", 0o755)
+        yield folder
 
 
 def lock(folder, progress, waiting):
