@@ -33,7 +33,7 @@ export class Teletype {
     #list() {
         const chosen = $('tape').value, { files, source } = this.page;
         const rows = [made('option', { value: '' }, 'choose a tape')];
-        if (source?.tape) rows.push(made('option', { value: 'source' }, 'the source\'s'));
+        if (source?.tape) rows.push(made('option', { value: 'source' }, source.isOld ? 'the source\'s, old' : 'the source\'s'));
         if (this.own) rows.push(made('option', { value: 'own' }, this.own));
         const own = (files?.entries ?? []).map(it => it.name).sort();
         if (own.length) rows.push(made('optgroup', { label: files.name }, ...own.map(it => made('option', { value: `file ${it}` }, it))));
@@ -69,6 +69,8 @@ export class Teletype {
 
     async begin() {
         if (!$('tape').value) return tell('tty-status', 'Which tape?', true);
+        if ($('tape').value === 'source' && !await this.page.source.renew())
+            return tell('tty-status', `The source has no tape: ${$('source-status').textContent}`, true);
         this.stop();
         const words = this.#words();
         if (!canLive) words.splice(1, 1);

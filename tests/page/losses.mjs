@@ -1,0 +1,137 @@
+// losses.mjs PROGRAM FOLDER: what a user could lose in the page, in headless Chromium, each test with a profile of its own. What comes out is
+// compared with the native program PROGRAM. The last line is 'N passed, M failed'.
+import { spawnSync } from 'node:child_process';
+import { mkdtempSync, readFileSync, rmSync, writeFileSync } from 'node:fs';
+import { tmpdir } from 'node:os';
+import { join, resolve } from 'node:path';
+import { Browser, serve } from './browser.mjs';
+
+const [program, folder] = process.argv.slice(2, 4).map(it => resolve(it));
+const only = process.argv[4] ?? '';
+let work = '';
+const file = name => join(work, name);
+const native = (words, input = '') => spawnSync(program, words, { cwd: work, input }).stdout;
+const isTold = (page, id, part) => page.until(`document.getElementById('${id}').textContent.includes(${JSON.stringify(part)})`);
+const pane = (page, name) => page.click(`#tab-${name}`);
+const optionsOf = id => `[...document.getElementById('${id}').options].map(it => it.textContent)`;
+
+function same(wanted, got, what) {
+    const equal = Buffer.isBuffer(wanted) ? wanted.equals(Buffer.from(got)) : wanted === got;
+    if (!equal) throw new Error(`${what}: wanted ${show(wanted)}, got ${show(got)}`);
+}
+
+function show(it) { return Buffer.isBuffer(it) ? `${it.length} bytes ${it.subarray(0, 40).toString('hex')}` : JSON.stringify(it); }
+
+function holds(it, what) { if (!it) throw new Error(what); }
+
+// A new volume of 90 blocks in the page, and the same natively.
+async function create(page, name) {
+    await pane(page, 'files');
+    await page.fill('#new-name', name);
+    await page.fill('#new-blocks', '90');
+    await page.click('#create');
+    await isTold(page, 'files-status', 'CREATED 90');
+    await page.until(`document.getElementById('volume').value === '${name}'`);
+    native(['create', name, '90']);
+}
+
+async function setSource(page, text) {
+    await pane(page, 'source');
+    await page.fill('#text', text);
+}
+
+// Puts files into the volume that is open.
+async function put(page, form, ...names) {
+    await pane(page, 'files');
+    await page.choose('#put-as', form);
+    await page.give('#put', ...names.map(file));
+}
+
+const ONE = '*200\n\tCLA IAC\n\tHLT\n$\n', TWO = '*200\n\tCLA CMA\n\tHLT\n$\n', BAD = '*200\n\tTAD LIEN\n$\n';
+
+const tests = {
+    'a tape is that of the text beside it, or is marked old': async (page, url) => {
+        await page.go(url);
+        await create(page, 'DISK');
+        await setSource(page, ONE);
+        await page.click('#assemble');
+        await isTold(page, 'source-status', 'assembled');
+        await page.fill('#text', TWO);
+        await isTold(page, 'listing-name', 'old');
+        await isTold(page, 'symbols-name', 'old');
+        await isTold(page, 'source-status', 'The tape is old');
+        holds((await page.look(optionsOf('tape'))).includes('the source\'s, old'), 'the Teletype\'s list');
+        holds((await page.look(optionsOf('core-tape'))).includes('the source\'s, old'), 'the Machine\'s list');
+        await page.fill('#source-name', 'IT');
+        await page.click('#to-volume');
+        await isTold(page, 'source-status', 'STORED IT.BN');
+        same('Listing', await page.text('listing-name'), 'the name of the listing');
+        writeFileSync(file('it.pa'), TWO);
+        native(['assemble', 'it.pa', '--output', 'it.bin']);
+        native(['put', 'DISK', 'IT.PA', '--text'], TWO);
+        native(['put', 'DISK', 'IT.BN'], readFileSync(file('it.bin')));
+        await pane(page, 'files');
+        same(readFileSync(file('DISK')), (await page.home('#take-image')).bytes, 'the image');
+    },
+    'an old tape is assembled again before it goes to core, home and to the Teletype': async (page, url) => {
+        await page.go(url);
+        await setSource(page, ONE);
+        await page.click('#assemble');
+        await isTold(page, 'source-status', 'assembled');
+        await page.fill('#text', TWO);
+        await page.click('#to-core');
+        await isTold(page, 'machine-status', 'words are in core');
+        await page.until(`document.getElementById('core').textContent.startsWith('00200  7240')`);
+        await setSource(page, ONE);
+        writeFileSync(file('one.pa'), ONE);
+        native(['assemble', 'one.pa', '--output', 'one.bin']);
+        same(readFileSync(file('one.bin')), (await page.home('#tape-home')).bytes, 'the tape');
+        await page.fill('#text', TWO);
+        await page.click('#to-teletype');
+        await page.until(`document.activeElement.id === 'tty-run'`);
+        await page.click('#tty-run');
+        await isTold(page, 'tty-status', 'HALT 00202 AC 7777');
+        await setSource(page, BAD);
+        await page.click('#to-teletype');
+        await isTold(page, 'source-status', '? 5 UA 2');
+        holds(await page.look(`!document.getElementById('source').hidden`), 'the pane is left');
+    },
+    'an old tape is assembled again before the Teletype runs it': async (page, url) => {
+        await page.go(url);
+        await setSource(page, ONE);
+        await page.click('#assemble');
+        await isTold(page, 'source-status', 'assembled');
+        await page.click('#to-teletype');
+        await page.until(`document.activeElement.id === 'tty-run'`);
+        await setSource(page, TWO);
+        await pane(page, 'teletype');
+        await page.click('#tty-run');
+        await isTold(page, 'tty-status', 'HALT 00202 AC 7777');
+        await setSource(page, ONE);
+        await pane(page, 'machine');
+        await page.choose('#core-tape', 'source');
+        await page.until(`document.getElementById('core').textContent.startsWith('00200  7201')`);
+    },
+};
+
+let passed = 0, failed = 0;
+for (const [name, body] of Object.entries(tests).filter(([it]) => it.includes(only))) {
+    const server = await serve(folder), page = await Browser.open();
+    work = mkdtempSync(join(tmpdir(), 'losses-'));
+    try {
+        await page.size(1200, 900);
+        await body(page, server.url);
+        if (page.errors.length) throw new Error(page.errors.join('; '));
+        passed++;
+        console.log(`losses: ${name}`);
+    } catch (error) {
+        failed++;
+        console.log(`losses: NOT ${name}: ${error.message}`);
+    } finally {
+        await page.end();
+        server.end();
+        rmSync(work, { recursive: true, force: true });
+    }
+}
+console.log(`${passed} passed, ${failed} failed`);
+process.exitCode = failed ? 1 : 0;
