@@ -22,7 +22,31 @@ export class Files {
         new ResizeObserver(() => this.blocks && this.#draw()).observe($('blocks'));
         matchMedia('(prefers-color-scheme: dark)').addEventListener('change', () => this.blocks && this.#draw());
         this.#drops();
-        page.store.addEventListener('file', ({ detail }) => detail === this.name && this.#again());
+        page.store.addEventListener('file', ({ detail }) => detail === this.name ? this.#again() : detail.startsWith('.') || this.#list());
+        page.programs.addEventListener('idle', () => this.#leave());
+        page.claims.addEventListener('claim', ({ detail }) => this.#claimed(detail));
+    }
+
+    // Leaves to other tabs the volumes that this one doesn't use.
+    #leave() {
+        const { claims, programs } = this.page;
+        for (const it of claims.names.filter(it => it.startsWith('volume ')))
+            if (it.slice(7) !== this.name && !programs.isBusy(it.slice(7))) claims.leave(it);
+    }
+
+    // Another tab has left a volume to this one: its image, as this tab has it, is kept.
+    #claimed(claim) {
+        const { store } = this.page, name = claim.slice(7);
+        if (claim.startsWith('volume ') && this.follows === name && store.files.has(name)) store.put(name, store.files.get(name));
+        this.#tellClaim();
+    }
+
+    // Says whether another tab has the volume that is open.
+    #tellClaim() {
+        const { name } = this;
+        this.follows = name !== '' && !this.page.claims.has(`volume ${name}`) ? name : null;
+        $('follows').textContent = this.follows ? `Another tab has ${name}. Here it is only looked at, and follows that tab. It can be changed here once that tab is closed, or opens another.` : '';
+        $('follows').hidden = !this.follows;
     }
 
     // The name of the volume that is open.
@@ -102,6 +126,9 @@ export class Files {
         this.page.store.note('volume', name);
         tell('files-status', '');
         this.#show(null, '');
+        this.#leave();
+        if (name !== '') await this.page.claims.claim(`volume ${name}`);
+        this.#tellClaim();
         await this.#again();
     }
 
@@ -118,7 +145,10 @@ export class Files {
         const name = this.name;
         $('volume-view').hidden = name === '';
         this.entries = [];
-        if (name === '') return this.page.store.dispatchEvent(new Event('volume'));
+        if (name === '') {
+            this.#tellClaim();
+            return this.page.store.dispatchEvent(new Event('volume'));
+        }
         const { status, out, said } = await this.page.programs.ask(['check', name]);
         if (name !== this.name) return;
         const lines = textOf(out).trim().split('\n').map(it => it.split(' '));

@@ -23,8 +23,41 @@ export class Source {
         $('source-file').addEventListener('change', event => this.#opened(event.target));
         $('example').addEventListener('change', event => this.#example(event.target));
         page.store.addEventListener('volume', () => this.#buttons());
+        page.store.addEventListener('note', ({ detail }) => this.#followed(detail));
+        page.claims.addEventListener('claim', ({ detail }) => detail === 'text' && this.#claimed());
         this.#number();
         this.#buttons();
+    }
+
+    // Once it is known whether this tab has the text, or another one.
+    async begin() {
+        await this.page.claims.claim('text');
+        this.#tellClaim();
+    }
+
+    // Another tab has left the text to this one: it is kept, as this tab has it.
+    #claimed() {
+        const { store } = this.page;
+        if (this.follows) for (const it of ['text', 'source-name']) if (store.notes.has(it)) store.note(it, store.notes.get(it));
+        this.#tellClaim();
+    }
+
+    // Says whether another tab has the text, and closes what changes it.
+    #tellClaim() {
+        this.follows = !this.page.claims.has('text');
+        $('text').readOnly = $('source-name').readOnly = this.follows;
+        $('source-file').disabled = $('example').disabled = this.follows;
+        $('text-follows').textContent = this.follows ? 'Another tab has the text. Here it is only looked at, and follows that tab. It can be changed here once that tab is closed.' : '';
+        $('text-follows').hidden = !this.follows;
+    }
+
+    // Shows the text as the tab that has it sends it.
+    #followed(note) {
+        const value = this.page.store.notes.get(note) ?? '';
+        if (note === 'source-name') $('source-name').value = value;
+        if (note !== 'text' || value === $('text').value) return;
+        $('text').value = value;
+        this.#changed();
     }
 
     get #name() { return $('source-name').value.trim() || 'SOURCE'; }
@@ -44,6 +77,10 @@ export class Source {
 
     #edited() {
         this.page.store.note('text', $('text').value);
+        this.#changed();
+    }
+
+    #changed() {
         if (this.faulty.size) {
             this.faulty.clear();
             $('faults').replaceChildren();
@@ -69,6 +106,7 @@ export class Source {
     #key(event) {
         if (event.ctrlKey && event.key.toLowerCase() === 'i') {
             event.preventDefault();
+            if (this.follows) return;
             $('text').setRangeText('\t', $('text').selectionStart, $('text').selectionEnd, 'end');
             this.#edited();
         }

@@ -1,14 +1,18 @@
 // The page's files and notes: in memory, and in the browser's own store (IndexedDB), so that a reload finds them. Nothing leaves the page.
-const SLOTS = ['files', 'notes'];
+// Files, and the notes that tabs share, are sent to the other tabs of the page, which have them then as well.
+const SLOTS = ['files', 'notes'], SHARED = ['text', 'source-name'];
 
 export class Store extends EventTarget {
     files = new Map();
     notes = new Map();
     #base = null;
     #due = new Map();
+    #tabs = new BroadcastChannel('geivottu');
 
-    static async open() {
+    static async open(claims) {
         const it = new Store();
+        it.claims = claims;
+        it.#tabs.onmessage = ({ data }) => it.#heard(data);
         try {
             it.#base = await promised(opening());
             for (const slot of SLOTS) {
@@ -19,7 +23,24 @@ export class Store extends EventTarget {
         } catch {
             it.#base = null; // a browser that keeps nothing, as in a private window
         }
+        it.#tabs.postMessage({ asks: true });
         return it;
+    }
+
+    // What another tab tells: a file or a note as it is now, or that it asks for those that this tab has.
+    #heard({ asks, slot, key, value }) {
+        if (asks) {
+            for (const it of this.claims.names.filter(name => this.claims.has(name)))
+                if (it === 'text') SHARED.forEach(key => this.#send('notes', key, this.notes.get(key)));
+                else this.#send('files', it.slice(7), this.files.get(it.slice(7)));
+            return;
+        }
+        value === undefined ? this[slot].delete(key) : this[slot].set(key, value);
+        this.dispatchEvent(new CustomEvent(slot.slice(0, -1), { detail: key }));
+    }
+
+    #send(slot, key, value) {
+        if (!key.startsWith('.') && (slot === 'files' || SHARED.includes(key))) this.#tabs.postMessage({ slot, key, value });
     }
 
     get isKept() { return this.#base !== null; }
@@ -43,6 +64,7 @@ export class Store extends EventTarget {
     }
 
     #keep(slot, key, value) {
+        this.#send(slot, key, value);
         if (!this.#base || key.startsWith('.')) return;
         if (!this.#due.size) this.#written = new Promise(go => setTimeout(() => this.#write().then(go), 100));
         this.#due.set(`${slot} ${key}`, [slot, key, value]);

@@ -114,6 +114,79 @@ const tests = {
     },
 };
 
+// A further tab with the page.
+async function further(page, url) {
+    const it = await page.tab();
+    await it.go(url);
+    return it;
+}
+
+Object.assign(tests, {
+    'of two tabs on one volume one has it, and the other looks and follows': async (page, url) => {
+        writeFileSync(file('one.tx'), 'the first\n');
+        writeFileSync(file('two.tx'), 'the second\n');
+        writeFileSync(file('three.tx'), 'the third\n');
+        const first = await further(page, url);
+        await create(first, 'DISK');
+        await put(first, 'text', 'one.tx');
+        await isTold(first, 'files-status', 'STORED ONE.TX');
+        await page.go(url);
+        await page.until(`!!document.querySelector('tr[data-name="ONE.TX"]')`);
+        await isTold(page, 'follows', 'Another tab has DISK');
+        holds(await first.look(`document.getElementById('follows').hidden`), 'the first tab follows');
+        await put(page, 'text', 'three.tx');
+        await isTold(page, 'files-status', '? HOST BUSY');
+        await page.click('button[aria-label="ONE.TX delete"]');
+        await page.until(`document.getElementById('files-status').textContent.startsWith('? HOST BUSY')`);
+        await put(first, 'text', 'two.tx');
+        await isTold(first, 'files-status', 'STORED TWO.TX');
+        await page.until(`!!document.querySelector('tr[data-name="TWO.TX"]')`);
+        await first.end();
+        await page.until(`document.getElementById('follows').hidden`);
+        await put(page, 'text', 'three.tx');
+        await isTold(page, 'files-status', 'STORED THREE.TX');
+        for (const it of ['one', 'two', 'three']) native(['put', 'DISK', `${it.toUpperCase()}.TX`, '--text'], readFileSync(file(`${it}.tx`)));
+        same(readFileSync(file('DISK')), (await page.home('#take-image')).bytes, 'the image');
+        await page.look('geivottu.store.settled()');
+        await page.go(`${url}?again`);
+        await page.until(`document.querySelectorAll('#directory tbody tr').length === 3`);
+        same(readFileSync(file('DISK')), (await page.home('#take-image')).bytes, 'the image after a reload');
+    },
+    'a tab that opens another volume leaves the first to the other tab': async (page, url) => {
+        const first = await further(page, url);
+        await create(first, 'A');
+        await page.go(url);
+        await isTold(page, 'follows', 'Another tab has A');
+        await create(first, 'B');
+        await page.until(`document.getElementById('follows').hidden`);
+        await page.until(`[...document.getElementById('volume').options].some(it => it.value === 'B')`);
+        writeFileSync(file('one.tx'), 'the first\n');
+        await put(page, 'text', 'one.tx');
+        await isTold(page, 'files-status', 'STORED ONE.TX');
+        await page.choose('#volume', 'B');
+        await isTold(page, 'follows', 'Another tab has B');
+    },
+    'of two tabs one has the text, and the other looks and follows': async (page, url) => {
+        const first = await further(page, url);
+        await setSource(first, ONE);
+        await page.go(url);
+        await pane(page, 'source');
+        await isTold(page, 'text-follows', 'Another tab has the text');
+        await page.until(`document.getElementById('text').value === ${JSON.stringify(ONE)}`);
+        await page.fill('#text', 'LOST');
+        await first.fill('#text', TWO);
+        await page.until(`document.getElementById('text').value === ${JSON.stringify(TWO)}`);
+        await page.click('#assemble');
+        await isTold(page, 'source-status', 'assembled');
+        await first.end();
+        await page.until(`document.getElementById('text-follows').hidden`);
+        await page.fill('#text', ONE);
+        await page.look('geivottu.store.settled()');
+        await page.go(`${url}?again`);
+        same(ONE, await page.look(`document.getElementById('text').value`), 'the text after a reload');
+    },
+});
+
 let passed = 0, failed = 0;
 for (const [name, body] of Object.entries(tests).filter(([it]) => it.includes(only))) {
     const server = await serve(folder), page = await Browser.open();
