@@ -23,6 +23,7 @@ export class Files {
         matchMedia('(prefers-color-scheme: dark)').addEventListener('change', () => this.blocks && this.#draw());
         this.#drops();
         page.store.addEventListener('file', ({ detail }) => detail === this.name ? this.#again() : detail.startsWith('.') || this.#list());
+        page.store.addEventListener('kept', () => this.#list());
         page.programs.addEventListener('idle', () => this.#leave());
         page.claims.addEventListener('claim', ({ detail }) => this.#claimed(detail));
     }
@@ -62,9 +63,13 @@ export class Files {
 
     #list() {
         const own = this.name;
-        $('volume').replaceChildren(made('option', { value: '' }, 'none is open'), ...this.volumes.map(it => made('option', { value: it }, it)));
+        $('volume').replaceChildren(made('option', { value: '' }, 'none is open'), ...this.volumes.map(it => made('option', { value: it }, this.#mark(it))));
         $('volume').value = this.volumes.includes(own) ? own : '';
+        $('volume-name').textContent = this.#mark(this.name);
     }
+
+    // A volume's name, with a mark where the browser's store didn't take it.
+    #mark(name) { return this.page.store.isUnkept(name) ? `${name}, not kept` : name; }
 
     #drops() {
         const zone = $('drop');
@@ -152,7 +157,6 @@ export class Files {
         const { status, out, said } = await this.page.programs.ask(['check', name]);
         if (name !== this.name) return;
         const lines = textOf(out).trim().split('\n').map(it => it.split(' '));
-        $('volume-name').textContent = name;
         this.refusal = status === 0 ? null : lines.map(it => it.join(' ')).join('\n');
         if (this.refusal) tell('files-status', `${this.refusal}\n${said}`, true);
         this.#lay(lines);

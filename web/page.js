@@ -8,6 +8,7 @@ import { Source } from './source.js';
 import { Machine } from './machine.js';
 import { Teletype } from './teletype.js';
 import { Script } from './script.js';
+import { Unkept } from './unkept.js';
 
 const PANES = ['files', 'source', 'machine', 'teletype', 'script'];
 
@@ -64,6 +65,7 @@ async function begin() {
     page.teletype = new Teletype(page);
     page.source = new Source(page);
     page.script = new Script(page);
+    page.unkept = new Unkept(page);
     await Promise.all([page.files.begin(), page.source.begin()]);
     $('kept').textContent = store.isKept ? 'What you open and write stays in this browser until you remove it.'
         : 'This browser keeps nothing: take home what you want to keep.';

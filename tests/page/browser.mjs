@@ -36,6 +36,7 @@ export class Browser {
     asked = [];
     errors = [];
     dialogs = [];
+    accepts = true;
 
     static async open(...words) {
         const it = new Browser();
@@ -81,7 +82,7 @@ export class Browser {
         if (message.method === 'Runtime.exceptionThrown') this.errors.push(message.params.exceptionDetails.exception?.description ?? message.params.exceptionDetails.text);
         if (message.method === 'Page.javascriptDialogOpening') {
             this.dialogs.push(message.params.type);
-            this.call('Page.handleJavaScriptDialog', { accept: true }, message.sessionId);
+            this.call('Page.handleJavaScriptDialog', { accept: this.accepts }, message.sessionId);
         }
     }
 

@@ -1,6 +1,7 @@
 // losses.mjs PROGRAM FOLDER: what a user could lose in the page, in headless Chromium, each test with a profile of its own. What comes out is
 // compared with the native program PROGRAM. The last line is 'N passed, M failed'.
 import { spawnSync } from 'node:child_process';
+import { randomBytes } from 'node:crypto';
 import { mkdtempSync, readFileSync, rmSync, writeFileSync } from 'node:fs';
 import { tmpdir } from 'node:os';
 import { join, resolve } from 'node:path';
@@ -24,15 +25,15 @@ function show(it) { return Buffer.isBuffer(it) ? `${it.length} bytes ${it.subarr
 
 function holds(it, what) { if (!it) throw new Error(what); }
 
-// A new volume of 90 blocks in the page, and the same natively.
-async function create(page, name) {
+// A new volume in the page, and the same natively.
+async function create(page, name, blocks = 90) {
     await pane(page, 'files');
     await page.fill('#new-name', name);
-    await page.fill('#new-blocks', '90');
+    await page.fill('#new-blocks', String(blocks));
     await page.click('#create');
-    await isTold(page, 'files-status', 'CREATED 90');
+    await isTold(page, 'files-status', `CREATED ${blocks}`);
     await page.until(`document.getElementById('volume').value === '${name}'`);
-    native(['create', name, '90']);
+    native(['create', name, String(blocks)]);
 }
 
 async function setSource(page, text) {
@@ -184,6 +185,66 @@ Object.assign(tests, {
         await page.look('geivottu.store.settled()');
         await page.go(`${url}?again`);
         same(ONE, await page.look(`document.getElementById('text').value`), 'the text after a reload');
+    },
+});
+
+// Has the browser's store take so many bytes of the page, or as many as it would.
+const room = (page, url, ...bytes) => page.call('Storage.overrideQuotaForOrigin', { origin: new URL(url).origin, ...(bytes.length ? { quotaSize: bytes[0] } : {}) });
+const run = (page, source) => page.call('Page.addScriptToEvaluateOnNewDocument', { source });
+
+Object.assign(tests, {
+    'a full store is told at once, and what isn\'t kept is marked and taken home': async (page, url) => {
+        await room(page, url, 100000);
+        await page.go(url);
+        await create(page, 'DISK', 900);
+        await page.look('geivottu.store.settled()');
+        holds(await page.look(`document.getElementById('unkept').hidden`), 'told before');
+        writeFileSync(file('noise.da'), randomBytes(200000));
+        await put(page, 'frames', 'noise.da');
+        await isTold(page, 'unkept', 'Not kept: DISK.');
+        await isTold(page, 'volume-name', 'DISK, not kept');
+        same('none is open,DISK, not kept', (await page.look(optionsOf('volume'))).join(), 'the list');
+        page.accepts = false;
+        await page.call('Page.navigate', { url: `${url}?away` });
+        same('beforeunload', page.dialogs.splice(0).join(), 'what asked');
+        page.accepts = true;
+        native(['put', 'DISK', 'NOISE.DA'], readFileSync(file('noise.da')));
+        same(readFileSync(file('DISK')), (await page.home('#unkept-home')).bytes, 'the image');
+        await page.go(`${url}?away`);
+        same('', page.dialogs.join(), 'what asked after it was taken home');
+    },
+    'what was not kept is kept once there is room': async (page, url) => {
+        await page.go(url);
+        await room(page, url, 1);
+        await create(page, 'DISK');
+        await isTold(page, 'unkept', 'Not kept: DISK.');
+        await room(page, url);
+        await setSource(page, ONE);
+        await page.until(`document.getElementById('unkept').hidden`);
+        await page.go(`${url}?again`);
+        same('', page.dialogs.join(), 'what asked');
+        same(ONE, await page.look(`document.getElementById('text').value`), 'the text');
+        same('DISK', await page.look(`document.getElementById('volume').value`), 'the volume');
+    },
+    'a store that refuses is told at once': async (page, url) => {
+        await run(page, `IDBFactory.prototype.open = () => { throw new DOMException('refused', 'SecurityError'); };`);
+        await page.go(url);
+        holds(await page.look(`document.getElementById('unkept').hidden`), 'told before');
+        await create(page, 'DISK');
+        await setSource(page, ONE);
+        await isTold(page, 'unkept', 'Not kept: DISK, the text of Source.');
+        await page.call('Page.navigate', { url: `${url}?away` });
+        same('beforeunload', page.dialogs.join(), 'what asked');
+    },
+    'the browser is asked to keep the store once there is something to keep': async (page, url) => {
+        await run(page, `window.persisted = 0; StorageManager.prototype.persist = async () => { window.persisted++; return false; };`);
+        await page.go(url);
+        await pane(page, 'source');
+        same(0, await page.look('persisted'), 'asked before');
+        await page.fill('#text', ONE);
+        await page.until('persisted === 1');
+        await create(page, 'DISK');
+        same(1, await page.look('persisted'), 'asked');
     },
 });
 
