@@ -1,5 +1,6 @@
 // The Files pane: each thing that it shows is a reply of `check`, `get`, `tape` or `source`, and each change `create`, `put` or a script.
 import { $, made, tell, takeHome, bytesOfFile, keepInput } from './dom.js';
+import { ask } from './ask.js';
 import { textOf } from './program.js';
 
 const COLOURS = ['directory', 'file', 'file-2', 'empty', 'outside', 'fault'];
@@ -101,26 +102,49 @@ export class Files {
             tell('files-status', `${file.name}: ${line}\n${said}`, true);
             return;
         }
-        const name = this.#free(file.name);
-        store.put(name, bytes);
-        await this.open(name);
+        const name = await this.#name(file.name);
+        if (name !== null && await this.#keep(name, bytes)) await this.open(name);
     }
 
-    // A name for a file that no other has: a volume that is in the page is not written over.
-    #free(wanted) {
-        const plain = wanted.replace(/[/\\\s]/g, '_').replace(/^[.-]+/, '') || 'IMAGE';
-        let name = plain;
-        for (let k = 2; this.page.store.files.has(name); k++) name = `${plain}-${k}`;
-        return name;
+    // The name for a new volume: where there is one of that name the user is asked. Null where none is to be made.
+    async #name(wanted) {
+        const { files } = this.page.store, plain = wanted.replace(/[/\\\s]/g, '_').replace(/^[.-]+/, '') || 'IMAGE';
+        if (!files.has(plain)) return plain;
+        let free = plain;
+        for (let k = 2; files.has(free); k++) free = `${plain}-${k}`;
+        const answer = await ask(`There is a volume ${plain} in the page. Writing over it loses what it has.`,
+            ['free', `Name the new one ${free}`], ['over', `Write over ${plain}`], ['', 'Make none']);
+        return { free, over: plain }[answer] ?? null;
+    }
+
+    // Keeps an image as a volume, if no run and no other tab has one of that name.
+    async #keep(name, bytes) {
+        if (this.page.store.files.has(name)) {
+            await this.page.claims.claim(`volume ${name}`);
+            const busy = await this.#busy(name);
+            if (busy) return tell('files-status', `${name}: ${busy}`, true);
+        }
+        this.page.store.put(name, bytes);
+        return true;
+    }
+
+    // The program's line where a run or another tab holds a volume, else null.
+    async #busy(name) {
+        const { out, said } = await this.page.programs.ask(['run', name], '');
+        return /[?] HOST BUSY.*/.exec(textOf(out) + said)?.[0] ?? null;
     }
 
     async create() {
-        const { programs, store } = this.page, name = this.#free($('new-name').value), blocks = $('new-blocks').value.trim();
-        const { status, out, said } = await programs.ask(['create', name, blocks]);
+        const { programs, store } = this.page, blocks = $('new-blocks').value.trim(), wanted = $('new-name').value;
+        store.remove('.new');
+        const { status, out, said } = await programs.ask(['create', '.new', blocks]), image = store.files.get('.new');
+        store.remove('.new');
         if (status !== 0) {
             tell('files-status', textOf(out) + said, true);
             return;
         }
+        const name = await this.#name(wanted);
+        if (name === null || !await this.#keep(name, image)) return;
         await this.open(name);
         tell('files-status', textOf(out));
     }
@@ -275,15 +299,21 @@ export class Files {
         let isBad = false;
         for (const file of input.files) {
             const { status, out, said } = await this.put(nameOf(file.name), await bytesOfFile(file), ...form);
-            told.push(status === 0 ? textOf(out) : `${file.name}: ${textOf(out)}${said}`);
+            told.push(status === 0 ? textOf(out) + said : `${file.name}: ${textOf(out)}${said}`);
             isBad ||= status !== 0;
         }
         input.value = '';
         tell('files-status', told.join(''), isBad);
     }
 
-    // Makes bytes a file of the volume.
-    put(name, bytes, ...form) { return this.page.programs.ask(['put', this.name, name, ...form], bytes); }
+    // Makes bytes a file of the volume; where it has one of that name the user is asked.
+    async put(name, bytes, ...form) {
+        const volume = this.name;
+        const isThere = (await this.#get(name)).status === 0 && !await this.#busy(volume);
+        if (isThere && await ask(`${volume} has a file ${name}. Writing over it loses what it has.`, ['', 'Leave it'], ['over', 'Write over it']) !== 'over')
+            return { status: 0, out: new Uint8Array(0), said: `${name} was left as it was\n` };
+        return this.page.programs.ask(['put', volume, name, ...form], bytes);
+    }
 
     // Changes the volume by lines of a script, and tells their replies.
     async #change(...lines) {

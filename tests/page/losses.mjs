@@ -248,6 +248,81 @@ Object.assign(tests, {
     },
 });
 
+// Waits for a question of the page with these words, and answers by keys: so many times Tab, and Enter; or Escape.
+async function answer(page, words, tabs) {
+    await page.until(`document.getElementById('question').open && document.getElementById('question-words').textContent.includes(${JSON.stringify(words)})`);
+    for (let k = 0; k < tabs; k++) await page.key('Tab');
+    await page.key(tabs === undefined ? 'Escape' : 'Enter');
+}
+
+const image = async page => (await page.home('#take-image')).bytes;
+
+Object.assign(tests, {
+    'before a file of that name is written over the user is asked': async (page, url) => {
+        await page.go(url);
+        await create(page, 'DISK');
+        writeFileSync(file('one.tx'), 'the first\n');
+        await put(page, 'text', 'one.tx');
+        await isTold(page, 'files-status', 'STORED ONE.TX');
+        native(['put', 'DISK', 'ONE.TX', '--text'], 'the first\n');
+        writeFileSync(file('one.tx'), 'the second\n');
+        for (const tabs of [undefined, 0]) {
+            await put(page, 'text', 'one.tx');
+            await answer(page, 'DISK has a file ONE.TX', tabs);
+            await isTold(page, 'files-status', 'ONE.TX was left as it was');
+            same(readFileSync(file('DISK')), await image(page), 'the image');
+            await page.look(`document.getElementById('files-status').textContent = ''`);
+        }
+        await put(page, 'text', 'one.tx');
+        await answer(page, 'DISK has a file ONE.TX', 1);
+        await isTold(page, 'files-status', 'STORED ONE.TX');
+        native(['put', 'DISK', 'ONE.TX', '--text'], 'the second\n');
+        same(readFileSync(file('DISK')), await image(page), 'the image that is written over');
+    },
+    'before the text goes over a file of the volume the user is asked': async (page, url) => {
+        await page.go(url);
+        await create(page, 'DISK');
+        await setSource(page, ONE);
+        await page.fill('#source-name', 'IT');
+        await page.click('#assemble');
+        await isTold(page, 'source-status', 'assembled');
+        await page.click('#to-volume');
+        await isTold(page, 'source-status', 'STORED IT.BN');
+        await pane(page, 'files');
+        const before = await image(page);
+        await setSource(page, TWO);
+        await page.click('#to-volume');
+        await answer(page, 'DISK has a file IT.PA', 0);
+        await answer(page, 'DISK has a file IT.BN', 0);
+        await isTold(page, 'source-status', 'IT.BN was left as it was');
+        await pane(page, 'files');
+        same(before, await image(page), 'the image');
+    },
+    'before a volume of that name is written over the user is asked': async (page, url) => {
+        const volumes = `[...document.getElementById('volume').options].slice(1).map(it => it.value).join()`;
+        await page.go(url);
+        await create(page, 'DISK');
+        native(['put', 'DISK', 'ONE.TX', '--text'], 'the first\n');
+        const old = readFileSync(file('DISK'));
+        await page.give('#image', file('DISK'));
+        await answer(page, 'There is a volume DISK', 1);
+        await page.until(`!!document.querySelector('tr[data-name="ONE.TX"]')`);
+        same(old, await image(page), 'the image that is written over');
+        await page.click('#create');
+        await answer(page, 'There is a volume DISK');
+        await page.click('#create');
+        await answer(page, 'There is a volume DISK', 0);
+        await page.until(`document.getElementById('volume').value === 'DISK-2'`);
+        same('DISK,DISK-2', await page.look(volumes), 'the volumes');
+        await page.choose('#volume', 'DISK');
+        await page.until(`!!document.querySelector('tr[data-name="ONE.TX"]')`);
+        same(old, await image(page), 'the image that is left');
+        await page.give('#image', file('DISK'));
+        await answer(page, 'There is a volume DISK', 2);
+        same('DISK,DISK-2', await page.look(volumes), 'the volumes');
+    },
+});
+
 let passed = 0, failed = 0;
 for (const [name, body] of Object.entries(tests).filter(([it]) => it.includes(only))) {
     const server = await serve(folder), page = await Browser.open();
