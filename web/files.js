@@ -161,8 +161,9 @@ export class Files {
         await this.#again();
     }
 
-    #remove() {
-        const name = this.name;
+    async #remove() {
+        const name = this.name, busy = await this.#busy(name);
+        if (busy) return tell('files-status', busy, true);
         if (!confirm(`Remove ${name} from the page? What was not taken home is lost.`)) return;
         this.page.store.remove(name);
         this.open(this.volumes[0] ?? '');

@@ -7,6 +7,7 @@ export class Teletype {
     constructor(page) {
         this.page = page;
         this.run = null;
+        this.isBegun = false;
         this.own = null;
         this.paper = new Paper($('paper'), { shown: count => this.run?.show(count), kept: text => page.store.note('paper', text) });
         this.paper.restore(page.store.notes.get('paper') ?? '');
@@ -69,9 +70,11 @@ export class Teletype {
 
     async begin() {
         if (!$('tape').value) return tell('tty-status', 'Which tape?', true);
+        if (this.isBegun) return;
+        this.isBegun = true;
+        this.#buttons();
         if ($('tape').value === 'source' && !await this.page.source.renew())
-            return tell('tty-status', `The source has no tape: ${$('source-status').textContent}`, true);
-        this.stop();
+            return this.#ended(1, `The source has no tape: ${$('source-status').textContent}`);
         const words = this.#words();
         if (!canLive) words.splice(1, 1);
         let said = '';
@@ -97,6 +100,7 @@ export class Teletype {
 
     #ended(status, said) {
         this.run = null;
+        this.isBegun = false;
         tell('tty-status', said || (status === null ? 'stopped' : `status ${status}`), status !== 0 && status !== null);
         this.#buttons();
     }
@@ -107,7 +111,10 @@ export class Teletype {
         this.run.stop();
     }
 
-    #buttons() { $('tty-stop').disabled = this.run === null; }
+    #buttons() {
+        $('tty-run').disabled = this.isBegun;
+        $('tty-stop').disabled = this.run === null;
+    }
 
     // Strikes the keys of a text, in the order in which they were typed.
     strike(text) {

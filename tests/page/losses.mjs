@@ -323,6 +323,69 @@ Object.assign(tests, {
     },
 });
 
+// Counts the runs that live, from now on, in `begun`.
+const count = page => page.look(`(() => { const { programs } = geivottu, { begin } = programs; window.begun = 0;
+    programs.begin = (...them) => { window.begun++; return begin.apply(programs, them); }; })()`);
+const clickTwice = (page, id) => page.look(`document.getElementById('${id}').click(); document.getElementById('${id}').click()`);
+
+Object.assign(tests, {
+    'a volume that a session holds is not removed': async (page, url) => {
+        await page.go(url);
+        await create(page, 'DISK');
+        await pane(page, 'script');
+        await page.choose('#script-saving', '--keep');
+        await page.click('#session');
+        await page.until(`!document.getElementById('entry-line').disabled`);
+        await pane(page, 'files');
+        await page.click('#drop-image');
+        await isTold(page, 'files-status', '? HOST BUSY');
+        same('DISK', await page.look(`document.getElementById('volume').value`), 'the volume');
+        same('', page.dialogs.join(), 'what asked');
+        await pane(page, 'script');
+        await page.click('#session');
+        await isTold(page, 'script-status', 'status 0');
+        await pane(page, 'files');
+        await page.click('#drop-image');
+        await page.until(`document.getElementById('volume').value === ''`);
+        same('confirm', page.dialogs.join(), 'what asked');
+    },
+    'a tab that follows can\'t remove the volume, and sees that it was removed': async (page, url) => {
+        const first = await further(page, url);
+        await create(first, 'DISK');
+        await page.go(url);
+        await isTold(page, 'follows', 'Another tab has DISK');
+        await page.click('#drop-image');
+        await isTold(page, 'files-status', '? HOST BUSY');
+        await first.click('#drop-image');
+        await page.until(`![...document.getElementById('volume').options].some(it => it.value === 'DISK')`);
+        await page.until(`document.getElementById('follows').hidden && document.getElementById('volume-view').hidden`);
+    },
+    'Run clicked twice is one run': async (page, url) => {
+        await page.go(url);
+        await create(page, 'DISK');
+        await setSource(page, '*200\n\tTAD A\n\tTLS\n\tTSF\n\tJMP .-1\n\tHLT\nA,\t301\n$\n');
+        await page.click('#assemble');
+        await isTold(page, 'source-status', 'assembled');
+        await page.click('#to-teletype');
+        await page.until(`document.activeElement.id === 'tty-run'`);
+        await count(page);
+        await clickTwice(page, 'tty-run');
+        await isTold(page, 'tty-status', 'HALT 00205');
+        await isTold(page, 'paper', 'A');
+        same(1, await page.look('begun'), 'runs at the Teletype');
+        same('A', await page.text('paper'), 'the paper');
+        await pane(page, 'script');
+        await page.fill('#lines', 'STORE A 1\nX\nDIRECT\n');
+        await page.look('begun = 0');
+        await clickTwice(page, 'script-run');
+        await isTold(page, 'script-status', 'status 0');
+        same(1, await page.look('begun'), 'runs of the script');
+        same(native(['run', 'DISK'], 'STORE A 1\nX\nDIRECT\n').toString(), await page.text('replies'), 'the replies');
+        await page.click('#script-run');
+        await page.until('begun === 2');
+    },
+});
+
 let passed = 0, failed = 0;
 for (const [name, body] of Object.entries(tests).filter(([it]) => it.includes(only))) {
     const server = await serve(folder), page = await Browser.open();
