@@ -1,5 +1,6 @@
 // The Files pane: each thing that it shows is a reply of `check`, `get`, `tape` or `source`, and each change `create`, `put` or a script.
 import { $, made, tell, takeHome, bytesOfFile, keepInput } from './dom.js';
+import { ask } from './ask.js';
 import { textOf } from './program.js';
 
 const COLOURS = ['directory', 'file', 'file-2', 'empty', 'outside', 'fault'];
@@ -22,7 +23,32 @@ export class Files {
         new ResizeObserver(() => this.blocks && this.#draw()).observe($('blocks'));
         matchMedia('(prefers-color-scheme: dark)').addEventListener('change', () => this.blocks && this.#draw());
         this.#drops();
-        page.store.addEventListener('file', ({ detail }) => detail === this.name && this.#again());
+        page.store.addEventListener('file', ({ detail }) => detail === this.name ? this.#again() : detail.startsWith('.') || this.#list());
+        page.store.addEventListener('kept', () => this.#list());
+        page.programs.addEventListener('idle', () => this.#leave());
+        page.claims.addEventListener('claim', ({ detail }) => this.#claimed(detail));
+    }
+
+    // Leaves to other tabs the volumes that this one doesn't use.
+    #leave() {
+        const { claims, programs } = this.page;
+        for (const it of claims.names.filter(it => it.startsWith('volume ')))
+            if (it.slice(7) !== this.name && !programs.isBusy(it.slice(7))) claims.leave(it);
+    }
+
+    // Another tab has left a volume to this one: its image, as this tab has it, is kept.
+    #claimed(claim) {
+        const { store } = this.page, name = claim.slice(7);
+        if (claim.startsWith('volume ') && this.follows === name && store.files.has(name)) store.put(name, store.files.get(name));
+        this.#tellClaim();
+    }
+
+    // Says whether another tab has the volume that is open.
+    #tellClaim() {
+        const { name } = this;
+        this.follows = name !== '' && !this.page.claims.has(`volume ${name}`) ? name : null;
+        $('follows').textContent = this.follows ? `Another tab has ${name}. Here it is only looked at, and follows that tab. It can be changed here once that tab is closed, or opens another.` : '';
+        $('follows').hidden = !this.follows;
     }
 
     // The name of the volume that is open.
@@ -38,9 +64,13 @@ export class Files {
 
     #list() {
         const own = this.name;
-        $('volume').replaceChildren(made('option', { value: '' }, 'none is open'), ...this.volumes.map(it => made('option', { value: it }, it)));
+        $('volume').replaceChildren(made('option', { value: '' }, 'none is open'), ...this.volumes.map(it => made('option', { value: it }, this.#mark(it))));
         $('volume').value = this.volumes.includes(own) ? own : '';
+        $('volume-name').textContent = this.#mark(this.name);
     }
+
+    // A volume's name, with a mark where the browser's store didn't take it.
+    #mark(name) { return this.page.store.isUnkept(name) ? `${name}, not kept` : name; }
 
     #drops() {
         const zone = $('drop');
@@ -72,26 +102,49 @@ export class Files {
             tell('files-status', `${file.name}: ${line}\n${said}`, true);
             return;
         }
-        const name = this.#free(file.name);
-        store.put(name, bytes);
-        await this.open(name);
+        const name = await this.#name(file.name);
+        if (name !== null && await this.#keep(name, bytes)) await this.open(name);
     }
 
-    // A name for a file that no other has: a volume that is in the page is not written over.
-    #free(wanted) {
-        const plain = wanted.replace(/[/\\\s]/g, '_').replace(/^[.-]+/, '') || 'IMAGE';
-        let name = plain;
-        for (let k = 2; this.page.store.files.has(name); k++) name = `${plain}-${k}`;
-        return name;
+    // The name for a new volume: where there is one of that name the user is asked. Null where none is to be made.
+    async #name(wanted) {
+        const { files } = this.page.store, plain = wanted.replace(/[/\\\s]/g, '_').replace(/^[.-]+/, '') || 'IMAGE';
+        if (!files.has(plain)) return plain;
+        let free = plain;
+        for (let k = 2; files.has(free); k++) free = `${plain}-${k}`;
+        const answer = await ask(`There is a volume ${plain} in the page. Writing over it loses what it has.`,
+            ['free', `Name the new one ${free}`], ['over', `Write over ${plain}`], ['', 'Make none']);
+        return { free, over: plain }[answer] ?? null;
+    }
+
+    // Keeps an image as a volume, if no run and no other tab has one of that name.
+    async #keep(name, bytes) {
+        if (this.page.store.files.has(name)) {
+            await this.page.claims.claim(`volume ${name}`);
+            const busy = await this.#busy(name);
+            if (busy) return tell('files-status', `${name}: ${busy}`, true);
+        }
+        this.page.store.put(name, bytes);
+        return true;
+    }
+
+    // The program's line where a run or another tab holds a volume, else null.
+    async #busy(name) {
+        const { out, said } = await this.page.programs.ask(['run', name], '');
+        return /[?] HOST BUSY.*/.exec(textOf(out) + said)?.[0] ?? null;
     }
 
     async create() {
-        const { programs, store } = this.page, name = this.#free($('new-name').value), blocks = $('new-blocks').value.trim();
-        const { status, out, said } = await programs.ask(['create', name, blocks]);
+        const { programs, store } = this.page, blocks = $('new-blocks').value.trim(), wanted = $('new-name').value;
+        store.remove('.new');
+        const { status, out, said } = await programs.ask(['create', '.new', blocks]), image = store.files.get('.new');
+        store.remove('.new');
         if (status !== 0) {
             tell('files-status', textOf(out) + said, true);
             return;
         }
+        const name = await this.#name(wanted);
+        if (name === null || !await this.#keep(name, image)) return;
         await this.open(name);
         tell('files-status', textOf(out));
     }
@@ -102,11 +155,15 @@ export class Files {
         this.page.store.note('volume', name);
         tell('files-status', '');
         this.#show(null, '');
+        this.#leave();
+        if (name !== '') await this.page.claims.claim(`volume ${name}`);
+        this.#tellClaim();
         await this.#again();
     }
 
-    #remove() {
-        const name = this.name;
+    async #remove() {
+        const name = this.name, busy = await this.#busy(name);
+        if (busy) return tell('files-status', busy, true);
         if (!confirm(`Remove ${name} from the page? What was not taken home is lost.`)) return;
         this.page.store.remove(name);
         this.open(this.volumes[0] ?? '');
@@ -118,11 +175,13 @@ export class Files {
         const name = this.name;
         $('volume-view').hidden = name === '';
         this.entries = [];
-        if (name === '') return this.page.store.dispatchEvent(new Event('volume'));
+        if (name === '') {
+            this.#tellClaim();
+            return this.page.store.dispatchEvent(new Event('volume'));
+        }
         const { status, out, said } = await this.page.programs.ask(['check', name]);
         if (name !== this.name) return;
         const lines = textOf(out).trim().split('\n').map(it => it.split(' '));
-        $('volume-name').textContent = name;
         this.refusal = status === 0 ? null : lines.map(it => it.join(' ')).join('\n');
         if (this.refusal) tell('files-status', `${this.refusal}\n${said}`, true);
         this.#lay(lines);
@@ -241,15 +300,21 @@ export class Files {
         let isBad = false;
         for (const file of input.files) {
             const { status, out, said } = await this.put(nameOf(file.name), await bytesOfFile(file), ...form);
-            told.push(status === 0 ? textOf(out) : `${file.name}: ${textOf(out)}${said}`);
+            told.push(status === 0 ? textOf(out) + said : `${file.name}: ${textOf(out)}${said}`);
             isBad ||= status !== 0;
         }
         input.value = '';
         tell('files-status', told.join(''), isBad);
     }
 
-    // Makes bytes a file of the volume.
-    put(name, bytes, ...form) { return this.page.programs.ask(['put', this.name, '-', '--as', name, ...form], bytes); }
+    // Makes bytes a file of the volume; where it has one of that name the user is asked.
+    async put(name, bytes, ...form) {
+        const volume = this.name;
+        const isThere = (await this.#get(name)).status === 0 && !await this.#busy(volume);
+        if (isThere && await ask(`${volume} has a file ${name}. Writing over it loses what it has.`, ['', 'Leave it'], ['over', 'Write over it']) !== 'over')
+            return { status: 0, out: new Uint8Array(0), said: `${name} was left as it was\n` };
+        return this.page.programs.ask(['put', volume, '-', '--as', name, ...form], bytes);
+    }
 
     // Changes the volume by lines of a script, and tells their replies.
     async #change(...lines) {

@@ -109,6 +109,7 @@ export class Machine {
         select.value = '';
         if (name === '') return;
         if (name === 'source') {
+            if (!await source.renew()) return tell('machine-status', `The source has no tape: ${$('source-status').textContent}`, true);
             if (await this.load(source.tape, 'the source\'s tape')) this.list($('listing').textContent);
             return;
         }
@@ -121,7 +122,7 @@ export class Machine {
 
     #tapes() {
         const { files, source } = this.page, own = (files?.entries ?? []).map(it => it.name).sort();
-        $('core-tape').replaceChildren(made('option', { value: '' }, 'choose a tape'), ...(source?.tape ? [made('option', { value: 'source' }, 'the source\'s')] : []),
+        $('core-tape').replaceChildren(made('option', { value: '' }, 'choose a tape'), ...(source?.tape ? [made('option', { value: 'source' }, source.isOld ? 'the source\'s, old' : 'the source\'s')] : []),
             ...own.map(it => made('option', { value: `file ${it}` }, it)));
     }
 

@@ -1,12 +1,14 @@
 // The page: loads the program, and lets the panes begin.
 import { $, made } from './dom.js';
 import { Store } from './store.js';
+import { Claims } from './claims.js';
 import { Programs, load, canLive, hasWideMemory } from './program.js';
 import { Files } from './files.js';
 import { Source } from './source.js';
 import { Machine } from './machine.js';
 import { Teletype } from './teletype.js';
 import { Script } from './script.js';
+import { Unkept } from './unkept.js';
 
 const PANES = ['files', 'source', 'machine', 'teletype', 'script'];
 
@@ -54,16 +56,17 @@ async function begin() {
             + 'and Firefox from version 134 have it.');
         return;
     }
-    const store = await Store.open();
+    const claims = new Claims(), store = await Store.open(claims);
     const programs = new Programs(await load('pdp8.wasm'), store);
-    const page = { store, programs, tell: trouble };
+    const page = { store, claims, programs, tell: trouble };
     page.tabs = new Tabs(store);
     page.files = new Files(page);
     page.machine = new Machine(page);
     page.teletype = new Teletype(page);
     page.source = new Source(page);
     page.script = new Script(page);
-    await page.files.begin();
+    page.unkept = new Unkept(page);
+    await Promise.all([page.files.begin(), page.source.begin()]);
     $('kept').textContent = store.isKept ? 'What you open and write stays in this browser until you remove it.'
         : 'This browser keeps nothing: take home what you want to keep.';
     if (!canLive)

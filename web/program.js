@@ -20,19 +20,38 @@ export async function load(url) {
     return WebAssembly.compile(await answer.arrayBuffer());
 }
 
-export class Programs {
+export class Programs extends EventTarget {
     #last = Promise.resolve();
     #spare = null;
+    #busy = [];
     held = new Set();
 
     constructor(module, store) {
+        super();
         this.module = module;
         this.store = store;
     }
 
+    // Whether a run that was asked for and hasn't ended has a word.
+    isBusy(word) { return this.#busy.includes(word); }
+
+    // Counts the words of a run until it is over.
+    async #count(words, over) {
+        this.#busy.push(...words);
+        await over;
+        for (const it of words) this.#busy.splice(this.#busy.indexOf(it), 1);
+        this.dispatchEvent(new Event('idle'));
+    }
+
+    // The files that a run can't change: those that another run holds, and the volumes that another tab has.
+    locked(words) {
+        const { files, claims } = this.store;
+        return [...this.held, ...words.filter(it => files.has(it) && !it.startsWith('.') && !claims.has(`volume ${it}`))];
+    }
+
     // A whole run, behind those that were asked for before: its exit status, and what it wrote to each stream.
     ask(words, input = '') {
-        const answer = this.#last.then(() => new Promise(go => {
+        const answer = this.#last.then(() => this.store.claims.known()).then(() => new Promise(go => {
             const out = [], said = [];
             const run = new Run(this, words, {
                 input: bytesOf(input),
@@ -43,6 +62,7 @@ export class Programs {
             this.asked = run;
         }));
         this.#last = answer;
+        this.#count(words, answer);
         return answer;
     }
 
@@ -51,8 +71,11 @@ export class Programs {
 
     // A run that lives until its input is ended, or it is stopped.
     async begin(words, how) {
+        let over;
+        this.#count(words, new Promise(go => { over = go; }));
         await this.#last;
-        return new Run(this, words, { ...how, input: null });
+        await this.store.claims.known();
+        return new Run(this, words, { ...how, input: null, ended: status => { over(); how.ended?.(status); } });
     }
 
     // Workers are begun ahead, since that takes some time.
@@ -84,7 +107,7 @@ export class Run {
         const { files } = programs.store;
         const own = words.filter(it => files.has(it));
         this.holds = words[0] === 'run' && !words.includes('--look') && how.input === null ? own : [];
-        const locked = [...programs.held];
+        const locked = programs.locked(words);
         this.holds = this.holds.filter(it => !locked.includes(it));
         this.holds.forEach(it => programs.held.add(it));
         this.worker.postMessage({

@@ -8,6 +8,7 @@ export class Script {
     constructor(page) {
         this.page = page;
         this.run = null;
+        this.isBegun = false;
         $('lines').value = FIRST;
         for (const id of ['lines', 'script-saving', 'strict']) keepInput(page.store, id);
         $('script-run').addEventListener('click', () => this.whole());
@@ -27,14 +28,15 @@ export class Script {
     // Runs the whole script; its replies are shown as they come.
     async whole() {
         const words = this.#words();
-        if (!words) return;
-        this.run?.stop();
+        if (!words || this.isBegun) return;
         if (canLive) {
             await this.#begin(words);
             this.run?.say(bytesOf($('lines').value));
             this.run?.end();
             return;
         }
+        this.isBegun = true;
+        this.#buttons(false);
         $('replies').textContent = '';
         const { status, out, said } = await this.page.programs.ask(words, $('lines').value);
         follow($('replies'), textOf(out));
@@ -42,6 +44,8 @@ export class Script {
     }
 
     async #begin(words, terminal = false) {
+        this.isBegun = true;
+        this.#buttons(false);
         $('replies').textContent = '';
         tell('script-status', 'running');
         let said = '';
@@ -71,11 +75,13 @@ export class Script {
     #ended(status, said) {
         this.#flush();
         this.run = null;
+        this.isBegun = false;
         tell('script-status', said + (status === null ? 'stopped' : `status ${status}`), status === null || status !== 0);
         this.#buttons(false);
     }
 
     #buttons(isSession) {
+        $('script-run').disabled = this.isBegun;
         $('script-stop').disabled = this.run === null;
         $('session').textContent = isSession ? 'End the session' : 'Begin a session';
         for (const id of ['entry-line', 'entry-say']) $(id).disabled = !isSession;
@@ -85,7 +91,7 @@ export class Script {
     async #session() {
         if (this.run) return this.run.end();
         const words = this.#words();
-        if (!words) return;
+        if (!words || this.isBegun) return;
         await this.#begin(words, true);
     }
 

@@ -8,13 +8,14 @@ export class Source {
     constructor(page) {
         this.page = page;
         this.faulty = new Map();
+        this.wasOld = false;
         keepInput(page.store, 'source-name');
         $('text').value = page.store.notes.get('text') ?? '';
         $('text').addEventListener('input', () => this.#edited());
         $('text').addEventListener('scroll', () => { $('gutter').scrollTop = $('text').scrollTop; });
         $('text').addEventListener('keydown', event => this.#key(event));
         $('assemble').addEventListener('click', () => this.assemble());
-        $('tape-home').addEventListener('click', () => takeHome(`${this.#name}.bin`, this.tape));
+        $('tape-home').addEventListener('click', () => this.#tapeHome());
         $('text-home').addEventListener('click', () => takeHome(`${this.#name}.pa`, new TextEncoder().encode($('text').value)));
         $('to-core').addEventListener('click', () => this.#toCore());
         $('to-teletype').addEventListener('click', () => this.#toTeletype());
@@ -22,13 +23,52 @@ export class Source {
         $('source-file').addEventListener('change', event => this.#opened(event.target));
         $('example').addEventListener('change', event => this.#example(event.target));
         page.store.addEventListener('volume', () => this.#buttons());
+        page.store.addEventListener('note', ({ detail }) => this.#followed(detail));
+        page.claims.addEventListener('claim', ({ detail }) => detail === 'text' && this.#claimed());
         this.#number();
         this.#buttons();
+    }
+
+    // Once it is known whether this tab has the text, or another one.
+    async begin() {
+        await this.page.claims.claim('text');
+        this.#tellClaim();
+    }
+
+    // Another tab has left the text to this one: it is kept, as this tab has it.
+    #claimed() {
+        const { store } = this.page;
+        if (this.follows) for (const it of ['text', 'source-name']) if (store.notes.has(it)) store.note(it, store.notes.get(it));
+        this.#tellClaim();
+    }
+
+    // Says whether another tab has the text, and closes what changes it.
+    #tellClaim() {
+        this.follows = !this.page.claims.has('text');
+        $('text').readOnly = $('source-name').readOnly = this.follows;
+        $('source-file').disabled = $('example').disabled = this.follows;
+        $('text-follows').textContent = this.follows ? 'Another tab has the text. Here it is only looked at, and follows that tab. It can be changed here once that tab is closed.' : '';
+        $('text-follows').hidden = !this.follows;
+    }
+
+    // Shows the text as the tab that has it sends it.
+    #followed(note) {
+        const value = this.page.store.notes.get(note) ?? '';
+        if (note === 'source-name') $('source-name').value = value;
+        if (note !== 'text' || value === $('text').value) return;
+        $('text').value = value;
+        this.#changed();
     }
 
     get #name() { return $('source-name').value.trim() || 'SOURCE'; }
 
     get tape() { return this.page.store.files.get(TAPE) ?? null; }
+
+    // Whether the text has changed since the tape was assembled of it.
+    get isOld() { return this.tape !== null && this.assembled !== $('text').value; }
+
+    // Assembles an old tape anew. Whether there is a tape of the text as it stands.
+    async renew() { return this.isOld ? await this.assemble() : this.tape !== null; }
 
     set(text) {
         $('text').value = text;
@@ -37,17 +77,36 @@ export class Source {
 
     #edited() {
         this.page.store.note('text', $('text').value);
+        this.#changed();
+    }
+
+    #changed() {
         if (this.faulty.size) {
             this.faulty.clear();
             $('faults').replaceChildren();
         }
         this.#number();
+        this.#age();
+    }
+
+    // Says of what is shown of the tape that it is old, where it is.
+    #age() {
+        const { isOld } = this;
+        if (isOld === this.wasOld) return;
+        this.wasOld = isOld;
+        for (const [id, what] of [['listing', 'Listing'], ['symbols', 'Symbols']]) {
+            $(`${id}-name`).textContent = isOld ? `${what}, old: the text was changed` : what;
+            $(id).classList.toggle('old', isOld);
+        }
+        if (isOld) tell('source-status', 'The tape is old: the text was changed. It is assembled again before it goes anywhere.');
+        this.page.store.dispatchEvent(new Event('tape'));
     }
 
     // Tab is left to those who go on by it: a tab is typed by Ctrl-I.
     #key(event) {
         if (event.ctrlKey && event.key.toLowerCase() === 'i') {
             event.preventDefault();
+            if (this.follows) return;
             $('text').setRangeText('\t', $('text').selectionStart, $('text').selectionEnd, 'end');
             this.#edited();
         }
@@ -70,16 +129,18 @@ export class Source {
     }
 
     async assemble() {
-        const { store, programs } = this.page;
+        const { store, programs } = this.page, text = $('text').value;
         for (const it of [TAPE, LISTING]) store.files.delete(it);
         tell('source-status', '');
         this.#buttons();
-        store.put(`.${SOURCE}`, new TextEncoder().encode($('text').value));
+        store.put(`.${SOURCE}`, new TextEncoder().encode(text));
         const { status, said } = await programs.ask(['assemble', `.${SOURCE}`, '--output', TAPE, '--list', LISTING, '--cross']);
+        this.assembled = text;
         this.#show(store.files.get(LISTING));
         this.#tellFaults(status === 0 ? '' : said);
         tell('source-status', status === 0 ? `assembled: a tape of ${this.tape.length} frames` : said.split('\n').find(it => it.startsWith('? ')) ?? said, status !== 0);
         this.#buttons();
+        this.#age();
         store.dispatchEvent(new Event('tape'));
         return status === 0;
     }
@@ -112,13 +173,19 @@ export class Source {
         $('text').scrollTop = Math.max(0, (line - 5) * parseFloat(getComputedStyle($('text')).lineHeight));
     }
 
+    async #tapeHome() {
+        if (await this.renew()) takeHome(`${this.#name}.bin`, this.tape);
+    }
+
     async #toCore() {
+        if (!await this.renew()) return;
         if (!await this.page.machine.load(this.tape, `the tape of ${this.#name}`)) return;
         this.page.machine.list($('listing').textContent);
         this.page.tabs.show('machine');
     }
 
-    #toTeletype() {
+    async #toTeletype() {
+        if (!await this.renew()) return;
         this.page.teletype.choose('source');
         this.page.tabs.show('teletype');
         $('tty-run').focus();
@@ -126,9 +193,10 @@ export class Source {
 
     // The text and the tape become files of the volume that is open.
     async #toVolume() {
+        if (!await this.renew()) return;
         const { files } = this.page, told = [];
         let isBad = false;
-        for (const [name, bytes, ...form] of [[`${this.#name}.PA`, $('text').value, '--text'], [`${this.#name}.BN`, this.tape]]) {
+        for (const [name, bytes, ...form] of [[`${this.#name}.PA`, this.assembled, '--text'], [`${this.#name}.BN`, this.tape]]) {
             const { status, out, said } = await files.put(name, bytes, ...form);
             told.push(textOf(out) + said);
             isBad ||= status !== 0;

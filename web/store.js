@@ -1,14 +1,23 @@
 // The page's files and notes: in memory, and in the browser's own store (IndexedDB), so that a reload finds them. Nothing leaves the page.
-const SLOTS = ['files', 'notes'];
+// Files, and the notes that tabs share, are sent to the other tabs of the page, which have them then as well.
+const SLOTS = ['files', 'notes'], SHARED = ['text', 'source-name'];
+// The notes that are a user's own work.
+const OWN = ['text', 'lines'];
 
 export class Store extends EventTarget {
     files = new Map();
     notes = new Map();
     #base = null;
     #due = new Map();
+    #failed = new Map();
+    #home = new Map();
+    #isAsked = false;
+    #tabs = new BroadcastChannel('geivottu');
 
-    static async open() {
+    static async open(claims) {
         const it = new Store();
+        it.claims = claims;
+        it.#tabs.onmessage = ({ data }) => it.#heard(data);
         try {
             it.#base = await promised(opening());
             for (const slot of SLOTS) {
@@ -19,7 +28,25 @@ export class Store extends EventTarget {
         } catch {
             it.#base = null; // a browser that keeps nothing, as in a private window
         }
+        addEventListener('pagehide', () => it.#write());
+        it.#tabs.postMessage({ asks: true });
         return it;
+    }
+
+    // What another tab tells: a file or a note as it is now, or that it asks for those that this tab has.
+    #heard({ asks, slot, key, value }) {
+        if (asks) {
+            for (const it of this.claims.names.filter(name => this.claims.has(name)))
+                if (it === 'text') SHARED.forEach(key => this.#send('notes', key, this.notes.get(key)));
+                else this.#send('files', it.slice(7), this.files.get(it.slice(7)));
+            return;
+        }
+        value === undefined ? this[slot].delete(key) : this[slot].set(key, value);
+        this.dispatchEvent(new CustomEvent(slot.slice(0, -1), { detail: key }));
+    }
+
+    #send(slot, key, value) {
+        if (!key.startsWith('.') && (slot === 'files' || SHARED.includes(key))) this.#tabs.postMessage({ slot, key, value });
     }
 
     get isKept() { return this.#base !== null; }
@@ -43,26 +70,66 @@ export class Store extends EventTarget {
     }
 
     #keep(slot, key, value) {
-        if (!this.#base || key.startsWith('.')) return;
+        this.#send(slot, key, value);
+        if (key.startsWith('.')) return;
+        if (isOwn(slot, key, value)) this.#persist();
+        if (!this.#base) {
+            this.#failed.set(`${slot} ${key}`, [slot, key]);
+            this.dispatchEvent(new Event('kept'));
+            return;
+        }
         if (!this.#due.size) this.#written = new Promise(go => setTimeout(() => this.#write().then(go), 100));
-        this.#due.set(`${slot} ${key}`, [slot, key, value]);
+        this.#due.set(`${slot} ${key}`, [slot, key]);
     }
+
+    // Asks the browser once not to remove what it keeps, when there is something.
+    #persist() {
+        if (!this.#isAsked && this.#base) navigator.storage?.persist?.().catch(() => {});
+        this.#isAsked = true;
+    }
+
+    // A user's own that the browser's store didn't take, and whether it was taken home as it is.
+    get unkept() {
+        return [...this.#failed].map(([id, [slot, key]]) => ({ slot, key, value: this[slot].get(key), isHome: this.#home.get(id) === this[slot].get(key) }))
+            .filter(({ slot, key, value }) => isOwn(slot, key, value));
+    }
+
+    isUnkept(name) { return this.#failed.has(`files ${name}`) && this.files.has(name); }
+
+    tookHome(slot, key) { this.#home.set(`${slot} ${key}`, this[slot].get(key)); }
 
     #written = Promise.resolve();
 
     // Once what was put is in the browser's store.
     settled() { return this.#written; }
 
+    // Writes what is due, and again what failed before: removals first, which may make room.
     async #write() {
-        const due = [...this.#due.values()];
+        if (!this.#base || !this.#due.size) return;
+        const due = [...new Map([...this.#failed, ...this.#due])].sort(([, [a, b]], [, [c, d]]) => this[a].has(b) - this[c].has(d));
         this.#due.clear();
-        const writing = this.#base.transaction(SLOTS, 'readwrite');
-        for (const [slot, key, value] of due)
-            if (value === undefined) writing.objectStore(slot).delete(key);
-            else writing.objectStore(slot).put(value, key);
-        await new Promise(go => { writing.oncomplete = writing.onerror = writing.onabort = go; });
+        const isBad = await Promise.all(due.map(([, [slot, key]]) => this.#hasFailed(slot, key, this[slot].get(key))));
+        due.forEach(([id, entry], k) => isBad[k] ? this.#failed.set(id, entry) : this.#failed.delete(id));
+        this.dispatchEvent(new Event('kept'));
+    }
+
+    // Writes one value, or removes it where there is none, apart from others. Whether that failed.
+    #hasFailed(slot, key, value) {
+        return new Promise(go => {
+            try {
+                const writing = this.#base.transaction(slot, 'readwrite'), all = writing.objectStore(slot);
+                writing.oncomplete = () => go(false);
+                writing.onerror = writing.onabort = () => go(true);
+                value === undefined ? all.delete(key) : all.put(value, key);
+            } catch {
+                go(true);
+            }
+        });
     }
 }
+
+// Whether a value is a user's own work.
+function isOwn(slot, key, value) { return value !== undefined && value !== '' && (slot === 'files' || OWN.includes(key)); }
 
 function opening() {
     const request = indexedDB.open('geivottu', 1);

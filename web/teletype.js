@@ -7,6 +7,7 @@ export class Teletype {
     constructor(page) {
         this.page = page;
         this.run = null;
+        this.isBegun = false;
         this.own = null;
         this.paper = new Paper($('paper'), { shown: count => this.run?.show(count), kept: text => page.store.note('paper', text) });
         this.paper.restore(page.store.notes.get('paper') ?? '');
@@ -33,7 +34,7 @@ export class Teletype {
     #list() {
         const chosen = $('tape').value, { files, source } = this.page;
         const rows = [made('option', { value: '' }, 'choose a tape')];
-        if (source?.tape) rows.push(made('option', { value: 'source' }, 'the source\'s'));
+        if (source?.tape) rows.push(made('option', { value: 'source' }, source.isOld ? 'the source\'s, old' : 'the source\'s'));
         if (this.own) rows.push(made('option', { value: 'own' }, this.own));
         const own = (files?.entries ?? []).map(it => it.name).sort();
         if (own.length) rows.push(made('optgroup', { label: files.name }, ...own.map(it => made('option', { value: `file ${it}` }, it))));
@@ -69,7 +70,11 @@ export class Teletype {
 
     async begin() {
         if (!$('tape').value) return tell('tty-status', 'Which tape?', true);
-        this.stop();
+        if (this.isBegun) return;
+        this.isBegun = true;
+        this.#buttons();
+        if ($('tape').value === 'source' && !await this.page.source.renew())
+            return this.#ended(1, `The source has no tape: ${$('source-status').textContent}`);
         const words = this.#words();
         if (!canLive) words.splice(1, 1);
         let said = '';
@@ -95,6 +100,7 @@ export class Teletype {
 
     #ended(status, said) {
         this.run = null;
+        this.isBegun = false;
         tell('tty-status', said || (status === null ? 'stopped' : `status ${status}`), status !== 0 && status !== null);
         this.#buttons();
     }
@@ -105,7 +111,10 @@ export class Teletype {
         this.run.stop();
     }
 
-    #buttons() { $('tty-stop').disabled = this.run === null; }
+    #buttons() {
+        $('tty-run').disabled = this.isBegun;
+        $('tty-stop').disabled = this.run === null;
+    }
 
     // Strikes the keys of a text, in the order in which they were typed.
     strike(text) {

@@ -35,6 +35,8 @@ export class Browser {
     #session = null;
     asked = [];
     errors = [];
+    dialogs = [];
+    accepts = true;
 
     static async open(...words) {
         const it = new Browser();
@@ -55,7 +57,16 @@ export class Browser {
         const { targetId } = targetInfos.find(({ type }) => type === 'page');
         ({ sessionId: it.session } = await it.call('Target.attachToTarget', { targetId, flatten: true }));
         await it.call('Browser.setDownloadBehavior', { behavior: 'allow', downloadPath: it.downloads });
-        for (const domain of ['Page', 'Runtime', 'Network', 'DOM']) await it.call(`${domain}.enable`, {}, true);
+        for (const domain of ['Page', 'Runtime', 'Network', 'DOM']) await it.call(`${domain}.enable`);
+        return it;
+    }
+
+    // A further tab of the browser, in a window of its own.
+    async tab() {
+        const { targetId } = await this.call('Target.createTarget', { url: 'about:blank', newWindow: true });
+        const { sessionId } = await this.call('Target.attachToTarget', { targetId, flatten: true });
+        const it = new Tab(this, targetId, sessionId);
+        for (const domain of ['Page', 'Runtime', 'Network', 'DOM']) await it.call(`${domain}.enable`);
         return it;
     }
 
@@ -69,12 +80,15 @@ export class Browser {
         }
         if (message.method === 'Network.requestWillBeSent') this.asked.push(message.params.request.url);
         if (message.method === 'Runtime.exceptionThrown') this.errors.push(message.params.exceptionDetails.exception?.description ?? message.params.exceptionDetails.text);
-        if (message.method === 'Page.javascriptDialogOpening') this.call('Page.handleJavaScriptDialog', { accept: true }, true);
+        if (message.method === 'Page.javascriptDialogOpening') {
+            this.dialogs.push(message.params.type);
+            this.call('Page.handleJavaScriptDialog', { accept: this.accepts }, message.sessionId);
+        }
     }
 
-    call(method, params = {}, isOfPage = this.#session !== null && !/^(Target|Browser)\./.test(method)) {
+    call(method, params = {}, session = /^(Target|Browser)\./.test(method) ? null : this.#session) {
         const id = ++this.#last;
-        this.process.stdio[3].write(`${JSON.stringify({ id, method, params, ...(isOfPage ? { sessionId: this.#session } : {}) })}\0`);
+        this.process.stdio[3].write(`${JSON.stringify({ id, method, params, ...(session ? { sessionId: session } : {}) })}\0`);
         return new Promise((go, fail) => this.#waiting.set(id, { go, fail }));
     }
 
@@ -195,5 +209,24 @@ export class Browser {
         this.process.kill('SIGKILL');
         await ended;
         for (const it of [this.folder, this.downloads]) rmSync(it, { recursive: true, force: true, maxRetries: 5 });
+    }
+}
+
+// A further tab: what it has of its own is its session.
+class Tab extends Browser {
+    constructor(browser, target, session) {
+        super();
+        Object.assign(this, { browser, target, own: session, downloads: browser.downloads });
+    }
+
+    call(method, params = {}, session = /^(Target|Browser)\./.test(method) ? null : this.own) { return this.browser.call(method, params, session); }
+
+    async end() {
+        await this.call('Target.closeTarget', { targetId: this.target });
+        for (;;) {
+            const { targetInfos } = await this.call('Target.getTargets');
+            if (!targetInfos.some(it => it.targetId === this.target)) return;
+            await pause(20);
+        }
     }
 }

@@ -471,7 +471,10 @@ test('all is done by keys alone', async page => {
     }
     for (const id of ['image', 'new-name', 'new-blocks', 'create']) holds(passed.includes(id), `Tab does not come to ${id}: ${passed}`);
     await page.key('Enter');
+    await page.until(`document.getElementById('question').open`);
+    await page.key('Enter');
     await isTold(page, 'files-status', 'CREATED 20');
+    same('DISK-2', await page.look(`document.getElementById('volume').value`), 'the volume');
 });
 
 test('each control has a name for who can\'t see it', async page => {

@@ -1,0 +1,32 @@
+// What the browser's store doesn't take, since it is full or refuses: told at once, marked, offered to be taken home, and asked about before
+// the page is left.
+import { $, takeHome } from './dom.js';
+import { bytesOf } from './program.js';
+
+const WORDS = { text: 'the text of Source', lines: 'the text of Script' };
+
+export class Unkept {
+    constructor(page) {
+        this.page = page;
+        page.store.addEventListener('kept', () => this.#tell());
+        $('unkept-home').addEventListener('click', () => this.#home());
+        addEventListener('beforeunload', event => { if (page.store.unkept.some(it => !it.isHome)) event.preventDefault(); });
+        this.#tell();
+    }
+
+    #tell() {
+        const { unkept } = this.page.store, names = unkept.map(({ slot, key }) => slot === 'files' ? key : WORDS[key]).join(', ');
+        $('unkept').hidden = unkept.length === 0;
+        const words = names && `This browser can't keep what you changed: its store is full, or refuses. Not kept: ${names}. Take it home before you leave the page.`;
+        if ($('unkept-words').textContent !== words) $('unkept-words').textContent = words;
+    }
+
+    #home() {
+        const { store } = this.page;
+        for (const { slot, key, value } of store.unkept) {
+            const name = { text: `${$('source-name').value.trim() || 'SOURCE'}.pa`, lines: 'SCRIPT.txt' }[slot === 'notes' ? key : ''] ?? key;
+            takeHome(name, bytesOf(value));
+            store.tookHome(slot, key);
+        }
+    }
+}
