@@ -69,8 +69,8 @@ const tests = {
         same('Listing', await page.text('listing-name'), 'the name of the listing');
         writeFileSync(file('it.pa'), TWO);
         native(['assemble', 'it.pa', '--output', 'it.bin']);
-        native(['put', 'DISK', 'IT.PA', '--text'], TWO);
-        native(['put', 'DISK', 'IT.BN'], readFileSync(file('it.bin')));
+        native(['put', 'DISK', '-', '--as', 'IT.PA', '--text'], TWO);
+        native(['put', 'DISK', '-', '--as', 'IT.BN'], readFileSync(file('it.bin')));
         await pane(page, 'files');
         same(readFileSync(file('DISK')), (await page.home('#take-image')).bytes, 'the image');
     },
@@ -146,7 +146,7 @@ Object.assign(tests, {
         await page.until(`document.getElementById('follows').hidden`);
         await put(page, 'text', 'three.tx');
         await isTold(page, 'files-status', 'STORED THREE.TX');
-        for (const it of ['one', 'two', 'three']) native(['put', 'DISK', `${it.toUpperCase()}.TX`, '--text'], readFileSync(file(`${it}.tx`)));
+        for (const it of ['one', 'two', 'three']) native(['put', 'DISK', '-', '--as', `${it.toUpperCase()}.TX`, '--text'], readFileSync(file(`${it}.tx`)));
         same(readFileSync(file('DISK')), (await page.home('#take-image')).bytes, 'the image');
         await page.look('geivottu.store.settled()');
         await page.go(`${url}?again`);
@@ -208,7 +208,7 @@ Object.assign(tests, {
         await page.call('Page.navigate', { url: `${url}?away` });
         same('beforeunload', page.dialogs.splice(0).join(), 'what asked');
         page.accepts = true;
-        native(['put', 'DISK', 'NOISE.DA'], readFileSync(file('noise.da')));
+        native(['put', 'DISK', '-', '--as', 'NOISE.DA'], readFileSync(file('noise.da')));
         same(readFileSync(file('DISK')), (await page.home('#unkept-home')).bytes, 'the image');
         await page.go(`${url}?away`);
         same('', page.dialogs.join(), 'what asked after it was taken home');
@@ -264,7 +264,7 @@ Object.assign(tests, {
         writeFileSync(file('one.tx'), 'the first\n');
         await put(page, 'text', 'one.tx');
         await isTold(page, 'files-status', 'STORED ONE.TX');
-        native(['put', 'DISK', 'ONE.TX', '--text'], 'the first\n');
+        native(['put', 'DISK', '-', '--as', 'ONE.TX', '--text'], 'the first\n');
         writeFileSync(file('one.tx'), 'the second\n');
         for (const tabs of [undefined, 0]) {
             await put(page, 'text', 'one.tx');
@@ -276,7 +276,7 @@ Object.assign(tests, {
         await put(page, 'text', 'one.tx');
         await answer(page, 'DISK has a file ONE.TX', 1);
         await isTold(page, 'files-status', 'STORED ONE.TX');
-        native(['put', 'DISK', 'ONE.TX', '--text'], 'the second\n');
+        native(['put', 'DISK', '-', '--as', 'ONE.TX', '--text'], 'the second\n');
         same(readFileSync(file('DISK')), await image(page), 'the image that is written over');
     },
     'before the text goes over a file of the volume the user is asked': async (page, url) => {
@@ -302,7 +302,7 @@ Object.assign(tests, {
         const volumes = `[...document.getElementById('volume').options].slice(1).map(it => it.value).join()`;
         await page.go(url);
         await create(page, 'DISK');
-        native(['put', 'DISK', 'ONE.TX', '--text'], 'the first\n');
+        native(['put', 'DISK', '-', '--as', 'ONE.TX', '--text'], 'the first\n');
         const old = readFileSync(file('DISK'));
         await page.give('#image', file('DISK'));
         await answer(page, 'There is a volume DISK', 1);
