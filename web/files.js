@@ -47,7 +47,8 @@ export class Files {
     #tellClaim() {
         const { name } = this;
         this.follows = name !== '' && !this.page.claims.has(`volume ${name}`) ? name : null;
-        $('follows').textContent = this.follows ? `Another tab has ${name}. Here it is only looked at, and follows that tab. It can be changed here once that tab is closed, or opens another.` : '';
+        $('follows').textContent = this.follows ? `Another tab has ${name}. Here it is only looked at, and follows that tab. It can be changed here `
+            + 'once that tab is closed, or opens another.' : '';
         $('follows').hidden = !this.follows;
     }
 

@@ -47,7 +47,8 @@ export class Source {
         this.follows = !this.page.claims.has('text');
         $('text').readOnly = $('source-name').readOnly = this.follows;
         $('source-file').disabled = $('example').disabled = this.follows;
-        $('text-follows').textContent = this.follows ? 'Another tab has the text. Here it is only looked at, and follows that tab. It can be changed here once that tab is closed.' : '';
+        $('text-follows').textContent = this.follows ? 'Another tab has the text. Here it is only looked at, and follows that tab. It can be '
+            + 'changed here once that tab is closed.' : '';
         $('text-follows').hidden = !this.follows;
     }
 

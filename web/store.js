@@ -90,7 +90,8 @@ export class Store extends EventTarget {
 
     // A user's own that the browser's store didn't take, and whether it was taken home as it is.
     get unkept() {
-        return [...this.#failed].map(([id, [slot, key]]) => ({ slot, key, value: this[slot].get(key), isHome: this.#home.get(id) === this[slot].get(key) }))
+        return [...this.#failed].map(([id, [slot, key]]) => ({ id, slot, key, value: this[slot].get(key) }))
+            .map(it => ({ ...it, isHome: this.#home.get(it.id) === it.value }))
             .filter(({ slot, key, value }) => isOwn(slot, key, value));
     }
 
@@ -121,6 +122,7 @@ export class Store extends EventTarget {
                 writing.oncomplete = () => go(false);
                 writing.onerror = writing.onabort = () => go(true);
                 value === undefined ? all.delete(key) : all.put(value, key);
+                writing.commit?.();
             } catch {
                 go(true);
             }

@@ -1,5 +1,5 @@
-// losses.mjs PROGRAM FOLDER: what a user could lose in the page, in headless Chromium, each test with a profile of its own. What comes out is
-// compared with the native program PROGRAM. The last line is 'N passed, M failed'.
+// losses.mjs PROGRAM FOLDER [PART]: what a user could lose in the page, in headless Chromium, each test with a profile of its own. What comes
+// out is compared with the native program PROGRAM. PART takes the tests whose names have it. The last line is 'N passed, M failed'.
 import { spawnSync } from 'node:child_process';
 import { randomBytes } from 'node:crypto';
 import { mkdtempSync, readFileSync, rmSync, writeFileSync } from 'node:fs';
@@ -72,7 +72,7 @@ const tests = {
         native(['put', 'DISK', '-', '--as', 'IT.PA', '--text'], TWO);
         native(['put', 'DISK', '-', '--as', 'IT.BN'], readFileSync(file('it.bin')));
         await pane(page, 'files');
-        same(readFileSync(file('DISK')), (await page.home('#take-image')).bytes, 'the image');
+        same(readFileSync(file('DISK')), await image(page), 'the image');
     },
     'an old tape is assembled again before it goes to core, home and to the Teletype': async (page, url) => {
         await page.go(url);
@@ -115,6 +115,8 @@ const tests = {
     },
 };
 
+const image = async page => (await page.home('#take-image')).bytes;
+
 // A further tab with the page.
 async function further(page, url) {
     const it = await page.tab();
@@ -147,11 +149,11 @@ Object.assign(tests, {
         await put(page, 'text', 'three.tx');
         await isTold(page, 'files-status', 'STORED THREE.TX');
         for (const it of ['one', 'two', 'three']) native(['put', 'DISK', '-', '--as', `${it.toUpperCase()}.TX`, '--text'], readFileSync(file(`${it}.tx`)));
-        same(readFileSync(file('DISK')), (await page.home('#take-image')).bytes, 'the image');
+        same(readFileSync(file('DISK')), await image(page), 'the image');
         await page.look('geivottu.store.settled()');
         await page.go(`${url}?again`);
         await page.until(`document.querySelectorAll('#directory tbody tr').length === 3`);
-        same(readFileSync(file('DISK')), (await page.home('#take-image')).bytes, 'the image after a reload');
+        same(readFileSync(file('DISK')), await image(page), 'the image after a reload');
     },
     'a tab that opens another volume leaves the first to the other tab': async (page, url) => {
         const first = await further(page, url);
@@ -190,41 +192,47 @@ Object.assign(tests, {
 
 // Has the browser's store take so many bytes of the page, or as many as it would.
 const room = (page, url, ...bytes) => page.call('Storage.overrideQuotaForOrigin', { origin: new URL(url).origin, ...(bytes.length ? { quotaSize: bytes[0] } : {}) });
+
+// A volume that the browser's store takes as it is new, but not with a file of noise. The room is set before the page is there, since
+// the browser looks at it anew only where it doesn't suffice.
+async function overfill(page, url) {
+    await room(page, url, 100000);
+    await page.go(url);
+    await create(page, 'DISK', 900);
+    await page.look('geivottu.store.settled()');
+    holds(await page.look(`document.getElementById('unkept').hidden`), 'told before');
+    writeFileSync(file('noise.da'), randomBytes(200000));
+    await put(page, 'frames', 'noise.da');
+    await isTold(page, 'unkept', 'Not kept: DISK.');
+    native(['put', 'DISK', '-', '--as', 'NOISE.DA'], readFileSync(file('noise.da')));
+}
+
 const run = (page, source) => page.call('Page.addScriptToEvaluateOnNewDocument', { source });
 
 Object.assign(tests, {
     'a full store is told at once, and what isn\'t kept is marked and taken home': async (page, url) => {
-        await room(page, url, 100000);
-        await page.go(url);
-        await create(page, 'DISK', 900);
-        await page.look('geivottu.store.settled()');
-        holds(await page.look(`document.getElementById('unkept').hidden`), 'told before');
-        writeFileSync(file('noise.da'), randomBytes(200000));
-        await put(page, 'frames', 'noise.da');
-        await isTold(page, 'unkept', 'Not kept: DISK.');
+        await overfill(page, url);
         await isTold(page, 'volume-name', 'DISK, not kept');
         same('none is open,DISK, not kept', (await page.look(optionsOf('volume'))).join(), 'the list');
         page.accepts = false;
         await page.call('Page.navigate', { url: `${url}?away` });
         same('beforeunload', page.dialogs.splice(0).join(), 'what asked');
         page.accepts = true;
-        native(['put', 'DISK', '-', '--as', 'NOISE.DA'], readFileSync(file('noise.da')));
         same(readFileSync(file('DISK')), (await page.home('#unkept-home')).bytes, 'the image');
         await page.go(`${url}?away`);
         same('', page.dialogs.join(), 'what asked after it was taken home');
     },
     'what was not kept is kept once there is room': async (page, url) => {
-        await page.go(url);
-        await room(page, url, 1);
-        await create(page, 'DISK');
-        await isTold(page, 'unkept', 'Not kept: DISK.');
+        await overfill(page, url);
         await room(page, url);
         await setSource(page, ONE);
+        await page.look('geivottu.store.settled()');
         await page.until(`document.getElementById('unkept').hidden`);
         await page.go(`${url}?again`);
         same('', page.dialogs.join(), 'what asked');
         same(ONE, await page.look(`document.getElementById('text').value`), 'the text');
-        same('DISK', await page.look(`document.getElementById('volume').value`), 'the volume');
+        await pane(page, 'files');
+        same(readFileSync(file('DISK')), await image(page), 'the image');
     },
     'a store that refuses is told at once': async (page, url) => {
         await run(page, `IDBFactory.prototype.open = () => { throw new DOMException('refused', 'SecurityError'); };`);
@@ -254,8 +262,6 @@ async function answer(page, words, tabs) {
     for (let k = 0; k < tabs; k++) await page.key('Tab');
     await page.key(tabs === undefined ? 'Escape' : 'Enter');
 }
-
-const image = async page => (await page.home('#take-image')).bytes;
 
 Object.assign(tests, {
     'before a file of that name is written over the user is asked': async (page, url) => {
