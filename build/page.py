@@ -13,7 +13,7 @@ sys.dont_write_bytecode = True
 from crates import TOP, kit, toolchain
 from proved import MADE, PROGRAM, Wanted
 from unproved import Build, ready
-from working import toolchain_with
+from working import Progress, lock, toolchain_with
 
 # A call of it is `.. -c -x ir module.bc -o module.o ..`: the object, which nothing would use, stays empty.
 STAND_IN = """#!/bin/sh
@@ -130,6 +130,8 @@ def main(words):
         print("page: the program is not proved as its sources stand; ./prove proves it", file=sys.stderr)
         return 70
     page = Page(wanted, library)
+    os.makedirs(f"{TOP}/target/wasm", exist_ok=True)
+    lock(f"{TOP}/target/wasm", Progress(), "another call makes the page: this one waits for it")
     if not page.is_current():
         what = "proved" if library else "unproved"
         print(f"page: compiling the {what} program for WebAssembly; this takes two minutes or so, once", file=sys.stderr, flush=True)
