@@ -1,5 +1,5 @@
-"""The crates that crates.txt lists, and the words with which the prover is called for one of them."""
-import os, shutil
+"""The crates that crates.txt lists, what a proof of one rests on, and the words with which the prover is called for it."""
+import hashlib, os, shutil
 
 TOP = os.path.dirname(os.path.dirname(os.path.abspath(__file__)))
 PARTS = ("src", "specs", "proofs")
@@ -9,7 +9,7 @@ class Crates:
     """The repository's crates, lowest first, with what each stands on: others of them, and libraries of the toolchain."""
 
     def __init__(self, top=TOP):
-        self.top, self.lines = top, {}
+        self.top, self.lines, self.sums = top, {}, {}
         for line in open(f"{top}/crates.txt", encoding="utf-8"):
             head, colon, _ = line.split("#")[0].partition(":")
             if colon:
@@ -31,6 +31,18 @@ class Crates:
         """The files of a crate: all that a proof of it reads, or those of some of its folders."""
         folders = [f"{self.top}/crates/{name}/{part}" for part in parts]
         return sorted(f"{at}/{file}" for folder in folders for at, _, files in os.walk(folder) for file in files)
+
+    def sum(self, name):
+        """The sum of all that a crate's proof rests on: the toolchain, its files, and the sums of the crates below it."""
+        if name not in self.sums:
+            whole = hashlib.sha256(open(f"{toolchain()}/KIT-ID", "rb").read())
+            for part in (name, *self.of_toolchain[name], *(self.sum(it) for it in self.own[name])):
+                whole.update(f"{part}\n".encode())
+            for path in self.files(name):
+                text = open(path, "rb").read()
+                whole.update(f"{os.path.relpath(path, self.top)} {len(text)}\n".encode() + text)
+            self.sums[name] = whole.hexdigest()
+        return self.sums[name]
 
     def words(self, name, library):
         """The prover's words for a crate, in whose folder it is called. `library` tells where one of those below it is built."""

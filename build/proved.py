@@ -35,19 +35,7 @@ class Wanted:
     def __init__(self):
         self.all = Crates()
         self.names = [*self.all.below(PROGRAM), PROGRAM]
-        self.sums = {}
-        for name in self.names:
-            self.sums[name] = self.sum_of(name)
-
-    def sum_of(self, name):
-        """The sum of all that a crate's proof rests on: the toolchain, its files, and the sums of the crates below it."""
-        whole = hashlib.sha256(open(f"{toolchain()}/KIT-ID", "rb").read() if toolchain() else b"")
-        for part in (name, *self.all.of_toolchain[name], *(self.sums[it] for it in self.all.own[name])):
-            whole.update(f"{part}\n".encode())
-        for path in self.all.files(name):
-            text = open(path, "rb").read()
-            whole.update(f"{os.path.relpath(path, TOP)} {len(text)}\n".encode() + text)
-        return whole.hexdigest()
+        self.sums = {name: self.all.sum(name) for name in self.names}
 
     def kept(self, name):
         return f"{TOP}/crates/{name}/out/program"
