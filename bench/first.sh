@@ -17,12 +17,17 @@ for clone in one two; do
     git -C "$room/$clone" checkout -q "$commit"
 done
 
+# Runs a command in a clone.
+work() {
+    (cd "$room/$1" && exec taskset -c "0-$((processors - 1))" "${@:2}") <"$top/examples/add-one.bin" >"$room/said" 2>&1
+}
+
 # Runs a command in a clone, and notes its name, its wall seconds and its processor seconds.
 measure() {
     local name=$1 clone=$2 TIMEFORMAT='%R %U %S'
     shift 2
     echo "first.sh: $name" >&2
-    { time (cd "$room/$clone" && taskset -c "0-$((processors - 1))" "$@") <"$top/examples/add-one.bin" >"$room/said" 2>&1; } 2>"$room/time" ||
+    { time work "$clone" "$@"; } 2>"$room/time" ||
         { tail -n 20 "$room/said" >&2; echo "first.sh: $name failed" >&2; exit 1; }
     awk -v name="$name" '{ printf "%s|%.1f|%.1f\n", name, $1, $2 + $3 }' "$room/time" >>"$room/figures"
 }
