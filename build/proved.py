@@ -153,7 +153,7 @@ def status(wanted):
 
 def prove_program(wanted):
     """Proves what is not proved yet and builds the program. The exit status."""
-    progress, group = Progress(), None
+    progress = Progress()
     lock(f"{TOP}/build", progress, "another run proves the program: this one waits for it")
     if wanted.is_proved(PROGRAM):
         os.utime(MADE)  # a source may be newer, though it is what was proved
