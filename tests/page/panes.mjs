@@ -1,7 +1,7 @@
 // panes.mjs PROGRAM FOLDER [--pictures]: works each pane of the page in headless Chromium by its controls, as a user does, and compares
 // what comes out with the native program PROGRAM, byte for byte. --pictures writes docs/pictures/. The last line is 'N passed, M failed'.
 import { spawnSync } from 'node:child_process';
-import { copyFileSync, mkdirSync, mkdtempSync, readFileSync, rmSync, truncateSync, writeFileSync } from 'node:fs';
+import { copyFileSync, linkSync, mkdirSync, mkdtempSync, readFileSync, rmSync, truncateSync, writeFileSync } from 'node:fs';
 import { tmpdir } from 'node:os';
 import { dirname, join, resolve } from 'node:path';
 import { fileURLToPath } from 'node:url';
@@ -152,7 +152,7 @@ test('a file of 2 GB is refused, and the page stays live', async page => {
     await isTold(page, 'files-status', 'huge.img: ? HOST READ');
     await page.choose('#volume', 'DISK');
     await page.until(`document.querySelectorAll('#directory tbody tr').length === 3`);
-    copyFileSync(file('huge.img'), file('huge.da'));
+    linkSync(file('huge.img'), file('huge.da'));
     await page.choose('#put-as', 'frames');
     await page.give('#put', file('huge.da'));
     await isTold(page, 'files-status', '? 8 READER');
@@ -432,9 +432,9 @@ test('a session answers line by line, holds the image, and tells the form of a b
 });
 
 test('a script is stopped in the midst, and the image is as it was', async page => {
-    await page.look(`document.getElementById('lines').value = 'STORE GONE 1\\nX\\nDEPOSIT 00200 5200\\n' + 'RUN 00200 1000000\\n'.repeat(20000)`);
+    await page.look(`document.getElementById('lines').value = 'STORE GONE 1\\nX\\nDEPOSIT 00200 5200\\n' + 'RUN 00200 50000\\n'.repeat(20000)`);
     await page.click('#script-run');
-    await isTold(page, 'replies', 'STEPS 1000000 LIMIT 00200');
+    await isTold(page, 'replies', 'STEPS 50000 LIMIT 00200');
     await page.click('#script-stop');
     await isTold(page, 'script-status', 'stopped');
     await pane(page, 'files');
