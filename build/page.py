@@ -30,6 +30,7 @@ WASM = ["--target=wasm64-unknown-unknown", "--no-default-config", "-mcpu=lime1",
 OF_MODULE = ["-Wno-override-module", "-c", "-x", "ir"]
 LINK = ["-mwasm64", "--no-entry", "--gc-sections", "--strip-all", "--allow-undefined", "-z", "stack-size=4194304", "--stack-first", "--export=main"]
 MARK = "<!-- which program this is -->"
+FILES = "/* the files of the page */"
 UNPROVED = "built with checks of sources that were not proved here, and compiled for WebAssembly. A failed check ends a run and says so."
 
 
@@ -97,7 +98,7 @@ class Page:
     def lay(self, folder):
         """Lays all files of the page into a folder."""
         os.makedirs(f"{folder}/examples", exist_ok=True)
-        for path in glob.glob(f"{TOP}/web/*.css") + glob.glob(f"{TOP}/web/*.js"):
+        for path in [it for kind in ("css", "js", "svg", "webmanifest") for it in glob.glob(f"{TOP}/web/*.{kind}")]:
             shutil.copy(path, folder)
         text = open(f"{TOP}/web/index.html", encoding="utf-8").read()
         which = f"proved with {kit()} and then compiled for WebAssembly." if self.library else UNPROVED
@@ -106,6 +107,15 @@ class Page:
         for path in glob.glob(f"{TOP}/examples/*"):
             shutil.copy(path, f"{folder}/examples")
         shutil.copy(self.made, folder)
+        self.list_files(folder)
+
+    def list_files(self, folder):
+        """Writes into sw.js which files the page has, which is what it keeps for a time without a network."""
+        files = sorted(os.path.relpath(it, folder) for it in glob.glob(f"{folder}/**", recursive=True) if os.path.isfile(it))
+        with open(f"{folder}/sw.js", encoding="utf-8") as script:
+            text = script.read()
+        with open(f"{folder}/sw.js", "w", encoding="utf-8") as script:
+            script.write(text.replace(FILES, ", ".join(f"'{it}'" for it in ["./", *files] if it != "sw.js")))
 
 
 def library_of(wanted):

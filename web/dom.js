@@ -43,3 +43,29 @@ export function follow(it, text) {
     it.append(text);
     if (isAtEnd) it.scrollTop = it.scrollHeight;
 }
+
+// Buttons of which one is a stop of Tab, and arrows go among them: left and right to the next, up and down to the next row of a table.
+export function rove(box) {
+    const all = () => [...box.querySelectorAll('button:not(:disabled)')];
+    const stop = it => all().forEach(one => { one.tabIndex = one === it ? 0 : -1; });
+    const settle = () => { if (all().filter(it => it.tabIndex === 0).length !== 1) stop(all()[0]); };
+    box.addEventListener('focusin', ({ target }) => target.matches('button') && stop(target));
+    box.addEventListener('keydown', event => {
+        const own = event.target.closest('button');
+        if (!own) return;
+        const to = { ArrowRight: () => next(all(), own, 1), ArrowLeft: () => next(all(), own, -1), ArrowDown: () => below(own, 'nextElementSibling'),
+            ArrowUp: () => below(own, 'previousElementSibling'), Home: () => all()[0], End: () => all().at(-1) }[event.key]?.();
+        if (!to) return;
+        event.preventDefault();
+        to.focus();
+    });
+    new MutationObserver(settle).observe(box, { childList: true, subtree: true, attributes: true, attributeFilter: ['disabled'] });
+    settle();
+}
+
+function next(all, own, by) { return all[all.indexOf(own) + by]; }
+
+function below(own, way) {
+    const row = own.closest('tr'), column = row && [...row.querySelectorAll('button')].indexOf(own);
+    return row?.[way]?.querySelectorAll('button')[column];
+}

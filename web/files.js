@@ -1,5 +1,5 @@
 // The Files pane: each thing that it shows is a reply of `check`, `get`, `tape` or `source`, and each change `create`, `put` or a script.
-import { $, made, tell, takeHome, bytesOfFile, keepInput } from './dom.js';
+import { $, made, tell, takeHome, bytesOfFile, keepInput, rove } from './dom.js';
 import { ask } from './ask.js';
 import { textOf } from './program.js';
 
@@ -9,6 +9,7 @@ export class Files {
     constructor(page) {
         this.page = page;
         this.shown = null;
+        this.used = new Set();
         keepInput(page.store, 'new-name');
         keepInput(page.store, 'new-blocks');
         $('image').addEventListener('change', event => this.#opened(event.target));
@@ -16,7 +17,13 @@ export class Files {
         $('volume').addEventListener('change', event => this.open(event.target.value));
         $('take-image').addEventListener('click', () => takeHome(this.name, page.store.files.get(this.name)));
         $('drop-image').addEventListener('click', () => this.#remove());
-        $('squeeze').addEventListener('click', () => this.#change('SQUEEZE', 'FINISH'));
+        $('squeeze').addEventListener('click', () => this.#change('the squeeze', 'SQUEEZE', 'FINISH'));
+        $('undo').addEventListener('click', () => this.#undo(false));
+        $('redo').addEventListener('click', () => this.#undo(true));
+        page.undo.addEventListener('change', () => this.#undoable());
+        for (const id of ['changes', 'volume-keys', 'begin']) rove($(id));
+        rove($('directory').tBodies[0]);
+        $('files').addEventListener('keydown', event => this.#key(event));
         $('put').addEventListener('change', event => this.#put(event.target));
         $('blocks').addEventListener('mousemove', event => this.#point(event));
         $('blocks').addEventListener('mouseleave', () => { $('block-told').textContent = ''; });
@@ -29,11 +36,57 @@ export class Files {
         page.claims.addEventListener('claim', ({ detail }) => this.#claimed(detail));
     }
 
+    // Says what Undo and Do again would do.
+    #undoable() {
+        const { undo } = this.page;
+        for (const [id, words, text] of [['undo', undo.next, 'Undo'], ['redo', undo.again, 'Do again']]) {
+            $(id).disabled = words === null;
+            $(id).title = words ?? '';
+            $(id).textContent = words === null ? text : `${text}: ${words}`;
+        }
+    }
+
+    // Ctrl-Z and Ctrl-Y, where no text is typed.
+    #key(event) {
+        const key = event.key.toLowerCase(), isAgain = key === 'y' || (key === 'z' && event.shiftKey);
+        if (!(event.ctrlKey || event.metaKey) || !(key === 'z' || key === 'y') || event.target.matches('input, textarea')) return;
+        event.preventDefault();
+        this.#undo(isAgain);
+    }
+
+    // Undoes the newest change, or does it again, and shows the volume of it.
+    async #undo(isAgain) {
+        const { undo, claims, source } = this.page, next = undo.step(isAgain);
+        if (!next) return;
+        let busy = null;
+        const mayChange = async ({ slot, key }) => {
+            if (slot === 'notes') return !source.follows;
+            busy = claims.has(`volume ${key}`) ? await this.#busy(key) : '? HOST BUSY';
+            return busy === null;
+        };
+        const go = () => undo.go(isAgain, mayChange), step = next.slot === 'files' ? await this.#use(next.key, go) : await go();
+        if (!step) return busy && tell('files-status', busy, true);
+        if (step.slot === 'files') await this.open(this.page.store.files.has(step.key) ? step.key : this.volumes[0] ?? '');
+        const words = `${isAgain ? 'Done again' : 'Undone'}: ${step.words}.`;
+        tell('files-status', step.isDone ? words : `${step.words} can't be undone: something else was changed since.`, !step.isDone);
+    }
+
     // Leaves to other tabs the volumes that this one doesn't use.
     #leave() {
-        const { claims, programs } = this.page;
-        for (const it of claims.names.filter(it => it.startsWith('volume ')))
-            if (it.slice(7) !== this.name && !programs.isBusy(it.slice(7))) claims.leave(it);
+        const { claims, programs } = this.page, isUsed = it => it === this.name || this.used.has(it) || programs.isBusy(it);
+        for (const it of claims.names.filter(it => it.startsWith('volume '))) if (!isUsed(it.slice(7))) claims.leave(it);
+    }
+
+    // Works with a volume that isn't open, which no other tab gets meanwhile.
+    async #use(name, work) {
+        this.used.add(name);
+        await this.page.claims.claim(`volume ${name}`);
+        try {
+            return await work();
+        } finally {
+            this.used.delete(name);
+            this.#leave();
+        }
     }
 
     // Another tab has left a volume to this one: its image, as this tab has it, is kept.
@@ -80,16 +133,36 @@ export class Files {
         document.addEventListener('drop', event => {
             event.preventDefault();
             zone.classList.remove('over');
-            const file = event.dataTransfer.files[0];
-            if (file && this.page.tabs) this.page.tabs.show('files');
-            if (file) this.take(file);
+            this.drop([...event.dataTransfer.files]);
         });
     }
 
+    // Does with files of the host what they are: an image opens, a tape goes to the volume that is open or else to the Teletype, and any
+    // other is a text for Source, or for the volume.
+    async drop(files) {
+        for (const file of files) {
+            const bytes = await bytesOfFile(file), kind = await this.#kind(bytes);
+            if (kind === 'image') await this.take(file);
+            else if (this.name !== '' && !$('files').hidden) await this.#putFiles([file]);
+            else if (kind === 'tape') this.page.teletype.take(file.name, bytes);
+            else if (await this.page.source.take(file.name, textOf(bytes))) this.page.tabs.show('source');
+        }
+    }
+
+    // What bytes are, as the program says: an image of a volume, the tape of a program, or neither.
+    async #kind(bytes) {
+        const { programs, store } = this.page;
+        store.put('.asked', bytes);
+        const { status, out } = await programs.ask(['check', '.asked']);
+        store.remove('.asked');
+        if (status === 0 || textOf(out).startsWith('? DIRECTORY') || bytes.length > 16777216) return 'image';
+        return bytes.length && (await programs.ask(['tape'], bytes)).status === 0 ? 'tape' : 'text';
+    }
+
     async #opened(input) {
-        const file = input.files[0];
-        if (file) await this.take(file);
+        const [file] = input.files;
         input.value = '';
+        if (file) await this.take(file);
     }
 
     // Takes a file of the host as an image into the page. One that `check` refuses and that can't be an image of a volume is not kept.
@@ -125,29 +198,42 @@ export class Files {
             const busy = await this.#busy(name);
             if (busy) return tell('files-status', `${name}: ${busy}`, true);
         }
+        this.page.undo.begin(name, `the new volume ${name}`);
         this.page.store.put(name, bytes);
+        this.page.undo.end(name);
         return true;
     }
 
     // The program's line where a run or another tab holds a volume, else null.
     async #busy(name) {
+        if (!this.page.store.files.has(name)) return null;
         const { out, said } = await this.page.programs.ask(['run', name], '');
         return /[?] HOST BUSY.*/.exec(textOf(out) + said)?.[0] ?? null;
     }
 
     async create() {
-        const { programs, store } = this.page, blocks = $('new-blocks').value.trim(), wanted = $('new-name').value;
+        const image = await this.blank($('new-blocks').value.trim());
+        if (image) await this.add($('new-name').value, image);
+    }
+
+    // The image of an empty volume of so many blocks, null where the program refuses.
+    async blank(blocks) {
+        const { programs, store } = this.page;
         store.remove('.new');
-        const { status, out, said } = await programs.ask(['create', '.new', blocks]), image = store.files.get('.new');
+        const { status, out, said } = await programs.ask(['create', '.new', String(blocks)]), image = store.files.get('.new');
         store.remove('.new');
-        if (status !== 0) {
-            tell('files-status', textOf(out) + said, true);
-            return;
-        }
+        this.created = textOf(out);
+        if (status === 0) return image;
+        tell('files-status', textOf(out) + said, true);
+        return null;
+    }
+
+    // A further volume, which is open from then on.
+    async add(wanted, image) {
         const name = await this.#name(wanted);
         if (name === null || !await this.#keep(name, image)) return;
         await this.open(name);
-        tell('files-status', textOf(out));
+        tell('files-status', this.created);
     }
 
     async open(name) {
@@ -165,23 +251,28 @@ export class Files {
     async #remove() {
         const name = this.name, busy = await this.#busy(name);
         if (busy) return tell('files-status', busy, true);
-        if (!confirm(`Remove ${name} from the page? What was not taken home is lost.`)) return;
+        if (!confirm(`Remove ${name} from the page? Undo brings it back, until the page is left.`)) return;
+        this.page.undo.begin(name, `the removal of ${name}`);
         this.page.store.remove(name);
-        this.open(this.volumes[0] ?? '');
+        this.page.undo.end(name);
+        await this.open(this.volumes[0] ?? '');
+        tell('files-status', `${name} is removed. Undo brings it back, until the page is left.`);
     }
 
     // Reads the volume anew and shows it.
     async #again() {
         this.#list();
-        const name = this.name;
+        const name = this.name, turn = this.turn = (this.turn ?? 0) + 1;
         $('volume-view').hidden = name === '';
-        this.entries = [];
+        if (name !== '') $('shelf').open = false;
         if (name === '') {
+            this.entries = [];
             this.#tellClaim();
             return this.page.store.dispatchEvent(new Event('volume'));
         }
         const { status, out, said } = await this.page.programs.ask(['check', name]);
-        if (name !== this.name) return;
+        if (turn !== this.turn) return;
+        this.entries = [];
         const lines = textOf(out).trim().split('\n').map(it => it.split(' '));
         this.refusal = status === 0 ? null : lines.map(it => it.join(' ')).join('\n');
         if (this.refusal) tell('files-status', `${this.refusal}\n${said}`, true);
@@ -257,7 +348,8 @@ export class Files {
                 ' ', button('source', () => this.show(name, 'source'), 'as the source of a tape')),
             made('td', {}, button('text', () => this.#home(name, '--text'), 'home as a text'), ' ', button('tape', () => this.#home(name, '--tape'), 'home as a tape'),
                 ' ', button('frames', () => this.#home(name), 'home as frames')),
-            made('td', {}, button('delete', () => this.#change(`DELETE ${name}`), 'delete')));
+            made('td', {}, button('copy', () => this.#copy(name), 'copy'), ' ',
+                button('delete', () => this.#change(`the deletion of ${name}`, `DELETE ${name}`), 'delete')));
         row.classList.toggle('chosen', this.shown === name);
         return row;
     }
@@ -286,47 +378,82 @@ export class Files {
         for (const row of $('directory').tBodies[0].rows) row.classList.toggle('chosen', row.dataset.name === name);
     }
 
+    // Takes a file home under its own name, so that it comes back under that.
     async #home(name, ...form) {
         const { status, out, said } = await this.#get(name, ...form);
         if (status !== 0) {
             tell('files-status', `${name}: ${said}`, true);
             return;
         }
-        takeHome(`${name}${{ '--text': '.txt', '--tape': '.bin' }[form[0]] ?? ''}`, out);
+        takeHome(name, out);
         tell('files-status', `${name}: ${out.length} bytes`);
     }
 
     async #put(input) {
-        const form = $('put-as').value === 'text' ? ['--text'] : [], told = [];
-        let isBad = false;
-        for (const file of input.files) {
-            const { status, out, said } = await this.put(nameOf(file.name), await bytesOfFile(file), ...form);
-            told.push(status === 0 ? textOf(out) + said : `${file.name}: ${textOf(out)}${said}`);
-            isBad ||= status !== 0;
-        }
+        const files = [...input.files];
         input.value = '';
+        await this.#putFiles(files);
+    }
+
+    // Puts files of the host in, one after the other; all of it is one change.
+    async #putFiles(files) {
+        const told = [], volume = this.name, names = files.map(it => nameOf(it.name));
+        let isBad = false;
+        await this.page.undo.group(volume, `putting ${names.join(', ')}`, async () => {
+            for (const [k, file] of files.entries()) {
+                const { status, out, said } = await this.put(names[k], await bytesOfFile(file), ...formOf($('put-as').value, names[k]));
+                told.push(status === 0 ? textOf(out) + said : `${file.name}: ${textOf(out)}${said}`);
+                isBad ||= status !== 0;
+            }
+        });
         tell('files-status', told.join(''), isBad);
     }
 
     // Makes bytes a file of the volume; where it has one of that name the user is asked.
     async put(name, bytes, ...form) {
         const volume = this.name;
-        const isThere = (await this.#get(name)).status === 0 && !await this.#busy(volume);
-        if (isThere && await ask(`${volume} has a file ${name}. Writing over it loses what it has.`, ['', 'Leave it'], ['over', 'Write over it']) !== 'over')
-            return { status: 0, out: new Uint8Array(0), said: `${name} was left as it was\n` };
-        return this.page.programs.ask(['put', volume, '-', '--as', name, ...form], bytes);
+        if (!await this.#mayWrite(volume, name)) return { status: 0, out: new Uint8Array(0), said: `${name} was left as it was\n` };
+        return this.page.undo.group(volume, `putting ${name}`, () => this.page.programs.ask(['put', volume, '-', '--as', name, ...form], bytes));
+    }
+
+    // Whether a file of a volume may be written: where there is one of the name the user is asked.
+    async #mayWrite(volume, name) {
+        const isThere = (await this.page.programs.ask(['get', volume, name])).status === 0 && !await this.#busy(volume);
+        return !isThere || await ask(`${volume} has a file ${name}. Writing over it loses what it has.`, ['', 'Leave it'], ['over', 'Write over it']) === 'over';
+    }
+
+    // Copies a file to another volume of the page, with its information words, and so its date.
+    async #copy(name) {
+        const { programs, undo } = this.page, others = this.volumes.filter(it => it !== this.name);
+        if (!others.length) return tell('files-status', 'There is no other volume: open one, or make a new one.', true);
+        const to = await ask(`Copy ${name} to which volume?`, ...others.map(it => [it, it]), ['', 'Leave it']);
+        if (to === '') return;
+        await this.#use(to, async () => {
+            if (!await this.#mayWrite(to, name)) return tell('files-status', `${name} of ${to} was left as it was`);
+            const { status, out, said } = await undo.group(to, `the copy of ${name} to ${to}`, () => programs.ask(['copy', this.name, name, to]));
+            tell('files-status', status === 0 ? `${to}: ${textOf(out)}` : textOf(out) + said, status !== 0);
+        });
     }
 
     // Changes the volume by lines of a script, and tells their replies.
-    async #change(...lines) {
-        const { status, out, said } = await this.page.programs.ask(['run', this.name, '--strict'], `${lines.join('\n')}\n`);
+    async #change(words, ...lines) {
+        const run = () => this.page.programs.ask(['run', this.name, '--strict'], `${lines.join('\n')}\n`);
+        const { status, out, said } = await this.page.undo.group(this.name, words, run);
         tell('files-status', textOf(out) + said, status !== 0);
     }
 }
 
-// The name that a file of the host has on a volume; what can't be one is the program's to refuse.
-function nameOf(name) {
-    const [first, ...rest] = name.toUpperCase().split('.');
+// The extensions of texts, where the user leaves it to the names.
+const TEXTS = ['PA', 'PL', 'TX', 'BI', 'BA', 'FT', 'RA', 'MA', 'LS', 'HL', 'DC', 'BT', 'DI'];
+
+// How a file is put: as the user chose, or by its name.
+function formOf(choice, name) { return choice === 'text' || (choice === 'name' && TEXTS.includes(name.split('.')[1])) ? ['--text'] : []; }
+
+// The name that a file of the host has on a volume; what can't be one is the program's to refuse. A browser may have added an ending to a
+// file that it had before, or a number in brackets.
+function nameOf(path) {
+    const name = path.toUpperCase().replace(/ ?\(\d+\)(?=\.|$)/, '').replace(/^([A-Z0-9]{1,6}\.[A-Z0-9]{1,2})\.(TXT|BIN)$/, '$1');
+    const [first, ...rest] = name.split('.');
     return rest.length ? `${first.slice(0, 6)}.${rest.at(-1).slice(0, 2)}` : first.slice(0, 6);
 }
 

@@ -28,7 +28,7 @@ export class Machine {
         });
         this.paper = new Paper($('console'));
         for (const id of ['speed', 'printer', 'core-from']) keepInput(page.store, id);
-        $('power').addEventListener('click', () => this.#renew());
+        $('power').addEventListener('click', () => this.renew());
         $('core-tape').addEventListener('change', event => this.#chosen(event.target));
         $('core-from').addEventListener('change', () => this.#core());
         $('console').addEventListener('keydown', event => this.#key(event));
@@ -39,6 +39,7 @@ export class Machine {
         this.panel.switches = page.store.notes.get('switches') ?? 0;
         if (!canLive) tell('machine-status', 'This browser can\'t wait in a call of WebAssembly: the machine can\'t run here.', true);
         this.panel.enable(canLive);
+        this.breaks = new Set(page.store.notes.get('breaks'));
         this.list(page.store.notes.get('listing') ?? '');
     }
 
@@ -53,8 +54,10 @@ export class Machine {
         if (!store.files.has('.machine')) await programs.ask(['create', '.machine', '8']);
         const lines = await Lines.begin(programs, ['run', '--look', '.machine'], { ended: (status, said) => this.#ended(status, said) });
         this.printed = 0;
-        const core = store.notes.get('core'), given = [];
-        core?.forEach((word, cell) => word && given.push(`DEPOSIT ${octal(cell, 5)} ${octal(word, 4)}`));
+        const core = store.notes.get('core') ?? [], given = [];
+        core.forEach((word, cell) => word && given.push(`DEPOSIT ${octal(cell, 5)} ${octal(word, 4)}`));
+        given.push(...settingOf(store.notes.get('registers'), cell => core[cell] ?? 0));
+        for (const cell of this.breaks) given.push(`BREAK ${cell} ON`);
         given.push(`SWITCHES ${octal(this.panel.switches, 4)}`);
         await lines.ask(...given);
         return lines;
@@ -69,12 +72,15 @@ export class Machine {
     }
 
     // A machine whose core is empty.
-    async #renew() {
+    async renew() {
         this.isGoing = false;
         (await this.lines)?.run.stop();
         this.lines = null;
         this.page.store.note('core', new Uint16Array(0));
+        this.page.store.note('registers', null);
         this.breaks.clear();
+        this.#keepBreaks();
+        this.isLoaded = false;
         this.list('');
         this.paper.tear();
         tell('machine-status', 'a new machine');
@@ -153,10 +159,14 @@ export class Machine {
         tell('machine-status', reply, reply.startsWith('?'));
         if (reply.startsWith('?')) return;
         how === 'ON' ? this.breaks.add(cell) : this.breaks.delete(cell);
+        this.#keepBreaks();
         button.setAttribute('aria-pressed', String(how === 'ON'));
     }
 
+    #keepBreaks() { this.page.store.note('breaks', [...this.breaks]); }
+
     #loadAddress() {
+        this.isLoaded = true;
         this.#point(this.panel.fieldSwitches * 0o10000 + this.panel.switches);
         tell('machine-status', `address ${octal(this.panel.address, 5)}`);
         this.panel.show(this.registers, this.panel.address, null);
@@ -181,16 +191,28 @@ export class Machine {
     }
 
     async start() {
-        this.isGoing = false;
+        this.isGoing = this.isLoaded = false;
         const [reply] = await this.#ask(`START ${octal(this.panel.address, 5)}`) ?? [''];
         tell('machine-status', reply);
         await this.go();
     }
 
+    // Starts at a cell, and makes so many steps.
+    async runTo(cell, steps) {
+        this.#point(cell);
+        await this.#ask(`START ${octal(cell, 5)}`);
+        await this.#slice('GO', steps);
+        tell('machine-status', `after step ${steps}: ${this.reply}`);
+        await this.#stopped();
+    }
+
     stop() { this.isGoing = false; }
 
+    // One step: from the address that was loaded, if one was since the machine last went, else from where it is.
     async step() {
         this.isGoing = false;
+        if (this.isLoaded) await this.#ask(`START ${octal(this.panel.address, 5)}`);
+        this.isLoaded = false;
         await this.#slice('STEP', 1);
         tell('machine-status', this.reply);
         await this.#stopped();
@@ -200,6 +222,7 @@ export class Machine {
     async go() {
         if (this.isGoing) return;
         this.isGoing = true;
+        this.isLoaded = false;
         this.panel.runs(true);
         let why = 'LIMIT', last = performance.now(), made = 0, told = last;
         while (this.isGoing && why === 'LIMIT') {
@@ -327,8 +350,10 @@ export class Machine {
 
     async #keep() {
         if (this.isGoing || !this.lines) return;
-        const replies = await this.#ask(...Array.from({ length: CORE }, (_, cell) => `EXAMINE ${octal(cell, 5)}`));
-        if (replies) this.page.store.note('core', Uint16Array.from(replies, it => Number.parseInt(it.slice(6), 8)));
+        const replies = await this.#ask('REGISTERS', ...Array.from({ length: CORE }, (_, cell) => `EXAMINE ${octal(cell, 5)}`));
+        if (!replies) return;
+        this.page.store.note('registers', JSON.parse(replies.shift()));
+        this.page.store.note('core', Uint16Array.from(replies, it => Number.parseInt(it.slice(6), 8)));
     }
 
     #key(event) {
@@ -337,6 +362,16 @@ export class Machine {
         event.preventDefault();
         this.keys.push((key.toUpperCase().charCodeAt(0) & 0o177) | 0o200);
     }
+}
+
+// The lines that give a new machine these registers: its own instructions do, in eight cells at the end of the field, whose words it gets back.
+function settingOf(registers, wordAt) {
+    if (!registers?.pc) return [];
+    const field = Number(registers.if), at = address => octal(field * 0o10000 + address, 5), free = 0o7770;
+    const words = [registers.l === '1' ? '7020' : '7000', '1375', `62${registers.df}1`, registers.ion ? '6001' : '7000', '5776', registers.ac, registers.pc];
+    const laid = words.map((word, k) => `DEPOSIT ${at(free + k)} ${word}`);
+    const back = words.map((_, k) => `DEPOSIT ${at(free + k)} ${octal(wordAt(field * 0o10000 + free + k), 4)}`);
+    return [...laid, `START ${at(free)}`, 'STEP 5', ...back];
 }
 
 function rateOf(thousands) {

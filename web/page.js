@@ -9,6 +9,8 @@ import { Machine } from './machine.js';
 import { Teletype } from './teletype.js';
 import { Script } from './script.js';
 import { Unkept } from './unkept.js';
+import { Undo } from './undo.js';
+import { Shelf } from './shelf.js';
 
 const PANES = ['files', 'source', 'machine', 'teletype', 'script'];
 
@@ -28,6 +30,11 @@ class Tabs {
         }
         const asked = location.hash.slice(1);
         this.show(PANES.includes(asked) ? asked : store.notes.get('pane') ?? 'files');
+        const first = this.shown;
+        addEventListener('hashchange', () => {
+            const name = location.hash.slice(1) || first;
+            if (PANES.includes(name)) this.show(name, false);
+        });
     }
 
     #key(event, at) {
@@ -39,7 +46,10 @@ class Tabs {
         $(`tab-${name}`).focus();
     }
 
-    show(name) {
+    // Shows a pane. The address gets its name, so that Back and a link lead to it.
+    show(name, isNew = true) {
+        if (isNew && this.shown !== undefined && this.shown !== name) history.pushState(null, '', `#${name}`);
+        this.shown = name;
         for (const it of PANES) {
             $(it).hidden = it !== name;
             $(`tab-${it}`).setAttribute('aria-selected', it === name);
@@ -58,7 +68,7 @@ async function begin() {
     }
     const claims = new Claims(), store = await Store.open(claims);
     const programs = new Programs(await load('pdp8.wasm'), store);
-    const page = { store, claims, programs, tell: trouble };
+    const page = { store, claims, programs, undo: new Undo(store), tell: trouble };
     page.tabs = new Tabs(store);
     page.files = new Files(page);
     page.machine = new Machine(page);
@@ -66,7 +76,9 @@ async function begin() {
     page.source = new Source(page);
     page.script = new Script(page);
     page.unkept = new Unkept(page);
+    page.shelf = new Shelf(page);
     await Promise.all([page.files.begin(), page.source.begin()]);
+    page.tabs.show(page.tabs.shown);
     $('kept').textContent = store.isKept ? 'What you open and write stays in this browser until you remove it.'
         : 'This browser keeps nothing: take home what you want to keep.';
     if (!canLive)
@@ -74,6 +86,10 @@ async function begin() {
             + 'can\'t run here; whole scripts can.');
     document.body.append(made('span', { id: 'ready', hidden: true }));
     globalThis.geivottu = page;
+    await page.shelf.follow();
 }
+
+// A page from a server that browsers trust works without a network once it was seen, and may be kept as a program of its own.
+navigator.serviceWorker?.register('sw.js').catch(() => {});
 
 begin().catch(error => trouble(`The page can't begin: ${error.message ?? error}`));

@@ -46,7 +46,8 @@ export class Panel {
     #switches() {
         const field = this.field = [2, 1, 0].map(bit => this.#switch(`field switch ${bit}`, () => {}));
         const register = this.register = Array.from({ length: 12 }, (_, bit) => this.#switch(`switch ${bit}`, () => this.does.switches(this.switches)));
-        this.switchesShown = made('span', { class: 'word', id: 'switches-shown' });
+        this.switchesShown = made('input', { class: 'word', id: 'switches-shown', size: 4, maxlength: 4, inputmode: 'numeric', 'aria-label': 'Switch register in octal' });
+        this.switchesShown.addEventListener('change', () => this.#typed());
         const line = (text, own, shown, id) => made('div', { class: 'switches', role: 'group', id, 'aria-label': text },
             made('span', { class: 'name' }, text), made('div', { class: 'bits' }, ...threes(own)), shown);
         const rows = made('div', {}, line('Field', field, made('span', { class: 'word' }), 'field-switches'), line('Switch register', register, this.switchesShown, 'switch-register'));
@@ -54,16 +55,41 @@ export class Panel {
         return rows;
     }
 
+    // A click moves a switch; a drag over others moves them to the same side.
     #switch(label, changed) {
-        const it = made('button', { class: 'switch', role: 'switch', 'aria-checked': 'false', 'aria-label': label, onclick: () => {
-            it.setAttribute('aria-checked', String(it.getAttribute('aria-checked') !== 'true'));
+        const move = side => {
+            if (it.getAttribute('aria-checked') === side) return;
+            it.setAttribute('aria-checked', side);
             this.#told();
             changed();
-        } });
+        };
+        const it = made('button', { class: 'switch', role: 'switch', 'aria-checked': 'false', 'aria-label': label,
+            onclick: ({ detail }) => detail && this.dragged ? undefined : move(String(it.getAttribute('aria-checked') !== 'true')),
+            onpointerdown: ({ pointerId }) => {
+                this.dragged = null;
+                this.side = String(it.getAttribute('aria-checked') !== 'true');
+                if (it.hasPointerCapture(pointerId)) it.releasePointerCapture(pointerId);
+            },
+            onpointerenter: ({ buttons }) => { if (buttons === 1 && this.side !== undefined) this.#drag(it, move); },
+            onpointerleave: ({ buttons }) => { if (buttons === 1 && this.side !== undefined) this.#drag(it, move); } });
         return it;
     }
 
-    #told() { if (this.switchesShown) this.switchesShown.textContent = this.switches.toString(8).padStart(4, '0'); }
+    // A drag has come to a switch, or has left the one that it began at.
+    #drag(it, move) {
+        this.dragged = it;
+        move(this.side);
+    }
+
+    // The switches as they were typed in octal, where that is a word.
+    #typed() {
+        const text = this.switchesShown.value.trim();
+        if (!/^[0-7]{1,4}$/.test(text)) return this.#told();
+        this.switches = Number.parseInt(text, 8);
+        this.does.switches(this.switches);
+    }
+
+    #told() { if (this.switchesShown) this.switchesShown.value = this.switches.toString(8).padStart(4, '0'); }
 
     get switches() { return wordOf(this.register); }
 
@@ -89,14 +115,14 @@ export class Panel {
     }
 
     // Shows the registers, and the address and the word that were last examined; where these are not known, their lamps are dark.
-    show(registers, address, word) {
+    show(registers, address, word, isGoing = false) {
         if (!registers) return;
         this.#light('pc', Number.parseInt(registers.pc, 8));
         this.#light('ac', Number.parseInt(registers.ac, 8));
         this.#light('l', Number(registers.l));
         this.#light('if', Number(registers.if));
         this.#light('df', Number(registers.df));
-        this.#light('run', Number(registers.run), '');
+        this.#light('run', Number(isGoing), '');
         this.#light('ion', Number(registers.ion), '');
         this.#light('ma', address === null ? null : address & 0o7777);
         this.#light('mb', word);

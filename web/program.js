@@ -24,6 +24,7 @@ export class Programs extends EventTarget {
     #last = Promise.resolve();
     #spare = null;
     #busy = [];
+    #asked = 0;
     held = new Set();
 
     constructor(module, store) {
@@ -31,6 +32,9 @@ export class Programs extends EventTarget {
         this.module = module;
         this.store = store;
     }
+
+    // Whether whole runs are asked for that haven't ended.
+    get isAsked() { return this.#asked > 0; }
 
     // Whether a run that was asked for and hasn't ended has a word.
     isBusy(word) { return this.#busy.includes(word); }
@@ -62,6 +66,8 @@ export class Programs extends EventTarget {
             this.asked = run;
         }));
         this.#last = answer;
+        this.#asked++;
+        answer.then(() => { this.#asked--; });
         this.#count(words, answer);
         return answer;
     }

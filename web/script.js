@@ -38,7 +38,7 @@ export class Script {
         this.isBegun = true;
         this.#buttons(false);
         $('replies').textContent = '';
-        const { status, out, said } = await this.page.programs.ask(words, $('lines').value);
+        const { status, out, said } = await this.page.undo.group(words[1], 'the script', () => this.page.programs.ask(words, $('lines').value));
         follow($('replies'), textOf(out));
         this.#ended(status, said);
     }
@@ -49,6 +49,8 @@ export class Script {
         $('replies').textContent = '';
         tell('script-status', 'running');
         let said = '';
+        this.page.undo.begin(words[1], terminal ? 'the session' : 'the script');
+        this.volume = words[1];
         this.run = await this.page.programs.begin(words, {
             terminal, room: 1 << 16,
             heard: bytes => this.#show(bytes),
@@ -76,6 +78,7 @@ export class Script {
         this.#flush();
         this.run = null;
         this.isBegun = false;
+        this.page.undo.end(this.volume);
         tell('script-status', said + (status === null ? 'stopped' : `status ${status}`), status === null || status !== 0);
         this.#buttons(false);
     }

@@ -1,22 +1,31 @@
 // The Source pane: `assemble` over the text, its faults at their lines, its listing and symbols, and where the tape goes.
-import { $, made, tell, takeHome, bytesOfFile, keepInput } from './dom.js';
+import { $, made, tell, takeHome, bytesOfFile } from './dom.js';
 import { textOf } from './program.js';
+import { Texts } from './texts.js';
+import { Listing } from './listing.js';
 
 const SOURCE = 'source.pa', TAPE = '.source.bin', LISTING = '.source.lst';
+// How long no key is struck before the text is looked at for faults, in milliseconds.
+const QUIET = 400;
 
 export class Source {
     constructor(page) {
         this.page = page;
         this.faulty = new Map();
         this.wasOld = false;
-        keepInput(page.store, 'source-name');
+        this.mayLeave = false;
+        this.texts = page.texts = new Texts(page);
+        this.listing = new Listing(page, this);
+        this.texts.addEventListener('open', ({ detail }) => this.#opens(detail));
+        $('source-name').value = this.texts.name;
         $('text').value = page.store.notes.get('text') ?? '';
+        this.#restore();
         $('text').addEventListener('input', () => this.#edited());
         $('text').addEventListener('scroll', () => { $('gutter').scrollTop = $('text').scrollTop; });
         $('text').addEventListener('keydown', event => this.#key(event));
         $('assemble').addEventListener('click', () => this.assemble());
         $('tape-home').addEventListener('click', () => this.#tapeHome());
-        $('text-home').addEventListener('click', () => takeHome(`${this.#name}.pa`, new TextEncoder().encode($('text').value)));
+        $('text-home').addEventListener('click', () => takeHome(`${this.#name}.PA`, new TextEncoder().encode($('text').value)));
         $('to-core').addEventListener('click', () => this.#toCore());
         $('to-teletype').addEventListener('click', () => this.#toTeletype());
         $('to-volume').addEventListener('click', () => this.#toVolume());
@@ -38,7 +47,8 @@ export class Source {
     // Another tab has left the text to this one: it is kept, as this tab has it.
     #claimed() {
         const { store } = this.page;
-        if (this.follows) for (const it of ['text', 'source-name']) if (store.notes.has(it)) store.note(it, store.notes.get(it));
+        const own = [...store.notes.keys()].filter(it => it === 'text' || it === 'source-name' || it.startsWith('text '));
+        if (this.follows) for (const it of own) store.note(it, store.notes.get(it));
         this.#tellClaim();
     }
 
@@ -46,7 +56,7 @@ export class Source {
     #tellClaim() {
         this.follows = !this.page.claims.has('text');
         $('text').readOnly = $('source-name').readOnly = this.follows;
-        $('source-file').disabled = $('example').disabled = this.follows;
+        for (const id of ['source-file', 'example', 'texts', 'text-new', 'text-drop']) $(id).disabled = this.follows;
         $('text-follows').textContent = this.follows ? 'Another tab has the text. Here it is only looked at, and follows that tab. It can be '
             + 'changed here once that tab is closed.' : '';
         $('text-follows').hidden = !this.follows;
@@ -55,13 +65,14 @@ export class Source {
     // Shows the text as the tab that has it sends it.
     #followed(note) {
         const value = this.page.store.notes.get(note) ?? '';
-        if (note === 'source-name') $('source-name').value = value;
+        if (note === 'source-name') this.texts.follow();
         if (note !== 'text' || value === $('text').value) return;
         $('text').value = value;
         this.#changed();
     }
 
-    get #name() { return $('source-name').value.trim() || 'SOURCE'; }
+    // The name of the text, or what stands for it where it has none.
+    get #name() { return $('source-name').value.trim() || 'PROGRAM'; }
 
     get tape() { return this.page.store.files.get(TAPE) ?? null; }
 
@@ -71,14 +82,39 @@ export class Source {
     // Assembles an old tape anew. Whether there is a tape of the text as it stands.
     async renew() { return this.isOld ? await this.assemble() : this.tape !== null; }
 
-    set(text) {
+    // Shows a text that was opened.
+    #opens(text) {
         $('text').value = text;
-        this.#edited();
+        $('text').scrollTop = 0;
+        tell('source-status', '');
+        this.#changed();
+    }
+
+    // The tape and its listing, as they were before a reload.
+    #restore() {
+        const { store } = this.page, kept = store.notes.get('tape');
+        if (!kept || store.files.has(TAPE)) return;
+        store.files.set(TAPE, kept.tape);
+        this.assembled = kept.text;
+        this.#show(kept.listing);
+        this.#age();
     }
 
     #edited() {
         this.page.store.note('text', $('text').value);
         this.#changed();
+        clearTimeout(this.looking);
+        this.looking = setTimeout(() => this.#look(), QUIET);
+    }
+
+    // Marks the faults of a text at which no one types for a while. The tape stays as it is.
+    async #look() {
+        const { store, programs } = this.page, text = $('text').value;
+        if (this.follows || text.trim() === '' || text === this.assembled || programs.isAsked) return;
+        store.put('.look.pa', new TextEncoder().encode(text));
+        const { status, said } = await programs.ask(['assemble', '.look.pa', '--output', '.look.bin']);
+        for (const it of ['.look.pa', '.look.bin']) store.remove(it);
+        if (text === $('text').value && text !== this.assembled) this.#tellFaults(status === 0 ? '' : said, false);
     }
 
     #changed() {
@@ -103,15 +139,22 @@ export class Source {
         this.page.store.dispatchEvent(new Event('tape'));
     }
 
-    // Tab is left to those who go on by it: a tab is typed by Ctrl-I.
+    // Tab types a tab. After Escape it goes on to the next control, as Shift-Tab goes back always.
     #key(event) {
-        if (event.ctrlKey && event.key.toLowerCase() === 'i') {
+        const isTab = event.key === 'Tab' && !event.shiftKey && !event.ctrlKey && !event.altKey, mayLeave = this.mayLeave;
+        this.mayLeave = event.key === 'Escape';
+        if (isTab && !mayLeave && !this.follows) {
             event.preventDefault();
-            if (this.follows) return;
-            $('text').setRangeText('\t', $('text').selectionStart, $('text').selectionEnd, 'end');
-            this.#edited();
+            this.#type('\t');
         }
         if (event.ctrlKey && event.key === 'Enter') this.assemble();
+    }
+
+    // Types characters, so that the browser can take them back as it does keys.
+    #type(characters) {
+        if (document.execCommand?.('insertText', false, characters)) return;
+        $('text').setRangeText(characters, $('text').selectionStart, $('text').selectionEnd, 'end');
+        this.#edited();
     }
 
     // The numbers of the lines, with a mark at those that have a fault.
@@ -138,6 +181,7 @@ export class Source {
         const { status, said } = await programs.ask(['assemble', `.${SOURCE}`, '--output', TAPE, '--list', LISTING, '--cross']);
         this.assembled = text;
         this.#show(store.files.get(LISTING));
+        store.note('tape', status === 0 ? { text, tape: this.tape, listing: store.files.get(LISTING) } : null);
         this.#tellFaults(status === 0 ? '' : said);
         tell('source-status', status === 0 ? `assembled: a tape of ${this.tape.length} frames` : said.split('\n').find(it => it.startsWith('? ')) ?? said, status !== 0);
         this.#buttons();
@@ -150,20 +194,23 @@ export class Source {
     #show(listing) {
         const text = listing ? textOf(listing).replaceAll('\r', '') : '';
         const split = /\n\n((?:[A-Z][A-Z0-9]* +[0-7]{4}[ \d]*\n)+)$/.exec(text);
-        $('listing').textContent = split ? text.slice(0, split.index) : text;
+        this.listing.show(split ? text.slice(0, split.index) : text);
         $('symbols').textContent = split ? split[1] : '';
     }
 
     // Faults as the program tells them: NAME:LINE:COLUMN: CODE: WORDS.
-    #tellFaults(said) {
+    #tellFaults(said, takesCursor = true) {
         this.faulty.clear();
         const found = [...said.matchAll(/^\S+?:(\d+):(\d+): ([A-Z]{2}): (.*)$/gm)];
         for (const [, line, , code] of found) this.faulty.set(Number(line), code);
         $('faults').replaceChildren(...found.map(([, line, column, code, words]) =>
             made('li', {}, made('button', { onclick: () => this.#go(Number(line), Number(column)) }, `line ${line}, column ${column}: ${code}: ${words}`))));
         this.#number();
-        if (found.length) this.#go(Number(found[0][1]), Number(found[0][2]), false);
+        if (takesCursor && found.length) this.#go(Number(found[0][1]), Number(found[0][2]), false);
     }
+
+    // Puts the cursor at a line of the text.
+    goTo(line, takesFocus = true) { this.#go(line, 1, takesFocus); }
 
     // Puts the cursor at a place of the text.
     #go(line, column, takesFocus = true) {
@@ -175,7 +222,7 @@ export class Source {
     }
 
     async #tapeHome() {
-        if (await this.renew()) takeHome(`${this.#name}.bin`, this.tape);
+        if (await this.renew()) takeHome(`${this.#name}.BN`, this.tape);
     }
 
     async #toCore() {
@@ -197,6 +244,10 @@ export class Source {
         if (!await this.renew()) return;
         const { files } = this.page, told = [];
         let isBad = false;
+        if ($('source-name').value.trim() === '') {
+            $('source-name').focus();
+            return tell('source-status', 'The text has no name yet: give it one, and its files will have that.', true);
+        }
         for (const [name, bytes, ...form] of [[`${this.#name}.PA`, this.assembled, '--text'], [`${this.#name}.BN`, this.tape]]) {
             const { status, out, said } = await files.put(name, bytes, ...form);
             told.push(textOf(out) + said);
@@ -206,20 +257,25 @@ export class Source {
     }
 
     async #opened(input) {
-        const file = input.files[0];
-        if (file) {
-            this.set(textOf(await bytesOfFile(file)).replaceAll('\r\n', '\n'));
-            $('source-name').value = file.name.toUpperCase().split('.')[0].replace(/[^A-Z0-9]/g, '').slice(0, 6);
-        }
+        const [file] = input.files;
         input.value = '';
+        if (file) await this.take(file.name, textOf(await bytesOfFile(file)));
+    }
+
+    // Opens a text of the host as a further one. Whether it is open.
+    take(path, text) {
+        return this.texts.add(path.toUpperCase().split('.')[0].replace(/[^A-Z0-9]/g, '').slice(0, 6), text.replaceAll('\r\n', '\n').replaceAll('\u001a', ''));
     }
 
     async #example(select) {
-        if (!select.value) return;
-        const answer = await fetch(`examples/${select.value}`);
-        this.set(await answer.text());
-        $('source-name').value = select.value.toUpperCase().split('.')[0];
+        const name = select.value;
         select.value = '';
-        tell('source-status', '');
+        if (name) await this.takeExample(name);
+    }
+
+    // Opens an example. Whether it is open.
+    async takeExample(name) {
+        const answer = await fetch(`examples/${name}`);
+        return answer.ok && await this.take(name, await answer.text());
     }
 }

@@ -1,8 +1,10 @@
 // The page's files and notes: in memory, and in the browser's own store (IndexedDB), so that a reload finds them. Nothing leaves the page.
-// Files, and the notes that tabs share, are sent to the other tabs of the page, which have them then as well.
-const SLOTS = ['files', 'notes'], SHARED = ['text', 'source-name'];
-// The notes that are a user's own work.
-const OWN = ['text', 'lines'];
+// Files, and the notes that tabs share, are sent to the other tabs of the page, which have them then as well. The text that is open is the
+// note `text`; others are notes `text NAME`.
+const SLOTS = ['files', 'notes'];
+const isShared = key => ['text', 'source-name'].includes(key) || key.startsWith('text ');
+// Whether a note is a user's own work.
+const isWork = key => ['text', 'lines'].includes(key) || key.startsWith('text ');
 
 export class Store extends EventTarget {
     files = new Map();
@@ -37,7 +39,7 @@ export class Store extends EventTarget {
     #heard({ asks, slot, key, value }) {
         if (asks) {
             for (const it of this.claims.names.filter(name => this.claims.has(name)))
-                if (it === 'text') SHARED.forEach(key => this.#send('notes', key, this.notes.get(key)));
+                if (it === 'text') [...this.notes.keys()].filter(isShared).forEach(key => this.#send('notes', key, this.notes.get(key)));
                 else this.#send('files', it.slice(7), this.files.get(it.slice(7)));
             return;
         }
@@ -46,19 +48,21 @@ export class Store extends EventTarget {
     }
 
     #send(slot, key, value) {
-        if (!key.startsWith('.') && (slot === 'files' || SHARED.includes(key))) this.#tabs.postMessage({ slot, key, value });
+        if (!key.startsWith('.') && (slot === 'files' || isShared(key))) this.#tabs.postMessage({ slot, key, value });
     }
 
     get isKept() { return this.#base !== null; }
 
     // A file, in place of any of its name. One whose name begins with a dot is the page's own, and gone with it.
     put(name, bytes) {
+        this.#tellChange('files', name, bytes);
         this.files.set(name, bytes);
         this.#keep('files', name, bytes);
         this.dispatchEvent(new CustomEvent('file', { detail: name }));
     }
 
     remove(name) {
+        this.#tellChange('files', name, undefined);
         this.files.delete(name);
         this.#keep('files', name, undefined);
         this.dispatchEvent(new CustomEvent('file', { detail: name }));
@@ -67,6 +71,31 @@ export class Store extends EventTarget {
     note(key, value) {
         this.notes.set(key, value);
         this.#keep('notes', key, value);
+    }
+
+    // Takes a note away.
+    forget(key) {
+        this.notes.delete(key);
+        this.#keep('notes', key, undefined);
+    }
+
+    // A text that isn't open, by its name, or none in its place.
+    setText(name, text) {
+        this.#tellChange('notes', `text ${name}`, text);
+        text === undefined ? this.forget(`text ${name}`) : this.note(`text ${name}`, text);
+        this.dispatchEvent(new CustomEvent('note', { detail: `text ${name}` }));
+    }
+
+    // A file, or a text that isn't open, by the slot and key of a change.
+    set(slot, key, value) {
+        if (slot === 'notes') this.setText(key.slice(5), value);
+        else value === undefined ? this.remove(key) : this.put(key, value);
+    }
+
+    // Tells of a change that a user may want back: of a file that is kept, and of a text.
+    #tellChange(slot, key, after) {
+        const before = this[slot].get(key);
+        if (!key.startsWith('.')) this.dispatchEvent(new CustomEvent('change', { detail: { slot, key, before, after } }));
     }
 
     #keep(slot, key, value) {
@@ -131,7 +160,7 @@ export class Store extends EventTarget {
 }
 
 // Whether a value is a user's own work.
-function isOwn(slot, key, value) { return value !== undefined && value !== '' && (slot === 'files' || OWN.includes(key)); }
+function isOwn(slot, key, value) { return value !== undefined && value !== '' && (slot === 'files' || isWork(key)); }
 
 function opening() {
     const request = indexedDB.open('geivottu', 1);

@@ -49,13 +49,17 @@ export class Teletype {
     }
 
     async #opened(input) {
-        const file = input.files[0];
-        if (file) {
-            this.page.store.put('.tape.bin', await bytesOfFile(file));
-            this.own = file.name;
-            this.choose('own');
-        }
+        const [file] = input.files;
         input.value = '';
+        if (file) this.take(file.name, await bytesOfFile(file));
+    }
+
+    // Takes a tape of the host.
+    take(name, tape) {
+        this.page.store.put('.tape.bin', tape);
+        this.own = name;
+        this.choose('own');
+        this.page.tabs.show('teletype');
     }
 
     #words() {

@@ -4,6 +4,7 @@ import { $, takeHome } from './dom.js';
 import { bytesOf } from './program.js';
 
 const WORDS = { text: 'the text of Source', lines: 'the text of Script' };
+const wordsOf = key => WORDS[key] ?? `the text ${key.slice(5)}`;
 
 export class Unkept {
     constructor(page) {
@@ -15,7 +16,7 @@ export class Unkept {
     }
 
     #tell() {
-        const { unkept } = this.page.store, names = unkept.map(({ slot, key }) => slot === 'files' ? key : WORDS[key]).join(', ');
+        const { unkept } = this.page.store, names = unkept.map(({ slot, key }) => slot === 'files' ? key : wordsOf(key)).join(', ');
         const words = names && `This browser can't keep what you changed: its store is full, or refuses. Not kept: ${names}. `
             + 'Take it home before you leave the page.';
         $('unkept').hidden = words === '';
@@ -25,8 +26,8 @@ export class Unkept {
     #home() {
         const { store } = this.page;
         for (const { slot, key, value } of store.unkept) {
-            const name = { text: `${$('source-name').value.trim() || 'SOURCE'}.pa`, lines: 'SCRIPT.txt' }[slot === 'notes' ? key : ''] ?? key;
-            takeHome(name, bytesOf(value));
+            const own = { text: `${$('source-name').value.trim() || 'PROGRAM'}.PA`, lines: 'SCRIPT.TX' }[key] ?? `${key.slice(5)}.PA`;
+            takeHome(slot === 'files' ? key : own, bytesOf(value));
             store.tookHome(slot, key);
         }
     }

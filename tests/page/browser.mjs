@@ -37,6 +37,7 @@ export class Browser {
     errors = [];
     dialogs = [];
     accepts = true;
+    tabs = new Map();
 
     static async open(...words) {
         const it = new Browser();
@@ -61,11 +62,25 @@ export class Browser {
         return it;
     }
 
-    // A further tab of the browser, in a window of its own.
-    async tab() {
-        const { targetId } = await this.call('Target.createTarget', { url: 'about:blank', newWindow: true });
+    // A further tab, in a window of its own.
+    tab() { return this.#tab({ newWindow: true, ...(this.context ? { browserContextId: this.context } : {}) }, this.downloads); }
+
+    // A tab with a profile of its own, as that of a further user, whose end takes the profile away.
+    async user() {
+        const { browserContextId } = await this.call('Target.createBrowserContext', { disposeOnDetach: true });
+        const downloads = mkdtempSync(join(tmpdir(), 'home-'));
+        await this.call('Browser.setDownloadBehavior', { behavior: 'allow', downloadPath: downloads, browserContextId });
+        const it = await this.#tab({ browserContextId }, downloads);
+        it.isUser = true;
+        return it;
+    }
+
+    async #tab(how, downloads) {
+        const browser = this.browser ?? this;
+        const { targetId } = await this.call('Target.createTarget', { url: 'about:blank', ...how });
         const { sessionId } = await this.call('Target.attachToTarget', { targetId, flatten: true });
-        const it = new Tab(this, targetId, sessionId);
+        const it = new Tab(browser, targetId, sessionId, how.browserContextId, downloads);
+        browser.tabs.set(sessionId, it);
         for (const domain of ['Page', 'Runtime', 'Network', 'DOM']) await it.call(`${domain}.enable`);
         return it;
     }
@@ -78,11 +93,12 @@ export class Browser {
             this.#waiting.delete(message.id);
             return message.error ? fail(new Error(`${message.error.message} ${message.error.data ?? ''}`)) : go(message.result);
         }
-        if (message.method === 'Network.requestWillBeSent') this.asked.push(message.params.request.url);
-        if (message.method === 'Runtime.exceptionThrown') this.errors.push(message.params.exceptionDetails.exception?.description ?? message.params.exceptionDetails.text);
+        const tab = this.tabs.get(message.sessionId) ?? this;
+        if (message.method === 'Network.requestWillBeSent') tab.asked.push(message.params.request.url);
+        if (message.method === 'Runtime.exceptionThrown') tab.errors.push(message.params.exceptionDetails.exception?.description ?? message.params.exceptionDetails.text);
         if (message.method === 'Page.javascriptDialogOpening') {
-            this.dialogs.push(message.params.type);
-            this.call('Page.handleJavaScriptDialog', { accept: this.accepts }, message.sessionId);
+            tab.dialogs.push(message.params.type);
+            this.call('Page.handleJavaScriptDialog', { accept: tab.accepts }, message.sessionId);
         }
     }
 
@@ -212,21 +228,22 @@ export class Browser {
     }
 }
 
-// A further tab: what it has of its own is its session.
+// A further tab: what it has of its own is its session, and of a further user's the profile.
 class Tab extends Browser {
-    constructor(browser, target, session) {
+    constructor(browser, target, session, context, downloads) {
         super();
-        Object.assign(this, { browser, target, own: session, downloads: browser.downloads });
+        Object.assign(this, { browser, target, own: session, context, downloads });
     }
 
     call(method, params = {}, session = /^(Target|Browser)\./.test(method) ? null : this.own) { return this.browser.call(method, params, session); }
 
     async end() {
-        await this.call('Target.closeTarget', { targetId: this.target });
-        for (;;) {
-            const { targetInfos } = await this.call('Target.getTargets');
-            if (!targetInfos.some(it => it.targetId === this.target)) return;
-            await pause(20);
-        }
+        this.accepts = true; // a page that asks before it is left is left
+        if (this.isUser) await Promise.race([this.call('Page.navigate', { url: 'about:blank' }), pause(2000)]);
+        const closed = this.isUser ? this.call('Target.disposeBrowserContext', { browserContextId: this.context }) : this.call('Target.closeTarget', { targetId: this.target });
+        await Promise.race([closed, pause(5000)]);
+        for (let k = 0; k < 250 && (await this.call('Target.getTargets')).targetInfos.some(it => it.targetId === this.target); k++) await pause(20);
+        this.browser.tabs.delete(this.own);
+        if (this.isUser) rmSync(this.downloads, { recursive: true, force: true, maxRetries: 5 });
     }
 }

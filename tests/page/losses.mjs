@@ -1,52 +1,8 @@
 // losses.mjs PROGRAM FOLDER [PART]: what a user could lose in the page, in headless Chromium, each test with a profile of its own. What comes
 // out is compared with the native program PROGRAM. PART takes the tests whose names have it. The last line is 'N passed, M failed'.
-import { spawnSync } from 'node:child_process';
 import { randomBytes } from 'node:crypto';
-import { mkdtempSync, readFileSync, rmSync, writeFileSync } from 'node:fs';
-import { tmpdir } from 'node:os';
-import { join, resolve } from 'node:path';
-import { Browser, serve } from './browser.mjs';
-
-const [program, folder] = process.argv.slice(2, 4).map(it => resolve(it));
-const only = process.argv[4] ?? '';
-let work = '';
-const file = name => join(work, name);
-const native = (words, input = '') => spawnSync(program, words, { cwd: work, input }).stdout;
-const isTold = (page, id, part) => page.until(`document.getElementById('${id}').textContent.includes(${JSON.stringify(part)})`);
-const pane = (page, name) => page.click(`#tab-${name}`);
-const optionsOf = id => `[...document.getElementById('${id}').options].map(it => it.textContent)`;
-
-function same(wanted, got, what) {
-    const equal = Buffer.isBuffer(wanted) ? wanted.equals(Buffer.from(got)) : wanted === got;
-    if (!equal) throw new Error(`${what}: wanted ${show(wanted)}, got ${show(got)}`);
-}
-
-function show(it) { return Buffer.isBuffer(it) ? `${it.length} bytes ${it.subarray(0, 40).toString('hex')}` : JSON.stringify(it); }
-
-function holds(it, what) { if (!it) throw new Error(what); }
-
-// A new volume in the page, and the same natively.
-async function create(page, name, blocks = 90) {
-    await pane(page, 'files');
-    await page.fill('#new-name', name);
-    await page.fill('#new-blocks', String(blocks));
-    await page.click('#create');
-    await isTold(page, 'files-status', `CREATED ${blocks}`);
-    await page.until(`document.getElementById('volume').value === '${name}'`);
-    native(['create', name, String(blocks)]);
-}
-
-async function setSource(page, text) {
-    await pane(page, 'source');
-    await page.fill('#text', text);
-}
-
-// Puts files into the volume that is open.
-async function put(page, form, ...names) {
-    await pane(page, 'files');
-    await page.choose('#put-as', form);
-    await page.give('#put', ...names.map(file));
-}
+import { readFileSync, writeFileSync } from 'node:fs';
+import { alone, answer, create, file, further, holds, image, isTold, native, optionsOf, pane, put, run as runAll, same, setSource } from './tools.mjs';
 
 const ONE = '*200\n\tCLA IAC\n\tHLT\n$\n', TWO = '*200\n\tCLA CMA\n\tHLT\n$\n', BAD = '*200\n\tTAD LIEN\n$\n';
 
@@ -114,15 +70,6 @@ const tests = {
         await page.until(`document.getElementById('core').textContent.startsWith('00200  7201')`);
     },
 };
-
-const image = async page => (await page.home('#take-image')).bytes;
-
-// A further tab with the page.
-async function further(page, url) {
-    const it = await page.tab();
-    await it.go(url);
-    return it;
-}
 
 Object.assign(tests, {
     'of two tabs on one volume one has it, and the other looks and follows': async (page, url) => {
@@ -193,9 +140,12 @@ Object.assign(tests, {
 // Has the browser's store take so many bytes of the page, or as many as it would.
 const room = (page, url, ...bytes) => page.call('Storage.overrideQuotaForOrigin', { origin: new URL(url).origin, ...(bytes.length ? { quotaSize: bytes[0] } : {}) });
 
+const run = (page, source) => page.call('Page.addScriptToEvaluateOnNewDocument', { source });
+
 // A volume that the browser's store takes as it is new, but not with a file of noise. The room is set before the page is there, since
 // the browser looks at it anew only where it doesn't suffice.
 async function overfill(page, url) {
+    await run(page, 'delete Navigator.prototype.serviceWorker;'); // whose files take room, too
     await room(page, url, 100000);
     await page.go(url);
     await create(page, 'DISK', 900);
@@ -207,10 +157,8 @@ async function overfill(page, url) {
     native(['put', 'DISK', '-', '--as', 'NOISE.DA'], readFileSync(file('noise.da')));
 }
 
-const run = (page, source) => page.call('Page.addScriptToEvaluateOnNewDocument', { source });
-
 Object.assign(tests, {
-    'a full store is told at once, and what isn\'t kept is marked and taken home': async (page, url) => {
+    'a full store is told at once, and what isn\'t kept is marked and taken home': alone(async (page, url) => {
         await overfill(page, url);
         await isTold(page, 'volume-name', 'DISK, not kept');
         same('none is open,DISK, not kept', (await page.look(optionsOf('volume'))).join(), 'the list');
@@ -221,8 +169,8 @@ Object.assign(tests, {
         same(readFileSync(file('DISK')), (await page.home('#unkept-home')).bytes, 'the image');
         await page.go(`${url}?away`);
         same('', page.dialogs.join(), 'what asked after it was taken home');
-    },
-    'what was not kept is kept once there is room': async (page, url) => {
+    }),
+    'what was not kept is kept once there is room': alone(async (page, url) => {
         await overfill(page, url);
         await room(page, url);
         await setSource(page, ONE);
@@ -233,7 +181,7 @@ Object.assign(tests, {
         same(ONE, await page.look(`document.getElementById('text').value`), 'the text');
         await pane(page, 'files');
         same(readFileSync(file('DISK')), await image(page), 'the image');
-    },
+    }),
     'a store that refuses is told at once': async (page, url) => {
         await run(page, `IDBFactory.prototype.open = () => { throw new DOMException('refused', 'SecurityError'); };`);
         await page.go(url);
@@ -255,13 +203,6 @@ Object.assign(tests, {
         same(1, await page.look('persisted'), 'asked');
     },
 });
-
-// Waits for a question of the page with these words, and answers by keys: so many times Tab, and Enter; or Escape.
-async function answer(page, words, tabs) {
-    await page.until(`document.getElementById('question').open && document.getElementById('question-words').textContent.includes(${JSON.stringify(words)})`);
-    for (let k = 0; k < tabs; k++) await page.key('Tab');
-    await page.key(tabs === undefined ? 'Escape' : 'Enter');
-}
 
 Object.assign(tests, {
     'before a file of that name is written over the user is asked': async (page, url) => {
@@ -392,24 +333,4 @@ Object.assign(tests, {
     },
 });
 
-let passed = 0, failed = 0;
-for (const [name, body] of Object.entries(tests).filter(([it]) => it.includes(only))) {
-    const server = await serve(folder), page = await Browser.open();
-    work = mkdtempSync(join(tmpdir(), 'losses-'));
-    try {
-        await page.size(1200, 900);
-        await body(page, server.url);
-        if (page.errors.length) throw new Error(page.errors.join('; '));
-        passed++;
-        console.log(`losses: ${name}`);
-    } catch (error) {
-        failed++;
-        console.log(`losses: NOT ${name}: ${error.message}`);
-    } finally {
-        await page.end();
-        server.end();
-        rmSync(work, { recursive: true, force: true });
-    }
-}
-console.log(`${passed} passed, ${failed} failed`);
-process.exitCode = failed ? 1 : 0;
+await runAll('losses', tests);

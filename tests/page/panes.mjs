@@ -284,7 +284,7 @@ test('the tape reader loses no character', async page => {
     await page.click('#tear');
     await page.click('#tty-run');
     const text = Array.from({ length: 3000 }, (_, k) => k % 60 === 59 ? '\n' : String.fromCharCode(33 + k % 60)).join('');
-    await page.click('details summary');
+    await page.click('#teletype summary');
     await page.look(`document.getElementById('reader').value = ${JSON.stringify(text)}`);
     await page.click('#read');
     const wanted = text.replaceAll('\n', '');

@@ -1,0 +1,205 @@
+// shelf.mjs PROGRAM FOLDER [PART]: what a visitor plays with at once: the shelf, links, what is dropped, and the keys of editor, panes and panel.
+// As losses.mjs otherwise.
+import { readFileSync, writeFileSync } from 'node:fs';
+import { dirname, join } from 'node:path';
+import { fileURLToPath } from 'node:url';
+import { file, holds, image, isTold, native, pane, run, same, setSource, volume } from './tools.mjs';
+
+const examples = join(dirname(dirname(dirname(fileURLToPath(import.meta.url)))), 'examples');
+const example = name => readFileSync(join(examples, name));
+const ONE = '*200\n\tCLA IAC\n\tHLT\n$\n';
+const SORT = '*200\n\tCLA; TAD A\n\tHLT\nA,\t3\n$\n';
+const lit = (page, row) => page.look(`[...document.querySelectorAll('[data-row="${row}"] .lamp')].map(it => it.classList.contains('on') ? 1 : 0).join('')`);
+const press = (page, name) => page.click(`button[data-run="${name}"]`);
+
+await run('shelf', {
+    'the first sight has two sentences and a shelf, and a click plays the game': async (page, url) => {
+        await page.go(url);
+        holds(await page.look(`document.getElementById('shelf').open && !document.getElementById('files').hidden`), 'the shelf is not seen');
+        await press(page, 'guess');
+        await isTold(page, 'paper', 'WHAT IS YOUR NAME?');
+        same('GUESS', await page.look(`document.getElementById('source-name').value`), 'the text');
+        await page.click('#tty-stop');
+    },
+    'a click prints a line, and a link runs the same': async (page, url) => {
+        await page.go(url);
+        await press(page, 'hello');
+        await isTold(page, 'paper', 'HELLO');
+        await page.go('about:blank').catch(() => {});
+        await page.call('Page.navigate', { url: `${url}?b#run=hello` });
+        await page.until(`document.getElementById('tty-status')?.textContent.includes('HALT')`);
+        same(ONE.length > 0, true, 'a text');
+    },
+    'the sort is in core, and SING STEP goes from its start': async (page, url) => {
+        await page.go(url);
+        await press(page, 'sort');
+        await isTold(page, 'machine-status', 'to be sorted are at 00240');
+        await page.click('#key-load');
+        await isTold(page, 'machine-status', 'address');
+        await page.look(`geivottu.machine.panel.address = 0o200`);
+        await page.click('#key-step');
+        await page.until(`geivottu.machine.registers.pc === '0201'`);
+        await page.click('#key-step');
+        await page.until(`geivottu.machine.registers.pc === '0202'`);
+        await page.choose('#speed', 'full');
+        await page.click('#key-go');
+        await isTold(page, 'machine-status', 'HALT');
+        await page.fill('#core-from', '00240');
+        await page.key('Enter');
+        await page.until(`document.getElementById('core').textContent.startsWith('00240  0001 0002 0005 0007 0017 0024 0030 0031'.slice(0, 20))`);
+    },
+    'the lights run, and RUN is out when the machine is stopped': async (page, url) => {
+        await page.go(url);
+        await press(page, 'lights');
+        await page.until(`geivottu.machine.isGoing`);
+        await page.until(`document.querySelector('[data-row="run"] .lamp').classList.contains('on')`);
+        const first = await lit(page, 'ac');
+        await page.until(`[...document.querySelectorAll('[data-row="ac"] .lamp')].map(it => it.classList.contains('on') ? 1 : 0).join('') !== '${first}'`);
+        await page.click('#key-stop');
+        await isTold(page, 'machine-status', 'stopped by the key');
+        await page.until(`!document.querySelector('[data-row="run"] .lamp').classList.contains('on')`);
+    },
+    'the disk of the shelf has the programs and their tapes': async (page, url) => {
+        await page.go(url);
+        await press(page, 'disk');
+        await page.until(`document.getElementById('volume').value === 'SHELF' && document.querySelectorAll('#directory tbody tr').length === 8`);
+        native(['create', 'SHELF', '737']);
+        for (const it of ['hello', 'guess', 'sort', 'lights']) {
+            writeFileSync(file(`${it}.pa`), example(`${it}.pa`));
+            native(['assemble', `${it}.pa`, '--output', `${it}.bn`]);
+            native(['put', 'SHELF', `${it}.pa`, '--text']);
+            native(['put', 'SHELF', `${it}.bn`]);
+        }
+        same(readFileSync(file('SHELF')), await image(page), 'the image');
+    },
+    'a link has a text, and opens it anywhere': async (page, url) => {
+        await page.go(url);
+        await setSource(page, ONE);
+        await page.fill('#source-name', 'IT');
+        await page.look(`Object.defineProperty(navigator, 'clipboard', { value: { writeText: async it => { window.copied = it; } } })`);
+        await page.click('#link');
+        await isTold(page, 'source-status', 'A link to this text is copied');
+        const link = await page.look('copied');
+        holds(link.startsWith(`${url}#source=`) && link.endsWith('&name=IT'), link);
+        await page.fill('#source-name', 'OTHER');
+        await page.fill('#text', '/ ANOTHER\n');
+        await page.look('geivottu.store.settled()');
+        await page.go(`${url}?c${link.slice(url.length)}`);
+        await page.until(`document.getElementById('text').value === ${JSON.stringify(ONE)} && !document.getElementById('source').hidden`);
+        same('OTHER', await page.look(`document.getElementById('texts').options[1].textContent`), 'the text that was open');
+        await page.go(`${url}?d#source=@@@`);
+        await isTold(page, 'trouble', 'The link has no text that can be read');
+    },
+    'what is dropped is opened as what it is': async (page, url) => {
+        await page.go(url);
+        native(['create', 'DISK', '90']);
+        writeFileSync(file('it.pa'), ONE);
+        native(['assemble', 'it.pa', '--output', 'it.bn']);
+        const drop = async (...names) => {
+            const all = names.map(it => [it, readFileSync(file(it)).toString('base64')]);
+            await page.look(`geivottu.files.drop(${JSON.stringify(all)}.map(([name, text]) => new File([Uint8Array.from(atob(text), it => it.charCodeAt(0))], name)))`);
+        };
+        await drop('it.pa');
+        await page.until(`document.getElementById('text').value === ${JSON.stringify(ONE)} && !document.getElementById('source').hidden`);
+        await drop('it.bn');
+        await page.until(`document.getElementById('tape').selectedOptions[0].textContent === 'it.bn' && !document.getElementById('teletype').hidden`);
+        await drop('DISK');
+        await page.until(`document.getElementById('volume').value === 'DISK'`);
+        await pane(page, 'files');
+        await drop('it.pa', 'it.bn');
+        native(['put', 'DISK', 'it.pa', '--text']);
+        native(['put', 'DISK', 'it.bn']);
+        await page.until(`document.querySelectorAll('#directory tbody tr').length === 2`);
+        same(readFileSync(file('DISK')), await image(page), 'the image');
+    },
+    'Tab types a tab in the editor, Escape leaves it, and Back goes to the pane before': async (page, url) => {
+        await page.go(url);
+        await pane(page, 'source');
+        await page.look(`document.getElementById('text').focus()`);
+        await page.key('Tab');
+        await page.type('HLT');
+        same('\tHLT', await page.look(`document.getElementById('text').value`), 'the text');
+        await page.key('Escape');
+        await page.key('Tab');
+        same('listing', await page.look('document.activeElement.id'), 'the focus');
+        await pane(page, 'script');
+        await page.look('history.back()');
+        await page.until(`!document.getElementById('source').hidden`);
+        await page.look('history.back()');
+        await page.until(`!document.getElementById('files').hidden`);
+        same('', await volume(page), 'no volume');
+    },
+    'a line of the text and its words are marked together, and a click goes to the line': async (page, url) => {
+        await page.go(url);
+        await setSource(page, SORT);
+        await page.click('#assemble');
+        await isTold(page, 'source-status', 'assembled');
+        const marked = () => page.look(`[...document.querySelectorAll('#listing .at')].map(it => it.dataset.cell).join()`);
+        await page.look(`(() => { const it = document.getElementById('text'); it.focus(); it.setSelectionRange(9, 9); it.dispatchEvent(new Event('keyup')); })()`);
+        same('00200,00201', await marked(), 'the words of the second line');
+        await page.look(`document.querySelector('#listing [data-cell="00202"]').click()`);
+        same('\tHLT', await page.look(`(() => { const it = document.getElementById('text'); return it.value.slice(it.selectionStart, it.selectionEnd); })()`), 'the line that is chosen');
+    },
+    'a trace and a profile are those of the program, and the panel shows the step': async (page, url) => {
+        await page.go(url);
+        await setSource(page, SORT);
+        await page.click('#trace');
+        await isTold(page, 'doings', 'HALT');
+        writeFileSync(file('it.pa'), SORT);
+        native(['assemble', 'it.pa', '--output', 'it.bin']);
+        same(native(['trace', 'it.bin']).toString(), await page.text('doings'), 'the trace');
+        await page.look(`document.querySelectorAll('#doings [data-step]')[1].click()`);
+        same('00201', await page.look(`document.querySelector('#listing .at').dataset.cell`), 'the line of the step');
+        await page.click('#to-step');
+        await isTold(page, 'machine-status', 'after step 2');
+        same('0003', await page.look(`geivottu.machine.registers.ac`), 'the accumulator');
+        await pane(page, 'source');
+        await page.click('#profile');
+        await isTold(page, 'doings', 'NEVER 00203');
+        same(native(['profile', 'it.bin']).toString(), await page.text('doings'), 'the profile');
+        holds(await page.look(`!!document.querySelector('#listing [data-cell="00200"]').style.background`), 'the colour');
+    },
+    'switches are moved by typed octal, and by a drag': async (page, url) => {
+        await page.go(url);
+        await pane(page, 'machine');
+        await page.fill('#switches-shown', '1234');
+        await page.key('Enter');
+        const switches = () => page.look(`geivottu.machine.panel.switches`);
+        same(0o1234, await switches(), 'the switches that were typed');
+        await page.fill('#switches-shown', '9');
+        await page.key('Tab');
+        same('1234', await page.look(`document.getElementById('switches-shown').value`), 'what is no word');
+        await page.fill('#switches-shown', '0');
+        await page.key('Enter');
+        const places = await page.look(`[...document.querySelectorAll('#switch-register .switch')].map(it => { const box = it.getBoundingClientRect(); return [box.x + box.width / 2, box.y + box.height / 2]; })`);
+        const mouse = (type, [x, y], buttons) => page.call('Input.dispatchMouseEvent', { type, x, y, button: 'left', buttons, clickCount: 1 });
+        await mouse('mousePressed', places[9], 1);
+        for (const it of [10, 11]) await mouse('mouseMoved', places[it], 1);
+        await mouse('mouseReleased', places[11], 0);
+        same(0o0007, await switches(), 'the switches that were dragged');
+        await page.click('#switch-register .switch');
+        same(0o4007, await switches(), 'the switch that was clicked');
+    },
+    'the page works without a network once it was seen': async (page, url) => {
+        await page.go(url);
+        await page.until(`navigator.serviceWorker.ready.then(it => !!it.active)`);
+        await page.until(`caches.open('geivottu').then(it => it.keys()).then(it => it.length > 20)`);
+        await page.call('Network.emulateNetworkConditions', { offline: true, latency: 0, downloadThroughput: -1, uploadThroughput: -1 });
+        await page.go(`${url}?away`);
+        await press(page, 'hello');
+        await isTold(page, 'paper', 'HELLO');
+    },
+    'at most twelve stops of Tab come before the text that is shown, and arrows go through the directory': async (page, url) => {
+        await page.go(url);
+        await press(page, 'disk');
+        await page.until(`document.querySelectorAll('#directory tbody tr').length === 8`);
+        await page.look(`document.activeElement.blur(); scrollTo(0, 0)`);
+        let stops = 0;
+        for (; stops < 40 && await page.look(`document.activeElement.id !== 'shown'`); stops++) await page.key('Tab');
+        holds(stops <= 13, `${stops} stops of Tab`);
+        await page.look(`document.querySelector('#directory tbody button').focus()`);
+        await page.key('ArrowDown');
+        await page.key('ArrowRight');
+        same('GUESS.PA as the listing of a tape', await page.look(`document.activeElement.getAttribute('aria-label')`), 'the button');
+    },
+});

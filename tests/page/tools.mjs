@@ -1,0 +1,100 @@
+// What the tests of the page share: each test has a tab with a profile of its own, a folder of the host, and the native program beside it.
+import { spawnSync } from 'node:child_process';
+import { mkdtempSync, rmSync } from 'node:fs';
+import { tmpdir } from 'node:os';
+import { join, resolve } from 'node:path';
+import { Browser, serve } from './browser.mjs';
+
+const [program, folder] = process.argv.slice(2, 4).map(it => resolve(it));
+const only = process.argv[4] ?? '';
+let work = '';
+
+// A file of the host in the test's folder.
+export const file = name => join(work, name);
+
+// What the native program writes to standard output.
+export const native = (words, input = '') => spawnSync(program, words, { cwd: work, input, maxBuffer: 1 << 28 }).stdout;
+
+export const isTold = (page, id, part) => page.until(`document.getElementById('${id}').textContent.includes(${JSON.stringify(part)})`);
+export const pane = (page, name) => page.click(`#tab-${name}`);
+export const optionsOf = id => `[...document.getElementById('${id}').options].map(it => it.textContent)`;
+
+export function same(wanted, got, what) {
+    const equal = Buffer.isBuffer(wanted) ? wanted.equals(Buffer.from(got)) : wanted === got;
+    if (!equal) throw new Error(`${what}: wanted ${show(wanted)}, got ${show(got)}`);
+}
+
+function show(it) { return Buffer.isBuffer(it) ? `${it.length} bytes ${it.subarray(0, 40).toString('hex')}` : JSON.stringify(it); }
+
+export function holds(it, what) { if (!it) throw new Error(what); }
+
+// The image of the volume that is open, and its name.
+export const image = async page => (await page.home('#take-image')).bytes;
+export const volume = page => page.look(`document.getElementById('volume').value`);
+
+// A further tab with the page.
+export async function further(page, url) {
+    const it = await page.tab();
+    await it.go(url);
+    return it;
+}
+
+// A new volume in the page, and the same natively.
+export async function create(page, name, blocks = 90) {
+    await pane(page, 'files');
+    await page.fill('#new-name', name);
+    await page.fill('#new-blocks', String(blocks));
+    await page.click('#create');
+    await isTold(page, 'files-status', `CREATED ${blocks}`);
+    await page.until(`document.getElementById('volume').value === '${name}'`);
+    native(['create', name, String(blocks)]);
+}
+
+export async function setSource(page, text) {
+    await pane(page, 'source');
+    await page.fill('#text', text);
+}
+
+// Puts files into the volume that is open.
+export async function put(page, form, ...names) {
+    await pane(page, 'files');
+    await page.choose('#put-as', form);
+    await page.give('#put', ...names.map(file));
+}
+
+// Waits for a question of the page with these words, and answers by keys: so many times Tab, and Enter; or Escape.
+export async function answer(page, words, tabs) {
+    await page.until(`document.getElementById('question').open && document.getElementById('question-words').textContent.includes(${JSON.stringify(words)})`);
+    for (let k = 0; k < tabs; k++) await page.key('Tab');
+    await page.key(tabs === undefined ? 'Escape' : 'Enter');
+}
+
+// Marks a test that wants a browser of its own, since a further user's store has other limits.
+export const alone = body => Object.assign(body, { isAlone: true });
+
+// Runs the tests, by their names, of a file of this name, and prints 'N passed, M failed'.
+export async function run(title, tests) {
+    const browser = await Browser.open();
+    let passed = 0, failed = 0;
+    for (const [name, body] of Object.entries(tests).filter(([it]) => it.includes(only))) {
+        const server = await serve(folder), page = await (body.isAlone ? Browser.open() : browser.user());
+        work = mkdtempSync(join(tmpdir(), `${title}-`));
+        try {
+            await page.size(1200, 900);
+            await body(page, server.url);
+            if (page.errors.length) throw new Error(page.errors.join('; '));
+            passed++;
+            console.log(`${title}: ${name}`);
+        } catch (error) {
+            failed++;
+            console.log(`${title}: NOT ${name}: ${error.message}`);
+        } finally {
+            await page.end();
+            server.end();
+            rmSync(work, { recursive: true, force: true });
+        }
+    }
+    await browser.end();
+    console.log(`${passed} passed, ${failed} failed`);
+    process.exitCode = failed ? 1 : 0;
+}

@@ -1,0 +1,116 @@
+// The texts of Source, by their names. One is open; the others wait in the store, and lose nothing while they do.
+import { $, made, tell } from './dom.js';
+import { ask } from './ask.js';
+
+export class Texts extends EventTarget {
+    constructor(page) {
+        super();
+        this.page = page;
+        $('texts').addEventListener('change', event => this.open(event.target.value));
+        $('text-new').addEventListener('click', () => this.add('', ''));
+        $('text-drop').addEventListener('click', () => this.#remove());
+        $('source-name').addEventListener('change', () => this.#rename());
+        page.store.addEventListener('note', () => this.list());
+        this.name = this.#stored;
+        this.list();
+    }
+
+    get #stored() { return this.page.store.notes.get('source-name') ?? ''; }
+
+    // The names of those that aren't open.
+    get others() {
+        return [...this.page.store.notes.keys()].filter(it => it.startsWith('text ')).map(it => it.slice(5)).filter(it => it !== this.name).sort();
+    }
+
+    list() {
+        const rows = [made('option', { value: '' }, this.name || 'no name yet'), ...this.others.map(it => made('option', { value: it }, it))];
+        $('texts').replaceChildren(...rows);
+        $('texts').selectedIndex = 0;
+    }
+
+    // Another tab's text, by its name as that tab has it.
+    follow() {
+        this.name = this.#stored;
+        $('source-name').value = this.name;
+        this.list();
+    }
+
+    // Lays the open text beside the others. One without a name gets one.
+    #close() {
+        const { store } = this.page, text = store.notes.get('text') ?? '';
+        if (text.trim() === '' && this.name === '') return;
+        store.note(`text ${this.name || this.#free('TEXT')}`, text);
+    }
+
+    #show(name, text) {
+        const { store } = this.page;
+        this.name = name;
+        $('source-name').value = name;
+        store.note('source-name', name);
+        store.note('text', text);
+        this.list();
+        this.dispatchEvent(new CustomEvent('open', { detail: text }));
+    }
+
+    // Opens a text that waits.
+    open(name) {
+        const text = this.page.store.notes.get(`text ${name}`);
+        if (text === undefined || name === this.name) return this.list();
+        this.#close();
+        this.#show(name, text);
+    }
+
+    // A further text, which is open from then on. Where there is one of that name with other words the user is asked. Whether it is open.
+    async add(name, text) {
+        const { store } = this.page, old = name === this.name ? store.notes.get('text') : store.notes.get(`text ${name}`);
+        const isOver = name !== '' && old !== undefined && old !== text && old.trim() !== '';
+        const free = this.#free(name), answer = isOver ? await ask(`There is a text ${name}.`, ['free', `Call the new one ${free}`], ['over', 'Write over it'], ['', 'Leave it']) : 'over';
+        if (answer === '') return false;
+        if (answer === 'over' && isOver && name === this.name) {
+            store.note(`text ${name}`, store.notes.get('text'));
+            store.setText(name, text);
+        } else {
+            this.#close();
+            if (answer === 'over' && isOver) store.setText(name, text);
+        }
+        this.#show(answer === 'free' ? free : name, text);
+        return true;
+    }
+
+    // A name that no text has, like the one that is wanted, of six characters at most.
+    #free(wanted) {
+        const all = [this.name, ...this.others];
+        for (let k = 2; ; k++) {
+            const name = `${wanted.slice(0, 6 - String(k).length)}${k}`;
+            if (!all.includes(name)) return name;
+        }
+    }
+
+    // The open text gets the name that was typed, unless another has it.
+    #rename() {
+        const { store } = this.page, old = this.name, name = $('source-name').value.trim();
+        if (name !== '' && name !== old && this.others.includes(name)) {
+            $('source-name').value = old;
+            return tell('source-status', `There is another text ${name}: open that one, or remove it first.`, true);
+        }
+        $('source-name').value = name;
+        this.name = name;
+        store.note('source-name', name);
+        if (old !== name && store.notes.has(`text ${old}`)) store.forget(`text ${old}`);
+        this.list();
+    }
+
+    // Takes the open text away; Undo brings it back.
+    #remove() {
+        const { store } = this.page, text = store.notes.get('text') ?? '', name = this.name || this.#free('TEXT');
+        if (text.trim() !== '') {
+            store.note(`text ${name}`, text);
+            this.page.undo.begin(`text ${name}`, `the removal of the text ${name}`);
+            store.setText(name, undefined);
+            this.page.undo.end(`text ${name}`);
+        }
+        const [next] = this.others;
+        next === undefined ? this.#show('', '') : this.#show(next, store.notes.get(`text ${next}`));
+        if (text.trim() !== '') tell('source-status', `The text ${name} is removed. Undo brings it back.`);
+    }
+}

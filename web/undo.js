@@ -1,0 +1,123 @@
+// What brings back what a change of a volume, or of a text that isn't open, has taken away: of each change the bytes that differ, as they
+// were and as they became. All is kept in the page, and gone with it.
+import { bytesOf } from './program.js';
+
+const BLOCK = 512, MOST = 50, ROOM = 96 << 20;
+
+export class Undo extends EventTarget {
+    #past = [];
+    #future = [];
+    #open = new Map();
+    #isOwn = false;
+
+    constructor(store) {
+        super();
+        this.store = store;
+        store.addEventListener('change', ({ detail }) => this.#changed(detail));
+    }
+
+    // What would be undone next, and what would be done again, in words; null for none.
+    get next() { return this.step(false)?.words ?? null; }
+
+    get again() { return this.step(true)?.words ?? null; }
+
+    // The step that would be undone, or done again, next.
+    step(isAgain) { return (isAgain ? this.#future : this.#past).at(-1); }
+
+    // From now on until `end` all changes of a thing are one, which is called by these words. Whether it wasn't so already.
+    begin(id, words) {
+        if (this.#open.has(id)) return false;
+        this.#open.set(id, { words });
+        return true;
+    }
+
+    end(id) {
+        const it = this.#open.get(id);
+        this.#open.delete(id);
+        if (it?.slot) this.#keep(it);
+    }
+
+    // All changes of a thing that the work makes are one.
+    async group(id, words, work) {
+        const isOwn = this.begin(id, words);
+        try {
+            return await work();
+        } finally {
+            if (isOwn) this.end(id);
+        }
+    }
+
+    #changed({ slot, key, before, after }) {
+        if (this.#isOwn) return;
+        const it = this.#open.get(key);
+        if (!it) return this.#keep({ slot, key, before, after, words: `the change of ${key}` });
+        if (!it.slot) Object.assign(it, { slot, key, before });
+        it.after = after;
+    }
+
+    #keep({ slot, key, before, after, words }) {
+        const step = stepOf(slot, key, before, after, words);
+        if (!step) return;
+        this.#past.push(step);
+        this.#future = [];
+        const size = () => this.#past.reduce((sum, it) => sum + it.size, 0);
+        while (this.#past.length > MOST || (this.#past.length > 1 && size() > ROOM)) this.#past.shift();
+        this.dispatchEvent(new Event('change'));
+    }
+
+    // Undoes the newest change, or does again what was undone last. Gives the step, or null where the thing was changed by another tab
+    // since; `mayChange` says whether it may be changed now.
+    async go(isAgain, mayChange) {
+        const [from, to] = isAgain ? [this.#future, this.#past] : [this.#past, this.#future];
+        const step = from.at(-1);
+        if (!step || !await mayChange(step)) return null;
+        if (from.at(-1) !== step) return null;
+        from.pop();
+        const value = laid(this.store[step.slot].get(step.key), step, isAgain);
+        const isDone = value !== null;
+        if (isDone) {
+            this.#isOwn = true;
+            this.store.set(step.slot, step.key, value);
+            this.#isOwn = false;
+            to.push(step);
+        }
+        this.dispatchEvent(new Event('change'));
+        return { ...step, isDone };
+    }
+}
+
+// A change as what is kept of it, null where nothing changed. A thing that was not there before, or isn't after, is kept whole.
+function stepOf(slot, key, before, after, words) {
+    const was = before === undefined ? null : bytesOf(before), is = after === undefined ? null : bytesOf(after);
+    const isText = typeof (before ?? after) === 'string', step = { slot, key, words, isText };
+    if (!was || !is) return was || is ? { ...step, was, is, size: (was ?? is).length } : null;
+    const parts = [], most = Math.max(was.length, is.length);
+    for (let at = 0; at < most; at += BLOCK) {
+        const old = was.subarray(at, at + BLOCK), fresh = is.subarray(at, at + BLOCK);
+        if (!isSame(old, fresh)) parts.push({ at, old: old.slice(), fresh: fresh.slice() });
+    }
+    if (!parts.length) return null;
+    const size = parts.reduce((sum, it) => sum + it.old.length + it.fresh.length, 0);
+    return { ...step, parts, lengths: [was.length, is.length], size };
+}
+
+// A value with a step undone, or done again: undefined for none. Null where it isn't what the step left.
+function laid(value, { was, is, parts, lengths, isText }, isAgain) {
+    const now = value === undefined ? null : bytesOf(value);
+    if (!parts) {
+        const [left, wanted] = isAgain ? [was, is] : [is, was];
+        if (!(now === left || (now && left && isSame(now, left)))) return null;
+        return wanted === null ? undefined : worded(wanted, isText);
+    }
+    const [left, wanted] = isAgain ? lengths : [lengths[1], lengths[0]];
+    const sides = parts.map(({ at, old, fresh }) => isAgain ? { at, there: old, given: fresh } : { at, there: fresh, given: old });
+    if (now?.length !== left || !sides.every(({ at, there }) => isSame(there, now.subarray(at, at + there.length)))) return null;
+    const bytes = new Uint8Array(wanted);
+    bytes.set(now.subarray(0, wanted));
+    for (const { at, given } of sides) bytes.set(given, at);
+    return worded(bytes, isText);
+}
+
+function worded(bytes, isText) { return isText ? new TextDecoder().decode(bytes) : bytes; }
+
+function isSame(a, b) { return a.length === b.length && a.every((byte, k) => byte === b[k]); }
