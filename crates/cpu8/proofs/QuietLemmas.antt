@@ -5,7 +5,7 @@ use Rattle.tty8.specs.Teletype.{is_requesting}
 use Rattle.cpu8.specs.State.{State, next_cell, printer_done}
 use Rattle.cpu8.specs.Step.{executed, fetched, step}
 use Rattle.cpu8.specs.Go.{printing_step, after, answer, break_ahead, reason, ending, IsGo, character_of, printed_by, is_break}
-use Rattle.cpu8.specs.QuietSteps.{is_quiet, Stays, Does, Ends, AreQuiet}
+use Rattle.cpu8.specs.QuietSteps.{is_quiet, Stays, Does, DoesOrNot, Ends, EndsOrNot, IsQuietStep, AreQuiet}
 use Rattle.cpu8.specs.declared.outcomes.Stepped.{Stepped}
 use Rattle.cpu8.specs.declared.outcomes.Stepped.TheVariants.{Ran, Stopped, Interrupted, Halted, Unassigned}
 use Rattle.cpu8.specs.declared.outcomes.Why.{Why}
@@ -60,6 +60,16 @@ quiet-ended quick breaks k s old new at h ahead ends before = below_more _ _ bef
 ended : (old new : State) → Does old (fetched old) new → Ends old new
 ended old new does = record { state = does.state; answer = does.answer }
 
+-- the same where an answer tells whether it is done
+pub ended-or-not : (old new : State) (done : Bool) → DoesOrNot old (fetched old) done new → EndsOrNot old done new
+ended-or-not old new true does = ended old new does
+ended-or-not old new false same = same
+
+pub stays-quiet-does : (quick : Bool) (old new : State) (done : Bool) → done ≡ true → is_quiet quick old ≡ true
+    → DoesOrNot old (fetched old) done new → is_quiet quick new ≡ true
+stays-quiet-does quick old new true done h does = stays-quiet quick old new h does.stays
+stays-quiet-does quick old new false done h same = absurd (true≢false (sym done))
+
 pub after-quiet : (quick : Bool) (k : ℕ) (s old new : State) → old ≡ after quick k s → is_quiet quick old ≡ true → Does old (fetched old) new
     → new ≡ after quick (k + 1) s
 after-quiet quick k s old new at h does = after-ended quick k s old new at h (ended old new does)
@@ -84,6 +94,33 @@ answer-add quick a b s = ap (λ x. (printing_step quick x).1) (after-add quick a
 
 fewer-quiet : (quick : Bool) (breaks : List Bool) (s : State) (k : ℕ) → AreQuiet quick breaks s (suc k) → AreQuiet quick breaks s k
 fewer-quiet quick breaks s k quiet m below = quiet m (omega (arith, below))
+
+quiet-behind : (quick : Bool) (breaks : List Bool) (s : State) (a b : ℕ) → (0 < a → is_break breaks (next_cell (after quick a s)) ≡ false)
+    → IsQuietStep quick breaks (after quick a s) b → IsQuietStep quick breaks s (a + b)
+quiet-behind quick breaks s a zero ahead step =
+    let e : a + 0 ≡ a = omega arith in record {
+      answer = answer-add quick a zero s ∙ step.answer;
+      ahead = λ more. ap (λ k. is_break breaks (next_cell (after quick k s))) e ∙ ahead (omega (arith, more));
+    }
+quiet-behind quick breaks s a (suc b) ahead step = record {
+  answer = answer-add quick a (suc b) s ∙ step.answer;
+  ahead = λ _. ap (λ x. is_break breaks (next_cell x)) (after-add quick a (suc b) s) ∙ step.ahead (omega arith);
+}
+
+quiet-add : (quick : Bool) (breaks : List Bool) (s : State) (a b : ℕ) → AreQuiet quick breaks s a
+    → (0 < a → is_break breaks (next_cell (after quick a s)) ≡ false) → AreQuiet quick breaks (after quick a s) b → AreQuiet quick breaks s (a + b)
+quiet-add quick breaks s a zero before ahead quiet m below = before m (omega (arith, below))
+quiet-add quick breaks s a (suc b) before ahead quiet m below =
+    below_more (λ m. IsQuietStep quick breaks s m) (a + b)
+    (quiet-add quick breaks s a b before ahead (fewer-quiet quick breaks (after quick a s) b quiet))
+    (quiet-behind quick breaks s a b ahead (quiet b (omega arith))) m (omega (arith, below))
+
+-- quiet steps, and more from the state that they left
+pub quiet-run : (quick : Bool) (breaks : List Bool) (a b : ℕ) (s mid : State) → mid ≡ after quick a s → AreQuiet quick breaks s a
+    → (0 < a → is_break breaks (next_cell mid) ≡ false) → AreQuiet quick breaks mid b → AreQuiet quick breaks s (a + b)
+quiet-run quick breaks a b s mid at before ahead quiet =
+    quiet-add quick breaks s a b before (λ more. ap (λ x. is_break breaks (next_cell x)) (sym at) ∙ ahead more)
+    (subst (λ x. AreQuiet quick breaks x b) at quiet)
 
 pub printed-quiet : (quick : Bool) (breaks : List Bool) (s : State) (a k : ℕ) → AreQuiet quick breaks (after quick a s) k
     → printed_by quick (a + k) s ≡ printed_by quick a s

@@ -8,7 +8,7 @@ ghost use Rattle.cpu8.specs.Fetches.{AddsFetches, HaveRoom};
 ghost use Rattle.cpu8.specs.Go.{IsGo, after, break_ahead, character_of, printed_by, reason, printing_step};
 
 use super::Machine;
-use crate::processors::quiet::is_break;
+use crate::processors::quiet::{FEW, is_break};
 use crate::{Gone, Stepped, Why};
 use word12::{CORE, FIELD};
 
@@ -94,8 +94,8 @@ impl Machine {
             && !self.processor.finds_transfer(&self.core)
     }
 
-    /// Makes up to n steps as long as they are quiet, and no break is ahead; none where breaks tell of some cells alone,
-    /// or a field or an interrupt waits for an instruction.
+    /// Makes up to n steps as long as they are quiet, and no break is ahead. Where few were made, IOTs come close together,
+    /// and the loop with IOTs goes on. It comes back after `MOST` steps, since a wait for a flag is made sooner without it.
     #[inline(always)]
     fn run_quietly(
         &mut self,
@@ -109,9 +109,46 @@ impl Machine {
         ensures state { self.new ≡ after quick result self.old }
         ensures quiet { AreQuiet quick breaks.now self.old result }
     {
-        if !self.processor.is_quiet(quick) || !self.processor.is_settled() {
+        if !self.begins_quietly(quick) {
             return 0;
         }
+        let made = self.run_settled(n, quick, breaks, unbroken);
+        if made >= FEW || self.processor.finds_print(&self.core) {
+            return made;
+        }
+        if !self.processor.is_quiet(quick) || is_break(breaks, self.next_cell()) {
+            return made;
+        }
+        made + self.run_with_transfers((n - made).min(MOST), quick, breaks)
+    }
+
+    /// Whether steps may be quiet, and are worth it.
+    #[inline(always)]
+    fn begins_quietly(&self, quick: bool) -> bool
+        ensures quiet { result ≡ true → is_quiet quick self.now ≡ true }
+        ensures settled { result ≡ true → is_settled self.now ≡ true }
+    {
+        self.processor.is_quiet(quick)
+            && self.processor.is_settled()
+            && !self.processor.finds_print(&self.core)
+    }
+
+    /// The steps of a quiet machine up to the next IOT: none where breaks tell of some cells alone.
+    #[inline(always)]
+    fn run_settled(
+        &mut self,
+        n: usize,
+        quick: bool,
+        breaks: &[bool],
+        unbroken: &[bool; FIELDS],
+    ) -> usize
+        requires quiet { is_quiet quick self.old ≡ true }
+        requires settled { is_settled self.old ≡ true }
+        requires unbroken { AreUnbroken breaks.now unbroken.now }
+        ensures within { result ≤ n }
+        ensures state { self.new ≡ after quick result self.old }
+        ensures quiet { AreQuiet quick breaks.now self.old result }
+    {
         if unbroken[usize::from(self.processor.instruction_field)] {
             return self.run_without_breaks(n, quick, false, breaks);
         }
@@ -119,6 +156,18 @@ impl Machine {
             return self.run_with_breaks(n, quick, breaks);
         }
         0
+    }
+
+    /// The steps of a quiet machine with IOTs among them.
+    #[inline(never)]
+    fn run_with_transfers(&mut self, n: usize, quick: bool, breaks: &[bool]) -> usize
+        requires { is_quiet quick self.old ≡ true }
+        ensures within { result ≤ n }
+        ensures state { self.new ≡ after quick result self.old }
+        ensures quiet { AreQuiet quick breaks.now self.old result }
+    {
+        self.processor
+            .run_with_transfers(&mut self.core, n, quick, breaks)
     }
 
     /// The steps of a quiet machine in a field without breaks: on a copy of the processor, which so stays in registers of
@@ -237,3 +286,6 @@ fn unbroken_fields(n: usize, breaks: &[bool]) -> [bool; FIELDS]
 }
 
 const FIELDS: usize = 8;
+
+/// The most steps that the loop with IOTs makes in one go.
+const MOST: usize = 256;

@@ -1,12 +1,14 @@
 //! Steps with no look at the Teletype: what a run mostly makes, on a processor of its own that the compiler keeps in
 //! registers. So every function here is inlined, and what is rare is left to the other steps. The larger ones have the
-//! parameters MINDS, whether breaks are minded, and COUNTS, whether fetches are counted, so that each stands in the program
-//! once for each of the three loops, and not once for all, which would not be inlined.
+//! parameters MINDS, whether breaks are minded, COUNTS, whether fetches are counted, and TRANSFERS, whether IOTs are among
+//! the steps, so that each stands in the program once for each of the four loops, and not once for all, which would not be
+//! inlined.
 
 ghost use Rattle.std.specs.Prelude.{◌≡◌, ◌<◌, ◌≤◌, ◌/◌, true, false, nat_eq, length};
 ghost use Rattle.word12.specs.declared.sizes.TheConstants.{CORE};
 ghost use Rattle.cpu8.specs.State.{next_cell, with_core};
 ghost use Rattle.cpu8.specs.Step.{fetched};
+ghost use Rattle.cpu8.specs.Transfer.{read_row};
 ghost use Rattle.cpu8.specs.Go.{after, is_break};
 ghost use Rattle.cpu8.specs.Fetches.{AddsFetches, HaveRoom};
 ghost use Rattle.cpu8.specs.Unasked.{AreUnasked, finds_no_key, is_ksf};
@@ -84,7 +86,7 @@ impl Processor {
     {
         let _quick = quick;
         for made in 0..n {
-            if !self.step_quietly::<MINDS, false>(core, asks) {
+            if !self.step_quietly::<MINDS, false, false>(core, asks) {
                 if !asks && self.end_by_transfer(core) {
                     return made + 1;
                 }
@@ -111,10 +113,41 @@ impl Processor {
     {
         for made in 0..n {
             let cell = self.next_cell();
-            if !self.step_quietly::<false, true>(core, true) {
+            if !self.step_quietly::<false, true, false>(core, true) {
                 return made;
             }
             counts[cell.index()] += 1;
+        }
+        n
+    }
+
+    /// Makes up to n steps as long as they are quiet and no break is ahead, with every IOT among them that prints nothing. It
+    /// is a loop beside the others, so that what an IOT changes is constant in those. After some steps without an IOT it ends,
+    /// since the others make such steps sooner.
+    #[inline(always)]
+    pub(crate) fn run_with_transfers(
+        &mut self,
+        core: &mut Core,
+        n: usize,
+        quick: bool,
+        breaks: &[bool],
+    ) -> usize
+        requires { is_quiet quick self.old ≡ true }
+        ensures within { result ≤ n }
+        ensures state { with_core self.new core.new ≡ after quick result (with_core self.old core.old) }
+        ensures quiet { AreQuiet quick breaks.now (with_core self.old core.old) result }
+    {
+        let mut left = REST;
+        for made in 0..n {
+            if left == 0 {
+                return made;
+            }
+            if !self.step_with_transfers(core, quick, &mut left) {
+                return made;
+            }
+            if is_break(breaks, self.next_cell()) {
+                return made + 1;
+            }
         }
         n
     }
@@ -125,6 +158,14 @@ impl Processor {
         ensures { result ≡ nat_eq (fetched (with_core self.now core.now) / 0o1000) 6 }
     {
         core.get(self.next_cell()).get() / 0o1000 == 6
+    }
+
+    /// Whether the next instruction prints: 6044 to 6047.
+    #[inline(always)]
+    pub(crate) fn finds_print(&self, core: &Core) -> bool
+        ensures { result ≡ nat_eq (fetched (with_core self.now core.now) / 4) 0o1411 }
+    {
+        core.get(self.next_cell()).get() / 4 == 0o1411
     }
 
     /// Whether the next instruction is a KSF, and the keyboard flag is clear.
@@ -147,7 +188,7 @@ impl Processor {
 
     /// The next instruction, if it is one that is done here. If it asks, a KSF that finds the keyboard flag clear is none.
     #[inline(always)]
-    fn step_quietly<const MINDS: bool, const COUNTS: bool>(
+    fn step_quietly<const MINDS: bool, const COUNTS: bool, const TRANSFERS: bool>(
         &mut self,
         core: &mut Core,
         asks: bool,
@@ -191,8 +232,32 @@ impl Processor {
             0o31 => return self.transfer_quietly(core, leading(0o31, word)),
             0o32 => return self.transfer_quietly(core, leading(0o32, word)),
             0o33 => return self.transfer_quietly(core, leading(0o33, word)),
-            _ => return self.operate_quietly::<MINDS, COUNTS>(core, word),
+            _ => return self.operate_quietly::<MINDS, COUNTS, TRANSFERS>(core, word),
         }
+        true
+    }
+
+    /// The next instruction, if it prints nothing and goes on. So many steps are left behind it: `REST` after an IOT, and one less
+    /// after another instruction. None is left where the machine is quiet no more.
+    #[inline(always)]
+    fn step_with_transfers(&mut self, core: &mut Core, quick: bool, left: &mut usize) -> bool
+        requires quiet { is_quiet quick self.old ≡ true }
+        requires left { 0 < left.old }
+        ensures does { EndsOrNot (with_core self.old core.old) result (with_core self.new core.new) }
+        ensures quiet { result ≡ true → 0 < left.new → is_quiet quick self.new ≡ true }
+    {
+        if !self.finds_transfer(core) {
+            *left -= 1;
+            return self.step_quietly::<false, false, true>(core, false);
+        }
+        if !self.end_by_transfer(core) {
+            return false;
+        }
+        if !self.is_quiet(quick) {
+            *left = 0;
+            return true;
+        }
+        *left = REST;
         true
     }
 
@@ -215,7 +280,7 @@ impl Processor {
         }
     }
 
-    /// KSF, TSF or CDF; the other IOTs are not done here.
+    /// KSF, TSF, CDF, RDF or RIF; the other IOTs are not done here.
     #[tactic(auto, unfolding(crate::specs::Step::executed))]
     #[inline(always)]
     fn transfer_quietly(&mut self, core: &Core, word: Word) -> bool
@@ -223,7 +288,7 @@ impl Processor {
         ensures { DoesOrNot (with_core self.old core.now) word result (with_core self.new core.now) }
     {
         if pulses_of(word) != 1 {
-            return false;
+            return self.read_quietly(core, word);
         }
         let keyboard_flag = self.teletype.keyboard_flag();
         let printer_flag = self.teletype.printer_flag();
@@ -234,6 +299,42 @@ impl Processor {
             Device::Interrupts => return false,
             Device::Other => self.advance(),
         }
+        true
+    }
+
+    /// RDF or RIF, which change no more than AC and PC.
+    #[tactic(auto, unfolding(crate::specs::Step::executed))]
+    #[inline(always)]
+    fn read_quietly(&mut self, core: &Core, word: Word) -> bool
+        requires { word / 0o1000 ≡ 6 }
+        ensures { DoesOrNot (with_core self.old core.now) word result (with_core self.new core.now) }
+    {
+        if pulses_of(word) != 4 {
+            return false;
+        }
+        match device_of(word) {
+            Device::Fields => return self.read_field_quietly(field_of(word)),
+            Device::Interrupts => return false,
+            Device::Keyboard => return false,
+            Device::Printer => return false,
+            Device::Other => return false,
+        }
+    }
+
+    /// RDF or RIF, by its number: 1 or 2.
+    #[inline(always)]
+    fn read_field_quietly(&mut self, number: u8) -> bool
+        ensures reads { result ≡ true → self.new ≡ read_row self.old number }
+        ensures stays { result ≡ false → self.new ≡ self.old }
+        ensures buffer { self.new.instruction_buffer ≡ self.old.instruction_buffer }
+    {
+        let field = match number {
+            1 => self.data_field,
+            2 => self.instruction_field,
+            _ => return false,
+        };
+        self.advance();
+        self.or_into_ac(8 * field);
         true
     }
 
@@ -266,7 +367,7 @@ impl Processor {
     /// An operate instruction that goes on: all of group 1 that are assigned, a row for each choice of CLA, CLL, CMA and CML, and
     /// all of group 2 without HLT.
     #[inline(always)]
-    fn operate_quietly<const MINDS: bool, const COUNTS: bool>(
+    fn operate_quietly<const MINDS: bool, const COUNTS: bool, const TRANSFERS: bool>(
         &mut self,
         core: &Core,
         word: Word,
@@ -318,6 +419,12 @@ impl Processor {
         }
     }
 }
+
+/// Where fewer steps lie between two IOTs, the loop with IOTs makes them.
+pub(crate) const FEW: usize = 3;
+
+/// After so many steps without an IOT that loop ends. They are more than `FEW`, since a loop of a program ends by ISZ and JMP.
+const REST: usize = 6;
 
 /// The word, of which the five leading bits are these.
 #[inline(always)]

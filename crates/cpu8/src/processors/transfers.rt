@@ -123,7 +123,7 @@ impl Processor {
     }
 
     #[inline(always)]
-    fn or_into_ac(&mut self, bits: u8)
+    pub(super) fn or_into_ac(&mut self, bits: u8)
         ensures { self.new ≡ record self.old { ac = bit_or self.old.ac bits } }
     {
         self.ac = self.ac.or(Word::low(u16::from(bits)));
