@@ -1,5 +1,5 @@
 -- The calls of a host, each with its answer.
-use Rattle.std.specs.Prelude.{ℕ, Bool, true, false, List, [], if◌then◌else◌}
+use Rattle.std.specs.Prelude.{ℕ, Bool, true, List, [], if◌then◌else◌}
 
 -- what may change the file of a path, or the one beside it
 pub data Change : Type 0 where

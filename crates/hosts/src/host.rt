@@ -30,21 +30,21 @@ pub trait Host {
 
     /// What the held file holds, or one byte more than `most` where it has more than these.
     fn look_held(&mut self, alloc: Global, path: &str, most: usize) -> Result<Vec<u8>, HostFault>
-        ensures { MatchResult result
+        ensures call { MatchResult result
             (λ bytes. history self.new ≡ look_call path.now true bytes.items ∷ history self.old)
             (λ _. history self.new ≡ look_call path.now false [] ∷ history self.old) }
         ensures most { IfOk result (λ bytes. length bytes.items ≤ most + 1) };
 
     /// What a file holds that is not held, or one byte more than `most` where it has more than these.
     fn look(&mut self, alloc: Global, name: &str, most: usize) -> Result<Vec<u8>, HostFault>
-        ensures { MatchResult result
+        ensures call { MatchResult result
             (λ bytes. history self.new ≡ look_call name.now true bytes.items ∷ history self.old)
             (λ _. history self.new ≡ look_call name.now false [] ∷ history self.old) }
         ensures most { IfOk result (λ bytes. length bytes.items ≤ most + 1) };
 
     /// What standard input gives to its end, or one byte more than `most` where it gives more than these.
     fn take_input(&mut self, alloc: Global, most: usize) -> Result<Vec<u8>, HostFault>
-        ensures { MatchResult result
+        ensures call { MatchResult result
             (λ bytes. history self.new ≡ input_call true bytes.items ∷ history self.old)
             (λ _. history self.new ≡ input_call false [] ∷ history self.old) }
         ensures most { IfOk result (λ bytes. length bytes.items ≤ most + 1) };
