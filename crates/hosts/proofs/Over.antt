@@ -1,6 +1,5 @@
 -- A file that is written in its place, in two pieces.
-use Rattle.std.proofs.Common.{◌≡◌, ℕ, zero, suc, true, List, [], ◌∷◌, ◌++◌, length, take, drop, Some, refl, ap, sym, ◌∙◌, ◌==◌, append_assoc, arith}
-use Rattle.std.proofs.lemmas.Bool.Decides.{nat_tests}
+use Rattle.std.proofs.Common.{◌≡◌, ℕ, zero, suc, true, List, [], ◌∷◌, ◌++◌, length, take, drop, Some, refl, ap, sym, append_assoc}
 use Rattle.std.proofs.lemmas.List.{take-append-drop}
 use Rattle.hosts.specs.Event.{WriteOver, FinishOver}
 use Rattle.hosts.specs.Place.{Step, Left, Just, replay, patched, patched_left, cut_left}
@@ -46,22 +45,5 @@ written_head bytes old start was is =
     let seen = head_left bytes was (replay start old).seen is in
     record { seen = seen; on_disk = seen; earlier = refl }
 
-no_rest : (bytes : List ℕ) → bytes ++ [] ≡ bytes
-no_rest [] = refl
-no_rest (byte ∷ bytes) = ap (λ rest. byte ∷ rest) (no_rest bytes)
-
-none_left : (rest : List ℕ) → length rest ≡ 0 → rest ≡ []
-none_left [] is = refl
-none_left (byte ∷ rest) is = absurd (omega arith)
-
-no_length : (n : ℕ) → true ≡ (n == 0) → n ≡ 0
-no_length n is = grind (arith, nat_tests)
-
 pub both_parts : (bytes head rest : List ℕ) (n : ℕ) → head ≡ take n bytes → rest ≡ drop n bytes → bytes ≡ head ++ rest
 both_parts bytes head rest n front back = rw (front, back) (sym (take-append-drop n bytes))
-
-pub head_alone : (bytes head rest : List ℕ) → bytes ≡ head ++ rest → true ≡ (length rest == 0) → head ≡ bytes
-head_alone bytes head rest parts empty =
-    let none = none_left rest (no_length (length rest) empty) in
-    let all : bytes ≡ head ++ [] = rw none at parts in
-    sym (all ∙ no_rest head)

@@ -103,7 +103,7 @@ pub fn write_over<H: Host>(
 {
     let (head, rest) = bytes.split_at(bytes.len().min(first));
     if rest.is_empty() {
-        host.write_over(path, 0, head)?;
+        host.write_over(path, 0, bytes)?;
         host.finish_over(path, bytes.len())?;
         return Ok(());
     }
