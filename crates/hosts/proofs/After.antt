@@ -1,0 +1,29 @@
+-- A change after others that have left the path as it was.
+use Rattle.std.proofs.Common.{ℕ, false, List, Result, Ok, Err, inl, inr, ◌∙◌}
+use Rattle.hosts.specs.Place.{Place, Step, replay}
+use Rattle.hosts.specs.Saving.{IsAsItWas, StaysAsItWas, IsUnmade, IsOver, IsWrittenOver, SavesFile}
+use Rattle.hosts.specs.declared.faults.Durability.{Durability}
+use Rattle.hosts.specs.declared.faults.Durability.TheVariants.{Certain, Unknown}
+use Rattle.hosts.specs.declared.faults.Unwritten.{Unwritten}
+use Rattle.hosts.specs.declared.faults.Unwritten.TheVariants.{AsItWas, InPart}
+
+as_it_was : (a b c : Place) → IsAsItWas a b → IsAsItWas b c → IsAsItWas a c
+as_it_was a b c first then = record { seen = then.seen ∙ first.seen; on_disk = then.on_disk ∙ first.on_disk; earlier = then.earlier ∙ first.earlier }
+
+pub over_after : (bytes : List ℕ) (a b c : List Step) → StaysAsItWas a b → IsWrittenOver bytes b c → IsWrittenOver bytes a c
+over_after bytes a b c same over start was is =
+    let o : IsOver bytes (replay start b) (replay start c) = over start was ((same start).seen ∙ is) in
+    record { seen = o.seen; on_disk = o.on_disk; earlier = o.earlier ∙ (same start).earlier }
+
+pub file_after : (result : Result Durability Unwritten) (bytes : List ℕ) (a b c : List Step) → StaysAsItWas a b → SavesFile result false bytes b c → SavesFile result false bytes a c
+file_after (Ok Certain) bytes a b c same saves = over_after bytes a b c same saves
+file_after (Ok Unknown) bytes a b c same saves = saves
+file_after (Err AsItWas) bytes a b c same saves = λ start. as_it_was (replay start a) (replay start b) (replay start c) (same start) (saves start)
+file_after (Err InPart) bytes a b c same saves = tt
+
+unmade : (a b c : Place) → IsAsItWas a b → IsUnmade b c → IsUnmade a c
+unmade a b c same (inl was) = inl (as_it_was a b c same was)
+unmade a b c same (inr gone) = inr gone
+
+pub unmade_after : (a b c : List Step) → StaysAsItWas a b → ((start : Place) → IsUnmade (replay start b) (replay start c)) → (start : Place) → IsUnmade (replay start a) (replay start c)
+unmade_after a b c same is start = unmade (replay start a) (replay start b) (replay start c) (same start) (is start)

@@ -1,0 +1,4 @@
+pub mod After
+pub mod Crashes
+pub mod Over
+pub mod Turns

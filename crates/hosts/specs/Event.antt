@@ -1,0 +1,160 @@
+-- The calls of a host, each with its answer.
+use Rattle.std.specs.Prelude.{ℕ, Bool, true, List, [], if◌then◌else◌}
+
+-- what may change the file of a path, or the one beside it
+pub data Change : Type 0 where
+  -- a new file was made beside it, got its owner and its mode, was written, was brought to the disk, was taken away
+  MakeBeside : Change
+  OwnBeside : Change
+  WriteBeside : Change
+  SyncBeside : Change
+  DropBeside : Change
+  -- the file beside it took the path, in place of any file there; or a path that no file had
+  Rename : Change
+  LinkNew : Change
+  -- an empty file took a path that no file had; it was taken away again
+  Claim : Change
+  DropClaim : Change
+  -- the names of its folder were brought to the disk
+  SyncFolder : Change
+  -- the file was written in its place, from a byte on; it was cut there, and brought to the disk
+  WriteOver : Change
+  FinishOver : Change
+
+-- what a program asks of its host
+pub data Call : Type 0 where
+  Alter : (change : Change) → Call
+  -- where a name leads; a path is held; further names of the file are taken away
+  Resolve : Call
+  Hold : Call
+  DropSeconds : Call
+  -- what a file holds, and what standard input gives
+  Look : Call
+  TakeInput : Call
+  -- whether a new file may take the path, and whether the path still leads to the file that is held
+  Alone : Call
+  Leads : Call
+  LockBeside : Call
+  -- the path that a name leads to, which no file has; whether a name is there; a folder is made
+  Free : Call
+  There : Call
+  MakeFolder : Call
+  -- the streams
+  Print : Call
+  Tell : Call
+  Terminal : Call
+  Seconds : Call
+  Words : Call
+
+-- which call, whether it succeeded, the name or path that it is about, bytes, and a number
+pub record Event : Type 0 where
+  pub call : Call
+  pub ok : Bool
+  pub name : List ℕ
+  pub bytes : List ℕ
+  pub number : ℕ
+
+abbrev pub number_of : Bool → ℕ
+number_of is = if is then 1 else 0
+
+abbrev pub event_at : Call → List ℕ → Bool → List ℕ → Event
+event_at call name ok bytes = record { call = call; ok = ok; name = name; bytes = bytes; number = 0 }
+
+abbrev pub numbered : Call → List ℕ → Bool → ℕ → List ℕ → Event
+numbered call name ok number bytes = record { call = call; ok = ok; name = name; bytes = bytes; number = number }
+
+-- a name led to a path
+abbrev pub resolve_call : List ℕ → Bool → List ℕ → Event
+resolve_call name ok path = event_at Resolve name ok path
+
+-- the file of a path was held, so that no other program writes it
+abbrev pub hold_call : List ℕ → Bool → Event
+hold_call path ok = event_at Hold path ok []
+
+abbrev pub drop_seconds_call : List ℕ → Bool → Event
+drop_seconds_call path ok = event_at DropSeconds path ok []
+
+-- a file was read, and held these bytes, or began with them where they are one more than the most that were asked for
+abbrev pub look_call : List ℕ → Bool → List ℕ → Event
+look_call name ok bytes = event_at Look name ok bytes
+
+-- standard input was read, and gave these bytes, or began with them where they are one more than the most that were asked for
+abbrev pub input_call : Bool → List ℕ → Event
+input_call ok bytes = event_at TakeInput [] ok bytes
+
+-- it was asked whether a new file may take the path with nothing lost, and `number` is the answer
+abbrev pub alone_call : List ℕ → Bool → ℕ → Event
+alone_call path ok is = numbered Alone path ok is []
+
+-- it was asked whether the path still leads to the file that is held, and this was the answer
+abbrev pub leads_call : List ℕ → Bool → Event
+leads_call path is = event_at Leads path is []
+
+abbrev pub make_call : List ℕ → Bool → Event
+make_call path ok = event_at (Alter MakeBeside) path ok []
+
+abbrev pub own_call : List ℕ → Bool → Event
+own_call path ok = event_at (Alter OwnBeside) path ok []
+
+abbrev pub lock_call : List ℕ → Bool → Event
+lock_call path ok = event_at LockBeside path ok []
+
+abbrev pub write_call : List ℕ → Bool → List ℕ → Event
+write_call path ok bytes = event_at (Alter WriteBeside) path ok bytes
+
+abbrev pub sync_call : List ℕ → Bool → Event
+sync_call path ok = event_at (Alter SyncBeside) path ok []
+
+abbrev pub drop_call : List ℕ → Bool → Event
+drop_call path ok = event_at (Alter DropBeside) path ok []
+
+-- `is_mount` is 1 where the path is a mount's, which no other file can take
+abbrev pub rename_call : List ℕ → Bool → ℕ → Event
+rename_call path ok is_mount = numbered (Alter Rename) path ok is_mount []
+
+-- `is_none` is 1 where the file system has no further names
+abbrev pub link_call : List ℕ → Bool → ℕ → Event
+link_call path ok is_none = numbered (Alter LinkNew) path ok is_none []
+
+abbrev pub claim_call : List ℕ → Bool → Event
+claim_call path ok = event_at (Alter Claim) path ok []
+
+abbrev pub drop_claim_call : List ℕ → Bool → Event
+drop_claim_call path ok = event_at (Alter DropClaim) path ok []
+
+abbrev pub sync_folder_call : List ℕ → Bool → Event
+sync_folder_call path ok = event_at (Alter SyncFolder) path ok []
+
+abbrev pub write_over_call : List ℕ → Bool → ℕ → List ℕ → Event
+write_over_call path ok at bytes = numbered (Alter WriteOver) path ok at bytes
+
+abbrev pub finish_over_call : List ℕ → Bool → ℕ → Event
+finish_over_call path ok size = numbered (Alter FinishOver) path ok size []
+
+-- a name led to a path that no file has
+abbrev pub free_call : List ℕ → Bool → List ℕ → Event
+free_call name ok path = event_at Free name ok path
+
+abbrev pub there_call : List ℕ → Bool → Event
+there_call name is = event_at There name is []
+
+abbrev pub folder_call : List ℕ → Bool → Event
+folder_call name ok = event_at MakeFolder name ok []
+
+-- these bytes were written to standard output; `is_abandoned` is 1 where that is a pipe which nobody reads any more
+abbrev pub print_call : Bool → ℕ → List ℕ → Event
+print_call ok is_abandoned bytes = numbered Print [] ok is_abandoned bytes
+
+-- these bytes were written to standard error
+abbrev pub tell_call : Bool → List ℕ → Event
+tell_call ok bytes = event_at Tell [] ok bytes
+
+-- it was asked whether standard output, 1, or standard error, 2, is a terminal, and this was the answer
+abbrev pub terminal_call : Bool → ℕ → Event
+terminal_call is stream = numbered Terminal [] is stream []
+
+abbrev pub seconds_call : Event
+seconds_call = event_at Seconds [] true []
+
+abbrev pub words_call : Bool → Event
+words_call ok = event_at Words [] ok []

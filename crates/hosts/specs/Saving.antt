@@ -1,0 +1,167 @@
+-- What it comes to that a path is to have other bytes. `old` and `new` are the changes of the path before and after.
+use Rattle.std.specs.Prelude.{◌≡◌, ℕ, ◌+◌, ◌<◌, Bool, true, false, List, [], ◌∷◌, None, Some, Result, Ok, Err, ◌⊎◌}
+use Rattle.std.specs.Str.{bytes_eq}
+use Rattle.hosts.specs.Event.{Event, Change, Claim, Rename, WriteOver, make_call, own_call, lock_call, write_call, sync_call}
+use Rattle.hosts.specs.Place.{Place, Step, Left, Just, about, replay, ever}
+use Rattle.hosts.specs.Streams.{output, errors, read, failures, may_replace, freed, has_links}
+use Rattle.hosts.specs.declared.faults.HostFault.{HostFault}
+use Rattle.hosts.specs.declared.faults.Durability.{Durability}
+use Rattle.hosts.specs.declared.faults.Durability.TheVariants.{Certain, Unknown}
+use Rattle.hosts.specs.declared.faults.RenameFault.{RenameFault}
+use Rattle.hosts.specs.declared.faults.RenameFault.TheVariants.{Mount, Failed}
+use Rattle.hosts.specs.declared.faults.Unwritten.{Unwritten}
+use Rattle.hosts.specs.declared.faults.Unwritten.TheVariants.{AsItWas, InPart}
+
+-- it has the bytes, and so it has after each crash
+pub record IsSaved (bytes : List ℕ) (p : Place) : Type 0 where
+  pub seen : p.seen ≡ Just (Some bytes)
+  pub on_disk : p.on_disk ≡ Just (Some bytes)
+  pub earlier : p.earlier ≡ []
+
+-- it has the bytes, but a crash leaves them or what it might have left before
+pub record IsUnsettled (bytes : List ℕ) (before p : Place) : Type 0 where
+  pub seen : p.seen ≡ Just (Some bytes)
+  pub on_disk : p.on_disk ≡ Just (Some bytes)
+  pub earlier : p.earlier ≡ before.on_disk ∷ before.earlier
+
+-- it has what it had, and a crash leaves what it might have left
+pub record IsAsItWas (before p : Place) : Type 0 where
+  pub seen : p.seen ≡ before.seen
+  pub on_disk : p.on_disk ≡ before.on_disk
+  pub earlier : p.earlier ≡ before.earlier
+
+-- it has the bytes and the disk has them; its name is as sure as it was
+pub record IsOver (bytes : List ℕ) (before p : Place) : Type 0 where
+  pub seen : p.seen ≡ Just (Some bytes)
+  pub on_disk : p.on_disk ≡ Just (Some bytes)
+  pub earlier : p.earlier ≡ before.earlier
+
+-- a file has taken the path whole
+abbrev pub IsKept : Durability → List ℕ → List Step → List Step → Type 0
+IsKept Certain bytes old new = (start : Place) → IsSaved bytes (replay start new)
+IsKept Unknown bytes old new = (start : Place) → IsUnsettled bytes (replay start old) (replay start new)
+
+-- the path is as it was
+abbrev pub StaysAsItWas : List Step → List Step → Type 0
+StaysAsItWas old new = (start : Place) → IsAsItWas (replay start old) (replay start new)
+
+-- a file has taken the path whole, or this is as it was
+abbrev pub Saves : Result Durability RenameFault → List ℕ → List Step → List Step → Type 0
+Saves (Ok durability) bytes old new = IsKept durability bytes old new
+Saves (Err fault) bytes old new = StaysAsItWas old new
+
+-- a file is written in its place, of which it was known what it held
+abbrev pub IsWrittenOver : List ℕ → List Step → List Step → Type 0
+IsWrittenOver bytes old new = (start : Place) (was : List ℕ) → (replay start old).seen ≡ Just (Some was) → IsOver bytes (replay start old) (replay start new)
+
+abbrev pub KeepsFile : Bool → Durability → List ℕ → List Step → List Step → Type 0
+KeepsFile true durability bytes old new = IsKept durability bytes old new
+KeepsFile false Certain bytes old new = IsWrittenOver bytes old new
+KeepsFile false Unknown bytes old new = ⊥
+
+-- Where the host said that a new file may take the path, it does, whole. Where not, the file is written in its place, and nothing is
+-- promised of one that is written in part.
+abbrev pub SavesFile : Result Durability Unwritten → Bool → List ℕ → List Step → List Step → Type 0
+SavesFile (Ok durability) is bytes old new = KeepsFile is durability bytes old new
+SavesFile (Err AsItWas) is bytes old new = StaysAsItWas old new
+SavesFile (Err InPart) true bytes old new = ⊥
+SavesFile (Err InPart) false bytes old new = Unit {0}
+
+-- after a save a new file may take the path as before, unless that was seen to be a mount's
+abbrev pub still_may : Result Durability RenameFault → Bool → Bool
+still_may (Ok durability) before = before
+still_may (Err Mount) before = false
+still_may (Err Failed) before = before
+
+-- each crash at any moment since leaves what it might have left at one before, or else the bytes, all of them
+abbrev pub IsOldOrNew : List ℕ → List Left → List Left → Type 0
+IsOldOrNew bytes old new = (new ≡ old) ⊎ (new ≡ Just (Some bytes) ∷ old)
+
+abbrev pub AnyMoment : List ℕ → List Step → List Step → Type 0
+AnyMoment bytes old new = (start : Place) → IsOldOrNew bytes (ever start old) (ever start new)
+
+-- the same, unless it was said that a new file can't take the path so; then nothing is promised of a crash meanwhile
+abbrev pub AnyMomentOf : Bool → List ℕ → List Step → List Step → Type 0
+AnyMomentOf is bytes old new = (start : Place) → IsOldOrNew bytes (ever start old) (ever start new) ⊎ (is ≡ false)
+
+-- what it comes to where no file is made: the path is as it was, or has no file, or an empty one that could not be taken away, where the
+-- file system has no further names
+abbrev pub IsUnmade : Place → Place → Type 0
+IsUnmade before p = IsAsItWas before p ⊎ ((p.seen ≡ Just None) ⊎ (p.seen ≡ Just (Some [])))
+
+-- a new file has the path whole, or there is none
+abbrev pub Makes : Result Durability HostFault → List ℕ → List Step → List Step → Type 0
+Makes (Ok Certain) bytes old new = (start : Place) → IsSaved bytes (replay start new)
+Makes (Ok Unknown) bytes old new = (start : Place) → (replay start new).seen ≡ Just (Some bytes)
+Makes (Err fault) bytes old new = (start : Place) → IsUnmade (replay start old) (replay start new)
+
+-- a file that is laid has the path whole; when the disk has it is left to the system
+abbrev pub Lays : Result Unit HostFault → List ℕ → List Step → List Step → Type 0
+Lays (Ok _) bytes old new = (start : Place) → (replay start new).seen ≡ Just (Some bytes)
+Lays (Err fault) bytes old new = (start : Place) → IsUnmade (replay start old) (replay start new)
+
+-- the file beside a path has that now
+pub record IsTaken (before p : Place) : Type 0 where
+  pub seen : p.seen ≡ before.beside
+  pub on_disk : p.on_disk ≡ before.beside_on_disk
+
+abbrev pub Takes : Result Unit HostFault → List Step → List Step → Type 0
+Takes (Ok _) old new = (start : Place) → IsTaken (replay start old) (replay start new)
+Takes (Err fault) old new = (start : Place) → IsUnmade (replay start old) (replay start new)
+
+abbrev pub is_claim : Change → Bool → Bool
+is_claim Claim true = true
+is_claim Claim false = false
+is_claim _ ok = false
+
+-- the newest change is that of an empty file that took the path
+abbrev pub has_claim : List Step → Bool
+has_claim [] = false
+has_claim (s ∷ earlier) = is_claim s.change s.ok
+
+abbrev pub with_replacement : Change → Bool → Bool → ℕ → ℕ
+with_replacement Rename true false before = before + 1
+with_replacement Rename true true before = before
+with_replacement Rename false is before = before
+with_replacement _ ok is before = before
+
+-- how often a file took the path where another may have had it: a rename does that, unless an empty file has just taken the path as one that
+-- no file had
+abbrev pub replacements : List Step → ℕ
+replacements [] = 0
+replacements (s ∷ earlier) = with_replacement s.change s.ok (has_claim earlier) (replacements earlier)
+
+abbrev pub with_over : Change → ℕ → ℕ → ℕ
+with_over WriteOver at before = at
+with_over _ at before = before
+
+-- from which byte on the file was written over last
+abbrev pub last_over : List Step → ℕ
+last_over [] = 0
+last_over (s ∷ earlier) = with_over s.change s.number (last_over earlier)
+
+-- nothing has come of calls that did not succeed for the file of the path, the others, or the streams
+pub record IsQuiet (path : List ℕ) (old new : List Event) : Type 0 where
+  pub place : (start : Place) → IsAsItWas (replay start (about path old)) (replay start (about path new))
+  pub moments : (start : Place) → ever start (about path new) ≡ ever start (about path old)
+  pub replaced : replacements (about path new) ≡ replacements (about path old)
+  pub cause : failures old < failures new
+  pub others : (other : List ℕ) → bytes_eq path other ≡ false → about other new ≡ about other old
+  pub printed : output new ≡ output old
+  pub told : errors new ≡ errors old
+  pub reads : read new ≡ read old
+  pub answers : may_replace new ≡ may_replace old
+  pub paths : freed new ≡ freed old
+  pub links : has_links new ≡ has_links old
+
+-- a new file of these bytes stands beside the path, on the disk
+abbrev pub ready_calls : List ℕ → List ℕ → List Event → List Event
+ready_calls path bytes old = sync_call path true ∷ write_call path true bytes ∷ lock_call path true ∷ own_call path true ∷ make_call path true ∷ old
+
+-- the same of a path that no file has
+abbrev pub new_calls : List ℕ → List ℕ → List Event → List Event
+new_calls path bytes old = sync_call path true ∷ write_call path true bytes ∷ lock_call path true ∷ make_call path true ∷ old
+
+-- a new file of these bytes stands beside the path
+abbrev pub laid_calls : List ℕ → List ℕ → List Event → List Event
+laid_calls path bytes old = write_call path true bytes ∷ lock_call path true ∷ make_call path true ∷ old

@@ -1,0 +1,86 @@
+-- What the calls of a host come to for its streams, and for what was asked of it.
+use Rattle.std.specs.Prelude.{ℕ, zero, suc, ◌+◌, Bool, true, false, List, [], ◌∷◌, ◌++◌}
+use Rattle.hosts.specs.Event.{Event, Call, Alter, Rename, LinkNew, Look, TakeInput, Alone, There, Free, Print, Tell, Terminal}
+
+abbrev pub with_printed : Call → Event → List (Bool × List ℕ) → List (Bool × List ℕ)
+with_printed Print e before = (e.ok, e.bytes) ∷ before
+with_printed _ e before = before
+
+-- what was written to standard output, the newest first, and whether all of it was
+abbrev pub output : List Event → List (Bool × List ℕ)
+output [] = []
+output (e ∷ earlier) = with_printed e.call e (output earlier)
+
+abbrev pub with_told : Call → Event → List (Bool × List ℕ) → List (Bool × List ℕ)
+with_told Tell e before = (e.ok, e.bytes) ∷ before
+with_told _ e before = before
+
+-- what was written to standard error, the newest first, and whether all of it was
+abbrev pub errors : List Event → List (Bool × List ℕ)
+errors [] = []
+errors (e ∷ earlier) = with_told e.call e (errors earlier)
+
+abbrev pub with_text : Call → Bool → List ℕ → List ℕ → List ℕ
+with_text Print true bytes before = before ++ bytes
+with_text Print false bytes before = before
+with_text _ ok bytes before = before
+
+-- the bytes that standard output was given, by the calls that succeeded
+abbrev pub output_text : List Event → List ℕ
+output_text [] = []
+output_text (e ∷ earlier) = with_text e.call e.ok e.bytes (output_text earlier)
+
+abbrev pub with_read : Call → Event → List Event → List Event
+with_read Look e before = e ∷ before
+with_read TakeInput e before = e ∷ before
+with_read _ e before = before
+
+-- the calls by which files and standard input were read, the newest first
+abbrev pub read : List Event → List Event
+read [] = []
+read (e ∷ earlier) = with_read e.call e (read earlier)
+
+-- a call that failed, or that told of a path that it leads to the held file no more; another answer to a question is no failure
+abbrev pub with_failure : Call → Bool → ℕ → ℕ
+with_failure There ok before = before
+with_failure Terminal ok before = before
+with_failure _ true before = before
+with_failure _ false before = before + 1
+
+-- how many calls failed
+abbrev pub failures : List Event → ℕ
+failures [] = 0
+failures (e ∷ earlier) = with_failure e.call e.ok (failures earlier)
+
+abbrev pub with_freed : Call → List ℕ → List ℕ → List ℕ
+with_freed Free path before = path
+with_freed _ path before = before
+
+-- the path that the host gave last for a name that no file has
+abbrev pub freed : List Event → List ℕ
+freed [] = []
+freed (e ∷ earlier) = with_freed e.call e.bytes (freed earlier)
+
+-- an answer stands until it is asked again, or a rename shows that the path is a mount's; where the host can't tell, nothing is written
+abbrev pub with_alone : Call → Bool → ℕ → Bool → Bool
+with_alone Alone true (suc zero) before = true
+with_alone Alone true zero before = false
+with_alone Alone false number before = true
+with_alone (Alter Rename) false (suc zero) before = false
+with_alone _ ok number before = before
+
+-- whether, as the host told last, a new file may take the path with nothing lost
+abbrev pub may_replace : List Event → Bool
+may_replace [] = true
+may_replace (e ∷ earlier) = with_alone e.call e.ok e.number (may_replace earlier)
+
+abbrev pub with_links : Call → Bool → ℕ → Bool → Bool
+with_links (Alter LinkNew) true number before = true
+with_links (Alter LinkNew) false zero before = true
+with_links (Alter LinkNew) false (suc number) before = false
+with_links _ ok number before = before
+
+-- whether, as the host told last, the file system has further names for a file
+abbrev pub has_links : List Event → Bool
+has_links [] = true
+has_links (e ∷ earlier) = with_links e.call e.ok e.number (has_links earlier)

@@ -1,0 +1,84 @@
+ghost use Rattle.std.specs.Prelude.{◌≡◌, ◌<◌, ℕ, List, [], ◌∷◌, false, OnErr, OnOk};
+ghost use Rattle.std.specs.Str.{bytes_eq};
+ghost use Rattle.hosts.specs.Place.{about};
+ghost use Rattle.hosts.specs.Saving.{Lays, IsQuiet, laid_calls, replacements};
+ghost use Rattle.hosts.specs.Streams.{output, errors, read};
+
+use crate::making::take_path;
+use crate::saving::give_up;
+use crate::{Host, HostFault, LinkFault};
+use std::alloc::Global;
+
+/// Lays a file of these bytes: it is made beside its name, and gets that once it is whole. Where one of the name is there the answer is
+/// `Busy`, unless that is to be replaced. When the bytes come to the disk is left to the system.
+pub fn lay<H: Host>(
+    host: &mut H,
+    alloc: Global,
+    name: &str,
+    bytes: &[u8],
+    replaces: bool,
+) -> Result<(), HostFault>
+    ensures replaced { replaces ≡ false → replacements (about name.now (H.history host.new)) ≡ replacements (about name.now (H.history host.old)) }
+    ensures lays { Lays result bytes.now (about name.now (H.history host.old)) (about name.now (H.history host.new)) }
+    ensures others { (other : List ℕ) → bytes_eq name.now other ≡ false
+        → about other (H.history host.new) ≡ about other (H.history host.old) }
+    ensures output { output (H.history host.new) ≡ output (H.history host.old) }
+    ensures errors { errors (H.history host.new) ≡ errors (H.history host.old) }
+    ensures read { read (H.history host.new) ≡ read (H.history host.old) }
+{
+    if !replaces && host.is_there(name) {
+        return Err(HostFault::Busy);
+    }
+    prepare_laid(host, alloc, name, bytes)?;
+    if replaces {
+        return match host.rename(name) {
+            Ok(()) => Ok(()),
+            Err(_) => {
+                give_up(host, name);
+                Err(HostFault::Failed)
+            }
+        };
+    }
+    match host.link_new(name) {
+        Ok(()) => {
+            give_up(host, name);
+            Ok(())
+        }
+        Err(fault) => match fault {
+            LinkFault::Exists => {
+                give_up(host, name);
+                Err(HostFault::Busy)
+            }
+            LinkFault::Failed => {
+                give_up(host, name);
+                Err(HostFault::Failed)
+            }
+            LinkFault::NoLinks => match take_path(host, name) {
+                Ok(()) => Ok(()),
+                Err(fault) => Err(fault),
+            },
+        },
+    }
+}
+
+/// Makes a file of these bytes beside a name. Where it can't, that file is taken away.
+fn prepare_laid<H: Host>(
+    host: &mut H,
+    alloc: Global,
+    name: &str,
+    bytes: &[u8],
+) -> Result<(), HostFault>
+    ensures ready { OnOk result (H.history host.new ≡ laid_calls name.now bytes.now (H.history host.old)) }
+    ensures quiet { OnErr result (IsQuiet name.now (H.history host.old) (H.history host.new)) }
+{
+    host.make_beside(alloc, name)?;
+    if host.lock_beside(name).is_err() {
+        give_up(host, name);
+        return Err(HostFault::Failed);
+    }
+    if host.write_beside(name, bytes).is_err() {
+        give_up(host, name);
+        return Err(HostFault::Failed);
+    }
+    Ok(())
+}

@@ -1,0 +1,20 @@
+//! What a program may ask of the system that it runs in, what these calls come to for files and streams, and files that are written whole
+//! or not at all.
+#![tactic(auto)]
+
+mod faults;
+mod holding;
+mod host;
+pub mod laws;
+mod laying;
+mod making;
+mod output;
+mod saving;
+
+pub use faults::{Durability, HostFault, LinkFault, PrintFault, RenameFault, Stream, Unwritten};
+pub use holding::{Held, hold_file};
+pub use host::Host;
+pub use laying::lay;
+pub use making::{make, make_at};
+pub use output::Output;
+pub use saving::{save, save_file, write_over};

@@ -1,0 +1,169 @@
+ghost use Rattle.std.specs.Prelude.{◌≡◌, ◌<◌, ◌≤◌, ℕ, List, [], ◌∷◌, false, OnErr, OnOk, is_ok};
+ghost use Rattle.std.specs.Str.{bytes_eq};
+ghost use Rattle.hosts.specs.Event.{Event, drop_call, leads_call};
+ghost use Rattle.hosts.specs.Place.{about};
+ghost use Rattle.hosts.specs.Saving.{Saves, SavesFile, AnyMoment, AnyMomentOf, IsWrittenOver, IsQuiet, still_may, ready_calls, last_over};
+ghost use Rattle.hosts.specs.Streams.{output, errors, read, failures, may_replace, freed};
+
+use crate::{Durability, Host, HostFault, RenameFault, Unwritten};
+use std::alloc::Global;
+
+/// Has the path of the held file lead to a file of these bytes, whole or not at all: a file beside it is written and comes to the disk, and
+/// then takes the path. No memory is taken.
+pub fn save<H: Host>(
+    host: &mut H,
+    alloc: Global,
+    path: &str,
+    bytes: &[u8],
+) -> Result<Durability, RenameFault>
+    ensures saves { Saves result bytes.now (about path.now (H.history host.old)) (about path.now (H.history host.new)) }
+    ensures any_moment { AnyMoment bytes.now (about path.now (H.history host.old)) (about path.now (H.history host.new)) }
+    ensures cause { OnErr result (failures (H.history host.old) < failures (H.history host.new)) }
+    ensures others { (other : List ℕ) → bytes_eq path.now other ≡ false
+        → about other (H.history host.new) ≡ about other (H.history host.old) }
+    ensures output { output (H.history host.new) ≡ output (H.history host.old) }
+    ensures errors { errors (H.history host.new) ≡ errors (H.history host.old) }
+    ensures read { read (H.history host.new) ≡ read (H.history host.old) }
+    ensures alone { may_replace (H.history host.new) ≡ still_may result (may_replace (H.history host.old)) }
+{
+    if prepare(host, alloc, path, bytes).is_err() {
+        return Err(RenameFault::Failed);
+    }
+    if !host.leads_to_held(path) {
+        give_up(host, path);
+        return Err(RenameFault::Failed);
+    }
+    match host.rename(path) {
+        Ok(()) => match host.sync_folder(path) {
+            Ok(()) => Ok(Durability::Certain),
+            Err(_) => Ok(Durability::Unknown),
+        },
+        Err(fault) => match fault {
+            RenameFault::Mount => {
+                give_up(host, path);
+                Err(RenameFault::Mount)
+            }
+            RenameFault::Failed => {
+                give_up(host, path);
+                Err(RenameFault::Failed)
+            }
+        },
+    }
+}
+
+/// Makes a file of these bytes beside a path, with the owner and the permissions of the held one, and has the disk hold it. Where it can't,
+/// that file is taken away.
+fn prepare<H: Host>(host: &mut H, alloc: Global, path: &str, bytes: &[u8]) -> Result<(), HostFault>
+    ensures ready { OnOk result (H.history host.new ≡ ready_calls path.now bytes.now (H.history host.old)) }
+    ensures quiet { OnErr result (IsQuiet path.now (H.history host.old) (H.history host.new)) }
+{
+    host.make_beside(alloc, path)?;
+    if host.own_beside(path).is_err() {
+        give_up(host, path);
+        return Err(HostFault::Failed);
+    }
+    if host.lock_beside(path).is_err() {
+        give_up(host, path);
+        return Err(HostFault::Failed);
+    }
+    if host.write_beside(path, bytes).is_err() {
+        give_up(host, path);
+        return Err(HostFault::Failed);
+    }
+    if host.sync_beside(path).is_err() {
+        give_up(host, path);
+        return Err(HostFault::Failed);
+    }
+    Ok(())
+}
+
+/// Takes away the file beside a path.
+pub(crate) fn give_up<H: Host>(host: &mut H, path: &str)
+    ensures { (ok : _) × (H.history host.new ≡ drop_call path.now ok ∷ H.history host.old) }
+{
+    let _ = host.drop_beside(path);
+}
+
+/// Writes bytes over the held file in its place, and has the disk hold it: those from `first` on before the others.
+pub fn write_over<H: Host>(
+    host: &mut H,
+    path: &str,
+    first: usize,
+    bytes: &[u8],
+) -> Result<(), HostFault>
+    ensures head_last { OnOk result (last_over (about path.now (H.history host.new)) ≡ 0) }
+    ensures over { OnOk result (IsWrittenOver bytes.now (about path.now (H.history host.old)) (about path.now (H.history host.new))) }
+    ensures cause { OnErr result (failures (H.history host.old) < failures (H.history host.new)) }
+    ensures others { (other : List ℕ) → bytes_eq path.now other ≡ false
+        → about other (H.history host.new) ≡ about other (H.history host.old) }
+    ensures output { output (H.history host.new) ≡ output (H.history host.old) }
+    ensures errors { errors (H.history host.new) ≡ errors (H.history host.old) }
+    ensures read { read (H.history host.new) ≡ read (H.history host.old) }
+    ensures alone { may_replace (H.history host.new) ≡ may_replace (H.history host.old) }
+{
+    let (head, rest) = bytes.split_at(bytes.len().min(first));
+    if rest.is_empty() {
+        host.write_over(path, 0, bytes)?;
+        host.finish_over(path, bytes.len())?;
+        return Ok(());
+    }
+    host.write_over(path, head.len(), rest)?;
+    host.write_over(path, 0, head)?;
+    host.finish_over(path, bytes.len())?;
+    Ok(())
+}
+
+/// Has the held file hold these bytes: whole or not at all where a new file may take its path, and else in its place, those from `first` on
+/// before the others. No memory is taken.
+pub fn save_file<H: Host>(
+    host: &mut H,
+    alloc: Global,
+    path: &str,
+    first: usize,
+    bytes: &[u8],
+) -> Result<Durability, Unwritten>
+    ensures saves { SavesFile result (may_replace (H.history host.new)) bytes.now (about path.now (H.history host.old)) (about path.now (H.history host.new)) }
+    ensures any_moment { AnyMomentOf (may_replace (H.history host.new)) bytes.now (about path.now (H.history host.old)) (about path.now (H.history host.new)) }
+    ensures cause { OnErr result (failures (H.history host.old) < failures (H.history host.new)) }
+    ensures others { (other : List ℕ) → bytes_eq path.now other ≡ false
+        → about other (H.history host.new) ≡ about other (H.history host.old) }
+    ensures output { output (H.history host.new) ≡ output (H.history host.old) }
+    ensures errors { errors (H.history host.new) ≡ errors (H.history host.old) }
+    ensures read { read (H.history host.new) ≡ read (H.history host.old) }
+{
+    let Ok(is_alone) = host.is_alone(path) else {
+        return Err(Unwritten::AsItWas);
+    };
+    if !is_alone {
+        return save_over(host, path, first, bytes);
+    }
+    match save(host, alloc, path, bytes) {
+        Ok(durability) => Ok(durability),
+        Err(fault) => match fault {
+            RenameFault::Failed => Err(Unwritten::AsItWas),
+            RenameFault::Mount => save_over(host, path, first, bytes),
+        },
+    }
+}
+
+/// Has the held file hold these bytes in its place.
+fn save_over<H: Host>(
+    host: &mut H,
+    path: &str,
+    first: usize,
+    bytes: &[u8],
+) -> Result<Durability, Unwritten>
+    ensures saves { SavesFile result false bytes.now (about path.now (H.history host.old)) (about path.now (H.history host.new)) }
+    ensures cause { OnErr result (failures (H.history host.old) < failures (H.history host.new)) }
+    ensures others { (other : List ℕ) → bytes_eq path.now other ≡ false
+        → about other (H.history host.new) ≡ about other (H.history host.old) }
+    ensures output { output (H.history host.new) ≡ output (H.history host.old) }
+    ensures errors { errors (H.history host.new) ≡ errors (H.history host.old) }
+    ensures read { read (H.history host.new) ≡ read (H.history host.old) }
+    ensures alone { may_replace (H.history host.new) ≡ may_replace (H.history host.old) }
+{
+    match write_over(host, path, first, bytes) {
+        Ok(()) => Ok(Durability::Certain),
+        Err(_) => Err(Unwritten::InPart),
+    }
+}

@@ -1,0 +1,271 @@
+//! A host in memory with one file, of which one call fails, for tests.
+ghost use Rattle.std.specs.Prelude.{◌≡◌, ◌≤◌, ◌+◌, [], length, IfOk};
+ghost use Rattle.system.specs.Raw.{events_of};
+
+use crate::memory::Memory;
+use crate::notes::{
+    ALONE, CLAIM, DROP_BESIDE, DROP_CLAIM, DROP_SECONDS, FINISH_OVER, FREE, HOLD, LEADS, LINK_NEW,
+    LOCK_BESIDE, LOOK, MAKE_BESIDE, MAKE_FOLDER, OWN_BESIDE, PRINT, RENAME, RESOLVE, SECONDS,
+    SYNC_BESIDE, SYNC_FOLDER, TAKE_INPUT, TELL, TERMINAL, THERE, WORDS, WRITE_BESIDE, WRITE_OVER,
+    number,
+};
+use crate::record::Record;
+use hosts::{Host, HostFault, LinkFault, PrintFault, RenameFault, Stream};
+use std::alloc::Global;
+
+/// One file, which every name leads to, and the streams.
+#[derive(Drop)]
+pub struct Fake {
+    pub memory: Memory,
+    log: Record,
+}
+
+impl Fake {
+    /// A host of these files and streams.
+    pub fn new(memory: Memory) -> Fake
+        ensures { events_of result.log.events ≡ [] }
+    {
+        Fake {
+            memory,
+            log: Record::new(),
+        }
+    }
+}
+
+impl Host for Fake {
+    ghost history = { λ s. events_of s.log.events };
+
+    fn resolve(&mut self, alloc: Global, name: &str) -> Result<String, HostFault> {
+        let done = self.memory.path(alloc, name);
+        match &done {
+            Ok(it) => self
+                .log
+                .note(&[RESOLVE, 1, 0], name.as_bytes(), it.as_bytes()),
+            Err(_) => self.log.note(&[RESOLVE, 0, 0], name.as_bytes(), &[]),
+        }
+        done
+    }
+
+    fn hold(&mut self, _alloc: Global, path: &str) -> Result<bool, HostFault> {
+        let done = self.memory.answer(true);
+        self.log
+            .note(&[HOLD, number(&done), 0], path.as_bytes(), &[]);
+        done
+    }
+
+    fn drop_seconds(&mut self, path: &str) -> Result<(), HostFault> {
+        let done = self.memory.pass();
+        self.log
+            .note(&[DROP_SECONDS, number(&done), 0], path.as_bytes(), &[]);
+        done
+    }
+
+    fn look_held(&mut self, alloc: Global, path: &str, most: usize) -> Result<Vec<u8>, HostFault> {
+        let done = self.memory.look(alloc, most);
+        match &done {
+            Ok(it) => self.log.note(&[LOOK, 1, 0], path.as_bytes(), it),
+            Err(_) => self.log.note(&[LOOK, 0, 0], path.as_bytes(), &[]),
+        }
+        done
+    }
+
+    fn look(&mut self, alloc: Global, name: &str, most: usize) -> Result<Vec<u8>, HostFault> {
+        let done = self.memory.look(alloc, most);
+        match &done {
+            Ok(it) => self.log.note(&[LOOK, 1, 0], name.as_bytes(), it),
+            Err(_) => self.log.note(&[LOOK, 0, 0], name.as_bytes(), &[]),
+        }
+        done
+    }
+
+    fn take_input(&mut self, alloc: Global, most: usize) -> Result<Vec<u8>, HostFault> {
+        let done = self.memory.take_input(alloc, most);
+        match &done {
+            Ok(it) => self.log.note(&[TAKE_INPUT, 1, 0], &[], it),
+            Err(_) => self.log.note(&[TAKE_INPUT, 0, 0], &[], &[]),
+        }
+        done
+    }
+
+    fn is_alone(&mut self, path: &str) -> Result<bool, HostFault> {
+        let is_alone = self.memory.is_alone;
+        let done = self.memory.answer(is_alone);
+        match &done {
+            Ok(is) => self
+                .log
+                .note(&[ALONE, 1, u64::from(*is)], path.as_bytes(), &[]),
+            Err(_) => self.log.note(&[ALONE, 0, 0], path.as_bytes(), &[]),
+        }
+        done
+    }
+
+    fn leads_to_held(&mut self, path: &str) -> bool {
+        let is = self.memory.pass().is_ok();
+        self.log
+            .note(&[LEADS, u64::from(is), 0], path.as_bytes(), &[]);
+        is
+    }
+
+    fn make_beside(&mut self, alloc: Global, path: &str) -> Result<(), HostFault> {
+        let done = self.memory.make_beside(alloc);
+        self.log
+            .note(&[MAKE_BESIDE, number(&done), 0], path.as_bytes(), &[]);
+        done
+    }
+
+    fn own_beside(&mut self, path: &str) -> Result<(), HostFault> {
+        let done = self.memory.pass();
+        self.log
+            .note(&[OWN_BESIDE, number(&done), 0], path.as_bytes(), &[]);
+        done
+    }
+
+    fn lock_beside(&mut self, path: &str) -> Result<(), HostFault> {
+        let done = self.memory.pass();
+        self.log
+            .note(&[LOCK_BESIDE, number(&done), 0], path.as_bytes(), &[]);
+        done
+    }
+
+    fn write_beside(&mut self, path: &str, bytes: &[u8]) -> Result<(), HostFault> {
+        let done = self.memory.write_beside(bytes);
+        self.log
+            .note(&[WRITE_BESIDE, number(&done), 0], path.as_bytes(), bytes);
+        done
+    }
+
+    fn sync_beside(&mut self, path: &str) -> Result<(), HostFault> {
+        let done = self.memory.pass();
+        self.log
+            .note(&[SYNC_BESIDE, number(&done), 0], path.as_bytes(), &[]);
+        done
+    }
+
+    fn drop_beside(&mut self, path: &str) -> Result<(), HostFault> {
+        let done = self.memory.drop_beside();
+        self.log
+            .note(&[DROP_BESIDE, number(&done), 0], path.as_bytes(), &[]);
+        done
+    }
+
+    fn rename(&mut self, path: &str) -> Result<(), RenameFault> {
+        let done = self.memory.rename();
+        match &done {
+            Ok(()) => self.log.note(&[RENAME, 1, 0], path.as_bytes(), &[]),
+            Err(RenameFault::Mount) => self.log.note(&[RENAME, 0, 1], path.as_bytes(), &[]),
+            Err(RenameFault::Failed) => self.log.note(&[RENAME, 0, 0], path.as_bytes(), &[]),
+        }
+        done
+    }
+
+    fn link_new(&mut self, path: &str) -> Result<(), LinkFault> {
+        let done = self.memory.link();
+        match &done {
+            Ok(()) => self.log.note(&[LINK_NEW, 1, 0], path.as_bytes(), &[]),
+            Err(LinkFault::Exists) => self.log.note(&[LINK_NEW, 0, 0], path.as_bytes(), &[]),
+            Err(LinkFault::NoLinks) => self.log.note(&[LINK_NEW, 0, 1], path.as_bytes(), &[]),
+            Err(LinkFault::Failed) => self.log.note(&[LINK_NEW, 0, 0], path.as_bytes(), &[]),
+        }
+        done
+    }
+
+    fn claim(&mut self, path: &str) -> Result<(), HostFault> {
+        let done = self.memory.claim();
+        self.log
+            .note(&[CLAIM, number(&done), 0], path.as_bytes(), &[]);
+        done
+    }
+
+    fn drop_claim(&mut self, path: &str) -> Result<(), HostFault> {
+        let done = self.memory.drop_claim();
+        self.log
+            .note(&[DROP_CLAIM, number(&done), 0], path.as_bytes(), &[]);
+        done
+    }
+
+    fn sync_folder(&mut self, path: &str) -> Result<(), HostFault> {
+        let done = self.memory.pass();
+        self.log
+            .note(&[SYNC_FOLDER, number(&done), 0], path.as_bytes(), &[]);
+        done
+    }
+
+    fn write_over(&mut self, path: &str, at: usize, bytes: &[u8]) -> Result<(), HostFault> {
+        let done = self.memory.write_over(at, bytes);
+        self.log.note(
+            &[WRITE_OVER, number(&done), at as u64],
+            path.as_bytes(),
+            bytes,
+        );
+        done
+    }
+
+    fn finish_over(&mut self, path: &str, size: usize) -> Result<(), HostFault> {
+        let done = self.memory.cut(size);
+        self.log.note(
+            &[FINISH_OVER, number(&done), size as u64],
+            path.as_bytes(),
+            &[],
+        );
+        done
+    }
+
+    fn free_path(&mut self, alloc: Global, name: &str) -> Result<String, HostFault> {
+        let done = self.memory.path(alloc, name);
+        match &done {
+            Ok(it) => self.log.note(&[FREE, 1, 0], name.as_bytes(), it.as_bytes()),
+            Err(_) => self.log.note(&[FREE, 0, 0], name.as_bytes(), &[]),
+        }
+        done
+    }
+
+    fn is_there(&mut self, name: &str) -> bool {
+        let is = self.memory.file.is_some();
+        self.log
+            .note(&[THERE, u64::from(is), 0], name.as_bytes(), &[]);
+        is
+    }
+
+    fn make_folder(&mut self, name: &str) -> Result<(), HostFault> {
+        let done = self.memory.pass();
+        self.log
+            .note(&[MAKE_FOLDER, number(&done), 0], name.as_bytes(), &[]);
+        done
+    }
+
+    fn print(&mut self, bytes: &[u8]) -> Result<(), PrintFault> {
+        let done = self.memory.print(bytes);
+        match &done {
+            Ok(()) => self.log.note(&[PRINT, 1, 0], &[], bytes),
+            Err(PrintFault::Abandoned) => self.log.note(&[PRINT, 0, 1], &[], bytes),
+            Err(PrintFault::Failed) => self.log.note(&[PRINT, 0, 0], &[], bytes),
+        }
+        done
+    }
+
+    fn tell(&mut self, text: &str) -> Result<(), HostFault> {
+        let done = self.memory.tell(text.as_bytes());
+        self.log
+            .note(&[TELL, number(&done), 0], &[], text.as_bytes());
+        done
+    }
+
+    fn is_terminal(&mut self, stream: Stream) -> bool {
+        match stream {
+            Stream::Output => self.log.note(&[TERMINAL, 0, 1], &[], &[]),
+            Stream::Errors => self.log.note(&[TERMINAL, 0, 2], &[], &[]),
+        }
+        false
+    }
+
+    fn seconds(&mut self) -> u64 {
+        self.log.note(&[SECONDS, 1, 0], &[], &[]);
+        0
+    }
+
+    fn words(&mut self, alloc: Global) -> Result<Vec<String>, HostFault> {
+        let done = self.memory.words(alloc);
+        self.log.note(&[WORDS, number(&done), 0], &[], &[]);
+        done
+    }
+}

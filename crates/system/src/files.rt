@@ -1,0 +1,376 @@
+//! Calls of the file system, and what they answer.
+ghost use Rattle.std.specs.Prelude.{◌≤◌, ◌+◌, length, IfOk};
+
+use crate::besides::Besides;
+use hosts::{HostFault, LinkFault, PrintFault, RenameFault, Stream};
+use std::alloc::Global;
+use std::env::{self, Env};
+use std::fs::{self, File, Files, Metadata, OpenOptions, TryLockError};
+use std::io::{self, ErrorKind, Input, IsTerminal, Read, Seek, SeekFrom, Write};
+use std::os::unix::fs::{FileTypeExt, MetadataExt, chown};
+use std::path::{Path, PathBuf};
+use std::time::{Clock, Instant};
+
+/// How many names beside a file are tried, and how often a file is locked anew whose name led elsewhere meanwhile.
+const TRIES: u16 = 1000;
+
+/// How many links are followed at most, as Linux does.
+const MOST_LINKS: usize = 40;
+
+pub(crate) fn fault_of(error: &io::Error) -> HostFault {
+    match error.kind() {
+        ErrorKind::OutOfMemory => HostFault::Memory,
+        ErrorKind::NotFound => HostFault::Absent,
+        ErrorKind::AlreadyExists => HostFault::Busy,
+        ErrorKind::PermissionDenied | ErrorKind::ReadOnlyFilesystem => HostFault::Unwritable,
+        _ => HostFault::Failed,
+    }
+}
+
+/// What a call answered that gives something.
+pub(crate) fn answer<T: Drop>(done: io::Result<T>) -> Result<T, HostFault> {
+    match done {
+        Ok(it) => Ok(it),
+        Err(error) => Err(fault_of(&error)),
+    }
+}
+
+/// The path of the file that a name leads to.
+pub(crate) fn path_of<R: Files<File = File> + AllocGlobal>(
+    rt: &R,
+    alloc: Global,
+    name: &str,
+) -> Result<String, HostFault> {
+    let found = answer(fs::canonicalize(rt, name))?;
+    String::from_str(alloc, found.as_str()).map_err(|_| HostFault::Memory)
+}
+
+/// A file of a path that is opened and locked, and whether it is; the path leads to it then.
+pub(crate) fn held_at<R: Files<File = File>>(
+    rt: &R,
+    path: &str,
+) -> Result<(File, bool), HostFault> {
+    if is_pipe(rt, path) {
+        return Err(HostFault::Unwritable);
+    }
+    for _ in 0..TRIES {
+        let file = answer(opened(rt, path))?;
+        let has_lock = has_taken_lock(&file)?;
+        if leads_to(rt, path, &file) {
+            return Ok((file, has_lock));
+        }
+    }
+    Err(HostFault::Busy)
+}
+
+/// Whether a path leads to a pipe, whose end is never seen by who may write it.
+fn is_pipe<R: Files<File = File>>(rt: &R, path: &str) -> bool {
+    match fs::metadata(rt, path) {
+        Ok(named) => named.file_type().is_fifo(),
+        Err(_) => false,
+    }
+}
+
+fn opened<R: Files<File = File>>(rt: &R, path: &str) -> io::Result<File> {
+    apart(OpenOptions::new().read(true).write(true).open(rt, path)?)
+}
+
+/// The same open file by a number after those of the standard streams. Where one of these is closed, a file that is opened gets its
+/// number, and what is then written to the stream would go into the file.
+fn apart(file: File) -> io::Result<File> {
+    file.try_clone()
+}
+
+/// Takes the lock of a file, and answers whether its file system has locks: `Busy` where another program has it.
+pub(crate) fn has_taken_lock(file: &File) -> Result<bool, HostFault> {
+    match file.try_lock() {
+        Ok(()) => Ok(true),
+        Err(TryLockError::WouldBlock) => Err(HostFault::Busy),
+        Err(TryLockError::Error(_)) => Ok(false),
+    }
+}
+
+/// Whether a path leads to an open file, and not to one that took its place.
+pub(crate) fn leads_to<R: Files<File = File>>(rt: &R, path: &str, file: &File) -> bool {
+    match (fs::metadata(rt, path), file.metadata()) {
+        (Ok(named), Ok(own)) => is_same(&named, &own),
+        _ => false,
+    }
+}
+
+fn is_same(named: &Metadata, own: &Metadata) -> bool {
+    named.dev() == own.dev() && named.ino() == own.ino()
+}
+
+/// Takes away the names beside a path that its file has too.
+pub(crate) fn remove_besides<R: Files<File = File>>(
+    rt: &R,
+    file: &File,
+    besides: &mut Besides,
+) -> Result<(), HostFault> {
+    let own = answer(file.metadata())?;
+    if own.nlink() < 2 {
+        return Ok(());
+    }
+    for number in 0..TRIES {
+        let name = besides.name(number).map_err(|_| HostFault::Memory)?;
+        if let Ok(named) = fs::symlink_metadata(rt, name)
+            && is_same(&named, &own)
+        {
+            let _ = fs::remove_file(rt, name);
+        }
+    }
+    Ok(())
+}
+
+/// The bytes that are left in a reader, or one byte more than are wanted.
+pub(crate) fn bytes_of<F: Read + Drop>(
+    alloc: Global,
+    from: F,
+    most: usize,
+) -> Result<Vec<u8>, HostFault>
+    ensures { IfOk result (λ bytes. length bytes.items ≤ most + 1) }
+{
+    let mut bytes = Vec::new(alloc);
+    let read = from
+        .take((most as u64).saturating_add(1))
+        .read_to_end(&mut bytes);
+    if let Err(error) = read {
+        return Err(fault_of(&error));
+    }
+    if bytes.len() > most && bytes.len() - 1 > most {
+        return Err(HostFault::Failed);
+    }
+    Ok(bytes)
+}
+
+/// The bytes of a file by its name.
+pub(crate) fn file_bytes<R: Files<File = File>>(
+    rt: &R,
+    alloc: Global,
+    name: &str,
+    most: usize,
+) -> Result<Vec<u8>, HostFault>
+    ensures { IfOk result (λ bytes. length bytes.items ≤ most + 1) }
+{
+    match fs::open(rt, name) {
+        Ok(file) => bytes_of(alloc, file, most),
+        Err(error) => Err(fault_of(&error)),
+    }
+}
+
+/// The bytes that are left in an open file, which stays open.
+pub(crate) fn held_bytes(alloc: Global, file: &File, most: usize) -> Result<Vec<u8>, HostFault>
+    ensures { IfOk result (λ bytes. length bytes.items ≤ most + 1) }
+{
+    match file.try_clone() {
+        Ok(same) => bytes_of(alloc, same, most),
+        Err(error) => Err(fault_of(&error)),
+    }
+}
+
+/// Whether a new file may take the place of an open one with nothing lost.
+pub(crate) fn stands_alone(file: &File) -> Result<bool, HostFault> {
+    match file.metadata() {
+        Ok(own) => Ok(own.is_file() && own.nlink() == 1),
+        Err(error) => Err(fault_of(&error)),
+    }
+}
+
+/// A new file of the first of these names that none has.
+pub(crate) fn made_beside<R: Files<File = File>>(
+    rt: &R,
+    besides: &mut Besides,
+) -> Result<File, HostFault> {
+    for number in 0..TRIES {
+        let name = besides.name(number).map_err(|_| HostFault::Memory)?;
+        match create_new(rt, name) {
+            Ok(file) => return Ok(file),
+            Err(error) => match error.kind() {
+                ErrorKind::AlreadyExists => {}
+                _ => return Err(fault_of(&error)),
+            },
+        }
+    }
+    Err(HostFault::Unwritable)
+}
+
+/// A new file of this name, which is taken away again where it can't be given a number of its own.
+pub(crate) fn create_new<R: Files<File = File>>(rt: &R, name: &str) -> io::Result<File> {
+    let file = OpenOptions::new()
+        .read(true)
+        .write(true)
+        .create_new(true)
+        .open(rt, name)?;
+    let numbered = apart(file);
+    if numbered.is_err() {
+        let _ = fs::remove_file(rt, name);
+    }
+    numbered
+}
+
+/// A new empty file of a path that no file has, which is locked.
+pub(crate) fn claimed<R: Files<File = File>>(rt: &R, path: &str) -> Result<File, HostFault> {
+    let empty = answer(create_new(rt, path))?;
+    let _has_lock = has_taken_lock(&empty)?;
+    if !leads_to(rt, path, &empty) {
+        return Err(HostFault::Busy);
+    }
+    Ok(empty)
+}
+
+/// Gives a file the owner and the permissions of an older one.
+pub(crate) fn taken_over<R: Files<File = File>>(
+    rt: &R,
+    file: &File,
+    name: &str,
+    older: &File,
+) -> io::Result<()> {
+    let old = older.metadata()?;
+    let new = file.metadata()?;
+    if new.uid() != old.uid() || new.gid() != old.gid() {
+        chown(rt, name, Some(old.uid()), Some(old.gid()))?;
+    }
+    file.set_permissions(old.permissions())
+}
+
+/// Writes bytes to an open file from a byte on.
+pub(crate) fn put_at(file: &mut File, at: usize, bytes: &[u8]) -> io::Result<()> {
+    file.seek(SeekFrom::Start(at as u64))?;
+    file.write_all(bytes)?;
+    file.flush()
+}
+
+/// Cuts an open file, and has the disk hold it; a device stays as it is.
+pub(crate) fn cut_at(file: &mut File, size: usize) -> io::Result<()> {
+    if file.metadata()?.is_file() {
+        file.set_len(size as u64)?;
+        file.sync_all()?;
+    }
+    Ok(())
+}
+
+/// Has the disk hold the names of the folder that a path is in. No memory is taken.
+pub(crate) fn folder_synced<R: Files<File = File>>(rt: &R, path: &str) -> io::Result<()> {
+    let folder = match Path::new(path).parent() {
+        Some(folder) => folder.as_os_str(),
+        None => "",
+    };
+    if folder.is_empty() {
+        return fs::open(rt, ".")?.sync_all();
+    }
+    fs::open(rt, folder)?.sync_all()
+}
+
+/// The path to which a name leads that no file has: a link's text stands for the name, from the link's folder on.
+pub(crate) fn free_path<R: Files<File = File> + AllocGlobal>(
+    rt: &R,
+    alloc: Global,
+    name: &str,
+) -> Result<String, HostFault> {
+    let mut path = PathBuf::from_str(alloc, name).map_err(|_| HostFault::Memory)?;
+    for _ in 0..MOST_LINKS {
+        if is_free(rt, &path)? {
+            return Ok(path.into_string());
+        }
+        let text = answer(fs::read_link(rt, &path))?;
+        let _ = path.pop();
+        path.push(&text).map_err(|_| HostFault::Memory)?;
+    }
+    Err(HostFault::Unwritable)
+}
+
+/// Whether nothing has this name; else it is that of a link.
+fn is_free<R: Files>(rt: &R, path: &PathBuf) -> Result<bool, HostFault> {
+    match fs::symlink_metadata(rt, path) {
+        Ok(named) => {
+            if named.is_symlink() {
+                return Ok(false);
+            }
+            Err(HostFault::Busy)
+        }
+        Err(error) => match error.kind() {
+            ErrorKind::NotFound => Ok(true),
+            _ => Err(fault_of(&error)),
+        },
+    }
+}
+
+/// Makes a folder, unless there is one of that name.
+pub(crate) fn folder_made<R: Files<File = File>>(rt: &R, name: &str) -> Result<(), HostFault> {
+    if fs::metadata(rt, name).is_ok() {
+        return Ok(());
+    }
+    answer(fs::create_dir(rt, name))
+}
+
+pub(crate) fn rename_fault(error: &io::Error) -> RenameFault {
+    match error.kind() {
+        ErrorKind::ResourceBusy => RenameFault::Mount,
+        _ => RenameFault::Failed,
+    }
+}
+
+pub(crate) fn link_fault(error: &io::Error) -> LinkFault {
+    match error.kind() {
+        ErrorKind::AlreadyExists => LinkFault::Exists,
+        ErrorKind::PermissionDenied | ErrorKind::Unsupported | ErrorKind::TooManyLinks => {
+            LinkFault::NoLinks
+        }
+        _ => LinkFault::Failed,
+    }
+}
+
+/// Writes bytes to standard output, all of them.
+pub(crate) fn printed<R: Print>(rt: &R, bytes: &[u8]) -> Result<(), PrintFault> {
+    match rt.write_all(bytes) {
+        Ok(()) => Ok(()),
+        Err(error) => match error.kind() {
+            ErrorKind::BrokenPipe => Err(PrintFault::Abandoned),
+            _ => Err(PrintFault::Failed),
+        },
+    }
+}
+
+/// All bytes of standard input, or one more than are wanted.
+pub(crate) fn input_bytes<R: Input>(
+    rt: &R,
+    alloc: Global,
+    most: usize,
+) -> Result<Vec<u8>, HostFault>
+    ensures { IfOk result (λ bytes. length bytes.items ≤ most + 1) }
+{
+    bytes_of(alloc, rt.reader(), most)
+}
+
+/// Whether a standard stream is a terminal.
+pub(crate) fn is_terminal<R: Files<File = File>>(rt: &R, stream: Stream) -> bool {
+    let name = match stream {
+        Stream::Output => "/dev/stdout",
+        Stream::Errors => "/dev/stderr",
+    };
+    match OpenOptions::new().write(true).open(rt, name) {
+        Ok(file) => file.is_terminal(),
+        Err(_) => false,
+    }
+}
+
+/// The words of the command line.
+pub(crate) fn given_words<R: Env + AllocGlobal>(rt: &R, alloc: Global) -> io::Result<Vec<String>> {
+    let words: Vec<String> = env::args(rt)?.collect(alloc)?;
+    Ok(words)
+}
+
+/// How many seconds have passed since this was first asked.
+pub(crate) fn seconds_since<R: Clock>(rt: &R, begun: &mut Option<Instant>) -> u64 {
+    match *begun {
+        Some(begun) => match begun.elapsed(rt) {
+            Ok(passed) => passed.as_secs(),
+            Err(_) => 0,
+        },
+        None => {
+            *begun = Instant::now(rt).ok();
+            0
+        }
+    }
+}

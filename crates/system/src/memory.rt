@@ -1,0 +1,238 @@
+//! The files and the streams of a host in memory.
+ghost use Rattle.std.specs.Prelude.{◌≤◌, ◌+◌, length, IfOk};
+
+use hosts::{HostFault, LinkFault, PrintFault, RenameFault};
+use std::alloc::{AllocError, Global};
+
+/// One file, the one beside it, and the streams.
+#[derive(Drop)]
+pub struct Memory {
+    alloc: Global,
+    pub file: Option<Vec<u8>>,
+    pub beside: Option<Vec<u8>>,
+    pub input: Vec<u8>,
+    pub output: Vec<u8>,
+    pub errors: Vec<u8>,
+
+    /// Whether a new file may take the path with nothing lost.
+    pub is_alone: bool,
+
+    /// Whether the path is a mount's.
+    pub is_mount: bool,
+
+    /// Whether a file can have further names.
+    pub has_links: bool,
+
+    /// How many calls pass until one fails, if one is to.
+    pub left: Option<u64>,
+}
+
+/// The first bytes of these, one more than are wanted at most.
+fn first_of(alloc: Global, bytes: &[u8], most: usize) -> Result<Vec<u8>, HostFault>
+    ensures { IfOk result (λ it. length it.items ≤ most + 1) }
+{
+    let first = if bytes.len() > most {
+        &bytes[..most]
+    } else {
+        bytes
+    };
+    match Vec::from_slice(alloc, first) {
+        Ok(copy) => Ok(copy),
+        Err(_) => Err(HostFault::Memory),
+    }
+}
+
+/// What stands after bytes were written over others from one on.
+fn over(old: &[u8], at: usize, new: &[u8], laid: &mut Vec<u8>) -> Result<(), AllocError> {
+    let (head, rest) = old.split_at(old.len().min(at));
+    laid.extend_from_slice(head)?;
+    for _ in laid.len()..at {
+        laid.push(0)?;
+    }
+    laid.extend_from_slice(new)?;
+    if rest.len() > new.len() {
+        laid.extend_from_slice(&rest[new.len()..])?;
+    }
+    Ok(())
+}
+
+fn grow(stream: &mut Vec<u8>, bytes: &[u8]) -> Result<(), HostFault> {
+    match stream.extend_from_slice(bytes) {
+        Ok(()) => Ok(()),
+        Err(_) => Err(HostFault::Memory),
+    }
+}
+
+impl Memory {
+    /// A file of these bytes and standard input, of which the call fails that this many pass before.
+    pub fn new(alloc: Global, file: Option<Vec<u8>>, input: Vec<u8>, left: Option<u64>) -> Memory {
+        Memory {
+            alloc,
+            file,
+            beside: None,
+            input,
+            output: Vec::new(alloc),
+            errors: Vec::new(alloc),
+            is_alone: true,
+            is_mount: false,
+            has_links: true,
+            left,
+        }
+    }
+
+    /// Counts a call, and fails the one that is to.
+    pub(crate) fn pass(&mut self) -> Result<(), HostFault> {
+        match self.left {
+            None => Ok(()),
+            Some(0) => {
+                self.left = None;
+                Err(HostFault::Failed)
+            }
+            Some(more) => {
+                self.left = Some(more - 1);
+                Ok(())
+            }
+        }
+    }
+
+    pub(crate) fn answer(&mut self, is: bool) -> Result<bool, HostFault> {
+        self.pass()?;
+        Ok(is)
+    }
+
+    pub(crate) fn path(&mut self, alloc: Global, name: &str) -> Result<String, HostFault> {
+        self.pass()?;
+        match String::from_str(alloc, name) {
+            Ok(path) => Ok(path),
+            Err(_) => Err(HostFault::Memory),
+        }
+    }
+
+    pub(crate) fn look(&mut self, alloc: Global, most: usize) -> Result<Vec<u8>, HostFault>
+        ensures { IfOk result (λ it. length it.items ≤ most + 1) }
+    {
+        if let Err(fault) = self.pass() {
+            return Err(fault);
+        }
+        match &self.file {
+            Some(file) => first_of(alloc, file, most),
+            None => Err(HostFault::Absent),
+        }
+    }
+
+    pub(crate) fn take_input(&mut self, alloc: Global, most: usize) -> Result<Vec<u8>, HostFault>
+        ensures { IfOk result (λ it. length it.items ≤ most + 1) }
+    {
+        if let Err(fault) = self.pass() {
+            return Err(fault);
+        }
+        first_of(alloc, &self.input, most)
+    }
+
+    pub(crate) fn make_beside(&mut self, alloc: Global) -> Result<(), HostFault> {
+        self.pass()?;
+        self.beside = Some(Vec::new(alloc));
+        Ok(())
+    }
+
+    pub(crate) fn write_beside(&mut self, bytes: &[u8]) -> Result<(), HostFault> {
+        self.pass()?;
+        match &mut self.beside {
+            Some(beside) => grow(beside, bytes),
+            None => Err(HostFault::Absent),
+        }
+    }
+
+    pub(crate) fn drop_beside(&mut self) -> Result<(), HostFault> {
+        self.pass()?;
+        self.beside = None;
+        Ok(())
+    }
+
+    pub(crate) fn rename(&mut self) -> Result<(), RenameFault> {
+        if self.pass().is_err() {
+            return Err(RenameFault::Failed);
+        }
+        if self.is_mount {
+            return Err(RenameFault::Mount);
+        }
+        match self.beside.take() {
+            Some(beside) => {
+                self.file = Some(beside);
+                Ok(())
+            }
+            None => Err(RenameFault::Failed),
+        }
+    }
+
+    pub(crate) fn link(&mut self) -> Result<(), LinkFault> {
+        if self.pass().is_err() {
+            return Err(LinkFault::Failed);
+        }
+        if self.file.is_some() {
+            return Err(LinkFault::Exists);
+        }
+        if !self.has_links {
+            return Err(LinkFault::NoLinks);
+        }
+        self.file = self.beside.take();
+        Ok(())
+    }
+
+    pub(crate) fn claim(&mut self) -> Result<(), HostFault> {
+        self.pass()?;
+        if self.file.is_some() {
+            return Err(HostFault::Busy);
+        }
+        self.file = Some(Vec::new(self.alloc));
+        Ok(())
+    }
+
+    pub(crate) fn drop_claim(&mut self) -> Result<(), HostFault> {
+        self.pass()?;
+        self.file = None;
+        Ok(())
+    }
+
+    pub(crate) fn write_over(&mut self, at: usize, bytes: &[u8]) -> Result<(), HostFault> {
+        self.pass()?;
+        let mut laid = Vec::new(self.alloc);
+        let old: &[u8] = match &self.file {
+            Some(file) => file,
+            None => &[],
+        };
+        if over(old, at, bytes, &mut laid).is_err() {
+            return Err(HostFault::Memory);
+        }
+        self.file = Some(laid);
+        Ok(())
+    }
+
+    pub(crate) fn cut(&mut self, size: usize) -> Result<(), HostFault> {
+        self.pass()?;
+        match &mut self.file {
+            Some(file) => {
+                file.truncate(size);
+                Ok(())
+            }
+            None => Err(HostFault::Absent),
+        }
+    }
+
+    pub(crate) fn print(&mut self, bytes: &[u8]) -> Result<(), PrintFault> {
+        if self.pass().is_err() || grow(&mut self.output, bytes).is_err() {
+            return Err(PrintFault::Failed);
+        }
+        Ok(())
+    }
+
+    pub(crate) fn tell(&mut self, text: &[u8]) -> Result<(), HostFault> {
+        self.pass()?;
+        grow(&mut self.errors, text)
+    }
+
+    pub(crate) fn words(&mut self, alloc: Global) -> Result<Vec<String>, HostFault> {
+        self.pass()?;
+        Ok(Vec::new(alloc))
+    }
+}

@@ -1,0 +1,233 @@
+//! The files that are open: the one that is held, and the one that is made beside a path.
+
+ghost use Rattle.std.specs.Prelude.{◌≤◌, ◌+◌, length, IfOk};
+
+use crate::besides::Besides;
+use crate::files::{
+    answer, claimed, cut_at, has_taken_lock, held_at, held_bytes, leads_to, link_fault,
+    made_beside, put_at, remove_besides, rename_fault, stands_alone, taken_over,
+};
+use hosts::{HostFault, LinkFault, RenameFault};
+use std::alloc::Global;
+use std::fs::{self, File, Files};
+use std::io::Write;
+
+/// A path, and the names beside it.
+#[derive(Drop)]
+struct Beside {
+    path: String,
+    names: Besides,
+}
+
+/// The file that is held, and the one that is made beside its path or beside another.
+#[derive(Drop)]
+pub(crate) struct Opened {
+    held: Option<File>,
+    held_path: Option<String>,
+    beside: Option<File>,
+    place: Option<Beside>,
+
+    /// A new file that has its path, and still its name beside that; or an empty one that has the path until another takes it.
+    named: Option<File>,
+}
+
+impl Opened {
+    pub(crate) fn new() -> Opened {
+        Opened {
+            held: None,
+            held_path: None,
+            beside: None,
+            place: None,
+            named: None,
+        }
+    }
+
+    /// Has the names beside a path at hand. Where they are, no memory is taken.
+    fn place(&mut self, alloc: Global, path: &str) -> Result<&mut Besides, HostFault> {
+        if !is_of(&self.place, path) {
+            let names = Besides::new(alloc, path).map_err(|_| HostFault::Memory)?;
+            let path = String::from_str(alloc, path).map_err(|_| HostFault::Memory)?;
+            self.place = Some(Beside { path, names });
+        }
+        match &mut self.place {
+            Some(place) => Ok(&mut place.names),
+            None => Err(HostFault::Memory),
+        }
+    }
+
+    /// The name of the file beside a path.
+    fn name_beside(&self) -> &str {
+        match &self.place {
+            Some(place) => place.names.last(),
+            None => "",
+        }
+    }
+
+    pub(crate) fn hold<R: Files<File = File>>(
+        &mut self,
+        rt: &R,
+        alloc: Global,
+        path: &str,
+    ) -> Result<bool, HostFault> {
+        let _names = self.place(alloc, path)?;
+        let own = String::from_str(alloc, path).map_err(|_| HostFault::Memory)?;
+        let (file, has_lock) = held_at(rt, path)?;
+        self.held = Some(file);
+        self.held_path = Some(own);
+        Ok(has_lock)
+    }
+
+    pub(crate) fn drop_seconds<R: Files<File = File>>(&mut self, rt: &R) -> Result<(), HostFault> {
+        match (&self.held, &mut self.place) {
+            (Some(file), Some(place)) => remove_besides(rt, file, &mut place.names),
+            _ => Err(HostFault::Absent),
+        }
+    }
+
+    pub(crate) fn look(&self, alloc: Global, most: usize) -> Result<Vec<u8>, HostFault>
+        ensures { IfOk result (λ bytes. length bytes.items ≤ most + 1) }
+    {
+        match &self.held {
+            Some(file) => held_bytes(alloc, file, most),
+            None => Err(HostFault::Absent),
+        }
+    }
+
+    pub(crate) fn is_alone(&self) -> Result<bool, HostFault> {
+        match &self.held {
+            Some(file) => stands_alone(file),
+            None => Err(HostFault::Absent),
+        }
+    }
+
+    pub(crate) fn leads<R: Files<File = File>>(&self, rt: &R, path: &str) -> bool {
+        match &self.held {
+            Some(file) => leads_to(rt, path, file),
+            None => false,
+        }
+    }
+
+    pub(crate) fn make_beside<R: Files<File = File>>(
+        &mut self,
+        rt: &R,
+        alloc: Global,
+        path: &str,
+    ) -> Result<(), HostFault> {
+        let file = made_beside(rt, self.place(alloc, path)?)?;
+        self.beside = Some(file);
+        Ok(())
+    }
+
+    pub(crate) fn own_beside<R: Files<File = File>>(&self, rt: &R) -> Result<(), HostFault> {
+        match (&self.beside, &self.held) {
+            (Some(file), Some(older)) => answer(taken_over(rt, file, self.name_beside(), older)),
+            _ => Err(HostFault::Absent),
+        }
+    }
+
+    pub(crate) fn lock_beside(&self) -> Result<(), HostFault> {
+        match &self.beside {
+            Some(file) => match has_taken_lock(file) {
+                Ok(_) => Ok(()),
+                Err(fault) => Err(fault),
+            },
+            None => Err(HostFault::Absent),
+        }
+    }
+
+    pub(crate) fn write_beside(&mut self, bytes: &[u8]) -> Result<(), HostFault> {
+        match &mut self.beside {
+            Some(file) => answer(file.write_all(bytes)),
+            None => Err(HostFault::Absent),
+        }
+    }
+
+    pub(crate) fn sync_beside(&self) -> Result<(), HostFault> {
+        match &self.beside {
+            Some(file) => answer(file.sync_all()),
+            None => Err(HostFault::Absent),
+        }
+    }
+
+    pub(crate) fn drop_beside<R: Files<File = File>>(&mut self, rt: &R) -> Result<(), HostFault> {
+        let done = answer(fs::remove_file(rt, self.name_beside()));
+        self.beside = None;
+        self.named = None;
+        done
+    }
+
+    pub(crate) fn rename<R: Files<File = File>>(
+        &mut self,
+        rt: &R,
+        path: &str,
+    ) -> Result<(), RenameFault> {
+        if let Err(error) = fs::rename(rt, self.name_beside(), path) {
+            return Err(rename_fault(&error));
+        }
+        let file = self.beside.take();
+        if is_path(&self.held_path, path) {
+            self.held = file;
+        }
+        self.named = None;
+        Ok(())
+    }
+
+    pub(crate) fn link<R: Files<File = File>>(
+        &mut self,
+        rt: &R,
+        path: &str,
+    ) -> Result<(), LinkFault> {
+        if let Err(error) = fs::hard_link(rt, self.name_beside(), path) {
+            return Err(link_fault(&error));
+        }
+        self.named = self.beside.take();
+        Ok(())
+    }
+
+    pub(crate) fn claim<R: Files<File = File>>(
+        &mut self,
+        rt: &R,
+        path: &str,
+    ) -> Result<(), HostFault> {
+        let empty = claimed(rt, path)?;
+        self.named = Some(empty);
+        Ok(())
+    }
+
+    pub(crate) fn drop_claim<R: Files<File = File>>(
+        &mut self,
+        rt: &R,
+        path: &str,
+    ) -> Result<(), HostFault> {
+        self.named = None;
+        answer(fs::remove_file(rt, path))
+    }
+
+    pub(crate) fn write_over(&mut self, at: usize, bytes: &[u8]) -> Result<(), HostFault> {
+        match &mut self.held {
+            Some(file) => answer(put_at(file, at, bytes)),
+            None => Err(HostFault::Absent),
+        }
+    }
+
+    pub(crate) fn finish_over(&mut self, size: usize) -> Result<(), HostFault> {
+        match &mut self.held {
+            Some(file) => answer(cut_at(file, size)),
+            None => Err(HostFault::Absent),
+        }
+    }
+}
+
+fn is_of(place: &Option<Beside>, path: &str) -> bool {
+    match place {
+        Some(place) => place.path.as_str() == path,
+        None => false,
+    }
+}
+
+fn is_path(held: &Option<String>, path: &str) -> bool {
+    match held {
+        Some(held) => held.as_str() == path,
+        None => false,
+    }
+}

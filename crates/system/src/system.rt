@@ -1,0 +1,308 @@
+//! The system that the program runs in. Each method makes the call that it is named for, and then notes it with its answer. The prover shows
+//! that each method notes itself, and its answer, once. It can't show that the call was made: this file and `files.rt` are read for that.
+//!
+//! What a reader believes of the calls, in the terms of `hosts`' page of places:
+//! - `resolve`: `realpath`. The path that it gives has no link in it.
+//! - `hold`: `stat`, `open` for reading and writing, a second number for the file, `flock` without waiting, and `stat` and `fstat`, again
+//!   where the path leads to another file by then. While the lock is held no other program that asks for it gets it; so no other program
+//!   that holds what it writes changes the file.
+//! - `drop_seconds`: `lstat` and `unlink` of the names beside the path that have the held file's number. No path's bytes change.
+//! - `look_held`, `look`, `take_input`: `read` until the end, or one byte past the most that is wanted. What it gives is what the file had
+//!   while it was read: a file that others replace is read whole, and one that is held is changed by nobody.
+//! - `is_alone`, `leads_to_held`, `is_there`, `is_terminal`: `fstat`, `stat`, `lstat`, `isatty`, and nothing changes.
+//! - `make_beside`: `open` with `O_CREAT` and `O_EXCL` of `.NAME.pdp8-000` and so on, and a second number for it. No path that a person
+//!   names changes.
+//! - `own_beside`: `fstat`, `chown` where the owner differs, `fchmod`. No byte changes.
+//! - `lock_beside`: `flock` without waiting.
+//! - `write_beside`: `write` until all bytes are written. A failed one may have written some.
+//! - `sync_beside`: `fsync`. Where it succeeds the disk has the file's bytes; where it fails nothing is known of them.
+//! - `drop_beside`: `unlink` of the name beside.
+//! - `rename`: `rename`, which is done or not done, for every reader and for a crash. A crash after it may leave either file under the path
+//!   until the folder is synced.
+//! - `link_new`: `link`, which fails where the path has a file, and else is done as a rename is. `claim`: `open` with `O_EXCL`, likewise, and
+//!   `flock`. `drop_claim`: `unlink`.
+//! - `sync_folder`: `open` and `fsync` of the folder. Where it succeeds the disk has its names.
+//! - `write_over`: `lseek` and `write`; a crash meanwhile may leave any bytes. `finish_over`: `ftruncate` and `fsync` of a plain file.
+//! - `free_path`: `lstat` and `readlink` until a name is met that nothing has. `make_folder`: `stat`, and `mkdir` where it finds nothing.
+//! - `print`, `tell`: `write` to 1 and to 2 until all bytes are written. A failed one may have written some.
+//! - `seconds`: the clock that only goes on. `words`: the words that the program was started with.
+ghost use Rattle.std.specs.Prelude.{◌≡◌, []};
+ghost use Rattle.system.specs.Raw.{events_of};
+
+use crate::files;
+use crate::notes::{
+    ALONE, CLAIM, DROP_BESIDE, DROP_CLAIM, DROP_SECONDS, FINISH_OVER, FREE, HOLD, LEADS, LINK_NEW,
+    LOCK_BESIDE, LOOK, MAKE_BESIDE, MAKE_FOLDER, OWN_BESIDE, PRINT, RENAME, RESOLVE, SECONDS,
+    SYNC_BESIDE, SYNC_FOLDER, TAKE_INPUT, TELL, TERMINAL, THERE, WORDS, WRITE_BESIDE, WRITE_OVER,
+    number,
+};
+use crate::opened::Opened;
+use crate::record::Record;
+use hosts::{Host, HostFault, LinkFault, PrintFault, RenameFault, Stream};
+use std::alloc::Global;
+use std::env::Env;
+use std::fs::{self, File, Files};
+use std::io::Input;
+use std::time::{Clock, Instant};
+
+/// The operating system, and the files that are open.
+#[derive(Drop)]
+pub struct System<'a, R> {
+    rt: &'a R,
+    files: Opened,
+    begun: Option<Instant>,
+    log: Record,
+}
+
+impl<'a, R: Files<File = File>> System<'a, R> {
+    pub fn new(rt: &'a R) -> System<'a, R>
+        ensures { events_of result.log.events ≡ [] }
+    {
+        System {
+            rt,
+            files: Opened::new(),
+            begun: None,
+            log: Record::new(),
+        }
+    }
+}
+
+impl<'a, R: Env + Files<File = File> + Input + Print + Eprint + Clock + AllocGlobal> Host
+    for System<'a, R> {
+    ghost history = { λ s. events_of s.log.events };
+
+    fn resolve(&mut self, alloc: Global, name: &str) -> Result<String, HostFault> {
+        let done = files::path_of(self.rt, alloc, name);
+        match &done {
+            Ok(it) => self
+                .log
+                .note(&[RESOLVE, 1, 0], name.as_bytes(), it.as_bytes()),
+            Err(_) => self.log.note(&[RESOLVE, 0, 0], name.as_bytes(), &[]),
+        }
+        done
+    }
+
+    fn hold(&mut self, alloc: Global, path: &str) -> Result<bool, HostFault> {
+        let done = self.files.hold(self.rt, alloc, path);
+        self.log
+            .note(&[HOLD, number(&done), 0], path.as_bytes(), &[]);
+        done
+    }
+
+    fn drop_seconds(&mut self, path: &str) -> Result<(), HostFault> {
+        let done = self.files.drop_seconds(self.rt);
+        self.log
+            .note(&[DROP_SECONDS, number(&done), 0], path.as_bytes(), &[]);
+        done
+    }
+
+    fn look_held(&mut self, alloc: Global, path: &str, most: usize) -> Result<Vec<u8>, HostFault> {
+        let done = self.files.look(alloc, most);
+        match &done {
+            Ok(it) => self.log.note(&[LOOK, 1, 0], path.as_bytes(), it),
+            Err(_) => self.log.note(&[LOOK, 0, 0], path.as_bytes(), &[]),
+        }
+        done
+    }
+
+    fn look(&mut self, alloc: Global, name: &str, most: usize) -> Result<Vec<u8>, HostFault> {
+        let done = files::file_bytes(self.rt, alloc, name, most);
+        match &done {
+            Ok(it) => self.log.note(&[LOOK, 1, 0], name.as_bytes(), it),
+            Err(_) => self.log.note(&[LOOK, 0, 0], name.as_bytes(), &[]),
+        }
+        done
+    }
+
+    fn take_input(&mut self, alloc: Global, most: usize) -> Result<Vec<u8>, HostFault> {
+        let done = files::input_bytes(self.rt, alloc, most);
+        match &done {
+            Ok(it) => self.log.note(&[TAKE_INPUT, 1, 0], &[], it),
+            Err(_) => self.log.note(&[TAKE_INPUT, 0, 0], &[], &[]),
+        }
+        done
+    }
+
+    fn is_alone(&mut self, path: &str) -> Result<bool, HostFault> {
+        let done = self.files.is_alone();
+        match &done {
+            Ok(is) => self
+                .log
+                .note(&[ALONE, 1, u64::from(*is)], path.as_bytes(), &[]),
+            Err(_) => self.log.note(&[ALONE, 0, 0], path.as_bytes(), &[]),
+        }
+        done
+    }
+
+    fn leads_to_held(&mut self, path: &str) -> bool {
+        let is = self.files.leads(self.rt, path);
+        self.log
+            .note(&[LEADS, u64::from(is), 0], path.as_bytes(), &[]);
+        is
+    }
+
+    fn make_beside(&mut self, alloc: Global, path: &str) -> Result<(), HostFault> {
+        let done = self.files.make_beside(self.rt, alloc, path);
+        self.log
+            .note(&[MAKE_BESIDE, number(&done), 0], path.as_bytes(), &[]);
+        done
+    }
+
+    fn own_beside(&mut self, path: &str) -> Result<(), HostFault> {
+        let done = self.files.own_beside(self.rt);
+        self.log
+            .note(&[OWN_BESIDE, number(&done), 0], path.as_bytes(), &[]);
+        done
+    }
+
+    fn lock_beside(&mut self, path: &str) -> Result<(), HostFault> {
+        let done = self.files.lock_beside();
+        self.log
+            .note(&[LOCK_BESIDE, number(&done), 0], path.as_bytes(), &[]);
+        done
+    }
+
+    fn write_beside(&mut self, path: &str, bytes: &[u8]) -> Result<(), HostFault> {
+        let done = self.files.write_beside(bytes);
+        self.log
+            .note(&[WRITE_BESIDE, number(&done), 0], path.as_bytes(), bytes);
+        done
+    }
+
+    fn sync_beside(&mut self, path: &str) -> Result<(), HostFault> {
+        let done = self.files.sync_beside();
+        self.log
+            .note(&[SYNC_BESIDE, number(&done), 0], path.as_bytes(), &[]);
+        done
+    }
+
+    fn drop_beside(&mut self, path: &str) -> Result<(), HostFault> {
+        let done = self.files.drop_beside(self.rt);
+        self.log
+            .note(&[DROP_BESIDE, number(&done), 0], path.as_bytes(), &[]);
+        done
+    }
+
+    fn rename(&mut self, path: &str) -> Result<(), RenameFault> {
+        let done = self.files.rename(self.rt, path);
+        match &done {
+            Ok(()) => self.log.note(&[RENAME, 1, 0], path.as_bytes(), &[]),
+            Err(RenameFault::Mount) => self.log.note(&[RENAME, 0, 1], path.as_bytes(), &[]),
+            Err(RenameFault::Failed) => self.log.note(&[RENAME, 0, 0], path.as_bytes(), &[]),
+        }
+        done
+    }
+
+    fn link_new(&mut self, path: &str) -> Result<(), LinkFault> {
+        let done = self.files.link(self.rt, path);
+        match &done {
+            Ok(()) => self.log.note(&[LINK_NEW, 1, 0], path.as_bytes(), &[]),
+            Err(LinkFault::Exists) => self.log.note(&[LINK_NEW, 0, 0], path.as_bytes(), &[]),
+            Err(LinkFault::NoLinks) => self.log.note(&[LINK_NEW, 0, 1], path.as_bytes(), &[]),
+            Err(LinkFault::Failed) => self.log.note(&[LINK_NEW, 0, 0], path.as_bytes(), &[]),
+        }
+        done
+    }
+
+    fn claim(&mut self, path: &str) -> Result<(), HostFault> {
+        let done = self.files.claim(self.rt, path);
+        self.log
+            .note(&[CLAIM, number(&done), 0], path.as_bytes(), &[]);
+        done
+    }
+
+    fn drop_claim(&mut self, path: &str) -> Result<(), HostFault> {
+        let done = self.files.drop_claim(self.rt, path);
+        self.log
+            .note(&[DROP_CLAIM, number(&done), 0], path.as_bytes(), &[]);
+        done
+    }
+
+    fn sync_folder(&mut self, path: &str) -> Result<(), HostFault> {
+        let done = files::answer(files::folder_synced(self.rt, path));
+        self.log
+            .note(&[SYNC_FOLDER, number(&done), 0], path.as_bytes(), &[]);
+        done
+    }
+
+    fn write_over(&mut self, path: &str, at: usize, bytes: &[u8]) -> Result<(), HostFault> {
+        let done = self.files.write_over(at, bytes);
+        self.log.note(
+            &[WRITE_OVER, number(&done), at as u64],
+            path.as_bytes(),
+            bytes,
+        );
+        done
+    }
+
+    fn finish_over(&mut self, path: &str, size: usize) -> Result<(), HostFault> {
+        let done = self.files.finish_over(size);
+        self.log.note(
+            &[FINISH_OVER, number(&done), size as u64],
+            path.as_bytes(),
+            &[],
+        );
+        done
+    }
+
+    fn free_path(&mut self, alloc: Global, name: &str) -> Result<String, HostFault> {
+        let done = files::free_path(self.rt, alloc, name);
+        match &done {
+            Ok(it) => self.log.note(&[FREE, 1, 0], name.as_bytes(), it.as_bytes()),
+            Err(_) => self.log.note(&[FREE, 0, 0], name.as_bytes(), &[]),
+        }
+        done
+    }
+
+    fn is_there(&mut self, name: &str) -> bool {
+        let is = fs::symlink_metadata(self.rt, name).is_ok();
+        self.log
+            .note(&[THERE, u64::from(is), 0], name.as_bytes(), &[]);
+        is
+    }
+
+    fn make_folder(&mut self, name: &str) -> Result<(), HostFault> {
+        let done = files::folder_made(self.rt, name);
+        self.log
+            .note(&[MAKE_FOLDER, number(&done), 0], name.as_bytes(), &[]);
+        done
+    }
+
+    fn print(&mut self, bytes: &[u8]) -> Result<(), PrintFault> {
+        let done = files::printed(self.rt, bytes);
+        match &done {
+            Ok(()) => self.log.note(&[PRINT, 1, 0], &[], bytes),
+            Err(PrintFault::Abandoned) => self.log.note(&[PRINT, 0, 1], &[], bytes),
+            Err(PrintFault::Failed) => self.log.note(&[PRINT, 0, 0], &[], bytes),
+        }
+        done
+    }
+
+    fn tell(&mut self, text: &str) -> Result<(), HostFault> {
+        let done = files::answer(self.rt.eprint(text));
+        self.log
+            .note(&[TELL, number(&done), 0], &[], text.as_bytes());
+        done
+    }
+
+    fn is_terminal(&mut self, stream: Stream) -> bool {
+        let is = files::is_terminal(self.rt, stream);
+        match stream {
+            Stream::Output => self.log.note(&[TERMINAL, u64::from(is), 1], &[], &[]),
+            Stream::Errors => self.log.note(&[TERMINAL, u64::from(is), 2], &[], &[]),
+        }
+        is
+    }
+
+    fn seconds(&mut self) -> u64 {
+        let passed = files::seconds_since(self.rt, &mut self.begun);
+        self.log.note(&[SECONDS, 1, 0], &[], &[]);
+        passed
+    }
+
+    fn words(&mut self, alloc: Global) -> Result<Vec<String>, HostFault> {
+        let done = files::answer(files::given_words(self.rt, alloc));
+        self.log.note(&[WORDS, number(&done), 0], &[], &[]);
+        done
+    }
+}
