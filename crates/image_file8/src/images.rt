@@ -37,7 +37,7 @@ impl Image {
         if let Err(HoldFault::Unwritable) = &found {
             return Image::look(rt, form);
         }
-        let held = found.map_err(ending_of_read)?;
+        let held = found.map_err(|fault| ending_of_read(fault))?;
         tell_of_lock(rt, &held, Content::Image);
         let file = bytes_within(rt, &form.file, held.read(rt, MOST))?;
         let (bytes, disk) = volume_in(rt, file, form.layout)?;
@@ -170,7 +170,7 @@ fn bytes_within<R: Eprint>(
     name: &str,
     found: Result<Vec<u8>, HoldFault>,
 ) -> Result<Vec<u8>, Ending> {
-    let bytes = found.map_err(ending_of_read)?;
+    let bytes = found.map_err(|fault| ending_of_read(fault))?;
     if bytes.len() > MOST {
         tell_of_limit(rt, name);
         return Err(Ending::Line(ProgramLine::HostRead));

@@ -37,7 +37,7 @@ pub fn get_files<R: Files<File = File> + Print + Eprint + Clock + AllocGlobal>(
     let bytes = image_bytes(rt, &form.image)?;
     let volume = answer_of(rt, bytes.len(), open(rt.alloc(), &bytes))?;
     let files = volume.files(rt.alloc())?;
-    make_folder(rt, &form.folder).map_err(ending_of_lay)?;
+    make_folder(rt, &form.folder).map_err(|fault| ending_of_lay(fault))?;
     let mut getting = Getting {
         rt,
         form,
