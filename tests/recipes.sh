@@ -23,3 +23,11 @@ lay() {
 block() {
     od -A n -v -t o2 -w32 -j $((512 * $2)) -N $((2 * $3)) "$1" | sed 's/ 00/ /g; s/^ //'
 }
+
+# Shows how a command ends: its status, and the lines of each stream: `ends ./pdp8 list V`.
+ends() {
+    "$@" > .output 2> .errors
+    echo "status $?"
+    sed 's/^/output: /' .output
+    sed 's/^/errors: /' .errors
+}

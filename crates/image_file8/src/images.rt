@@ -1,40 +1,20 @@
 //! Images in files of the host. An image that a command may change is held from before it is read until the program ends.
 
-use crate::Ended;
 use crate::inputs::tell_of_limit;
-use crate::printing::print_bytes;
+use crate::printing::{print_bytes, tell};
 use disk8::{DiskFile, Layout};
 use host8::{Durability, HeldFile, HoldFault, Unwritten, hold, look, make};
+use outcome::{Content, Ending, FileNote, Note, ending_of_read, ending_of_write};
 use report8::ProgramLine;
-use script8::SessionFault;
 use script8::readings::MOST;
 use std::fs::{File, Files};
 use std::mem;
 use task8::ImageForm;
 
-/// What a file of the host is to hold.
-#[derive(Clone, Copy)]
-pub enum Content {
-    Image,
-    Tape,
-    Listing,
-}
-
-impl Content {
-    /// The word for it in what is said of the file.
-    pub fn name(self) -> &'static str {
-        match self {
-            Content::Image => "image",
-            Content::Tape => "tape",
-            Content::Listing => "listing",
-        }
-    }
-}
-
 /// The image in a file, which is held unless it may not be written, or is only looked at.
 #[derive(Drop)]
 pub struct Image {
-    held: Option<HeldFile>,
+    file: Option<HeldFile>,
     bytes: Vec<u8>,
 
     /// The whole file, where it holds more than the image.
@@ -52,17 +32,17 @@ impl Image {
     pub fn open<R: Files<File = File> + Eprint + AllocGlobal>(
         rt: &R,
         form: &ImageForm,
-    ) -> Result<Image, Ended> {
+    ) -> Result<Image, Ending> {
         let found = hold(rt, &form.file);
         if let Err(HoldFault::Unwritable) = &found {
             return Image::look(rt, form);
         }
-        let held = found.map_err(unread)?;
+        let held = found.map_err(|fault| ending_of_read(fault))?;
         tell_of_lock(rt, &held, Content::Image);
-        let file = taken(rt, &form.file, held.read(rt, MOST))?;
+        let file = bytes_within(rt, &form.file, held.read(rt, MOST))?;
         let (bytes, disk) = volume_in(rt, file, form.layout)?;
         Ok(Image {
-            held: Some(held),
+            file: Some(held),
             bytes,
             disk,
             is_place_told: false,
@@ -71,10 +51,13 @@ impl Image {
     }
 
     /// Reads an image file, and holds nothing: it can't be saved.
-    pub fn look<R: Files + Eprint + AllocGlobal>(rt: &R, form: &ImageForm) -> Result<Image, Ended> {
+    pub fn look<R: Files + Eprint + AllocGlobal>(
+        rt: &R,
+        form: &ImageForm,
+    ) -> Result<Image, Ending> {
         Ok(Image {
-            held: None,
-            bytes: seen(rt, form)?,
+            file: None,
+            bytes: image_bytes(rt, form)?,
             disk: None,
             is_place_told: false,
             is_folder_told: false,
@@ -92,12 +75,12 @@ impl Image {
         &mut self,
         rt: &R,
         bytes: &mut Vec<u8>,
-    ) -> Result<(), Ended> {
+    ) -> Result<(), Ending> {
         if self.bytes.as_slice() == bytes.as_slice() {
             return Ok(());
         }
-        let Some(held) = &mut self.held else {
-            return Err(Ended::Unwritten(Content::Image, Unwritten::AsItWas));
+        let Some(held) = &mut self.file else {
+            return Err(Ending::NotWritten(Content::Image, Unwritten::AsItWas));
         };
         if !self.is_place_told {
             tell_of_place(rt, held, Content::Image);
@@ -107,7 +90,7 @@ impl Image {
             None => write(rt, held, bytes, Content::Image)?,
             Some(disk) => {
                 if !disk.lay(bytes) {
-                    return Err(Ended::Unwritten(Content::Image, Unwritten::AsItWas));
+                    return Err(Ending::NotWritten(Content::Image, Unwritten::AsItWas));
                 }
                 write(rt, held, disk.bytes(), Content::Image)?
             }
@@ -126,7 +109,7 @@ pub fn save_and_print<R: Files<File = File> + Print + Eprint>(
     held: &mut Image,
     bytes: Vec<u8>,
     lines: &[u8],
-) -> Result<(), Ended> {
+) -> Result<(), Ending> {
     let mut bytes = bytes;
     held.save(rt, &mut bytes)?;
     print_bytes(rt, lines)
@@ -138,14 +121,14 @@ pub fn make_file<R: Files<File = File> + Eprint + AllocGlobal>(
     name: &str,
     bytes: &[u8],
     content: Content,
-) -> Result<(), Ended> {
+) -> Result<(), Ending> {
     let found = hold(rt, name);
     if let Err(HoldFault::Absent) = &found {
-        let durability = make(rt, name, bytes).map_err(|fault| unmade(fault, content))?;
+        let durability = make(rt, name, bytes).map_err(|fault| ending_of_write(content, fault))?;
         let _ = tells_of_folder(rt, durability, content);
         return Ok(());
     }
-    let mut held = found.map_err(|fault| unmade(fault, content))?;
+    let mut held = found.map_err(|fault| ending_of_write(content, fault))?;
     tell_of_lock(rt, &held, content);
     tell_of_place(rt, &held, content);
     let durability = write(rt, &mut held, bytes, content)?;
@@ -154,14 +137,17 @@ pub fn make_file<R: Files<File = File> + Eprint + AllocGlobal>(
 }
 
 /// The bytes of an image that is only looked at.
-pub fn seen<R: Files + Eprint + AllocGlobal>(rt: &R, form: &ImageForm) -> Result<Vec<u8>, Ended> {
+pub fn image_bytes<R: Files + Eprint + AllocGlobal>(
+    rt: &R,
+    form: &ImageForm,
+) -> Result<Vec<u8>, Ending> {
     let (bytes, _disk) = volume_in(rt, bytes_of(rt, &form.file)?, form.layout)?;
     Ok(bytes)
 }
 
 /// The bytes of a file that is only looked at.
-pub fn bytes_of<R: Files + Eprint + AllocGlobal>(rt: &R, name: &str) -> Result<Vec<u8>, Ended> {
-    taken(rt, name, look(rt, name, MOST))
+pub fn bytes_of<R: Files + Eprint + AllocGlobal>(rt: &R, name: &str) -> Result<Vec<u8>, Ending> {
+    bytes_within(rt, name, look(rt, name, MOST))
 }
 
 /// The image of the volume in a file of these bytes, and the file where it holds more than that.
@@ -169,7 +155,7 @@ fn volume_in<R: AllocGlobal>(
     rt: &R,
     file: Vec<u8>,
     layout: Option<Layout>,
-) -> Result<(Vec<u8>, Option<DiskFile>), Ended> {
+) -> Result<(Vec<u8>, Option<DiskFile>), Ending> {
     let Some(layout) = layout else {
         return Ok((file, None));
     };
@@ -178,42 +164,23 @@ fn volume_in<R: AllocGlobal>(
     Ok((image, Some(disk)))
 }
 
-/// The bytes of a file, if they are not too many, which is said.
-fn taken<R: Eprint>(
+/// The bytes of a file, if they are not too many, of which a note is printed.
+fn bytes_within<R: Eprint>(
     rt: &R,
     name: &str,
     found: Result<Vec<u8>, HoldFault>,
-) -> Result<Vec<u8>, Ended> {
-    let bytes = found.map_err(unread)?;
+) -> Result<Vec<u8>, Ending> {
+    let bytes = found.map_err(|fault| ending_of_read(fault))?;
     if bytes.len() > MOST {
         tell_of_limit(rt, name);
-        return Err(Ended::Line(ProgramLine::HostRead));
+        return Err(Ending::Line(ProgramLine::HostRead));
     }
     Ok(bytes)
 }
 
-fn unread(fault: HoldFault) -> Ended {
-    match fault {
-        HoldFault::Busy => Ended::Busy(Content::Image),
-        HoldFault::Memory => Ended::Fault(SessionFault::Memory),
-        _ => Ended::Line(ProgramLine::HostRead),
-    }
-}
-
-fn unmade(fault: HoldFault, content: Content) -> Ended {
-    match fault {
-        HoldFault::Busy => Ended::Busy(content),
-        HoldFault::Memory => Ended::Fault(SessionFault::Memory),
-        _ => Ended::Unwritten(content, Unwritten::AsItWas),
-    }
-}
-
 fn tell_of_place<R: Eprint>(rt: &R, held: &HeldFile, content: Content) {
     if !held.is_alone() {
-        let _ = eprintln!(rt;
-            "note: the {} is written in its place, and is not whole if that breaks off",
-            content.name()
-        );
+        tell(rt, Note::OnFile(FileNote::InPlace, content));
     }
 }
 
@@ -222,10 +189,10 @@ fn write<R: Files<File = File>>(
     held: &mut HeldFile,
     bytes: &[u8],
     content: Content,
-) -> Result<Durability, Ended> {
+) -> Result<Durability, Ending> {
     match held.write(rt, bytes) {
         Ok(durability) => Ok(durability),
-        Err(left) => Err(Ended::Unwritten(content, left)),
+        Err(left) => Err(Ending::NotWritten(content, left)),
     }
 }
 
@@ -234,10 +201,7 @@ fn tells_of_folder<R: Eprint>(rt: &R, durability: Durability, content: Content) 
     match durability {
         Durability::Certain => false,
         Durability::Unknown => {
-            let _ = eprintln!(rt;
-                "note: the {} is written, but its folder is not synced: whether a crash keeps it isn't known",
-                content.name()
-            );
+            tell(rt, Note::OnFile(FileNote::NoSync, content));
             true
         }
     }
@@ -245,9 +209,6 @@ fn tells_of_folder<R: Eprint>(rt: &R, durability: Durability, content: Content) 
 
 fn tell_of_lock<R: Eprint>(rt: &R, held: &HeldFile, content: Content) {
     if !held.has_lock() {
-        let _ = eprintln!(rt;
-            "note: the file system has no locks, so let no other program work on the {}",
-            content.name()
-        );
+        tell(rt, Note::OnFile(FileNote::NoLock, content));
     }
 }

@@ -1,20 +1,21 @@
 //! Standard input, and how much of an input is read at most.
 
-use crate::Ended;
+use crate::printing::tell;
+use outcome::{Ending, NameNote, Note};
 use script8::read_all;
 use script8::readings::MOST;
 use std::io::{self, Input, Read};
 
 /// A reader, of which it is known how many bytes it gave.
 #[derive(Drop)]
-pub struct Counted<I> {
+pub struct CountedInput<I> {
     from: I,
     count: usize,
 }
 
-impl<I: Read> Counted<I> {
-    pub fn new(from: I) -> Counted<I> {
-        Counted { from, count: 0 }
+impl<I: Read> CountedInput<I> {
+    pub fn new(from: I) -> CountedInput<I> {
+        CountedInput { from, count: 0 }
     }
 
     /// Says of standard input that it has more bytes than are read, where it gave one more.
@@ -25,7 +26,7 @@ impl<I: Read> Counted<I> {
     }
 }
 
-impl<I: Read> Read for Counted<I> {
+impl<I: Read> Read for CountedInput<I> {
     fn read(&mut self, buf: &mut [u8]) -> io::Result<usize> {
         let count = self.from.read(buf)?;
         self.count = self.count.saturating_add(count);
@@ -34,18 +35,18 @@ impl<I: Read> Read for Counted<I> {
 }
 
 /// All bytes of standard input. Where they are more than are read, that is said.
-pub fn input_bytes<R: Input + Eprint + AllocGlobal>(rt: &R) -> Result<Vec<u8>, Ended> {
-    let mut input = Counted::new(rt.reader());
+pub fn input_bytes<R: Input + Eprint + AllocGlobal>(rt: &R) -> Result<Vec<u8>, Ending> {
+    let mut input = CountedInput::new(rt.reader());
     match read_all(rt.alloc(), &mut input) {
         Ok(bytes) => Ok(bytes),
         Err(fault) => {
             input.tell_of_limit(rt);
-            Err(Ended::Fault(fault))
+            Err(Ending::Fault(fault))
         }
     }
 }
 
 /// Says that an input of this name has more bytes than are read.
 pub fn tell_of_limit<R: Eprint>(rt: &R, name: &str) {
-    let _ = eprintln!(rt; "note: {name} has more than {MOST} bytes, and no more are read");
+    tell(rt, Note::OnName(NameNote::TooLong, name));
 }

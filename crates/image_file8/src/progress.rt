@@ -13,42 +13,44 @@ pub struct Progress<'a, R> {
     rt: &'a R,
 
     /// When the command began, if it is told of at all.
-    begun: Option<Instant>,
+    start: Option<Instant>,
     all: usize,
-    shown: u64,
+
+    /// The second at which it was told last.
+    last: u64,
 }
 
 impl<'a, R: Files<File = File> + Eprint + Clock> Progress<'a, R> {
     /// That of a command which has so many things to do.
     pub fn new(rt: &'a R, all: usize) -> Progress<'a, R> {
         let is_told = is_terminal(rt, "/dev/stderr") && !is_terminal(rt, "/dev/stdout");
-        let begun = if is_told { Instant::now(rt).ok() } else { None };
+        let start = if is_told { Instant::now(rt).ok() } else { None };
         Progress {
             rt,
-            begun,
+            start,
             all,
-            shown: 0,
+            last: 0,
         }
     }
 
     /// Tells that so many are done.
     pub fn tell(&mut self, done: usize) {
-        let Some(begun) = self.begun else {
+        let Some(start) = self.start else {
             return;
         };
-        let Ok(taken) = begun.elapsed(self.rt) else {
+        let Ok(time) = start.elapsed(self.rt) else {
             return;
         };
-        let seconds = taken.as_secs();
-        if seconds >= PATIENCE && seconds != self.shown {
-            self.shown = seconds;
+        let seconds = time.as_secs();
+        if seconds >= PATIENCE && seconds != self.last {
+            self.last = seconds;
             let _ = eprint!(self.rt; "\r{done} of {}", self.all);
         }
     }
 
     /// Takes away what was told.
     pub fn end(&self) {
-        if self.shown > 0 {
+        if self.last > 0 {
             let _ = self.rt.eprint("\r\x1b[K");
         }
     }

@@ -1,6 +1,6 @@
 //! Standard output, and how a command ends where that takes no more.
 
-use crate::Ended;
+use outcome::{Ending, ending_of_output};
 use script8::SessionFault;
 use std::io::{self, ErrorKind, Write};
 
@@ -22,14 +22,14 @@ impl<'a, R: Print> Output<'a, R> {
     }
 
     /// How a command ends whose output failed.
-    pub fn ended(&self) -> Ended {
-        unprinted(self.fault)
+    pub fn ending(&self) -> Ending {
+        ending_of_output(self.fault)
     }
 
-    /// How a command ends that ended so, where a fault of the writer is one of this output.
-    pub fn ended_by(&self, ended: Ended) -> Ended {
-        match ended {
-            Ended::Fault(SessionFault::Writer) => self.ended(),
+    /// How a command ends that ends so, where a fault of the writer is one of this output.
+    pub fn ending_of(&self, ending: Ending) -> Ending {
+        match ending {
+            Ending::Fault(SessionFault::Writer) => self.ending(),
             other => other,
         }
     }
@@ -48,14 +48,5 @@ impl<'a, R: Print> Write for Output<'a, R> {
 
     fn flush(&mut self) -> io::Result<()> {
         Ok(())
-    }
-}
-
-/// How a command ends whose output failed by a fault of this kind: silently where it is a pipe that nobody reads any more, as behind
-/// `| head`, and else with a line on standard error.
-pub fn unprinted(fault: ErrorKind) -> Ended {
-    match fault {
-        ErrorKind::BrokenPipe => Ended::Abandoned,
-        _ => Ended::Unprinted,
     }
 }

@@ -2,9 +2,10 @@
 
 use archive8::{Asked, GetForm, NewImage, list, list_long};
 use image_file8::{
-    Ended, Image, bytes_of_file, core_of_file, made, print_bytes, save_and_print, seen,
-    tell_bad_text, tell_line,
+    Image, answer_of, bytes_of_file, core_of_file, image_bytes, print_bytes, save_and_print,
+    tell_line,
 };
+use outcome::Ending;
 use report8::ProgramLine;
 use script8::{LineReply, Reply, put_reply};
 use std::fs::{File, Files};
@@ -14,9 +15,9 @@ use task8::{FileForm, ImageForm};
 pub fn list_files<R: Files + Print + Eprint + AllocGlobal>(
     rt: &R,
     image: &ImageForm,
-) -> Result<(), Ended> {
-    let bytes = seen(rt, image)?;
-    let text = made(rt, bytes.len(), list(rt.alloc(), &bytes))?;
+) -> Result<(), Ending> {
+    let bytes = image_bytes(rt, image)?;
+    let text = answer_of(rt, bytes.len(), list(rt.alloc(), &bytes))?;
     print_bytes(rt, &text)
 }
 
@@ -24,9 +25,9 @@ pub fn list_files<R: Files + Print + Eprint + AllocGlobal>(
 pub fn list_places<R: Files + Print + Eprint + AllocGlobal>(
     rt: &R,
     image: &ImageForm,
-) -> Result<(), Ended> {
-    let bytes = seen(rt, image)?;
-    let text = made(rt, bytes.len(), list_long(rt.alloc(), &bytes))?;
+) -> Result<(), Ending> {
+    let bytes = image_bytes(rt, image)?;
+    let text = answer_of(rt, bytes.len(), list_long(rt.alloc(), &bytes))?;
     print_bytes(rt, &text)
 }
 
@@ -36,7 +37,7 @@ pub fn get_file<R: Files + Print + Eprint + AllocGlobal>(
     image: &ImageForm,
     file: FileForm,
     form: GetForm,
-) -> Result<(), Ended> {
+) -> Result<(), Ending> {
     let given = bytes_of_file(rt, image, &asked_of(file), form)?;
     print_bytes(rt, &given)
 }
@@ -46,7 +47,7 @@ pub fn get_bin<R: Files + Print + Eprint + AllocGlobal>(
     rt: &R,
     image: &ImageForm,
     file: FileForm,
-) -> Result<(), Ended> {
+) -> Result<(), Ending> {
     let (frames, start) = core_of_file(rt, image, &asked_of(file))?;
     print_bytes(rt, &frames)?;
     tell_line(rt, &ProgramLine::Start(start))
@@ -57,7 +58,7 @@ pub fn store<R: Files<File = File> + Print + Eprint + AllocGlobal>(
     rt: &R,
     held: &mut Image,
     new: NewImage,
-) -> Result<(), Ended> {
+) -> Result<(), Ending> {
     let stored = Reply::Line(LineReply::Stored {
         name: new.name,
         blocks: new.blocks,

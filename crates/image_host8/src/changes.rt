@@ -5,8 +5,9 @@ use crate::archives::{asked_of, store};
 use archive8::{
     ArchiveFault, Asked, CopyFault, DeleteFault, RenameFault, copy, delete, rename, squeeze,
 };
-use image_file8::{Ended, Image, made, refused, save_and_print, seen};
+use image_file8::{Image, answer_of, image_bytes, refusal, save_and_print, tell};
 use os8_dir::Name;
+use outcome::{Ending, NameNote, Note};
 use report8::{ProgramLine, put_program};
 use script8::{LineReply, Reply, SessionFault, put_reply};
 use std::alloc::{AllocError, Global};
@@ -17,20 +18,20 @@ use task8::{CopyForm, DeleteForm, FileForm, ImageForm};
 pub fn delete_files<R: Files<File = File> + Print + Eprint + AllocGlobal>(
     rt: &R,
     form: DeleteForm,
-) -> Result<(), Ended> {
+) -> Result<(), Ending> {
     let DeleteForm {
         image,
         names,
         places,
     } = form;
     let mut held = Image::open(rt, &image)?;
-    let asked = all_asked(rt.alloc(), names, &places)?;
+    let asked = files_of_words(rt.alloc(), names, &places)?;
     let new = match delete(rt.alloc(), held.bytes(), &asked) {
         Ok(new) => new,
-        Err(DeleteFault::Archive(fault)) => return Err(refused(rt, held.bytes().len(), fault)),
+        Err(DeleteFault::Archive(fault)) => return Err(refusal(rt, held.bytes().len(), fault)),
         Err(DeleteFault::Name(place, fault)) => {
             tell_asked(rt, &asked, place);
-            return Err(Ended::Fault(SessionFault::File(fault)));
+            return Err(Ending::Fault(SessionFault::File(fault)));
         }
     };
     let lines = deleted_lines(rt, &new.names)?;
@@ -38,7 +39,7 @@ pub fn delete_files<R: Files<File = File> + Print + Eprint + AllocGlobal>(
 }
 
 /// The files of some names, and then those of some first blocks.
-fn all_asked(
+fn files_of_words(
     alloc: Global,
     names: Vec<String>,
     places: &[usize],
@@ -58,16 +59,15 @@ fn tell_asked<R: Eprint>(rt: &R, asked: &[Asked], place: usize) {
     if asked.len() < 2 || place >= asked.len() {
         return;
     }
-    let _ = match &asked[place] {
-        Asked::Name(name) => eprintln!(rt; "note: {name} is refused, and no file is taken out"),
-        Asked::At(block) => eprintln!(rt;
-            "note: --at {block} is refused, and no file is taken out"
-        ),
+    let note = match &asked[place] {
+        Asked::Name(name) => Note::OnName(NameNote::NotDeleted, name.as_str()),
+        Asked::At(block) => Note::OnBlock(*block),
     };
+    tell(rt, note);
 }
 
 /// The lines of files that were taken out.
-fn deleted_lines<R: AllocGlobal>(rt: &R, names: &[Name]) -> Result<Vec<u8>, Ended> {
+fn deleted_lines<R: AllocGlobal>(rt: &R, names: &[Name]) -> Result<Vec<u8>, Ending> {
     let mut lines = Vec::new(rt.alloc());
     for name in names {
         let deleted = Reply::Line(LineReply::Deleted(*name));
@@ -82,13 +82,13 @@ pub fn rename_file<R: Files<File = File> + Print + Eprint + AllocGlobal>(
     image: &ImageForm,
     file: FileForm,
     new: &str,
-) -> Result<(), Ended> {
+) -> Result<(), Ending> {
     let mut held = Image::open(rt, image)?;
     let done = rename(rt.alloc(), held.bytes(), &asked_of(file), new.as_bytes());
     let new = match done {
         Ok(new) => new,
-        Err(RenameFault::Archive(fault)) => return Err(refused(rt, held.bytes().len(), fault)),
-        Err(RenameFault::Exists) => return Err(Ended::Line(ProgramLine::Exists)),
+        Err(RenameFault::Archive(fault)) => return Err(refusal(rt, held.bytes().len(), fault)),
+        Err(RenameFault::Exists) => return Err(Ending::Line(ProgramLine::Exists)),
     };
     let renamed = ProgramLine::Renamed(new.old_name, new.new_name);
     save_and_tell(rt, &mut held, new.bytes, &renamed)
@@ -98,9 +98,9 @@ pub fn rename_file<R: Files<File = File> + Print + Eprint + AllocGlobal>(
 pub fn squeeze_files<R: Files<File = File> + Print + Eprint + AllocGlobal>(
     rt: &R,
     image: &ImageForm,
-) -> Result<(), Ended> {
+) -> Result<(), Ending> {
     let mut held = Image::open(rt, image)?;
-    let new = made(rt, held.bytes().len(), squeeze(rt.alloc(), held.bytes()))?;
+    let new = answer_of(rt, held.bytes().len(), squeeze(rt.alloc(), held.bytes()))?;
     save_and_tell(rt, &mut held, new.bytes, &ProgramLine::Squeezed(new.moved))
 }
 
@@ -110,7 +110,7 @@ fn save_and_tell<R: Files<File = File> + Print + Eprint + AllocGlobal>(
     held: &mut Image,
     bytes: Vec<u8>,
     told: &ProgramLine,
-) -> Result<(), Ended> {
+) -> Result<(), Ending> {
     let mut line = Vec::new(rt.alloc());
     put_program(told, &mut line)?;
     save_and_print(rt, held, bytes, &line)
@@ -120,7 +120,7 @@ fn save_and_tell<R: Files<File = File> + Print + Eprint + AllocGlobal>(
 pub fn copy_file<R: Files<File = File> + Print + Eprint + AllocGlobal>(
     rt: &R,
     form: CopyForm,
-) -> Result<(), Ended> {
+) -> Result<(), Ending> {
     let CopyForm {
         image,
         file,
@@ -128,7 +128,7 @@ pub fn copy_file<R: Files<File = File> + Print + Eprint + AllocGlobal>(
         new,
     } = form;
     let mut held = Image::open(rt, &to)?;
-    let from = seen(rt, &image)?;
+    let from = image_bytes(rt, &image)?;
     let new_name = match &new {
         Some(name) => Some(name.as_bytes()),
         None => None,
@@ -136,19 +136,17 @@ pub fn copy_file<R: Files<File = File> + Print + Eprint + AllocGlobal>(
     let done = copy(rt.alloc(), &from, &asked_of(file), held.bytes(), new_name);
     match done {
         Ok(new) => store(rt, &mut held, new),
-        Err(CopyFault::From(fault)) => Err(refused_of(rt, &image.file, from.len(), fault)),
-        Err(CopyFault::To(fault)) => Err(refused_of(rt, &to.file, held.bytes().len(), fault)),
+        Err(CopyFault::From(fault)) => Err(refusal_of(rt, &image.file, from.len(), fault)),
+        Err(CopyFault::To(fault)) => Err(refusal_of(rt, &to.file, held.bytes().len(), fault)),
     }
 }
 
-/// How a command of two images ends of which one is refused, or a file of it; which it is, is said.
-fn refused_of<R: Eprint>(rt: &R, image: &str, size: usize, fault: ArchiveFault) -> Ended {
-    let told = fault;
+/// How a command of two images ends of which one is refused, or a file of it; which it is, is printed.
+fn refusal_of<R: Eprint>(rt: &R, image: &str, size: usize, fault: ArchiveFault) -> Ending {
+    let again = fault;
     match fault {
         ArchiveFault::Refused(SessionFault::Memory) => {}
-        _ => {
-            let _ = eprintln!(rt; "note: {image} is the image that refuses");
-        }
+        _ => tell(rt, Note::OnName(NameNote::Refuses, image)),
     }
-    refused(rt, size, told)
+    refusal(rt, size, again)
 }

@@ -2,7 +2,8 @@
 
 use archive8::{ArchiveFault, check};
 use disk8::Layout;
-use image_file8::{Ended, Progress, made, print_bytes, print_of, seen};
+use image_file8::{Progress, answer_of, image_bytes, print_bytes, print_of};
+use outcome::Ending;
 use report8::{ProgramLine, put_program};
 use std::fs::{File, Files};
 use std::time::Clock;
@@ -11,7 +12,7 @@ use task8::{CheckForm, ImageForm};
 
 /// What is told of an image.
 #[derive(Drop)]
-struct Told {
+struct Report {
     text: Vec<u8>,
     is_sound: bool,
 }
@@ -20,7 +21,7 @@ struct Told {
 pub fn check_images<R: Files<File = File> + Print + Eprint + Clock + AllocGlobal>(
     rt: &R,
     form: CheckForm,
-) -> Result<(), Ended> {
+) -> Result<(), Ending> {
     let CheckForm {
         images,
         layout,
@@ -28,9 +29,9 @@ pub fn check_images<R: Files<File = File> + Print + Eprint + Clock + AllocGlobal
     } = form;
     let count = images.len();
     let mut progress = Progress::new(rt, count);
-    let told = tell_each(rt, images, layout, is_all, &mut progress);
+    let counted = check_each(rt, images, layout, is_all, &mut progress);
     progress.end();
-    let refused = told?;
+    let refused = counted?;
     if count == 1 {
         return Ok(());
     }
@@ -38,34 +39,34 @@ pub fn check_images<R: Files<File = File> + Print + Eprint + Clock + AllocGlobal
     put_program(&ProgramLine::Images { count, refused }, &mut line)?;
     print_bytes(rt, &line)?;
     if refused > 0 {
-        return Err(Ended::Told);
+        return Err(Ending::Failure);
     }
     Ok(())
 }
 
 /// Tells of each image, and answers how many of several are refused.
-fn tell_each<R: Files<File = File> + Print + Eprint + Clock + AllocGlobal>(
+fn check_each<R: Files<File = File> + Print + Eprint + Clock + AllocGlobal>(
     rt: &R,
     images: Vec<String>,
     layout: Option<Layout>,
     is_all: bool,
     progress: &mut Progress<'_, R>,
-) -> Result<usize, Ended> {
+) -> Result<usize, Ending> {
     let count = images.len();
     let mut refused: usize = 0;
     for (done, file) in images.into_iter().enumerate() {
         let image = ImageForm { file, layout };
         progress.tell(done);
-        let bytes = seen(rt, &image);
+        let bytes = image_bytes(rt, &image);
         if count == 1 {
             check_one(rt, &bytes?, is_all)?;
             return Ok(0);
         }
-        let told = as_told(rt, bytes, is_all)?;
-        if !told.is_sound {
+        let report = report_of_several(rt, bytes, is_all)?;
+        if !report.is_sound {
             refused = refused.saturating_add(1);
         }
-        print_of(rt, &image.file, &told.text)?;
+        print_of(rt, &image.file, &report.text)?;
     }
     Ok(refused)
 }
@@ -75,57 +76,57 @@ fn check_one<R: Print + Eprint + AllocGlobal>(
     rt: &R,
     image: &[u8],
     is_all: bool,
-) -> Result<(), Ended> {
-    let told = made(rt, image.len(), told_of(rt, image, is_all))?;
-    print_bytes(rt, &told.text)?;
-    if told.is_sound {
+) -> Result<(), Ending> {
+    let report = answer_of(rt, image.len(), report_of(rt, image, is_all))?;
+    print_bytes(rt, &report.text)?;
+    if report.is_sound {
         return Ok(());
     }
-    Err(Ended::Told)
+    Err(Ending::Failure)
 }
 
 /// What is told of an image: what its directory says, or all that is left of one that is not sound.
-fn told_of<R: AllocGlobal>(rt: &R, image: &[u8], is_all: bool) -> Result<Told, ArchiveFault> {
+fn report_of<R: AllocGlobal>(rt: &R, image: &[u8], is_all: bool) -> Result<Report, ArchiveFault> {
     if !is_all {
         let text = check(rt.alloc(), image)?;
-        return Ok(Told {
+        return Ok(Report {
             text,
             is_sound: true,
         });
     }
     let survey = survey(rt.alloc(), image).map_err(|fault| ArchiveFault::Image(fault))?;
-    Ok(Told {
+    Ok(Report {
         is_sound: survey.faults == 0,
         text: survey.text,
     })
 }
 
 /// What is told of one of several images, a refusal by its line.
-fn as_told<R: AllocGlobal>(
+fn report_of_several<R: AllocGlobal>(
     rt: &R,
-    bytes: Result<Vec<u8>, Ended>,
+    bytes: Result<Vec<u8>, Ending>,
     is_all: bool,
-) -> Result<Told, Ended> {
+) -> Result<Report, Ending> {
     let fault = match bytes {
-        Err(Ended::Line(line)) => return line_told(rt, &line),
+        Err(Ending::Line(line)) => return line_report(rt, &line),
         Err(ended) => return Err(ended),
-        Ok(bytes) => match told_of(rt, &bytes, is_all) {
-            Ok(told) => return Ok(told),
+        Ok(bytes) => match report_of(rt, &bytes, is_all) {
+            Ok(report) => return Ok(report),
             Err(fault) => fault,
         },
     };
     match fault {
-        ArchiveFault::Image(fault) => line_told(rt, &ProgramLine::Image(fault)),
-        ArchiveFault::Directory(fault) => line_told(rt, &ProgramLine::Directory(fault)),
-        ArchiveFault::Refused(fault) => Err(Ended::Fault(fault)),
+        ArchiveFault::Image(fault) => line_report(rt, &ProgramLine::Image(fault)),
+        ArchiveFault::Directory(fault) => line_report(rt, &ProgramLine::Directory(fault)),
+        ArchiveFault::Refused(fault) => Err(Ending::Fault(fault)),
     }
 }
 
 /// The line of a refusal.
-fn line_told<R: AllocGlobal>(rt: &R, line: &ProgramLine) -> Result<Told, Ended> {
+fn line_report<R: AllocGlobal>(rt: &R, line: &ProgramLine) -> Result<Report, Ending> {
     let mut text = Vec::new(rt.alloc());
     put_program(line, &mut text)?;
-    Ok(Told {
+    Ok(Report {
         text,
         is_sound: false,
     })

@@ -1,7 +1,8 @@
 //! New volumes in files of the host.
 
 use disk8::blank_tape;
-use image_file8::{Content, Ended, make_file, print_bytes};
+use image_file8::{make_file, print_bytes};
+use outcome::{Content, Ending};
 use report8::{ProgramLine, put_program};
 use std::fs::{File, Files};
 use volume_image::MemoryVolume;
@@ -14,7 +15,7 @@ pub fn create_image<R: Files<File = File> + Print + Eprint + AllocGlobal>(
     rt: &R,
     image: &str,
     blocks: usize,
-) -> Result<(), Ended> {
+) -> Result<(), Ending> {
     let bytes = MemoryVolume::create(rt.alloc(), blocks)?.to_bytes(rt.alloc())?;
     make_image(rt, image, &bytes, blocks)
 }
@@ -23,7 +24,7 @@ pub fn create_image<R: Files<File = File> + Print + Eprint + AllocGlobal>(
 pub fn create_tape<R: Files<File = File> + Print + Eprint + AllocGlobal>(
     rt: &R,
     image: &str,
-) -> Result<(), Ended> {
+) -> Result<(), Ending> {
     let blocks = TAPE_BLOCKS;
     let bytes = MemoryVolume::create(rt.alloc(), blocks)?.to_bytes(rt.alloc())?;
     let tape = blank_tape(rt.alloc(), &bytes)?;
@@ -36,7 +37,7 @@ fn make_image<R: Files<File = File> + Print + Eprint + AllocGlobal>(
     image: &str,
     bytes: &[u8],
     blocks: usize,
-) -> Result<(), Ended> {
+) -> Result<(), Ending> {
     make_file(rt, image, bytes, Content::Image)?;
     let mut line = Vec::new(rt.alloc());
     put_program(&ProgramLine::Created(blocks), &mut line)?;

@@ -3,10 +3,11 @@
 use crate::sets::is_added;
 use crate::texts::{check_extensions, is_one_of};
 use archive8::GetForm;
-use host8::{LayFault, lay, make_folder};
-use image_file8::{Ended, Progress, made, print_bytes, print_of, seen};
+use host8::{lay, make_folder};
+use image_file8::{Progress, answer_of, image_bytes, print_bytes, print_of};
 use many8::{ChoiceFault, OpenVolume, VolumeFile, at_place, chosen, host_name, open};
 use os8_dir::{FileFault, Name};
+use outcome::{Ending, ending_of_lay};
 use report8::{ProgramLine, put_program};
 use script8::{SessionFault, put_reply};
 use std::collections::BTreeSet;
@@ -22,7 +23,7 @@ struct Getting<'a, R> {
     volume: OpenVolume,
 
     /// The first blocks of the files that were given.
-    given: BTreeSet<usize>,
+    places: BTreeSet<usize>,
     is_refused: bool,
     progress: Progress<'a, R>,
 }
@@ -31,21 +32,17 @@ struct Getting<'a, R> {
 pub fn get_files<R: Files<File = File> + Print + Eprint + Clock + AllocGlobal>(
     rt: &R,
     form: &GetManyForm,
-) -> Result<(), Ended> {
+) -> Result<(), Ending> {
     check_extensions(rt, &form.texts)?;
-    let bytes = seen(rt, &form.image)?;
-    let volume = made(rt, bytes.len(), open(rt.alloc(), &bytes))?;
+    let bytes = image_bytes(rt, &form.image)?;
+    let volume = answer_of(rt, bytes.len(), open(rt.alloc(), &bytes))?;
     let files = volume.files(rt.alloc())?;
-    match make_folder(rt, &form.folder) {
-        Ok(()) => {}
-        Err(LayFault::Memory) => return Err(Ended::Fault(SessionFault::Memory)),
-        Err(_) => return Err(Ended::Line(ProgramLine::HostWrite)),
-    }
+    make_folder(rt, &form.folder).map_err(|fault| ending_of_lay(fault))?;
     let mut getting = Getting {
         rt,
         form,
         volume,
-        given: BTreeSet::new(rt.alloc()),
+        places: BTreeSet::new(rt.alloc()),
         is_refused: false,
         progress: Progress::new(rt, files.len()),
     };
@@ -53,14 +50,14 @@ pub fn get_files<R: Files<File = File> + Print + Eprint + Clock + AllocGlobal>(
     getting.progress.end();
     given?;
     if getting.is_refused {
-        return Err(Ended::Told);
+        return Err(Ending::Failure);
     }
     Ok(())
 }
 
 impl<'a, R: Files<File = File> + Print + Eprint + Clock + AllocGlobal> Getting<'a, R> {
     /// Gives the files that the words ask for.
-    fn give_asked(&mut self, files: &[VolumeFile]) -> Result<(), Ended> {
+    fn give_asked(&mut self, files: &[VolumeFile]) -> Result<(), Ending> {
         let form = self.form;
         if form.is_all {
             self.give_all(files)?;
@@ -74,7 +71,7 @@ impl<'a, R: Files<File = File> + Print + Eprint + Clock + AllocGlobal> Getting<'
         Ok(())
     }
 
-    fn give_all(&mut self, files: &[VolumeFile]) -> Result<(), Ended> {
+    fn give_all(&mut self, files: &[VolumeFile]) -> Result<(), Ending> {
         for file in files {
             self.give(file)?;
         }
@@ -82,17 +79,17 @@ impl<'a, R: Files<File = File> + Print + Eprint + Clock + AllocGlobal> Getting<'
     }
 
     /// Gives the files that a word chooses.
-    fn give_chosen(&mut self, files: &[VolumeFile], word: &str) -> Result<(), Ended> {
+    fn give_chosen(&mut self, files: &[VolumeFile], word: &str) -> Result<(), Ending> {
         match chosen(self.rt.alloc(), files, word.as_bytes()) {
             Ok(found) => self.give_all(&found),
-            Err(ChoiceFault::Memory) => Err(Ended::Fault(SessionFault::Memory)),
+            Err(ChoiceFault::Memory) => Err(Ending::Fault(SessionFault::Memory)),
             Err(ChoiceFault::BadName) => self.refuse(word, FileFault::BadName),
             Err(ChoiceFault::NotFound) => self.refuse(word, FileFault::NotFound),
         }
     }
 
     /// Gives the file that begins at a block.
-    fn give_at(&mut self, files: &[VolumeFile], place: usize) -> Result<(), Ended> {
+    fn give_at(&mut self, files: &[VolumeFile], place: usize) -> Result<(), Ending> {
         match at_place(files, place) {
             Some(file) => self.give(&file),
             None => {
@@ -103,11 +100,11 @@ impl<'a, R: Files<File = File> + Print + Eprint + Clock + AllocGlobal> Getting<'
     }
 
     /// Gives a file, unless it was given.
-    fn give(&mut self, file: &VolumeFile) -> Result<(), Ended> {
-        if !is_added(&mut self.given, file.place)? {
+    fn give(&mut self, file: &VolumeFile) -> Result<(), Ending> {
+        if !is_added(&mut self.places, file.place)? {
             return Ok(());
         }
-        self.progress.tell(self.given.len());
+        self.progress.tell(self.places.len());
         let rt = self.rt;
         let form = self.form;
         if !give_file(rt, form, &self.volume, file)? {
@@ -117,7 +114,7 @@ impl<'a, R: Files<File = File> + Print + Eprint + Clock + AllocGlobal> Getting<'
     }
 
     /// Tells that a word is refused.
-    fn refuse(&mut self, word: &str, fault: FileFault) -> Result<(), Ended> {
+    fn refuse(&mut self, word: &str, fault: FileFault) -> Result<(), Ending> {
         let mut text = Vec::new(self.rt.alloc());
         put_reply(None, &Err(SessionFault::File(fault)), &mut text)?;
         self.is_refused = true;
@@ -131,18 +128,20 @@ fn give_file<R: Files<File = File> + Print + AllocGlobal>(
     form: &GetManyForm,
     volume: &OpenVolume,
     file: &VolumeFile,
-) -> Result<bool, Ended> {
+) -> Result<bool, Ending> {
     let bytes = volume.get(rt.alloc(), file, form_of(&form.texts, file.name))?;
     let name = host_name(rt.alloc(), file)?;
     let path = path_in(rt, &form.folder, &name)?;
-    let line = match lay(rt, &path, &bytes, form.is_forced) {
+    let fault = match lay(rt, &path, &bytes, form.is_forced) {
         Ok(()) => {
             print_program(rt, &ProgramLine::Got(file.name, file.blocks))?;
             return Ok(true);
         }
-        Err(LayFault::Memory) => return Err(Ended::Fault(SessionFault::Memory)),
-        Err(LayFault::Exists) => ProgramLine::HostExists,
-        Err(LayFault::Unwritable) => ProgramLine::HostWrite,
+        Err(fault) => fault,
+    };
+    let line = match ending_of_lay(fault) {
+        Ending::Line(line) => line,
+        ending => return Err(ending),
     };
     let mut text = Vec::new(rt.alloc());
     put_program(&line, &mut text)?;
@@ -158,14 +157,14 @@ fn form_of(texts: &TextsForm, name: Name) -> GetForm {
     GetForm::Frames
 }
 
-fn print_program<R: Print + AllocGlobal>(rt: &R, line: &ProgramLine) -> Result<(), Ended> {
+fn print_program<R: Print + AllocGlobal>(rt: &R, line: &ProgramLine) -> Result<(), Ending> {
     let mut text = Vec::new(rt.alloc());
     put_program(line, &mut text)?;
     print_bytes(rt, &text)
 }
 
 /// The path of a file in a folder.
-fn path_in<R: AllocGlobal>(rt: &R, folder: &str, name: &str) -> Result<String, Ended> {
+fn path_in<R: AllocGlobal>(rt: &R, folder: &str, name: &str) -> Result<String, Ending> {
     let mut path = String::from_str(rt.alloc(), folder)?;
     if !path.is_empty() && !path.ends_with('/') {
         path.push('/')?;

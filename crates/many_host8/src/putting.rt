@@ -4,10 +4,12 @@ use crate::sets::is_added;
 use crate::texts::{check_extensions, is_one_of};
 use archive8::{ArchiveFault, PutForm, put};
 use image_file8::{
-    Ended, Image, bytes_of, given_words, input_bytes, made, refused, save_and_print, tell_bad_text,
+    Image, answer_of, bytes_of, given_words, input_bytes, refusal, save_and_print, tell,
+    tell_bad_text,
 };
-use many8::{ManyFault, NewFile, empties, open, put_all, volume_name};
+use many8::{ManyFault, NewFile, VolumeFile, empties, open, put_all, volume_name};
 use os8_dir::{FileFault, Name};
+use outcome::{Ending, NameNote, Note, PlainNote};
 use report8::ProgramLine;
 use script8::{LineReply, Reply, SessionFault, put_reply};
 use std::alloc::AllocError;
@@ -23,13 +25,15 @@ const STANDARD: &str = "-";
 pub fn put_file<R: Files<File = File> + Input + Print + Eprint + AllocGlobal>(
     rt: &R,
     form: &PutOneForm,
-) -> Result<(), Ended> {
+) -> Result<(), Ending> {
     let mut held = Image::open(rt, &form.image)?;
     let bytes = given_bytes(rt, &form.file)?;
     if let Some(name) = Name::parse(form.name.as_bytes())
+        && bytes.is_empty()
         && !form.may_empty
     {
-        refuse_emptied(rt, held.bytes(), &form.file, name, &bytes)?;
+        let files = files_on(rt, held.bytes())?;
+        refuse_emptying(rt, &files, &form.file, name, &bytes)?;
     }
     let done = put(
         rt.alloc(),
@@ -42,7 +46,7 @@ pub fn put_file<R: Files<File = File> + Input + Print + Eprint + AllocGlobal>(
     if let Err(ArchiveFault::Refused(SessionFault::BadText)) = &done {
         tell_bad_text(rt, &bytes);
     }
-    let new = made(rt, held.bytes().len(), done)?;
+    let new = answer_of(rt, held.bytes().len(), done)?;
     let mut line = Vec::new(rt.alloc());
     put_stored(&mut line, new.name, new.blocks)?;
     save_and_print(rt, &mut held, new.bytes, &line)
@@ -52,74 +56,88 @@ pub fn put_file<R: Files<File = File> + Input + Print + Eprint + AllocGlobal>(
 fn given_bytes<R: Files<File = File> + Input + Eprint + AllocGlobal>(
     rt: &R,
     name: &str,
-) -> Result<Vec<u8>, Ended> {
+) -> Result<Vec<u8>, Ending> {
     if name == STANDARD {
         return input_bytes(rt);
     }
     bytes_of(rt, name)
 }
 
-/// Refuses an input of no byte that would replace a file of the volume in an image.
-fn refuse_emptied<R: Eprint + AllocGlobal>(
+/// The files of the volume in an image.
+fn files_on<R: Eprint + AllocGlobal>(rt: &R, image: &[u8]) -> Result<Vec<VolumeFile>, Ending> {
+    let volume = answer_of(rt, image.len(), open(rt.alloc(), image))?;
+    let files = volume.files(rt.alloc())?;
+    Ok(files)
+}
+
+/// Refuses an input of no byte that would replace one of these files of a volume.
+fn refuse_emptying<R: Eprint>(
     rt: &R,
-    image: &[u8],
+    files: &[VolumeFile],
     path: &str,
     name: Name,
     bytes: &[u8],
-) -> Result<(), Ended> {
-    if !bytes.is_empty() {
+) -> Result<(), Ending> {
+    if !empties(files, name, bytes) {
         return Ok(());
     }
-    let volume = made(rt, image.len(), open(rt.alloc(), image))?;
-    let files = volume.files(rt.alloc())?;
-    if !empties(&files, name, bytes) {
-        return Ok(());
-    }
-    let _ = eprintln!(rt;
-        "note: {path} is empty, and the volume has a file of its name: --empty puts it all the same"
-    );
-    Err(Ended::Fault(SessionFault::File(FileFault::NothingWritten)))
+    tell(rt, Note::OnName(NameNote::Empty, path));
+    Err(Ending::Fault(SessionFault::File(FileFault::NothingWritten)))
 }
 
 /// Makes files of the host files of the volume in an image file, all or none, and tells of each.
 pub fn put_files<R: Files<File = File> + Print + Eprint + AllocGlobal>(
     rt: &R,
     form: &PutManyForm,
-) -> Result<(), Ended> {
+) -> Result<(), Ending> {
     check_extensions(rt, &form.texts)?;
     let mut held = Image::open(rt, &form.image)?;
     let files = files_of(rt, form)?;
     if !form.may_empty {
-        refuse_emptying(rt, held.bytes(), form, &files)?;
+        refuse_all_emptying(rt, held.bytes(), form, &files)?;
     }
     let new = match put_all(rt.alloc(), held.bytes(), &files, given_words(&form.info)) {
         Ok(new) => new,
-        Err(ManyFault::Archive(fault)) => return Err(refused(rt, held.bytes().len(), fault)),
+        Err(ManyFault::Archive(fault)) => return Err(refusal(rt, held.bytes().len(), fault)),
         Err(ManyFault::File(place, fault)) => {
             if place < files.len() && place < form.files.len() {
-                tell_unput(rt, &form.files[place]);
+                tell_not_put(rt, &form.files[place]);
                 if fault == SessionFault::BadText {
                     tell_bad_text(rt, &files[place].bytes);
                 }
             }
-            return Err(Ended::Fault(fault));
+            return Err(Ending::Fault(fault));
         }
     };
     let lines = stored_lines(rt, &files, &new.blocks)?;
     save_and_print(rt, &mut held, new.bytes, &lines)
 }
 
-/// Refuses files of no byte that would replace files of the volume in an image.
-fn refuse_emptying<R: Eprint + AllocGlobal>(
+/// Refuses files of no byte that would replace files of the volume in an image, which is read for them once.
+fn refuse_all_emptying<R: Eprint + AllocGlobal>(
     rt: &R,
     image: &[u8],
     form: &PutManyForm,
     files: &[NewFile],
-) -> Result<(), Ended> {
+) -> Result<(), Ending> {
+    if !has_empty(files) {
+        return Ok(());
+    }
+    let older = files_on(rt, image)?;
     for (path, file) in form.files.iter().zip(files.iter()) {
-        refuse_emptied(rt, image, path, file.name, &file.bytes)?;
+        refuse_emptying(rt, &older, path, file.name, &file.bytes)?;
     }
     Ok(())
+}
+
+/// Whether one of these files has no byte.
+fn has_empty(files: &[NewFile]) -> bool {
+    for file in files {
+        if file.bytes.is_empty() {
+            return true;
+        }
+    }
+    false
 }
 
 /// The lines of files that were put, which take so many blocks.
@@ -127,7 +145,7 @@ fn stored_lines<R: AllocGlobal>(
     rt: &R,
     files: &[NewFile],
     blocks: &[usize],
-) -> Result<Vec<u8>, Ended> {
+) -> Result<Vec<u8>, Ending> {
     let mut lines = Vec::new(rt.alloc());
     for (file, blocks) in files.iter().zip(blocks.iter()) {
         put_stored(&mut lines, file.name, *blocks)?;
@@ -136,7 +154,7 @@ fn stored_lines<R: AllocGlobal>(
 }
 
 /// Appends the line of a file that was put.
-fn put_stored(lines: &mut Vec<u8>, name: Name, blocks: usize) -> Result<(), Ended> {
+fn put_stored(lines: &mut Vec<u8>, name: Name, blocks: usize) -> Result<(), Ending> {
     let stored = Reply::Line(LineReply::Stored { name, blocks });
     put_reply(None, &Ok(stored), lines)?;
     Ok(())
@@ -146,20 +164,18 @@ fn put_stored(lines: &mut Vec<u8>, name: Name, blocks: usize) -> Result<(), Ende
 fn files_of<R: Files<File = File> + Eprint + AllocGlobal>(
     rt: &R,
     form: &PutManyForm,
-) -> Result<Vec<NewFile>, Ended> {
+) -> Result<Vec<NewFile>, Ending> {
     let mut files = Vec::new(rt.alloc());
     let mut names = BTreeSet::new(rt.alloc());
     for path in &form.files {
         let Some(name) = volume_name(path.as_bytes()) else {
-            tell_unput(rt, path);
-            let _ = rt.eprint(
-                "note: a file's name is 1 to 6 letters or digits, then nothing, or a dot and 1 or 2 more\n",
-            );
-            return Err(Ended::Fault(SessionFault::File(FileFault::BadName)));
+            tell_not_put(rt, path);
+            tell(rt, Note::Plain(PlainNote::FileNames));
+            return Err(Ending::Fault(SessionFault::File(FileFault::BadName)));
         };
         if !is_added(&mut names, name)? {
-            tell_unput(rt, path);
-            return Err(Ended::Line(ProgramLine::SameName));
+            tell_not_put(rt, path);
+            return Err(Ending::Line(ProgramLine::SameName));
         }
         add(&mut files, read_file(rt, path, name, &form.texts)?)?;
     }
@@ -177,12 +193,12 @@ fn read_file<R: Files<File = File> + Eprint + AllocGlobal>(
     path: &str,
     name: Name,
     texts: &TextsForm,
-) -> Result<NewFile, Ended> {
+) -> Result<NewFile, Ending> {
     let bytes = match bytes_of(rt, path) {
         Ok(bytes) => bytes,
-        Err(ended) => {
-            tell_unput(rt, path);
-            return Err(ended);
+        Err(ending) => {
+            tell_not_put(rt, path);
+            return Err(ending);
         }
     };
     let form = if is_one_of(texts, name) {
@@ -194,6 +210,6 @@ fn read_file<R: Files<File = File> + Eprint + AllocGlobal>(
 }
 
 /// Says which of several files of the host is refused.
-fn tell_unput<R: Eprint>(rt: &R, path: &str) {
-    let _ = eprintln!(rt; "note: {path} is refused, and no file is put");
+fn tell_not_put<R: Eprint>(rt: &R, path: &str) {
+    tell(rt, Note::OnName(NameNote::NotPut, path));
 }

@@ -1,8 +1,9 @@
 //! Which of several files are texts.
 
-use image_file8::Ended;
+use image_file8::tell;
 use many8::{bad_extensions, is_text};
 use os8_dir::Name;
+use outcome::{Ending, NameNote, Note};
 use task8::TextsForm;
 
 /// Whether a file of this name is one of the texts.
@@ -11,15 +12,15 @@ pub fn is_one_of(texts: &TextsForm, name: Name) -> bool {
 }
 
 /// Refuses extensions that are none.
-pub fn check_extensions<R: Eprint>(rt: &R, texts: &TextsForm) -> Result<(), Ended> {
+pub fn check_extensions<R: Eprint>(rt: &R, texts: &TextsForm) -> Result<(), Ending> {
     let Some(place) = bad_extensions(&texts.extensions) else {
         return Ok(());
     };
     if place < texts.extensions.len() {
-        let _ = eprintln!(rt;
-            "error: invalid value '{}' for '--text-of <LIST>': no extensions of 1 or 2 capital letters or digits with commas between",
-            texts.extensions[place]
+        tell(
+            rt,
+            Note::OnName(NameNote::BadExtensions, texts.extensions[place].as_str()),
         );
     }
-    Err(Ended::Misused)
+    Err(Ending::Misuse)
 }

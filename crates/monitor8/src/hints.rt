@@ -1,10 +1,7 @@
 //! What a person at a terminal is told of a line of a script that is none.
 
 use command8::SCRIPT_LINES;
-
-/// What is said of a line whose first word is no command.
-const COMMANDS: &str =
-    "a line begins with STORE, DELETE, DIRECT, ASSEMBLE, LOAD, SQUEEZE, TURN, FINISH, START, STEP, GO, RUN, KEY, DONE, SWITCHES, EXAMINE, DEPOSIT, REGISTERS, BREAK or PRINTED";
+use outcome::command_hint;
 
 /// What a line of a script is told that is none: the form of the command that its first word names, in letters of either size, with
 /// what it does; else all commands.
@@ -16,7 +13,7 @@ pub fn line_hint(line: &[u8]) -> &'static str {
             return form;
         }
     }
-    COMMANDS
+    command_hint()
 }
 
 /// The first word of a line, none of one that is no text.

@@ -1,16 +1,19 @@
-//! The program over the files and the streams of a host: what the words ask for is done by the command, and exit statuses are given.
+//! The program over the files and the streams of a host: what the words ask for is done by the command, and what `outcome` says of its end
+//! is printed.
 
 use crate::runs::run_image;
 use command8::{TaskFault, task};
-use host8::Unwritten;
-use image_file8::{Ended, print_bytes, tell_text, texts_of, unprinted};
+use image_file8::{print_bytes, tell, tell_text, texts_of};
 use image_host8::{
     check_images, copy_file, create_image, create_tape, delete_files, get_bin, get_file,
     list_files, list_places, rename_file, squeeze_files,
 };
 use many_host8::{get_blocks, get_files, put_file, put_files};
-use report8::{ProgramLine, put_program};
-use script8::{SessionFault, put_reply};
+use outcome::{
+    Ending, LineRoom, Note, Outcome, PlainNote, Stream, ending_of_output, gives_data,
+    no_memory_line, outcome_of,
+};
+use script8::SessionFault;
 use std::alloc::AllocError;
 use std::env::{self, Env};
 use std::fs::{File, Files};
@@ -20,65 +23,34 @@ use std::time::Clock;
 use tape_host8::{
     assemble_files, list_tape, profile_tape, run_teletype, trace_tape, write_rim, write_source,
 };
-use task8::{RimForm, Task};
-
-/// The status that a shell tells of a program that SIGPIPE has ended.
-const ABANDONED: u8 = 141;
+use task8::Task;
 
 /// Does what the words of the command line ask for, as `command8::task` reads them: a subcommand, and the files that it works on.
-/// The exit status is 0, 1 after a fault, and 2 for words that are refused. The line of a fault is on standard output, and for
-/// commands whose standard output is data on standard error (this project's profile).
+/// The exit status is 0, 1 after a fault, and 2 for words that are refused; `outcome::outcome_of` says which line goes to which stream
+/// (this project's profile). The memory for the last line is taken before anything else.
 pub fn program<R: Env + Files<File = File> + Input + Print + Eprint + Clock + AllocGlobal>(
     rt: &R,
 ) -> ExitCode
 where
     R::Reader: IsTerminal,
 {
+    let Ok(rooms) = Rooms::new(rt) else {
+        let _ = print_bytes(rt, no_memory_line());
+        return ExitCode::FAILURE;
+    };
     let task = match read_words(rt) {
         Ok(task) => task,
-        Err(unread) => return told_unread(rt, unread),
+        Err(fault) => return refuse_words(rt, rooms, fault),
     };
     let is_data = gives_data(&task);
-    match done(rt, task) {
-        Ok(()) => ExitCode::SUCCESS,
-        Err(ended) => told(rt, ended, is_data),
-    }
+    let work = do_task(rt, task);
+    end(rt, rooms, is_data, work)
 }
 
-/// Whether what a task puts on standard output is data, so that no fault is told there.
-fn gives_data(task: &Task) -> bool {
-    match task {
-        Task::Rim(RimForm::Bin)
-        | Task::Source(_)
-        | Task::Assemble(_)
-        | Task::Teletype(_)
-        | Task::Trace(_)
-        | Task::Profile(_)
-        | Task::Get(..)
-        | Task::GetBin(..)
-        | Task::GetBlocks(_) => true,
-        Task::Tape
-        | Task::Rim(RimForm::Lines)
-        | Task::Run(..)
-        | Task::Create(..)
-        | Task::CreateTape(_)
-        | Task::List(_)
-        | Task::ListLong(_)
-        | Task::GetMany(_)
-        | Task::Put(_)
-        | Task::PutMany(_)
-        | Task::Delete(_)
-        | Task::Rename(..)
-        | Task::Copy(_)
-        | Task::Squeeze(_)
-        | Task::Check(_) => false,
-    }
-}
-
-fn done<R: Files<File = File> + Input + Print + Eprint + Clock + AllocGlobal>(
+fn do_task<R: Files<File = File> + Input + Print + Eprint + Clock + AllocGlobal>(
     rt: &R,
     task: Task,
-) -> Result<(), Ended>
+) -> Result<(), Ending>
 where
     R::Reader: IsTerminal,
 {
@@ -109,71 +81,75 @@ where
     }
 }
 
-/// The status for an end before the work is done, of which a line is printed: on standard error where standard output is for data.
-fn told<R: Print + Eprint + AllocGlobal>(rt: &R, ended: Ended, is_data: bool) -> ExitCode {
-    let mut line = Vec::new(rt.alloc());
-    let put = match ended {
-        Ended::Line(text) => put_program(&text, &mut line),
-        Ended::Told => return ExitCode::FAILURE,
-        Ended::Fault(SessionFault::Writer) => return told_unprinted(rt, Ended::Unprinted),
-        Ended::Unprinted => return told_unprinted(rt, Ended::Unprinted),
-        Ended::Abandoned => return told_unprinted(rt, Ended::Abandoned),
-        Ended::Fault(fault) => put_reply(None, &Err(fault), &mut line),
-        Ended::Busy(content) => {
-            let _ = eprintln!(rt; "error: another program works on the {}", content.name());
-            put_program(&ProgramLine::HostBusy, &mut line)
-        }
-        Ended::Unwritten(content, held) => {
-            let _ = eprintln!(rt; "error: the {} {}", content.name(), words_on(held));
-            put_program(&ProgramLine::HostWrite, &mut line)
-        }
-        Ended::Misused => return ExitCode::from(2),
-    };
-    let text = match put {
-        Ok(()) => line.as_slice(),
-        Err(_) => b"? 10 MEMORY\n",
-    };
-    if is_data {
-        tell_text(rt, text);
-        return ExitCode::FAILURE;
-    }
-    match print_bytes(rt, text) {
-        Ok(()) => ExitCode::FAILURE,
-        Err(ended) => told_unprinted(rt, ended),
+/// Room for the last line of the program, and for one in its place where standard output does not take that.
+#[derive(Drop)]
+struct Rooms {
+    line: LineRoom,
+    other: LineRoom,
+}
+
+impl Rooms {
+    fn new<R: AllocGlobal>(rt: &R) -> Result<Rooms, AllocError> {
+        let line = LineRoom::new(rt.alloc())?;
+        let other = LineRoom::new(rt.alloc())?;
+        Ok(Rooms { line, other })
     }
 }
 
-/// The status where standard output takes no more, of which a line is written to standard error, unless nobody reads the output.
-fn told_unprinted<R: Eprint>(rt: &R, ended: Ended) -> ExitCode {
-    match ended {
-        Ended::Abandoned => ExitCode::from(ABANDONED),
-        _ => {
-            tell_text(rt, b"? 9 WRITER\n");
-            ExitCode::FAILURE
+/// Prints what is printed at the end of a command that ends so, and gives the exit status.
+fn end<R: Print + Eprint>(
+    rt: &R,
+    rooms: Rooms,
+    is_data: bool,
+    work: Result<(), Ending>,
+) -> ExitCode {
+    let Rooms { line, other } = rooms;
+    let outcome = outcome_of(line, is_data, work);
+    match print_outcome(rt, &outcome) {
+        Ok(()) => ExitCode::from(outcome.status),
+        Err(ending) => {
+            let outcome = outcome_of(other, is_data, Err(ending));
+            let _ = print_outcome(rt, &outcome);
+            ExitCode::from(outcome.status)
         }
     }
 }
 
-/// The status for words that ask for nothing, which is told.
-fn told_unread<R: Print + Eprint + AllocGlobal>(rt: &R, unread: Unread) -> ExitCode {
-    match unread {
-        Unread::NoText => {
-            let _ = rt.eprint("error: a word of the command line is not UTF-8 text\n");
-            ExitCode::from(2)
+/// Prints the note and the line of an outcome. Where standard output does not take the line, the answer is how the command ends then.
+fn print_outcome<R: Print + Eprint>(rt: &R, outcome: &Outcome) -> Result<(), Ending> {
+    if let Some(note) = outcome.note {
+        tell(rt, note);
+    }
+    match outcome.stream {
+        Stream::Output => print_bytes(rt, &outcome.line),
+        Stream::Errors => {
+            tell_text(rt, &outcome.line);
+            Ok(())
         }
-        Unread::Task(TaskFault::Memory) => told(rt, Ended::Fault(SessionFault::Memory), false),
-        Unread::Task(TaskFault::Words(error)) => {
+    }
+}
+
+/// Prints why the words ask for nothing, and gives the exit status. Help that is asked for is output as that of a command is.
+fn refuse_words<R: Print + Eprint>(rt: &R, rooms: Rooms, fault: WordsFault) -> ExitCode {
+    let ending = match fault {
+        WordsFault::NoText => {
+            tell(rt, Note::Plain(PlainNote::NoText));
+            Ending::Misuse
+        }
+        WordsFault::Task(TaskFault::Memory) => Ending::Fault(SessionFault::Memory),
+        WordsFault::Task(TaskFault::Words(error)) => {
             let status = error.exit_code() as u8;
             match error.print(rt) {
-                Err(why) if status == 0 => told_unprinted(rt, unprinted(why.kind())),
-                _ => ExitCode::from(status),
+                Err(why) if status == 0 => ending_of_output(why.kind()),
+                _ => return ExitCode::from(status),
             }
         }
-        Unread::Task(fault) => {
+        WordsFault::Task(fault) => {
             tell_refusal(rt, &fault);
-            ExitCode::from(2)
+            Ending::Misuse
         }
-    }
+    };
+    end(rt, rooms, false, Err(ending))
 }
 
 /// Says why words are refused, as `clap` says it of those that it refuses itself.
@@ -184,16 +160,8 @@ fn tell_refusal<R: Eprint>(rt: &R, fault: &TaskFault) {
     );
 }
 
-/// What is said on standard error of a file that could not be written.
-fn words_on(held: Unwritten) -> &'static str {
-    match held {
-        Unwritten::AsItWas => "is not written: the file is as it was",
-        Unwritten::InPart => "is not written whole: the file may hold a part of it",
-    }
-}
-
 /// What the words of the command line ask for.
-fn read_words<R: Env + AllocGlobal>(rt: &R) -> Result<Task, Unread> {
+fn read_words<R: Env + AllocGlobal>(rt: &R) -> Result<Task, WordsFault> {
     let words: Vec<String> = env::args(rt)?.collect(rt.alloc())?;
     let texts = texts_of(rt.alloc(), &words)?;
     let task = task(rt.alloc(), &texts)?;
@@ -202,35 +170,35 @@ fn read_words<R: Env + AllocGlobal>(rt: &R) -> Result<Task, Unread> {
 
 /// Why the words of the command line ask for nothing.
 #[derive(Drop)]
-enum Unread {
+enum WordsFault {
     /// One of them is no UTF-8 text.
     NoText,
     Task(TaskFault),
 }
 
-impl From<AllocError> for Unread {
+impl From<AllocError> for WordsFault {
     ghost use Rattle.std.specs.Prelude.{◌≡◌};
     ghost use Rattle.command8.specs.declared.faults.TaskFault.TheVariants.{Memory};
-    ghost use Rattle.monitor8.specs.declared.host.Unread.TheVariants.{Task};
+    ghost use Rattle.monitor8.specs.declared.host.WordsFault.TheVariants.{Task};
 
-    ghost from_gives = { λ _ unread. unread ≡ Task Memory };
+    ghost from_gives = { λ _ fault. fault ≡ Task Memory };
 
-    fn from(error: AllocError) -> Unread {
-        Unread::Task(error.into())
+    fn from(error: AllocError) -> WordsFault {
+        WordsFault::Task(error.into())
     }
 }
 
-impl From<TaskFault> for Unread {
-    fn from(fault: TaskFault) -> Unread {
-        Unread::Task(fault)
+impl From<TaskFault> for WordsFault {
+    fn from(fault: TaskFault) -> WordsFault {
+        WordsFault::Task(fault)
     }
 }
 
-impl From<io::Error> for Unread {
-    fn from(error: io::Error) -> Unread {
+impl From<io::Error> for WordsFault {
+    fn from(error: io::Error) -> WordsFault {
         match error.kind() {
-            ErrorKind::OutOfMemory => Unread::Task(TaskFault::Memory),
-            _ => Unread::NoText,
+            ErrorKind::OutOfMemory => WordsFault::Task(TaskFault::Memory),
+            _ => WordsFault::NoText,
         }
     }
 }

@@ -10,7 +10,7 @@ pub use command8::{TaskFault, plain_words, task};
 pub use host::program;
 pub use report8::{
     ProgramLine, RimTextFault, SourceFault, core_tape, first_cell, given_cells, put_program,
-    put_source, rim_text, source_text, tape_text, with_line_feeds, with_prefix,
+    put_source, put_tape_text, rim_text, source_text, tape_text, with_line_feeds, with_prefix,
 };
 pub use script8::SessionFault;
 pub use session8::{Ran, Session, laws};

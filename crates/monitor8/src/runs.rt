@@ -1,8 +1,9 @@
 //! Runs of scripts over the volume of an image file.
 
 use crate::hints::line_hint;
-use image_file8::{Counted, Ended, Image, Output, refused_image};
-use report8::ProgramLine;
+use archive8::ArchiveFault;
+use image_file8::{CountedInput, Image, Output, refusal, tell};
+use outcome::{Ending, NameNote, Note};
 use script8::{LineReply, Reply, SessionFault};
 use session8::{Session, Watcher};
 use std::fs::{File, Files};
@@ -16,7 +17,7 @@ pub fn run_image<R: Files<File = File> + Input + Print + Eprint + AllocGlobal>(
     rt: &R,
     named: &ImageForm,
     form: RunForm,
-) -> Result<(), Ended>
+) -> Result<(), Ending>
 where
     R::Reader: IsTerminal,
 {
@@ -26,32 +27,33 @@ where
     };
     let bytes = image.bytes().to_vec(rt.alloc())?;
     let mut writer = BufWriter::new(rt.alloc(), Output::new(rt))?;
-    let mut session = mounted(rt, &bytes)?;
+    let mut session = session_over(rt, &bytes)?;
     let reader = rt.reader();
     let mut run = Run::new(rt, image, bytes, form.saving, reader.is_terminal());
-    let mut input = Counted::new(reader);
+    let mut input = CountedInput::new(reader);
     let ran = session.run_watched(rt.alloc(), &mut input, &mut writer, &mut run);
     input.tell_of_limit(rt);
     run.end(&session.into_store())?;
     match ran {
         Ok(()) if !(form.is_strict && run.is_refused) => Ok(()),
-        Err(SessionFault::Writer) => Err(writer.get_ref().ended()),
-        _ => Err(Ended::Told),
+        Err(SessionFault::Writer) => Err(writer.get_ref().ending()),
+        _ => Err(Ending::Failure),
     }
 }
 
 /// A session over the volume of an image.
-fn mounted<R: Eprint + AllocGlobal>(rt: &R, bytes: &[u8]) -> Result<Session<MemoryVolume>, Ended> {
-    let volume = MemoryVolume::from_bytes(rt.alloc(), bytes).map_err(|fault| refused_image(
-        rt,
-        bytes.len(),
-        ProgramLine::Image(fault),
-    ))?;
-    Session::mount(rt.alloc(), volume).map_err(|(_, fault)| refused_image(
-        rt,
-        bytes.len(),
-        ProgramLine::Directory(fault),
-    ))
+fn session_over<R: Eprint + AllocGlobal>(
+    rt: &R,
+    bytes: &[u8],
+) -> Result<Session<MemoryVolume>, Ending> {
+    let volume = match MemoryVolume::from_bytes(rt.alloc(), bytes) {
+        Ok(volume) => volume,
+        Err(fault) => return Err(refusal(rt, bytes.len(), ArchiveFault::Image(fault))),
+    };
+    match Session::mount(rt.alloc(), volume) {
+        Ok(session) => Ok(session),
+        Err((_, fault)) => Err(refusal(rt, bytes.len(), ArchiveFault::Directory(fault))),
+    }
 }
 
 /// What goes on beside a script: its image is written when it is to be, refusals are seen, and a person at a terminal is told the form of
@@ -67,7 +69,7 @@ struct Run<'a, R> {
     is_refused: bool,
 
     /// Why the image could not be written.
-    failed: Option<Ended>,
+    save_fault: Option<Ending>,
 }
 
 impl<'a, R: Files<File = File> + Eprint> Run<'a, R> {
@@ -87,20 +89,20 @@ impl<'a, R: Files<File = File> + Eprint> Run<'a, R> {
             is_terminal,
             hint: "",
             is_refused: false,
-            failed: None,
+            save_fault: None,
         }
     }
 
     /// Has the file hold the image of a store.
-    fn save(&mut self, store: &MemoryVolume) -> Result<(), Ended> {
+    fn save(&mut self, store: &MemoryVolume) -> Result<(), Ending> {
         store.put_bytes(&mut self.bytes)?;
         self.image.save(self.rt, &mut self.bytes)
     }
 
     /// Ends the run with the store that it leaves.
-    fn end(&mut self, store: &MemoryVolume) -> Result<(), Ended> {
-        if let Some(ended) = self.failed.take() {
-            return Err(ended);
+    fn end(&mut self, store: &MemoryVolume) -> Result<(), Ending> {
+        if let Some(ending) = self.save_fault.take() {
+            return Err(ending);
         }
         match self.saving {
             Saving::Never => Ok(()),
@@ -120,14 +122,14 @@ impl<'a, R: Files<File = File> + Eprint> Watcher<MemoryVolume> for Run<'a, R> {
         if let Err(fault) = answer {
             self.is_refused = true;
             if self.is_terminal && *fault == SessionFault::BadLine {
-                let _ = eprintln!(self.rt; "note: {}", self.hint);
+                tell(self.rt, Note::OnName(NameNote::Hint, self.hint));
             }
         }
         if self.saving != Saving::Always || !may_have_changed(answer) {
             return true;
         }
-        self.failed = self.save(store).err();
-        self.failed.is_none()
+        self.save_fault = self.save(store).err();
+        self.save_fault.is_none()
     }
 }
 

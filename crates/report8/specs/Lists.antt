@@ -25,3 +25,11 @@ ListsTape r r' w w' (Err Reader) = Keeps w w'
 ListsTape r r' w w' (Err Memory) = Keeps w w'
 ListsTape r r' w w' (Err Writer) = (frames : List ℕ) × (text : List ℕ) × IsRead r r' frames × IsListed frames text
 ListsTape r r' w w' (Err fault) = ⊥
+
+-- What listing frames comes to: the lines of a tape are written and nothing else; on a fault of the tape or of memory nothing is written.
+abbrev pub ListsFrames : List ℕ → Option (List ℕ) → Option (List ℕ) → Result (Unit {0}) SessionFault → Type 0
+ListsFrames frames w w' (Ok nothing) = (text : List ℕ) × IsListed frames text × Appends w w' text
+ListsFrames frames w w' (Err (Tape fault)) = IsFault frames fault × Keeps w w'
+ListsFrames frames w w' (Err Memory) = Keeps w w'
+ListsFrames frames w w' (Err Writer) = (text : List ℕ) × IsListed frames text
+ListsFrames frames w w' (Err fault) = ⊥

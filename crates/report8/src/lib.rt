@@ -15,7 +15,7 @@ mod starts;
 pub use cores::core_tape;
 pub use given::given_cells;
 pub use line_ends::with_line_feeds;
-pub use listings::{tape_text, write_out};
+pub use listings::{put_tape_text, tape_text, write_out};
 pub use prefixes::with_prefix;
 pub use programs::{ProgramLine, put_program};
 pub use rims::{RimTextFault, rim_text};

@@ -4,7 +4,7 @@ ghost use Rattle.bin_tape.specs.Map.{IsMapOf};
 ghost use Rattle.word12.specs.declared.sizes.TheConstants.{CORE};
 ghost use Rattle.script8.specs.Reading.{TakesBytes};
 ghost use Rattle.report8.specs.Listing.{cell_line, line_of, lines_below};
-ghost use Rattle.report8.specs.Lists.{IsListed, ListsTape};
+ghost use Rattle.report8.specs.Lists.{IsListed, ListsFrames, ListsTape};
 ghost use Rattle.report8.specs.ListSteps.{IsListingFault};
 ghost use Rattle.script8.specs.declared.faults.SessionFault.TheVariants as fault;
 
@@ -31,6 +31,18 @@ pub fn tape_text<R: Read, W: Write>(
 {
     let frames = read_all(alloc, reader)?;
     let text = text_of(alloc, &frames)?;
+    write_out(writer, &text)
+}
+
+/// Writes the lines of the cells to which the frames of a BIN tape give a word, as `tape_text` does it.
+pub fn put_tape_text<W: Write>(
+    alloc: Global,
+    frames: &[u8],
+    writer: &mut W,
+) -> Result<(), SessionFault>
+    ensures { ListsFrames frames.now (W.contents writer.old) (W.contents writer.new) result }
+{
+    let text = text_of(alloc, frames)?;
     write_out(writer, &text)
 }
 

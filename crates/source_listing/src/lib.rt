@@ -14,4 +14,4 @@ mod spots;
 mod tables;
 mod word_ends;
 
-pub use listing::{ListingForm, list_sources};
+pub use listing::{Listing, ListingForm, list_sources};

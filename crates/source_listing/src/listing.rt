@@ -1,6 +1,6 @@
 //! Sources to a listing.
 ghost use Rattle.std.specs.Prelude.{◌≡◌, ◌++◌, ℕ, List, IfOk, IfErr, OnOk};
-ghost use Rattle.assemble8.specs.Answers.{IsAssemblyOf, IsTold};
+ghost use Rattle.assemble8.specs.Answers.{IsAssembled, IsAssemblyOf, IsTold};
 ghost use Rattle.assemble8.specs.declared.faults.SourceFault.TheVariants.{Memory};
 ghost use Rattle.source_listing.specs.Listings.{lines_text, mentions_of, AreSymbols, IsListed};
 ghost use Rattle.source_listing.specs.References.{AreByName};
@@ -12,6 +12,8 @@ use crate::spots::all_spots;
 use crate::tables::put_table;
 use crate::word_ends::word_ends;
 use assemble8::{Assembly, SourceFault, assembly_of, names_of};
+use bin_tape::tape_of;
+use pal_asm::laws::has_words;
 use std::alloc::Global;
 
 /// What a listing has behind its lines.
@@ -23,8 +25,17 @@ pub enum ListingForm {
     Cross,
 }
 
-/// The listing of sources of the host that are assembled as one; or their first fault, with the place of the statement that
-/// has it.
+/// Sources that are assembled as one, and listed.
+#[derive(Drop)]
+pub struct Listing {
+    /// The listing.
+    pub text: Vec<u8>,
+    /// The frames of the BIN tape.
+    pub tape: Vec<u8>,
+}
+
+/// The listing of sources of the host that are assembled as one, and their tape; or their first fault, with the place of the statement
+/// that has it.
 ///
 /// Each line of each source stands behind the cell and the word of the first of its words, five digits and four, or behind as
 /// many blanks; its further words stand below it. Behind an empty line there are the names that the sources define, in
@@ -35,14 +46,17 @@ pub fn list_sources(
     alloc: Global,
     sources: &[&[u8]],
     form: ListingForm,
-) -> Result<Vec<u8>, SourceFault>
-    ensures listing { IfOk result (λ text. IsListed form sources.now text.items) }
+) -> Result<Listing, SourceFault>
+    ensures listing { IfOk result (λ listing. IsListed form sources.now listing.text.items) }
+    ensures tape { IfOk result (λ listing. IsAssembled sources.now listing.tape.items) }
     ensures fault { IfErr result (λ fault. IsTold sources.now fault) }
 {
+    has_words();
     let assembly = assembly_of(alloc, sources)?;
+    let tape = tape_of(alloc, &assembly.pairs)?;
     let mut text = lines(alloc, sources, &assembly)?;
     put_symbols(alloc, &mut text, sources, &assembly, form)?;
-    Ok(text)
+    Ok(Listing { text, tape })
 }
 
 /// The lines of sources with their words, and an empty line. The only fault is `Memory`.

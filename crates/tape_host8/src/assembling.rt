@@ -1,9 +1,8 @@
 //! Sources in files of the host to a BIN tape and a listing, each written whole or not at all.
 
 use assemble8::{SourceFault, assemble_sources, fault_text, further_faults};
-use image_file8::{
-    Content, Ended, bytes_of, input_bytes, make_file, print_bytes, tell_text, texts_of,
-};
+use image_file8::{bytes_of, input_bytes, make_file, print_bytes, tell, tell_text, texts_of};
+use outcome::{Content, Ending, NameNote, Note, PlainNote};
 use report8::with_line_feeds;
 use script8::SessionFault;
 use source_listing::{ListingForm, list_sources};
@@ -23,32 +22,42 @@ const MOST_FURTHER: usize = 20;
 pub fn assemble_files<R: Files<File = File> + Input + Print + Eprint + AllocGlobal>(
     rt: &R,
     form: &AssembleForm,
-) -> Result<(), Ended> {
+) -> Result<(), Ending> {
     refuse_clashes(rt, form)?;
     let texts = read_sources(rt, &form.sources)?;
     let sources = slices_of(rt.alloc(), &texts)?;
-    let tape = assemble_sources(rt.alloc(), &sources).map_err(|fault| refused(
-        rt, form, &sources, fault,
-    ))?;
-    if let Some(name) = &form.list {
-        let shown = if form.is_cross {
-            ListingForm::Cross
-        } else {
-            ListingForm::Symbols
-        };
-        let listing = list_sources(rt.alloc(), &sources, shown).map_err(|fault| refused(
+    let Some(list) = &form.list else {
+        let tape = assemble_sources(rt.alloc(), &sources).map_err(|fault| refusal(
             rt, form, &sources, fault,
         ))?;
-        write_to(rt, name, &listing, Content::Listing)?;
-    }
+        return write_tape(rt, form, &tape);
+    };
+    let behind = if form.is_cross {
+        ListingForm::Cross
+    } else {
+        ListingForm::Symbols
+    };
+    let listing = list_sources(rt.alloc(), &sources, behind).map_err(|fault| refusal(
+        rt, form, &sources, fault,
+    ))?;
+    write_to(rt, list, &listing.text, Content::Listing)?;
+    write_tape(rt, form, &listing.tape)
+}
+
+/// Writes the tape to the file that gets it, or to standard output.
+fn write_tape<R: Files<File = File> + Print + Eprint + AllocGlobal>(
+    rt: &R,
+    form: &AssembleForm,
+    tape: &[u8],
+) -> Result<(), Ending> {
     match &form.output {
-        Some(name) => write_to(rt, name, &tape, Content::Tape),
-        None => print_bytes(rt, &tape),
+        Some(name) => write_to(rt, name, tape, Content::Tape),
+        None => print_bytes(rt, tape),
     }
 }
 
 /// Refuses words by which two things would be written to one place, or one over a source.
-fn refuse_clashes<R: Eprint>(rt: &R, form: &AssembleForm) -> Result<(), Ended> {
+fn refuse_clashes<R: Eprint>(rt: &R, form: &AssembleForm) -> Result<(), Ending> {
     let Some(list) = &form.list else {
         return refuse_source(rt, form, &form.output);
     };
@@ -57,8 +66,8 @@ fn refuse_clashes<R: Eprint>(rt: &R, form: &AssembleForm) -> Result<(), Ended> {
         None => STANDARD,
     };
     if list.as_str() == output {
-        let _ = eprintln!(rt; "error: the tape and the listing can't both be written to {output}");
-        return Err(Ended::Misused);
+        tell(rt, Note::OnName(NameNote::OnePlace, output));
+        return Err(Ending::Misuse);
     }
     refuse_source(rt, form, &form.output)?;
     refuse_source(rt, form, &form.list)
@@ -69,14 +78,14 @@ fn refuse_source<R: Eprint>(
     rt: &R,
     form: &AssembleForm,
     output: &Option<String>,
-) -> Result<(), Ended> {
+) -> Result<(), Ending> {
     let Some(output) = output else {
         return Ok(());
     };
     for source in &form.sources {
         if source.as_str() == output.as_str() && output.as_str() != STANDARD {
-            let _ = eprintln!(rt; "error: {output} is a source, and would be written over");
-            return Err(Ended::Misused);
+            tell(rt, Note::OnName(NameNote::OverSource, output.as_str()));
+            return Err(Ending::Misuse);
         }
     }
     Ok(())
@@ -88,7 +97,7 @@ fn write_to<R: Files<File = File> + Print + Eprint + AllocGlobal>(
     name: &str,
     bytes: &[u8],
     content: Content,
-) -> Result<(), Ended> {
+) -> Result<(), Ending> {
     if name == STANDARD {
         return print_bytes(rt, bytes);
     }
@@ -96,15 +105,15 @@ fn write_to<R: Files<File = File> + Print + Eprint + AllocGlobal>(
 }
 
 /// How a command ends whose sources have a fault, which is told.
-fn refused<R: Eprint + AllocGlobal>(
+fn refusal<R: Eprint + AllocGlobal>(
     rt: &R,
     form: &AssembleForm,
     sources: &[&[u8]],
     fault: SourceFault,
-) -> Ended {
+) -> Ending {
     match tell_faults(rt, form, sources, fault) {
-        Ok(()) => Ended::Told,
-        Err(ended) => ended,
+        Ok(()) => Ending::Failure,
+        Err(ending) => ending,
     }
 }
 
@@ -114,40 +123,40 @@ fn tell_faults<R: Eprint + AllocGlobal>(
     form: &AssembleForm,
     sources: &[&[u8]],
     fault: SourceFault,
-) -> Result<(), Ended> {
+) -> Result<(), Ending> {
     match fault {
-        SourceFault::Memory => Err(Ended::Fault(SessionFault::Memory)),
+        SourceFault::Memory => Err(Ending::Fault(SessionFault::Memory)),
         SourceFault::At(first) => {
             let names = texts_of(rt.alloc(), &form.sources)?;
             tell_text(rt, &fault_text(rt.alloc(), sources, &names, first)?);
-            tell_further(rt, sources, &names)
+            tell_further_faults(rt, sources, &names)
         }
     }
 }
 
 /// Tells the words with a fault behind the first, if that is one of a word.
-fn tell_further<R: Eprint + AllocGlobal>(
+fn tell_further_faults<R: Eprint + AllocGlobal>(
     rt: &R,
     sources: &[&[u8]],
     names: &[&str],
-) -> Result<(), Ended> {
+) -> Result<(), Ending> {
     let further = match further_faults(rt.alloc(), sources, MOST_FURTHER) {
         Ok(further) => further,
-        Err(SourceFault::Memory) => return Err(Ended::Fault(SessionFault::Memory)),
+        Err(SourceFault::Memory) => return Err(Ending::Fault(SessionFault::Memory)),
         Err(SourceFault::At(_)) => return Ok(()),
     };
     if !further.is_empty() {
-        tell_text(rt, b"note: these words have a fault too:\n");
+        tell(rt, Note::Plain(PlainNote::FurtherFaults));
     }
     for fault in &further {
         let text = fault_text(rt.alloc(), sources, names, *fault)?;
-        tell_unnumbered(rt, &text);
+        tell_without_number(rt, &text);
     }
     Ok(())
 }
 
 /// Tells the lines of a further fault without the numbered one, which is that of the first fault alone.
-fn tell_unnumbered<R: Eprint>(rt: &R, text: &[u8]) {
+fn tell_without_number<R: Eprint>(rt: &R, text: &[u8]) {
     if let Ok(text) = str::from_utf8(text) {
         for line in text.lines().take(3) {
             let _ = eprintln!(rt; "{line}");
@@ -159,16 +168,16 @@ fn tell_unnumbered<R: Eprint>(rt: &R, text: &[u8]) {
 fn read_sources<R: Files + Input + Eprint + AllocGlobal>(
     rt: &R,
     names: &[String],
-) -> Result<Vec<Vec<u8>>, Ended> {
+) -> Result<Vec<Vec<u8>>, Ending> {
     let mut texts = Vec::new(rt.alloc());
     for name in names {
         let bytes = read_source(rt, name)?;
-        keep(&mut texts, with_line_feeds(rt.alloc(), &bytes)?)?;
+        add_text(&mut texts, with_line_feeds(rt.alloc(), &bytes)?)?;
     }
     Ok(texts)
 }
 
-fn keep(texts: &mut Vec<Vec<u8>>, text: Vec<u8>) -> Result<(), AllocError> {
+fn add_text(texts: &mut Vec<Vec<u8>>, text: Vec<u8>) -> Result<(), AllocError> {
     texts.push(text)?;
     Ok(())
 }
@@ -176,13 +185,13 @@ fn keep(texts: &mut Vec<Vec<u8>>, text: Vec<u8>) -> Result<(), AllocError> {
 fn read_source<R: Files + Input + Eprint + AllocGlobal>(
     rt: &R,
     name: &str,
-) -> Result<Vec<u8>, Ended> {
+) -> Result<Vec<u8>, Ending> {
     if name == STANDARD {
         return input_bytes(rt);
     }
     let read = bytes_of(rt, name);
-    if let Err(Ended::Line(_)) = &read {
-        let _ = eprintln!(rt; "error: the source {name} can't be read");
+    if let Err(Ending::Line(_)) = &read {
+        tell(rt, Note::OnName(NameNote::NoSource, name));
     }
     read
 }

@@ -1,7 +1,8 @@
 //! Sources of tapes.
 
 use crate::tapes::program_of;
-use image_file8::{Counted, Ended, Output, bytes_of};
+use image_file8::{CountedInput, Output, bytes_of};
+use outcome::Ending;
 use report8::{put_source, source_text};
 use std::fs::Files;
 use std::io::Input;
@@ -11,11 +12,11 @@ use task8::SourceForm;
 pub fn write_source<R: Files + Input + Print + Eprint + AllocGlobal>(
     rt: &R,
     form: &SourceForm,
-) -> Result<(), Ended> {
+) -> Result<(), Ending> {
     let mut output = Output::new(rt);
     match put_source_of(rt, form, &mut output) {
         Ok(()) => Ok(()),
-        Err(ended) => Err(output.ended_by(ended)),
+        Err(ending) => Err(output.ending_of(ending)),
     }
 }
 
@@ -23,13 +24,13 @@ fn put_source_of<R: Files + Input + Print + Eprint + AllocGlobal>(
     rt: &R,
     form: &SourceForm,
     output: &mut Output<'_, R>,
-) -> Result<(), Ended> {
+) -> Result<(), Ending> {
     let names = match &form.names {
         Some(file) => Some(bytes_of(rt, file)?),
         None => None,
     };
     let Some(file) = &form.file else {
-        let mut input = Counted::new(rt.reader());
+        let mut input = CountedInput::new(rt.reader());
         let written = source_text(rt.alloc(), &mut input, &form.starts, &names, output);
         input.tell_of_limit(rt);
         written?;

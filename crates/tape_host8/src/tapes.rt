@@ -2,7 +2,8 @@
 //! is such a file whole.
 
 use archive8::{Asked, GetForm};
-use image_file8::{Ended, bytes_of, bytes_of_file, core_of_file};
+use image_file8::{bytes_of, bytes_of_file, core_of_file};
+use outcome::Ending;
 use std::fs::Files;
 use task8::ImageForm;
 use word12::Cell;
@@ -15,7 +16,7 @@ pub fn program_of<R: Files + Eprint + AllocGlobal>(
     rt: &R,
     file: &str,
     name: &Option<String>,
-) -> Result<(Vec<u8>, Option<Cell>), Ended> {
+) -> Result<(Vec<u8>, Option<Cell>), Ending> {
     let Some(name) = name else {
         return Ok((bytes_of(rt, file)?, None));
     };

@@ -3,7 +3,8 @@
 use crate::tapes::program_of;
 use core_load::{Core, load};
 use cpu8::Machine;
-use image_file8::{Ended, Output, tell_line};
+use image_file8::{Output, tell_line};
+use outcome::Ending;
 use report8::{ProgramLine, first_cell};
 use script8::SessionFault;
 use std::fs::Files;
@@ -16,7 +17,7 @@ use word12::{Cell, Word};
 pub fn run_teletype<R: Files + Input + Print + Eprint + AllocGlobal>(
     rt: &R,
     form: &TeletypeForm,
-) -> Result<(), Ended> {
+) -> Result<(), Ending> {
     let (frames, start) = program_of(rt, &form.file, &form.name)?;
     let mut machine = machine_of(rt, &frames, form.start.or(start), form.switches)?;
     let struck = if form.is_raw { Form::Raw } else { Form::Text };
@@ -36,8 +37,8 @@ pub fn run_teletype<R: Files + Input + Print + Eprint + AllocGlobal>(
         &mut output,
     ) {
         Ok(stopped) => tell_end(rt, &machine, stopped.why),
-        Err(TerminalFault::Reader) => Err(Ended::Fault(SessionFault::Reader)),
-        Err(TerminalFault::Writer) => Err(output.ended()),
+        Err(TerminalFault::Reader) => Err(Ending::Fault(SessionFault::Reader)),
+        Err(TerminalFault::Writer) => Err(output.ending()),
     }
 }
 
@@ -47,11 +48,11 @@ pub fn machine_of<R: AllocGlobal>(
     frames: &[u8],
     start: Option<Cell>,
     switches: Option<Word>,
-) -> Result<Machine, Ended> {
+) -> Result<Machine, Ending> {
     let mut core = Core::new(rt.alloc()).map_err(SessionFault::from)?;
     load(rt.alloc(), frames, &mut core).map_err(SessionFault::from)?;
     let Some(first) = first_cell(frames) else {
-        return Err(Ended::Line(ProgramLine::NothingToRun));
+        return Err(Ending::Line(ProgramLine::NothingToRun));
     };
     let mut machine = Machine::new(core);
     if let Some(word) = switches {
@@ -62,7 +63,7 @@ pub fn machine_of<R: AllocGlobal>(
 }
 
 /// Tells on standard error why a machine goes no further: a HLT and the end of the keys are ends of a program's own.
-fn tell_end<R: Eprint + AllocGlobal>(rt: &R, machine: &Machine, why: Why) -> Result<(), Ended> {
+fn tell_end<R: Eprint + AllocGlobal>(rt: &R, machine: &Machine, why: Why) -> Result<(), Ending> {
     let cell = machine.next_cell();
     let line = match why {
         Why::Halt => ProgramLine::Halted(cell, machine.ac(), machine.l()),
@@ -73,6 +74,6 @@ fn tell_end<R: Eprint + AllocGlobal>(rt: &R, machine: &Machine, why: Why) -> Res
     tell_line(rt, &line)?;
     match why {
         Why::Halt | Why::Keys => Ok(()),
-        Why::Unassigned | Why::Limit => Err(Ended::Told),
+        Why::Unassigned | Why::Limit => Err(Ending::Failure),
     }
 }

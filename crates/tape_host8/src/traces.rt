@@ -3,7 +3,8 @@
 use crate::tapes::program_of;
 use crate::teletypes::machine_of;
 use cpu8::Machine;
-use image_file8::{Ended, Output, print_bytes};
+use image_file8::{Output, print_bytes};
+use outcome::Ending;
 use profile8::{count_fetches, no_counts, profile_text};
 use report8::{ProgramLine, given_cells, put_program};
 use script8::SessionFault;
@@ -21,7 +22,7 @@ const PROFILED: u64 = 1_000_000;
 
 /// The frames of a program, a machine that stands at its start, and its keys.
 #[derive(Drop)]
-struct Begun {
+struct Start {
     frames: Vec<u8>,
     machine: Machine,
     keys: Vec<u8>,
@@ -31,16 +32,16 @@ struct Begun {
 pub fn trace_tape<R: Files + Print + Eprint + AllocGlobal>(
     rt: &R,
     form: &TraceForm,
-) -> Result<(), Ended> {
-    let begun = begin(rt, form)?;
-    let given = given_cells(rt.alloc(), &begun.frames)?;
-    let mut terminal = Terminal::new(begun.machine, &begun.keys);
+) -> Result<(), Ending> {
+    let start = start_of(rt, form)?;
+    let given = given_cells(rt.alloc(), &start.frames)?;
+    let mut terminal = Terminal::new(start.machine, &start.keys);
     let most = form.steps.unwrap_or(TRACED);
     let mut output = Output::new(rt);
     match trace(rt.alloc(), &mut terminal, most, &given, &mut output) {
         Ok(ended) => print_bytes(rt, &end_of(rt, &terminal, ended)?),
-        Err(TraceFault::Memory) => Err(Ended::Fault(SessionFault::Memory)),
-        Err(TraceFault::Writer) => Err(output.ended()),
+        Err(TraceFault::Memory) => Err(Ending::Fault(SessionFault::Memory)),
+        Err(TraceFault::Writer) => Err(output.ending()),
     }
 }
 
@@ -48,10 +49,10 @@ pub fn trace_tape<R: Files + Print + Eprint + AllocGlobal>(
 pub fn profile_tape<R: Files + Print + Eprint + AllocGlobal>(
     rt: &R,
     form: &TraceForm,
-) -> Result<(), Ended> {
-    let begun = begin(rt, form)?;
-    let given = given_cells(rt.alloc(), &begun.frames)?;
-    let mut terminal = Terminal::new(begun.machine, &begun.keys);
+) -> Result<(), Ending> {
+    let start = start_of(rt, form)?;
+    let given = given_cells(rt.alloc(), &start.frames)?;
+    let mut terminal = Terminal::new(start.machine, &start.keys);
     let mut counts = no_counts(rt.alloc())?;
     let most = form.steps.unwrap_or(PROFILED);
     let ended = count_fetches(&mut terminal, most, &mut counts);
@@ -64,7 +65,7 @@ fn end_of<R: AllocGlobal>(
     rt: &R,
     terminal: &Terminal<'_>,
     ended: terminal8::Ended,
-) -> Result<Vec<u8>, Ended> {
+) -> Result<Vec<u8>, Ending> {
     let mut line = Vec::new(rt.alloc());
     let cell = terminal.machine().next_cell();
     put_program(&ProgramLine::Steps(ended, cell), &mut line)?;
@@ -72,7 +73,7 @@ fn end_of<R: AllocGlobal>(
 }
 
 /// Loads the program, and starts the machine.
-fn begin<R: Files + Eprint + AllocGlobal>(rt: &R, form: &TraceForm) -> Result<Begun, Ended> {
+fn start_of<R: Files + Eprint + AllocGlobal>(rt: &R, form: &TraceForm) -> Result<Start, Ending> {
     let (frames, start) = program_of(rt, &form.file, &form.name)?;
     let machine = machine_of(rt, &frames, form.start.or(start), form.switches)?;
     let text: &[u8] = match &form.keys {
@@ -80,7 +81,7 @@ fn begin<R: Files + Eprint + AllocGlobal>(rt: &R, form: &TraceForm) -> Result<Be
         None => b"",
     };
     let keys = keys_of(rt.alloc(), Form::Text, text)?;
-    Ok(Begun {
+    Ok(Start {
         frames,
         machine,
         keys,

@@ -1,0 +1,38 @@
+-- How a command ends by the faults of what it calls, as `?` makes them.
+use Rattle.std.specs.declared.io.ErrorKind.{ErrorKind}
+use Rattle.std.specs.declared.io.ErrorKind.TheVariants.{OutOfMemory}
+use Rattle.bin_tape.specs.declared.faults.TapeFault.{TapeFault}
+use Rattle.script8.specs.Faults.{fault_of_tape}
+use Rattle.script8.specs.declared.faults.SessionFault.TheVariants.{Memory, Reader}
+use Rattle.archive8.specs.declared.faults.ArchiveFault.{ArchiveFault}
+use Rattle.archive8.specs.declared.faults.ArchiveFault.TheVariants as archive
+use Rattle.report8.specs.declared.programs.ProgramLine.TheVariants as line
+use Rattle.report8.specs.declared.sources.SourceFault.{SourceFault}
+use Rattle.report8.specs.declared.sources.SourceFault.TheVariants as source
+use Rattle.report8.specs.declared.rims.RimTextFault.{RimTextFault}
+use Rattle.report8.specs.declared.rims.RimTextFault.TheVariants as rim
+use Rattle.outcome.specs.declared.endings.Ending.{Ending}
+use Rattle.outcome.specs.declared.endings.Ending.TheVariants.{Line, Fault}
+
+abbrev pub ending_of_tape : TapeFault → Ending
+ending_of_tape fault = Fault (fault_of_tape fault)
+
+abbrev pub ending_of_archive : ArchiveFault → Ending
+ending_of_archive (archive.Image fault) = Line (line.Image fault)
+ending_of_archive (archive.Directory fault) = Line (line.Directory fault)
+ending_of_archive (archive.Refused fault) = Fault fault
+
+abbrev pub ending_of_source : SourceFault → Ending
+ending_of_source source.NoWord = Line line.NoWord
+ending_of_source (source.NoStart start) = Line (line.NoStart start)
+ending_of_source (source.Names number why) = Line (line.Names number why)
+ending_of_source (source.Session fault) = Fault fault
+
+abbrev pub ending_of_rim : RimTextFault → Ending
+ending_of_rim (rim.Rim fault) = Line (line.Rim fault)
+ending_of_rim (rim.Session fault) = Fault fault
+
+-- a call for what is read failed
+abbrev pub ending_of_input : ErrorKind → Ending
+ending_of_input OutOfMemory = Fault Memory
+ending_of_input _ = Fault Reader

@@ -1,0 +1,37 @@
+-- What may help where an image is refused (this project's profile).
+use Rattle.std.specs.Prelude.{ℕ, nat_lt, if◌then◌else◌, Option, Some, None}
+use Rattle.disk8.specs.Disks.{guess_of}
+use Rattle.disk8.specs.declared.layouts.Layout.{Layout}
+use Rattle.disk8.specs.declared.layouts.Layout.TheVariants.{First, Second, Dectape}
+use Rattle.os8_dir.specs.declared.faults.DirFault.{DirFault}
+use Rattle.os8_dir.specs.declared.faults.DirFault.TheVariants as directory
+use Rattle.archive8.specs.declared.faults.ArchiveFault.{ArchiveFault}
+use Rattle.archive8.specs.declared.faults.ArchiveFault.TheVariants.{Image, Directory, Refused}
+use Rattle.outcome.specs.declared.hints.TheConstants.{IMAGE}
+use Rattle.outcome.specs.declared.notes.PlainNote.{PlainNote}
+use Rattle.outcome.specs.declared.notes.PlainNote.TheVariants as plain
+
+-- a file that is no image may be that of a DECtape or of a disk
+abbrev pub layout_note : Option Layout → Option PlainNote
+layout_note None = None
+layout_note (Some Dectape) = Some plain.Dectape
+layout_note (Some First) = Some plain.Disk
+layout_note (Some Second) = Some plain.Disk
+
+-- a directory that covers more blocks than a file has may be that of a disk whose end was never written
+abbrev pub directory_note : ℕ → DirFault → Option PlainNote
+directory_note size directory.PastVolume = if nat_lt size IMAGE then Some plain.ShortDisk else None
+directory_note size (directory.BadLink number) = None
+directory_note size (directory.BadCount number) = None
+directory_note size directory.EntryPastSegment = None
+directory_note size directory.SameName = None
+directory_note size directory.WrongFirstBlock = None
+directory_note size directory.MixedInfo = None
+directory_note size directory.Device = None
+directory_note size directory.Memory = None
+
+-- what may help where an image of so many bytes, or a file of it, is refused
+abbrev pub image_note : ℕ → ArchiveFault → Option PlainNote
+image_note size (Image fault) = layout_note (guess_of size)
+image_note size (Directory fault) = directory_note size fault
+image_note size (Refused fault) = None

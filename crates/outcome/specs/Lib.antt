@@ -1,0 +1,9 @@
+pub mod Contents
+pub mod Endings
+pub mod Hints
+pub mod Kinds
+pub mod Notes
+pub mod Outcomes
+pub mod Streams
+pub mod Shown
+pub mod Steps

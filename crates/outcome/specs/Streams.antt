@@ -1,0 +1,37 @@
+-- Which commands put data on standard output, and which put lines there (this project's profile).
+use Rattle.std.specs.Prelude.{Bool, true, false}
+use Rattle.task8.specs.declared.tasks.Task.{Task}
+use Rattle.task8.specs.declared.tasks.Task.TheVariants as task
+use Rattle.task8.specs.declared.tasks.RimForm.{RimForm}
+use Rattle.task8.specs.declared.tasks.RimForm.TheVariants.{Lines, Bin}
+
+-- a BIN tape is data, and the words of a RIM tape are lines
+abbrev pub rim_is_data : RimForm → Bool
+rim_is_data Bin = true
+rim_is_data Lines = false
+
+-- Whether what a task puts on standard output is data, so that no refusal is printed there.
+abbrev pub gives_data : Task → Bool
+gives_data (task.Rim form) = rim_is_data form
+gives_data (task.Source form) = true
+gives_data (task.Assemble form) = true
+gives_data (task.Teletype form) = true
+gives_data (task.Trace form) = true
+gives_data (task.Profile form) = true
+gives_data (task.Get image file form) = true
+gives_data (task.GetBin image file) = true
+gives_data (task.GetBlocks form) = true
+gives_data task.Tape = false
+gives_data (task.Run image form) = false
+gives_data (task.Create image blocks) = false
+gives_data (task.CreateTape image) = false
+gives_data (task.List image) = false
+gives_data (task.ListLong image) = false
+gives_data (task.GetMany form) = false
+gives_data (task.Put form) = false
+gives_data (task.PutMany form) = false
+gives_data (task.Delete form) = false
+gives_data (task.Rename image file new) = false
+gives_data (task.Copy form) = false
+gives_data (task.Squeeze image) = false
+gives_data (task.Check form) = false

@@ -1,0 +1,21 @@
+//! How each command of the program ends: its line, the stream that the line goes to, the note on standard error, and the exit status.
+//! Nothing is printed here.
+#![tactic(auto)]
+
+mod contents;
+mod endings;
+mod hints;
+mod kinds;
+mod notes;
+mod outcomes;
+mod rooms;
+mod streams;
+
+pub use contents::Content;
+pub use endings::Ending;
+pub use hints::{command_hint, image_note};
+pub use kinds::{ending_of_lay, ending_of_output, ending_of_read, ending_of_write};
+pub use notes::{FileNote, NameNote, Note, PlainNote};
+pub use outcomes::{Outcome, Stream, outcome_of};
+pub use rooms::{LineRoom, no_memory_line};
+pub use streams::gives_data;

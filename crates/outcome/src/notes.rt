@@ -1,0 +1,229 @@
+//! The notes that are printed on standard error beside lines, each with the end of its line. Printing one takes no memory.
+ghost use Rattle.std.specs.Prelude.{◌≡◌, Some};
+ghost use Rattle.std.specs.Fmt.{DisplaysOnOk};
+ghost use Rattle.outcome.specs.Notes as spec;
+
+use crate::contents::Content;
+use archive8::TextPlace;
+use script8::readings::MOST;
+use std::fmt;
+
+/// A note that is always the same.
+#[derive(Clone, Copy)]
+pub enum PlainNote {
+    /// A word of the command line is no UTF-8 text.
+    NoText,
+
+    /// A file that is refused is a DECtape.
+    Dectape,
+
+    /// A file that is refused may be a disk of two volumes.
+    Disk,
+
+    /// A file that is refused may be a disk whose end was never written.
+    ShortDisk,
+
+    /// Frames that are no BIN tape are a RIM tape.
+    RimTape,
+
+    /// What names the files of a volume have.
+    FileNames,
+
+    /// Words that have a fault come next.
+    FurtherFaults,
+}
+
+/// A note on a file of the host.
+#[derive(Clone, Copy)]
+pub enum FileNote {
+    /// Another program works on it.
+    Busy,
+
+    /// It is not written, and is as it was.
+    AsItWas,
+
+    /// It is not written whole, and may hold a part of what it was to hold.
+    InPart,
+
+    /// Its file system has no locks.
+    NoLock,
+
+    /// It is written in its place.
+    InPlace,
+
+    /// It is written, but its folder is not brought to the disk.
+    NoSync,
+}
+
+/// A note on what has a name.
+#[derive(Clone, Copy)]
+pub enum NameNote {
+    /// An input of this name has more bytes than are read.
+    TooLong,
+
+    /// A file of the host is refused, so none is put.
+    NotPut,
+
+    /// A file of a volume is refused, so none is taken out.
+    NotDeleted,
+
+    /// An empty file is not put in place of one that has words.
+    Empty,
+
+    /// Of two images this one refuses.
+    Refuses,
+
+    /// A source can't be read.
+    NoSource,
+
+    /// A source would be written over.
+    OverSource,
+
+    /// The tape and the listing would be written to one place.
+    OnePlace,
+
+    /// This is no list of extensions.
+    BadExtensions,
+
+    /// What may help, in words of its own.
+    Hint,
+}
+
+/// What is printed on standard error beside a line.
+#[derive(Clone, Copy)]
+pub enum Note<'a> {
+    Plain(PlainNote),
+
+    /// On a file that is to hold this.
+    OnFile(FileNote, Content),
+
+    /// On what has this name.
+    OnName(NameNote, &'a str),
+
+    /// The file that begins at this block is refused, so none is taken out.
+    OnBlock(usize),
+
+    /// Here a text has a byte that may not stand in one.
+    OnText(TextPlace),
+}
+
+/// The text of a note (this project's profile).
+impl<'a> fmt::Display for Note<'a> {
+    ghost output = { λ note. Some (spec.note_text note) };
+
+    fn fmt<W: fmt::Write>(&self, f: &mut fmt::Formatter<W>) -> fmt::Result {
+        match self {
+            Note::Plain(note) => f.write_str(plain_text(*note)),
+            Note::OnFile(note, content) => write_on_file(*note, content.name(), f),
+            Note::OnName(note, name) => write_on_name(*note, *name, f),
+            Note::OnBlock(block) => write_on_block(*block, f),
+            Note::OnText(place) => write_on_text(place.line, place.byte, f),
+        }
+    }
+}
+
+fn plain_text(note: PlainNote) -> &'static str
+    ensures { result.now ≡ spec.plain_text note }
+{
+    match note {
+        PlainNote::NoText => "error: a word of the command line is not UTF-8 text\n",
+        PlainNote::Dectape =>
+            "note: 380292 bytes are a DECtape with 129 words a block: --dectape takes it so\n",
+        PlainNote::Disk =>
+            "note: the file may be an RK05 disk of two volumes: --volume 1 or --volume 2 takes one of them\n",
+        PlainNote::ShortDisk =>
+            "note: the file ends before the blocks that its directory covers: if the end of an RK05 disk was never written, --volume 1 takes it as zeros\n",
+        PlainNote::RimTape =>
+            "note: the frames are a RIM tape: addresses and words in turn, and no check sum; a BIN tape is wanted\n",
+        PlainNote::FileNames =>
+            "note: a file's name is 1 to 6 letters or digits, then nothing, or a dot and 1 or 2 more\n",
+        PlainNote::FurtherFaults => "note: these words have a fault too:\n",
+    }
+}
+
+/// Writes the note on a file by the word for what it is to hold.
+fn write_on_file<W: fmt::Write>(
+    note: FileNote,
+    content: &str,
+    f: &mut fmt::Formatter<W>,
+) -> fmt::Result
+    ensures { DisplaysOnOk W.write_str_gives f.old result (Some (spec.file_text note content.now)) f.new }
+{
+    match note {
+        FileNote::Busy => write!(f, "error: another program works on the {content}\n"),
+        FileNote::AsItWas => write!(
+            f,
+            "error: the {content} is not written: the file is as it was\n"
+        ),
+        FileNote::InPart => write!(
+            f,
+            "error: the {content} is not written whole: the file may hold a part of it\n"
+        ),
+        FileNote::NoLock => write!(
+            f,
+            "note: the file system has no locks, so let no other program work on the {content}\n"
+        ),
+        FileNote::InPlace => write!(
+            f,
+            "note: the {content} is written in its place, and is not whole if that breaks off\n"
+        ),
+        FileNote::NoSync => write!(
+            f,
+            "note: the {content} is written, but its folder is not synced: whether a crash keeps it isn't known\n"
+        ),
+    }
+}
+
+/// Writes the note on what has a name.
+fn write_on_name<W: fmt::Write>(
+    note: NameNote,
+    name: &str,
+    f: &mut fmt::Formatter<W>,
+) -> fmt::Result
+    ensures { DisplaysOnOk W.write_str_gives f.old result (Some (spec.name_text note name.now)) f.new }
+{
+    match note {
+        NameNote::TooLong => write!(
+            f,
+            "note: {name} has more than {MOST} bytes, and no more are read\n"
+        ),
+        NameNote::NotPut => write!(f, "note: {name} is refused, and no file is put\n"),
+        NameNote::NotDeleted => write!(f, "note: {name} is refused, and no file is taken out\n"),
+        NameNote::Empty => write!(
+            f,
+            "note: {name} is empty, and the volume has a file of its name: --empty puts it all the same\n"
+        ),
+        NameNote::Refuses => write!(f, "note: {name} is the image that refuses\n"),
+        NameNote::NoSource => write!(f, "error: the source {name} can't be read\n"),
+        NameNote::OverSource => write!(f, "error: {name} is a source, and would be written over\n"),
+        NameNote::OnePlace => write!(
+            f,
+            "error: the tape and the listing can't both be written to {name}\n"
+        ),
+        NameNote::BadExtensions => write!(
+            f,
+            "error: invalid value '{name}' for '--text-of <LIST>': no extensions of 1 or 2 capital letters or digits with commas between\n"
+        ),
+        NameNote::Hint => write!(f, "note: {name}\n"),
+    }
+}
+
+/// Writes where a text has a byte that may not stand in one.
+fn write_on_text<W: fmt::Write>(line: usize, byte: usize, f: &mut fmt::Formatter<W>) -> fmt::Result
+    ensures { DisplaysOnOk W.write_str_gives f.old result (Some (spec.bad_text line byte)) f.new }
+{
+    write!(
+        f,
+        "note: line {line}, byte {byte}: a text has no byte above 0177, and no control Z\n"
+    )
+}
+
+/// Writes that the file at a block is refused.
+fn write_on_block<W: fmt::Write>(block: usize, f: &mut fmt::Formatter<W>) -> fmt::Result
+    ensures { DisplaysOnOk W.write_str_gives f.old result (Some (spec.block_text block)) f.new }
+{
+    write!(
+        f,
+        "note: --at {block} is refused, and no file is taken out\n"
+    )
+}

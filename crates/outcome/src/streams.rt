@@ -1,0 +1,37 @@
+//! What the commands put on standard output.
+ghost use Rattle.std.specs.Prelude.{◌≡◌};
+ghost use Rattle.outcome.specs.Streams.{gives_data};
+
+use task8::{RimForm, Task};
+
+/// Whether what a task puts on standard output is data, so that no refusal is printed there (this project's profile).
+pub fn gives_data(task: &Task) -> bool
+    ensures { result ≡ gives_data task.now }
+{
+    match task {
+        Task::Rim(RimForm::Bin)
+        | Task::Source(_)
+        | Task::Assemble(_)
+        | Task::Teletype(_)
+        | Task::Trace(_)
+        | Task::Profile(_)
+        | Task::Get(..)
+        | Task::GetBin(..)
+        | Task::GetBlocks(_) => true,
+        Task::Tape
+        | Task::Rim(RimForm::Lines)
+        | Task::Run(..)
+        | Task::Create(..)
+        | Task::CreateTape(_)
+        | Task::List(_)
+        | Task::ListLong(_)
+        | Task::GetMany(_)
+        | Task::Put(_)
+        | Task::PutMany(_)
+        | Task::Delete(_)
+        | Task::Rename(..)
+        | Task::Copy(_)
+        | Task::Squeeze(_)
+        | Task::Check(_) => false,
+    }
+}
