@@ -1,7 +1,8 @@
 ghost use Rattle.std.specs.Prelude.{◌≡◌, ◌<◌, ℕ, List, [], ◌∷◌, false, OnErr, OnOk};
 ghost use Rattle.std.specs.Str.{bytes_eq};
 ghost use Rattle.hosts.specs.Place.{about};
-ghost use Rattle.hosts.specs.Saving.{Lays, IsQuiet, laid_calls, replacements};
+ghost use Rattle.hosts.specs.Saving.{Lays, replacements};
+ghost use Rattle.hosts.specs.SavingSteps.{IsQuiet, laid_calls};
 ghost use Rattle.hosts.specs.Streams.{output, errors, read};
 
 use crate::making::take_path;
