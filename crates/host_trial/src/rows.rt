@@ -1,8 +1,8 @@
 //! Rows of what is left where a call of a host in memory fails.
 
+use fake_host::{Fake, InMemory};
 use hosts::{Durability, Unwritten, lay, make, save_file};
 use std::alloc::Global;
-use system::{Fake, Memory};
 
 const OLD: &[u8] = b"OLD OLD";
 
@@ -65,14 +65,14 @@ fn print_row<R: Print + AllocGlobal>(rt: &R, trial: Trial, number: u64) -> Optio
 }
 
 /// The host of a trial, of which a call fails.
-fn memory_of(alloc: Global, trial: Trial, number: u64) -> Option<Memory> {
+fn memory_of(alloc: Global, trial: Trial, number: u64) -> Option<InMemory> {
     let is_new = trial == Trial::Make || trial == Trial::MakeUnlinked || trial == Trial::Lay;
     let file = if is_new {
         None
     } else {
         Some(OLD.to_vec(alloc).ok()?)
     };
-    let mut memory = Memory::new(alloc, file, Vec::new(alloc), Some(number));
+    let mut memory = InMemory::new(alloc, file, Vec::new(alloc), Some(number));
     memory.is_alone = trial != Trial::SaveOver;
     memory.is_mount = trial == Trial::SaveMount;
     memory.has_links = trial != Trial::MakeUnlinked;

@@ -1,7 +1,9 @@
 pub mod Event
 pub mod Faults
-pub mod Place
-pub mod Streams
-pub mod Saving
 pub mod Holding
 pub mod Laws
+pub mod Place
+pub mod Raw
+pub mod Saving
+pub mod SavingSteps
+pub mod Streams

@@ -1,9 +1,7 @@
 -- What it comes to that a path is to have other bytes. `old` and `new` are the changes of the path before and after.
-use Rattle.std.specs.Prelude.{◌≡◌, ℕ, ◌+◌, ◌<◌, Bool, true, false, List, [], ◌∷◌, None, Some, Result, Ok, Err, ◌⊎◌}
-use Rattle.std.specs.Str.{bytes_eq}
-use Rattle.hosts.specs.Event.{Event, Change, Claim, Rename, WriteOver, make_call, own_call, lock_call, write_call, sync_call}
-use Rattle.hosts.specs.Place.{Place, Step, Left, Just, about, replay, ever}
-use Rattle.hosts.specs.Streams.{output, errors, read, failures, may_replace, freed, has_links}
+use Rattle.std.specs.Prelude.{◌≡◌, ℕ, ◌+◌, Bool, true, false, List, [], ◌∷◌, None, Some, Result, Ok, Err, ◌⊎◌}
+use Rattle.hosts.specs.Event.{Change, Claim, Rename, WriteOver}
+use Rattle.hosts.specs.Place.{Place, Step, Left, Just, replay, ever}
 use Rattle.hosts.specs.declared.faults.HostFault.{HostFault}
 use Rattle.hosts.specs.declared.faults.Durability.{Durability}
 use Rattle.hosts.specs.declared.faults.Durability.TheVariants.{Certain, Unknown}
@@ -100,15 +98,6 @@ abbrev pub Lays : Result Unit HostFault → List ℕ → List Step → List Step
 Lays (Ok _) bytes old new = (start : Place) → (replay start new).seen ≡ Just (Some bytes)
 Lays (Err fault) bytes old new = (start : Place) → IsUnmade (replay start old) (replay start new)
 
--- the file beside a path has that now
-pub record IsTaken (before p : Place) : Type 0 where
-  pub seen : p.seen ≡ before.beside
-  pub on_disk : p.on_disk ≡ before.beside_on_disk
-
-abbrev pub Takes : Result Unit HostFault → List Step → List Step → Type 0
-Takes (Ok _) old new = (start : Place) → IsTaken (replay start old) (replay start new)
-Takes (Err fault) old new = (start : Place) → IsUnmade (replay start old) (replay start new)
-
 abbrev pub is_claim : Change → Bool → Bool
 is_claim Claim true = true
 is_claim Claim false = false
@@ -139,29 +128,3 @@ with_over _ at before = before
 abbrev pub last_over : List Step → ℕ
 last_over [] = 0
 last_over (s ∷ earlier) = with_over s.change s.number (last_over earlier)
-
--- nothing has come of calls that did not succeed for the file of the path, the others, or the streams
-pub record IsQuiet (path : List ℕ) (old new : List Event) : Type 0 where
-  pub place : (start : Place) → IsAsItWas (replay start (about path old)) (replay start (about path new))
-  pub moments : (start : Place) → ever start (about path new) ≡ ever start (about path old)
-  pub replaced : replacements (about path new) ≡ replacements (about path old)
-  pub cause : failures old < failures new
-  pub others : (other : List ℕ) → bytes_eq path other ≡ false → about other new ≡ about other old
-  pub printed : output new ≡ output old
-  pub told : errors new ≡ errors old
-  pub reads : read new ≡ read old
-  pub answers : may_replace new ≡ may_replace old
-  pub paths : freed new ≡ freed old
-  pub links : has_links new ≡ has_links old
-
--- a new file of these bytes stands beside the path, on the disk
-abbrev pub ready_calls : List ℕ → List ℕ → List Event → List Event
-ready_calls path bytes old = sync_call path true ∷ write_call path true bytes ∷ lock_call path true ∷ own_call path true ∷ make_call path true ∷ old
-
--- the same of a path that no file has
-abbrev pub new_calls : List ℕ → List ℕ → List Event → List Event
-new_calls path bytes old = sync_call path true ∷ write_call path true bytes ∷ lock_call path true ∷ make_call path true ∷ old
-
--- a new file of these bytes stands beside the path
-abbrev pub laid_calls : List ℕ → List ℕ → List Event → List Event
-laid_calls path bytes old = write_call path true bytes ∷ lock_call path true ∷ make_call path true ∷ old

@@ -1,5 +1,7 @@
 //! Why a call of a host failed, and what a file holds after one.
 
+use std::alloc::AllocError;
+
 /// Why a call failed.
 #[derive(Clone, Copy, Debug, PartialEq, Eq)]
 pub enum HostFault {
@@ -17,6 +19,17 @@ pub enum HostFault {
 
     /// It can't be done.
     Failed,
+}
+
+impl From<AllocError> for HostFault {
+    ghost use Rattle.std.specs.Prelude.{◌≡◌};
+    ghost use Rattle.hosts.specs.declared.faults.HostFault.TheVariants.{Memory};
+
+    ghost from_gives = { λ _ fault. fault ≡ Memory };
+
+    fn from(_error: AllocError) -> HostFault {
+        HostFault::Memory
+    }
 }
 
 /// Why a file can't take a path.

@@ -1,8 +1,10 @@
-ghost use Rattle.std.specs.Prelude.{◌≡◌, ◌<◌, ℕ, List, [], ◌∷◌, false, OnErr, OnOk};
+ghost use Rattle.std.specs.Prelude.{◌≡◌, ◌<◌, ◌⊎◌, ℕ, List, [], ◌∷◌, true, false, OnErr, OnOk};
 ghost use Rattle.std.specs.Str.{bytes_eq};
+ghost use Rattle.hosts.specs.Event.{there_call};
 ghost use Rattle.hosts.specs.Place.{about};
-ghost use Rattle.hosts.specs.Saving.{Lays, IsQuiet, laid_calls, replacements};
-ghost use Rattle.hosts.specs.Streams.{output, errors, read};
+ghost use Rattle.hosts.specs.Saving.{Lays, replacements};
+ghost use Rattle.hosts.specs.SavingSteps.{IsQuiet, laid_calls};
+ghost use Rattle.hosts.specs.Streams.{output, errors, read, failures};
 
 use crate::making::take_path;
 use crate::saving::give_up;
@@ -20,6 +22,8 @@ pub fn lay<H: Host>(
 ) -> Result<(), HostFault>
     ensures replaced { replaces ≡ false → replacements (about name.now (H.history host.new)) ≡ replacements (about name.now (H.history host.old)) }
     ensures lays { Lays result bytes.now (about name.now (H.history host.old)) (about name.now (H.history host.new)) }
+    ensures cause { OnErr result ((failures (H.history host.old) < failures (H.history host.new))
+        ⊎ (H.history host.new ≡ there_call name.now true ∷ H.history host.old)) }
     ensures others { (other : List ℕ) → bytes_eq name.now other ≡ false
         → about other (H.history host.new) ≡ about other (H.history host.old) }
     ensures output { output (H.history host.new) ≡ output (H.history host.old) }

@@ -8,7 +8,9 @@ mod host;
 pub mod laws;
 mod laying;
 mod making;
+pub mod notes;
 mod output;
+mod record;
 mod saving;
 
 pub use faults::{Durability, HostFault, LinkFault, PrintFault, RenameFault, Stream, Unwritten};
@@ -17,4 +19,5 @@ pub use host::Host;
 pub use laying::lay;
 pub use making::{make, make_at};
 pub use output::Output;
+pub use record::Record;
 pub use saving::{save, save_file, write_over};

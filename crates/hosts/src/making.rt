@@ -1,7 +1,8 @@
 ghost use Rattle.std.specs.Prelude.{◌≡◌, ◌<◌, ℕ, List, [], ◌∷◌, false, OnErr, OnOk};
 ghost use Rattle.std.specs.Str.{bytes_eq};
 ghost use Rattle.hosts.specs.Place.{about};
-ghost use Rattle.hosts.specs.Saving.{Makes, Takes, AnyMomentOf, IsQuiet, new_calls, replacements};
+ghost use Rattle.hosts.specs.Saving.{Makes, AnyMomentOf, replacements};
+ghost use Rattle.hosts.specs.SavingSteps.{Takes, IsQuiet, new_calls};
 ghost use Rattle.hosts.specs.Streams.{output, errors, read, failures, freed, has_links};
 
 use crate::saving::give_up;

@@ -2,7 +2,8 @@ ghost use Rattle.std.specs.Prelude.{◌≡◌, ◌<◌, ◌≤◌, ℕ, List, []
 ghost use Rattle.std.specs.Str.{bytes_eq};
 ghost use Rattle.hosts.specs.Event.{Event, drop_call, leads_call};
 ghost use Rattle.hosts.specs.Place.{about};
-ghost use Rattle.hosts.specs.Saving.{Saves, SavesFile, AnyMoment, AnyMomentOf, IsWrittenOver, IsQuiet, still_may, ready_calls, last_over};
+ghost use Rattle.hosts.specs.Saving.{Saves, SavesFile, AnyMoment, AnyMomentOf, IsWrittenOver, still_may, last_over};
+ghost use Rattle.hosts.specs.SavingSteps.{IsQuiet, ready_calls};
 ghost use Rattle.hosts.specs.Streams.{output, errors, read, failures, may_replace, freed};
 
 use crate::{Durability, Host, HostFault, RenameFault, Unwritten};

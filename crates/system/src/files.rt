@@ -42,7 +42,8 @@ pub(crate) fn path_of<R: Files<File = File> + AllocGlobal>(
     name: &str,
 ) -> Result<String, HostFault> {
     let found = answer(fs::canonicalize(rt, name))?;
-    String::from_str(alloc, found.as_str()).map_err(|_| HostFault::Memory)
+    let path = String::from_str(alloc, found.as_str())?;
+    Ok(path)
 }
 
 /// A file of a path that is opened and locked, and whether it is; the path leads to it then.
@@ -113,7 +114,7 @@ pub(crate) fn remove_besides<R: Files<File = File>>(
         return Ok(());
     }
     for number in 0..TRIES {
-        let name = besides.name(number).map_err(|_| HostFault::Memory)?;
+        let name = besides.name(number)?;
         if let Ok(named) = fs::symlink_metadata(rt, name)
             && is_same(&named, &own)
         {
@@ -183,7 +184,7 @@ pub(crate) fn made_beside<R: Files<File = File>>(
     besides: &mut Besides,
 ) -> Result<File, HostFault> {
     for number in 0..TRIES {
-        let name = besides.name(number).map_err(|_| HostFault::Memory)?;
+        let name = besides.name(number)?;
         match create_new(rt, name) {
             Ok(file) => return Ok(file),
             Err(error) => match error.kind() {
@@ -268,14 +269,14 @@ pub(crate) fn free_path<R: Files<File = File> + AllocGlobal>(
     alloc: Global,
     name: &str,
 ) -> Result<String, HostFault> {
-    let mut path = PathBuf::from_str(alloc, name).map_err(|_| HostFault::Memory)?;
+    let mut path = PathBuf::from_str(alloc, name)?;
     for _ in 0..MOST_LINKS {
         if is_free(rt, &path)? {
             return Ok(path.into_string());
         }
         let text = answer(fs::read_link(rt, &path))?;
         let _ = path.pop();
-        path.push(&text).map_err(|_| HostFault::Memory)?;
+        path.push(&text)?;
     }
     Err(HostFault::Unwritable)
 }

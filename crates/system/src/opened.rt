@@ -45,13 +45,13 @@ impl Opened {
     /// Has the names beside a path at hand. Where they are, no memory is taken.
     fn place(&mut self, alloc: Global, path: &str) -> Result<&mut Besides, HostFault> {
         if !is_of(&self.place, path) {
-            let names = Besides::new(alloc, path).map_err(|_| HostFault::Memory)?;
-            let path = String::from_str(alloc, path).map_err(|_| HostFault::Memory)?;
+            let names = Besides::new(alloc, path)?;
+            let path = String::from_str(alloc, path)?;
             self.place = Some(Beside { path, names });
         }
         match &mut self.place {
             Some(place) => Ok(&mut place.names),
-            None => Err(HostFault::Memory),
+            None => Err(HostFault::Failed),
         }
     }
 
@@ -70,7 +70,7 @@ impl Opened {
         path: &str,
     ) -> Result<bool, HostFault> {
         let _names = self.place(alloc, path)?;
-        let own = String::from_str(alloc, path).map_err(|_| HostFault::Memory)?;
+        let own = String::from_str(alloc, path)?;
         let (file, has_lock) = held_at(rt, path)?;
         self.held = Some(file);
         self.held_path = Some(own);

@@ -27,18 +27,17 @@
 //! - `print`, `tell`: `write` to 1 and to 2 until all bytes are written. A failed one may have written some.
 //! - `seconds`: the clock that only goes on. `words`: the words that the program was started with.
 ghost use Rattle.std.specs.Prelude.{◌≡◌, []};
-ghost use Rattle.system.specs.Raw.{events_of};
+ghost use Rattle.hosts.specs.Raw.{events_of};
 
 use crate::files;
-use crate::notes::{
+use crate::opened::Opened;
+use hosts::notes::{
     ALONE, CLAIM, DROP_BESIDE, DROP_CLAIM, DROP_SECONDS, FINISH_OVER, FREE, HOLD, LEADS, LINK_NEW,
     LOCK_BESIDE, LOOK, MAKE_BESIDE, MAKE_FOLDER, OWN_BESIDE, PRINT, RENAME, RESOLVE, SECONDS,
     SYNC_BESIDE, SYNC_FOLDER, TAKE_INPUT, TELL, TERMINAL, THERE, WORDS, WRITE_BESIDE, WRITE_OVER,
     number,
 };
-use crate::opened::Opened;
-use crate::record::Record;
-use hosts::{Host, HostFault, LinkFault, PrintFault, RenameFault, Stream};
+use hosts::{Host, HostFault, LinkFault, PrintFault, Record, RenameFault, Stream};
 use std::alloc::Global;
 use std::env::Env;
 use std::fs::{self, File, Files};

@@ -25,13 +25,13 @@ use denote.Triple.Entry.{on_entry}
 use denote.Triple.Spec.{Meets, triple_of}
 use denote.Triple.Table.{entered}
 use denote.Triple.Walked.{says, Stays, stay_ref, walk_of, AllGo, Goes-ref, Walks, ends_at, walked, walk_Meets}
-use Rattle.system.specs.declared.record.Record.{Record}
-use Rattle.system.specs.Raw.{raw_of}
-use Rattle.system.specs.contracts.record.Record as T
-use Rattle.system.specs.contracts.record.Record.note.Key.{name as #it}
-use Rattle.system.specs.contracts.record.Record.note as it
-use Rattle.system.proofs.record.Record.note.Statement as stated
-use Rattle.system.proofs.record.Record.note.Code as code
+use Rattle.hosts.specs.declared.record.Record.{Record}
+use Rattle.hosts.specs.Raw.{raw_of}
+use Rattle.hosts.specs.contracts.record.Record as T
+use Rattle.hosts.specs.contracts.record.Record.note.Key.{name as #it}
+use Rattle.hosts.specs.contracts.record.Record.note as it
+use Rattle.hosts.proofs.record.Record.note.Statement as stated
+use Rattle.hosts.proofs.record.Record.note.Code as code
 use denote.Ref.{Bor}
 use denote.Builtin.{u8, u64}
 use denote.Exit.{yes}

@@ -6,7 +6,7 @@ use std::alloc::{AllocError, Global};
 
 /// One file, the one beside it, and the streams.
 #[derive(Drop)]
-pub struct Memory {
+pub struct InMemory {
     alloc: Global,
     pub file: Option<Vec<u8>>,
     pub beside: Option<Vec<u8>>,
@@ -36,10 +36,8 @@ fn first_of(alloc: Global, bytes: &[u8], most: usize) -> Result<Vec<u8>, HostFau
     } else {
         bytes
     };
-    match Vec::from_slice(alloc, first) {
-        Ok(copy) => Ok(copy),
-        Err(_) => Err(HostFault::Memory),
-    }
+    let copy = Vec::from_slice(alloc, first)?;
+    Ok(copy)
 }
 
 /// What stands after bytes were written over others from one on.
@@ -57,16 +55,19 @@ fn over(old: &[u8], at: usize, new: &[u8], laid: &mut Vec<u8>) -> Result<(), All
 }
 
 fn grow(stream: &mut Vec<u8>, bytes: &[u8]) -> Result<(), HostFault> {
-    match stream.extend_from_slice(bytes) {
-        Ok(()) => Ok(()),
-        Err(_) => Err(HostFault::Memory),
-    }
+    stream.extend_from_slice(bytes)?;
+    Ok(())
 }
 
-impl Memory {
+impl InMemory {
     /// A file of these bytes and standard input, of which the call fails that this many pass before.
-    pub fn new(alloc: Global, file: Option<Vec<u8>>, input: Vec<u8>, left: Option<u64>) -> Memory {
-        Memory {
+    pub fn new(
+        alloc: Global,
+        file: Option<Vec<u8>>,
+        input: Vec<u8>,
+        left: Option<u64>,
+    ) -> InMemory {
+        InMemory {
             alloc,
             file,
             beside: None,
@@ -102,10 +103,8 @@ impl Memory {
 
     pub(crate) fn path(&mut self, alloc: Global, name: &str) -> Result<String, HostFault> {
         self.pass()?;
-        match String::from_str(alloc, name) {
-            Ok(path) => Ok(path),
-            Err(_) => Err(HostFault::Memory),
-        }
+        let path = String::from_str(alloc, name)?;
+        Ok(path)
     }
 
     pub(crate) fn look(&mut self, alloc: Global, most: usize) -> Result<Vec<u8>, HostFault>
@@ -201,9 +200,7 @@ impl Memory {
             Some(file) => file,
             None => &[],
         };
-        if over(old, at, bytes, &mut laid).is_err() {
-            return Err(HostFault::Memory);
-        }
+        over(old, at, bytes, &mut laid)?;
         self.file = Some(laid);
         Ok(())
     }

@@ -1,28 +1,27 @@
 //! A host in memory with one file, of which one call fails, for tests.
 ghost use Rattle.std.specs.Prelude.{◌≡◌, ◌≤◌, ◌+◌, [], length, IfOk};
-ghost use Rattle.system.specs.Raw.{events_of};
+ghost use Rattle.hosts.specs.Raw.{events_of};
 
-use crate::memory::Memory;
-use crate::notes::{
+use crate::memory::InMemory;
+use hosts::notes::{
     ALONE, CLAIM, DROP_BESIDE, DROP_CLAIM, DROP_SECONDS, FINISH_OVER, FREE, HOLD, LEADS, LINK_NEW,
     LOCK_BESIDE, LOOK, MAKE_BESIDE, MAKE_FOLDER, OWN_BESIDE, PRINT, RENAME, RESOLVE, SECONDS,
     SYNC_BESIDE, SYNC_FOLDER, TAKE_INPUT, TELL, TERMINAL, THERE, WORDS, WRITE_BESIDE, WRITE_OVER,
     number,
 };
-use crate::record::Record;
-use hosts::{Host, HostFault, LinkFault, PrintFault, RenameFault, Stream};
+use hosts::{Host, HostFault, LinkFault, PrintFault, Record, RenameFault, Stream};
 use std::alloc::Global;
 
 /// One file, which every name leads to, and the streams.
 #[derive(Drop)]
 pub struct Fake {
-    pub memory: Memory,
+    pub memory: InMemory,
     log: Record,
 }
 
 impl Fake {
     /// A host of these files and streams.
-    pub fn new(memory: Memory) -> Fake
+    pub fn new(memory: InMemory) -> Fake
         ensures { events_of result.log.events ≡ [] }
     {
         Fake {

@@ -21,12 +21,12 @@ use denote.Triple.Entry.{on_entry}
 use denote.Triple.Spec.{Meets, triple_of}
 use denote.Triple.Table.{entered}
 use denote.Triple.Walked.{says, ends_at, walked, walk_Meets}
-use Rattle.system.specs.declared.record.Record.{Record}
-use Rattle.system.specs.contracts.record.Record as T
-use Rattle.system.specs.contracts.record.Record.new.Key.{name as #it}
-use Rattle.system.specs.contracts.record.Record.new as it
-use Rattle.system.proofs.record.Record.new.Statement as stated
-use Rattle.system.proofs.record.Record.new.Code as code
+use Rattle.hosts.specs.declared.record.Record.{Record}
+use Rattle.hosts.specs.contracts.record.Record as T
+use Rattle.hosts.specs.contracts.record.Record.new.Key.{name as #it}
+use Rattle.hosts.specs.contracts.record.Record.new as it
+use Rattle.hosts.proofs.record.Record.new.Statement as stated
+use Rattle.hosts.proofs.record.Record.new.Code as code
 
 abbrev v : Val
 v = vstruct (vcons (vstruct vnil) vnil)
