@@ -6,7 +6,6 @@ ghost use Rattle.outcome.specs.Shown.{said};
 ghost use Rattle.outcome.specs.Steps.{refusal_stream};
 ghost use Rattle.report8.specs.Program.{program_line};
 
-use crate::contents::Content;
 use crate::endings::Ending;
 use crate::notes::{FileNote, Note};
 use crate::rooms::LineRoom;
