@@ -13,6 +13,21 @@ use Rattle.clap.specs.declared.builder.value_parser.ValueParser.{ValueParser}
 use Rattle.clap.specs.declared.builder.command.Command.{Command}
 use Rattle.clap.specs.declared.builder.command.Command.TheViews.{out-Command as fields_of}
 use Rattle.clap.specs.declared.builder.command.Command.TheOpen.{Command-F}
+use Rattle.std.proofs.lemmas.Bool.Decides.{nat_tests}
+use Rattle.std.proofs.Common.{◌+◌, ◌≤◌, ◌++◌, ◌∷◌, [], length, map, take, sym, suc}
+use Rattle.std.specs.List.{list_all, slice_index_or}
+use Rattle.std.proofs.Common.{true≢false}
+use Rattle.std.proofs.lemmas.List.Folds.{list_all-map, list_all_at}
+use Rattle.clap.proofs.WalkLemmas.{both}
+use Rattle.std.specs.Borrow.{Bor}
+use Rattle.command8.specs.declared.table.ArgumentOf.{ArgumentOf}
+use Rattle.command8.specs.declared.table.EntryOf.{EntryOf}
+use Rattle.std.proofs.lemmas.List.{length-append, map_more, take_all}
+use Rattle.std.proofs.lemmas.Simd.{map-map}
+use Rattle.clap.specs.Walk.{is_empty}
+use Rattle.clap.specs.Words.{Shape, Text}
+use Rattle.command8.specs.Tables.{Argument, Entry, app_of_table, app_with, entry_of, row_of, rows_for, is_fit, is_sound, leaf_app, leaf_shape, leaf_with, rule_for, rules_for}
+use Rattle.command8.specs.declared.table.Kind.TheVariants.{Words}
 use Rattle.command8.specs.CommandSteps.{IsArgument, IsCommand, with_leaf}
 
 -- ## Arguments
@@ -27,6 +42,19 @@ pub named_new : (old new : Arg) (id : List ℕ) (help : _) → rule_of old ≡ n
     → IsArgument new (new_rule id)
 unfolding IsArgument
 named_new old new id help of local is = (ap rule_of is ∙ of, ap (λ (a : Arg). a.global) is ∙ local)
+
+pub fresh : (a : Arg) (id : List ℕ) → rule_of a ≡ new_rule id → a.global ≡ false → IsArgument a (new_rule id)
+unfolding IsArgument
+fresh a id of local = (of, local)
+
+pub helped_too : (old new : Arg) (rule : Rule) (help : _) → new ≡ record old { help = help } → IsArgument old rule → IsArgument new rule
+helped_too old new rule help is = changed old new (record old { help = help }) (λ r. r) rule is refl refl
+
+pub required_as : (old new : Arg) (rule : Rule) (flag : Bool) → new ≡ record old { required = flag } → IsArgument old rule → IsArgument new (record rule { required = flag })
+required_as old new rule flag is = changed old new (record old { required = flag }) (λ r. record r { required = flag }) rule is refl refl
+
+pub hidden_as : (old new : Arg) (rule : Rule) (flag : Bool) → new ≡ record old { hide = flag } → IsArgument old rule → IsArgument new rule
+hidden_as old new rule flag is = changed old new (record old { hide = flag }) (λ r. r) rule is refl refl
 
 pub required_too : (old new : Arg) (rule : Rule) → new ≡ record old { required = true } → IsArgument old rule → IsArgument new (record rule { required = true })
 required_too old new rule is = changed old new (record old { required = true }) (λ r. record r { required = true }) rule is refl refl
@@ -76,6 +104,9 @@ unsigned_between whole given start end of low high is =
     subst (λ (e : ℤ). NarrowsTo (Unsigned 0 18446744073709551615) (Some (pos 8)) (Some e) given) high
     (subst (λ (s : ℤ). NarrowsTo (Unsigned 0 18446744073709551615) (Some s) (Some end) given) low
     (subst (λ (p : ValueParser). NarrowsTo p (Some start) (Some end) given) of is))
+
+pub fits_some : (most : ℕ) → is_fit (Words most) ≡ true → 0 < most
+fits_some most fit = grind (arith, nat_tests)
 
 -- ## Commands
 
@@ -134,3 +165,60 @@ pub leaf_draft : {E : Type 0} (old leaf : Command) (made : Result Command E) (ap
     → IfOk made (λ new. AddsSubcommand old leaf new) → IfOk made (λ new. IsCommand new (with_leaf app sub))
 leaf_draft old leaf (Ok new) app sub is given adds = adds_leaf old new leaf app sub adds is given
 leaf_draft old leaf (Err error) app sub is given adds = tt
+
+-- ## The loops over the table
+
+-- one row more
+pub row_more : (old new : Command) (argument : Arg) (word : Text) (rows : List (ArgumentOf (Bor Text))) (i : ℕ) (d : ArgumentOf (Bor Text)) → i < length rows
+    → IsCommand old (leaf_with word (map (λ row. rule_for (row_of row)) (take i rows))) → AddsArg old argument new
+    → IsArgument argument (rule_for (row_of (slice_index_or rows i d))) → IsCommand new (leaf_with word (map (λ row. rule_for (row_of row)) (take (i + 1) rows)))
+row_more old new argument word rows i d here is adds of =
+    subst (λ rules. IsCommand new (leaf_with word rules)) (sym (map_more (λ row. rule_for (row_of row)) rows i d here))
+    (adds_argument old new argument (leaf_with word (map (λ row. rule_for (row_of row)) (take i rows))) (rule_for (row_of (slice_index_or rows i d))) adds of is)
+
+-- and all of them
+pub rows_all : (command : Command) (word : Text) (rows : List (ArgumentOf (Bor Text))) (i : ℕ) → length rows ≤ i
+    → IsCommand command (leaf_with word (map (λ row. rule_for (row_of row)) (take i rows))) → IsCommand command (leaf_with word (rules_for (map row_of rows)))
+rows_all command word rows i past is =
+    subst (λ rules. IsCommand command (leaf_with word rules)) (ap (map (λ row. rule_for (row_of row))) (take_all i rows past) ∙ sym (map-map rule_for row_of rows)) is
+
+some_more : {X : Type 0} (xs : List X) (x : X) → is_empty (xs ++ x ∷ []) ≡ false
+some_more xs x = rw (length-append xs (x ∷ [])) (grind (arith, nat_tests))
+
+abbrev DeclaredEntry : Type 0
+DeclaredEntry = EntryOf (Bor Text)
+
+-- one entry more
+pub entry_more : (old new leaf : Command) (entries : List DeclaredEntry) (i : ℕ) (d : DeclaredEntry) → i < length entries
+    → IsCommand old (app_with (map (λ entry. leaf_shape (entry_of entry)) (take i entries))) → AddsSubcommand old leaf new → IsCommand leaf (leaf_app (entry_of (slice_index_or entries i d)))
+    → IsCommand new (app_with (map (λ entry. leaf_shape (entry_of entry)) (take (i + 1) entries)))
+entry_more old new leaf entries i d here is adds of =
+    let subs = map (λ entry. leaf_shape (entry_of entry)) (take i entries) in
+    let entry = entry_of (slice_index_or entries i d) in
+    let added : IsCommand new (with_leaf (app_with subs) (leaf_app entry)) = adds_leaf old new leaf (app_with subs) (leaf_app entry) adds is of in
+    let now_some : with_leaf (app_with subs) (leaf_app entry) ≡ app_with (subs ++ leaf_shape entry ∷ []) =
+    ap (λ b. let app : App = record (app_with (subs ++ leaf_shape entry ∷ [])) { top = record (app_with subs).top { is_leaf = b } } in app) (sym (some_more subs (leaf_shape entry))) in
+    subst (λ app. IsCommand new app) (now_some ∙ ap app_with (sym (map_more (λ entry. leaf_shape (entry_of entry)) entries i d here))) added
+
+-- and all of them
+pub entries_all : (command : Command) (entries : List DeclaredEntry) (i : ℕ) → length entries ≤ i
+    → IsCommand command (app_with (map (λ entry. leaf_shape (entry_of entry)) (take i entries))) → IsCommand command (app_of_table (map entry_of entries))
+entries_all command entries i past is =
+    subst (λ subs. IsCommand command (app_with subs)) (ap (map (λ entry. leaf_shape (entry_of entry))) (take_all i entries past) ∙ sym (map-map leaf_shape entry_of entries)) is
+
+-- a test of all of a list, at one place of it
+all_at : {X Y : Type 0} (p : Y → Bool) (f : X → Y) (xs : List X) (i : ℕ) (d : X) → i < length xs → list_all p (map f xs) ≡ true → p (f (slice_index_or xs i d)) ≡ true
+all_at p f xs i d here all = go (p (f (slice_index_or xs i d))) refl
+  where
+    go : (b : Bool) → p (f (slice_index_or xs i d)) ≡ b → p (f (slice_index_or xs i d)) ≡ true
+    go true is = is
+    go false is = absurd (true≢false (sym all ∙ (list_all-map p f xs ∙ list_all_at (λ x. p (f x)) xs i d here is)))
+
+pub row_fits : (entry : DeclaredEntry) (rows : List (ArgumentOf (Bor Text))) → map row_of rows ≡ rows_for entry.verb → (i : ℕ) (d : ArgumentOf (Bor Text)) → i < length rows
+    → is_sound (entry_of entry) ≡ true → is_fit (slice_index_or rows i d).kind ≡ true
+row_fits entry rows are i d here sound =
+    all_at (λ row. is_fit row.kind) row_of rows i d here (ap (list_all (λ row. is_fit row.kind)) are ∙ (both _ _ sound).0)
+
+pub entry_fits : (entries : List DeclaredEntry) (i : ℕ) (d : DeclaredEntry) → i < length entries → list_all is_sound (map entry_of entries) ≡ true
+    → is_sound (entry_of (slice_index_or entries i d)) ≡ true
+entry_fits entries i d here sound = all_at is_sound entry_of entries i d here sound

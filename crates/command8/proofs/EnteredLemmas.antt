@@ -1,266 +1,150 @@
--- A subcommand that is entered: what it takes the program takes, and it asks for the same.
-use Rattle.std.proofs.Common.{◌≡◌, ◌∙◌, ◌&&◌, if◌then◌else◌, ℕ, Bool, codes, true, false, refl, sym, ap, ap₂, map, subst, List, [], ◌∷◌, ◌++◌, Option, Some}
-use Rattle.std.specs.Prelude.{find}
+-- A subcommand of the table that is entered: what it takes the program takes, and it asks for the same.
+use Rattle.std.proofs.Common.{◌≡◌, ◌∙◌, ◌&&◌, ◌||◌, Bool, cond, codes, true, false, refl, sym, ap, ap₂, map, subst, List, [], ◌∷◌, ◌++◌, Option, Some, None}
+use Rattle.std.specs.Prelude.{find, unwrap_or}
 use Rattle.std.specs.Str.{bytes_eq}
-use Rattle.clap.specs.Walk.{answers_to, finished, nothing_held, rows_after}
-use Rattle.clap.specs.Simple.{App, Shape, built, built_leaf, help_shape, inherited, label_of, marked_built}
-use Rattle.clap.specs.Words.{Row, Text}
-use Rattle.char_pack.specs.declared.forms.GetForm.{GetForm}
-use Rattle.task8.specs.declared.forms.BlocksForm.{BlocksForm}
-use Rattle.task8.specs.declared.forms.CheckForm.{CheckForm}
-use Rattle.task8.specs.declared.forms.CopyForm.{CopyForm}
-use Rattle.task8.specs.declared.forms.DeleteForm.{DeleteForm}
-use Rattle.task8.specs.declared.forms.GetManyForm.{GetManyForm}
-use Rattle.task8.specs.declared.forms.PutManyForm.{PutManyForm}
-use Rattle.task8.specs.declared.forms.PutOneForm.{PutOneForm}
-use Rattle.task8.specs.declared.tasks.AssembleForm.{AssembleForm}
-use Rattle.task8.specs.declared.tasks.SourceForm.{SourceForm}
-use Rattle.task8.specs.declared.tasks.TeletypeForm.{TeletypeForm}
-use Rattle.task8.specs.declared.tasks.TraceForm.{TraceForm}
-use Rattle.task8.specs.declared.tasks.RimForm.{RimForm}
-use Rattle.task8.specs.declared.tasks.RunForm.{RunForm}
+use Rattle.std.proofs.lemmas.Slice.Eq.{bytes_eq-Decides}
+use Rattle.clap.specs.Walk.{Rule, answers_to, arg_by_id, finished, nothing_held, rows_after}
+use Rattle.clap.specs.Simple.{App, Shape, built, help_shape, label_of}
+use Rattle.clap.specs.Words.{Row, Text, new_rule}
 use Rattle.task8.specs.declared.tasks.Task.{Task}
-use Rattle.task8.specs.declared.tasks.Task.TheVariants.{Tape, Rim, Source, Run, Create, CreateTape, ListLong, Get, GetBin, GetMany, GetBlocks, Put, PutMany, Delete, Rename, Copy, Squeeze, Check, Assemble, Teletype, Trace, Profile}
 use Rattle.task8.specs.declared.tasks.Task.TheVariants as task
-use Rattle.command8.specs.declared.verbs.Verb.{Verb}
-use Rattle.command8.specs.declared.verbs.Verb.TheVariants as verb
-use Rattle.command8.specs.Refusals.{word}
-use Rattle.command8.specs.TaskSteps.{verb_of}
-use Rattle.command8.specs.Tasks.{Asks, AsksFor, IsTakenAs, assemble_app, check_app, copy_app, create_app, delete_app, get_app, leaves, list_app, pdp8, pdp8_top, profile_app, put_app, rename_app, rim_app, run_app, source_app, squeeze_app, tape_app, teletype_app, trace_app}
+use Rattle.command8.specs.declared.table.Verb.{Verb}
+use Rattle.command8.specs.declared.table.Verb.TheVariants as verb
+use Rattle.command8.specs.Tables.{Entry, entry_named, leaf_shape, pdp8, table}
+use Rattle.command8.specs.Tasks.{Asks, AsksFor, AsksOf, IsTakenAs}
 use Rattle.command8.proofs.EnterLemmas.{Finds, asks_no_more, enter_met, enter_takes}
 use Rattle.command8.proofs.LeafLemmas.{below}
-use Rattle.command8.proofs.TaskLemmas.{is_plain}
-use Rattle.command8.proofs.UseLemmas.{Takes, Use, after, level_goes_by, level_rows, words_of}
+use Rattle.command8.proofs.TaskLemmas.{is_plain, pdp8_subs, same_false}
+use Rattle.command8.proofs.UseLemmas.{Takes, Use, after, at_place, by_flag, by_option, level_goes_by, level_rows, words_of}
 use Rattle.command8.proofs.WalkLemmas.{some_eq}
-
--- ## The word of a task
-
-word_read : (which : Verb) → verb_of (word which) ≡ Some which
-word_read verb.Tape = refl
-word_read verb.Rim = refl
-word_read verb.Source = refl
-word_read verb.Assemble = refl
-word_read verb.Teletype = refl
-word_read verb.Trace = refl
-word_read verb.Profile = refl
-word_read verb.Run = refl
-word_read verb.Create = refl
-word_read verb.List = refl
-word_read verb.Get = refl
-word_read verb.Put = refl
-word_read verb.Delete = refl
-word_read verb.Rename = refl
-word_read verb.Copy = refl
-word_read verb.Squeeze = refl
-word_read verb.Check = refl
-
-abbrev of : Task → Verb
-of Tape = verb.Tape
-of (Rim form) = verb.Rim
-of (Source form) = verb.Source
-of (Assemble form) = verb.Assemble
-of (Teletype form) = verb.Teletype
-of (Trace form) = verb.Trace
-of (Profile form) = verb.Profile
-of (Run image form) = verb.Run
-of (Create image blocks) = verb.Create
-of (CreateTape image) = verb.Create
-of (task.List image) = verb.List
-of (ListLong image) = verb.List
-of (Get image file form) = verb.Get
-of (GetBin image file) = verb.Get
-of (GetMany form) = verb.Get
-of (GetBlocks form) = verb.Get
-of (Put form) = verb.Put
-of (PutMany form) = verb.Put
-of (Delete form) = verb.Delete
-of (Rename image file new) = verb.Rename
-of (Copy form) = verb.Copy
-of (Squeeze image) = verb.Squeeze
-of (Check form) = verb.Check
-
-asked_word : (name : Text) (rows : List Row) (task : Task) → AsksFor name rows task → name ≡ word (of task)
-asked_word name rows Tape asks = asks
-asked_word name rows (Rim form) asks = asks.0
-asked_word name rows (Source form) asks = asks.0
-asked_word name rows (Assemble form) asks = asks.0
-asked_word name rows (Teletype form) asks = asks.0
-asked_word name rows (Trace form) asks = asks.0
-asked_word name rows (Profile form) asks = asks.0
-asked_word name rows (Run image form) asks = asks.0.0
-asked_word name rows (Create image blocks) asks = asks.0.0
-asked_word name rows (CreateTape image) asks = asks.0.0
-asked_word name rows (task.List image) asks = asks.0.0
-asked_word name rows (ListLong image) asks = asks.0.0
-asked_word name rows (Get image file form) asks = asks.0.0
-asked_word name rows (GetBin image file) asks = asks.0.0
-asked_word name rows (GetMany form) asks = asks.0.0
-asked_word name rows (GetBlocks form) asks = asks.0.0
-asked_word name rows (Put form) asks = asks.0.0
-asked_word name rows (PutMany form) asks = asks.0.0
-asked_word name rows (Delete form) asks = asks.0.0
-asked_word name rows (Rename image file new) asks = asks.0.0
-asked_word name rows (Copy form) asks = asks.0.0
-asked_word name rows (Squeeze image) asks = asks.0.0
-asked_word name rows (Check form) asks = asks.0.0
 
 -- a task of a subcommand
 pub data Seen : Verb → Task → Type 0 where
-  a_tape : Seen verb.Tape Tape
-  a_rim : (form : RimForm) → Seen verb.Rim (Rim form)
-  a_source : (form : SourceForm) → Seen verb.Source (Source form)
-  a_assemble : (form : AssembleForm) → Seen verb.Assemble (Assemble form)
-  a_teletype : (form : TeletypeForm) → Seen verb.Teletype (Teletype form)
-  a_trace : (form : TraceForm) → Seen verb.Trace (Trace form)
-  a_profile : (form : TraceForm) → Seen verb.Profile (Profile form)
-  a_run : (image : _) (form : RunForm) → Seen verb.Run (Run image form)
-  a_create : (image : _) (blocks : ℕ) → Seen verb.Create (Create image blocks)
-  a_create_tape : (image : _) → Seen verb.Create (CreateTape image)
+  a_tape : Seen verb.Tape task.Tape
+  a_rim : (form : _) → Seen verb.Rim (task.Rim form)
+  a_source : (form : _) → Seen verb.Source (task.Source form)
+  a_assemble : (form : _) → Seen verb.Assemble (task.Assemble form)
+  a_teletype : (form : _) → Seen verb.Teletype (task.Teletype form)
+  a_trace : (form : _) → Seen verb.Trace (task.Trace form)
+  a_profile : (form : _) → Seen verb.Profile (task.Profile form)
+  a_run : (image : _) (form : _) → Seen verb.Run (task.Run image form)
+  a_create : (image : _) (blocks : _) → Seen verb.Create (task.Create image blocks)
+  a_create_tape : (image : _) → Seen verb.Create (task.CreateTape image)
   a_list : (image : _) → Seen verb.List (task.List image)
-  a_list_long : (image : _) → Seen verb.List (ListLong image)
-  a_get : (image : _) (file : _) (form : GetForm) → Seen verb.Get (Get image file form)
-  a_get_bin : (image : _) (file : _) → Seen verb.Get (GetBin image file)
-  a_get_many : (form : GetManyForm) → Seen verb.Get (GetMany form)
-  a_get_blocks : (form : BlocksForm) → Seen verb.Get (GetBlocks form)
-  a_put : (form : PutOneForm) → Seen verb.Put (Put form)
-  a_put_many : (form : PutManyForm) → Seen verb.Put (PutMany form)
-  a_delete : (form : DeleteForm) → Seen verb.Delete (Delete form)
-  a_rename : (image : _) (file : _) (new : _) → Seen verb.Rename (Rename image file new)
-  a_copy : (form : CopyForm) → Seen verb.Copy (Copy form)
-  a_squeeze : (image : _) → Seen verb.Squeeze (Squeeze image)
-  a_check : (form : CheckForm) → Seen verb.Check (Check form)
+  a_list_long : (image : _) → Seen verb.List (task.ListLong image)
+  a_get : (image : _) (file : _) (form : _) → Seen verb.Get (task.Get image file form)
+  a_get_bin : (image : _) (file : _) → Seen verb.Get (task.GetBin image file)
+  a_get_many : (form : _) → Seen verb.Get (task.GetMany form)
+  a_get_blocks : (form : _) → Seen verb.Get (task.GetBlocks form)
+  a_put : (form : _) → Seen verb.Put (task.Put form)
+  a_put_many : (form : _) → Seen verb.Put (task.PutMany form)
+  a_delete : (form : _) → Seen verb.Delete (task.Delete form)
+  a_rename : (image : _) (file : _) (new : _) → Seen verb.Rename (task.Rename image file new)
+  a_copy : (form : _) → Seen verb.Copy (task.Copy form)
+  a_squeeze : (image : _) → Seen verb.Squeeze (task.Squeeze image)
+  a_check : (form : _) → Seen verb.Check (task.Check form)
 
-seen : (task : Task) → Seen (of task) task
-seen Tape = a_tape
-seen (Rim form) = a_rim form
-seen (Source form) = a_source form
-seen (Assemble form) = a_assemble form
-seen (Teletype form) = a_teletype form
-seen (Trace form) = a_trace form
-seen (Profile form) = a_profile form
-seen (Run image form) = a_run image form
-seen (Create image blocks) = a_create image blocks
-seen (CreateTape image) = a_create_tape image
-seen (task.List image) = a_list image
-seen (ListLong image) = a_list_long image
-seen (Get image file form) = a_get image file form
-seen (GetBin image file) = a_get_bin image file
-seen (GetMany form) = a_get_many form
-seen (GetBlocks form) = a_get_blocks form
-seen (Put form) = a_put form
-seen (PutMany form) = a_put_many form
-seen (Delete form) = a_delete form
-seen (Rename image file new) = a_rename image file new
-seen (Copy form) = a_copy form
-seen (Squeeze image) = a_squeeze image
-seen (Check form) = a_check form
+seen_as : (which : Verb) (rows : List Row) (task : Task) → AsksFor which rows task → Seen which task
+seen_as which rows task.Tape asks = subst (λ w. Seen w task.Tape) (sym asks) a_tape
+seen_as which rows (task.Rim form) asks = subst (λ w. Seen w (task.Rim form)) (sym asks.0) (a_rim form)
+seen_as which rows (task.Source form) asks = subst (λ w. Seen w (task.Source form)) (sym asks.0) (a_source form)
+seen_as which rows (task.Assemble form) asks = subst (λ w. Seen w (task.Assemble form)) (sym asks.0) (a_assemble form)
+seen_as which rows (task.Teletype form) asks = subst (λ w. Seen w (task.Teletype form)) (sym asks.0) (a_teletype form)
+seen_as which rows (task.Trace form) asks = subst (λ w. Seen w (task.Trace form)) (sym asks.0) (a_trace form)
+seen_as which rows (task.Profile form) asks = subst (λ w. Seen w (task.Profile form)) (sym asks.0) (a_profile form)
+seen_as which rows (task.Run image form) asks = subst (λ w. Seen w (task.Run image form)) (sym asks.0) (a_run image form)
+seen_as which rows (task.Create image blocks) asks = subst (λ w. Seen w (task.Create image blocks)) (sym asks.0) (a_create image blocks)
+seen_as which rows (task.CreateTape image) asks = subst (λ w. Seen w (task.CreateTape image)) (sym asks.0) (a_create_tape image)
+seen_as which rows (task.List image) asks = subst (λ w. Seen w (task.List image)) (sym asks.0) (a_list image)
+seen_as which rows (task.ListLong image) asks = subst (λ w. Seen w (task.ListLong image)) (sym asks.0) (a_list_long image)
+seen_as which rows (task.Get image file form) asks = subst (λ w. Seen w (task.Get image file form)) (sym asks.0) (a_get image file form)
+seen_as which rows (task.GetBin image file) asks = subst (λ w. Seen w (task.GetBin image file)) (sym asks.0) (a_get_bin image file)
+seen_as which rows (task.GetMany form) asks = subst (λ w. Seen w (task.GetMany form)) (sym asks.0) (a_get_many form)
+seen_as which rows (task.GetBlocks form) asks = subst (λ w. Seen w (task.GetBlocks form)) (sym asks.0) (a_get_blocks form)
+seen_as which rows (task.Put form) asks = subst (λ w. Seen w (task.Put form)) (sym asks.0) (a_put form)
+seen_as which rows (task.PutMany form) asks = subst (λ w. Seen w (task.PutMany form)) (sym asks.0) (a_put_many form)
+seen_as which rows (task.Delete form) asks = subst (λ w. Seen w (task.Delete form)) (sym asks.0) (a_delete form)
+seen_as which rows (task.Rename image file new) asks = subst (λ w. Seen w (task.Rename image file new)) (sym asks.0) (a_rename image file new)
+seen_as which rows (task.Copy form) asks = subst (λ w. Seen w (task.Copy form)) (sym asks.0) (a_copy form)
+seen_as which rows (task.Squeeze image) asks = subst (λ w. Seen w (task.Squeeze image)) (sym asks.0) (a_squeeze image)
+seen_as which rows (task.Check form) asks = subst (λ w. Seen w (task.Check form)) (sym asks.0) (a_check form)
 
--- what is asked for by the word of a subcommand is a task of it
-seen_as : (which : Verb) (rows : List Row) (task : Task) → AsksFor (word which) rows task → Seen which task
-seen_as which rows task asks =
-    let same : of task ≡ which = some_eq (of task) which (sym (word_read (of task)) ∙ (ap verb_of (sym (asked_word (word which) rows task asks)) ∙ word_read which)) in
-    subst (λ w. Seen w task) same (seen task)
+abbrev no_entry : Entry
+no_entry = record { verb = verb.Tape; word = []; usage = [] }
 
--- ## A subcommand that is entered
+-- the entry of a word, and an argument of it as clap builds it
+abbrev pub entry_for : Text → Entry
+entry_for word = unwrap_or (entry_named word) no_entry
 
-abbrev leaf_of : Verb → App
-leaf_of verb.Tape = tape_app
-leaf_of verb.Rim = rim_app
-leaf_of verb.Source = source_app
-leaf_of verb.Assemble = assemble_app
-leaf_of verb.Teletype = teletype_app
-leaf_of verb.Trace = trace_app
-leaf_of verb.Profile = profile_app
-leaf_of verb.Run = run_app
-leaf_of verb.Create = create_app
-leaf_of verb.List = list_app
-leaf_of verb.Get = get_app
-leaf_of verb.Put = put_app
-leaf_of verb.Delete = delete_app
-leaf_of verb.Rename = rename_app
-leaf_of verb.Copy = copy_app
-leaf_of verb.Squeeze = squeeze_app
-leaf_of verb.Check = check_app
+abbrev pub rule_named : Text → Text → Rule
+rule_named word id = unwrap_or (arg_by_id (below (leaf_shape (entry_for word))).rules id) (new_rule id)
 
--- the word of a subcommand is no call for help, and names it
-record IsIn (list : List Shape) (which : Verb) : Type 0 where
-  no_help : bytes_eq (word which) (codes "help") ≡ false
-  name : (leaf_of which).top.name ≡ word which
-  found : find (λ x. answers_to (word which) (label_of x)) list ≡ Some (leaf_of which).top
+-- a value by its place, an option by its name, and one with its value
+abbrev pub a_word : Text → Text → Text → Use
+a_word word id text = at_place (rule_named word id) text
 
-is_in : (which : Verb) → IsIn leaves which
-is_in verb.Tape = record { no_help = refl; name = refl; found = refl }
-is_in verb.Rim = record { no_help = refl; name = refl; found = refl }
-is_in verb.Source = record { no_help = refl; name = refl; found = refl }
-is_in verb.Assemble = record { no_help = refl; name = refl; found = refl }
-is_in verb.Teletype = record { no_help = refl; name = refl; found = refl }
-is_in verb.Trace = record { no_help = refl; name = refl; found = refl }
-is_in verb.Profile = record { no_help = refl; name = refl; found = refl }
-is_in verb.Run = record { no_help = refl; name = refl; found = refl }
-is_in verb.Create = record { no_help = refl; name = refl; found = refl }
-is_in verb.List = record { no_help = refl; name = refl; found = refl }
-is_in verb.Get = record { no_help = refl; name = refl; found = refl }
-is_in verb.Put = record { no_help = refl; name = refl; found = refl }
-is_in verb.Delete = record { no_help = refl; name = refl; found = refl }
-is_in verb.Rename = record { no_help = refl; name = refl; found = refl }
-is_in verb.Copy = record { no_help = refl; name = refl; found = refl }
-is_in verb.Squeeze = record { no_help = refl; name = refl; found = refl }
-is_in verb.Check = record { no_help = refl; name = refl; found = refl }
+abbrev pub a_flag : Text → Text → Use
+a_flag word id = by_flag (rule_named word id) id
 
--- what building makes of a subcommand has its names
-below_label : (s : Shape) → label_of (below s) ≡ label_of s
-below_label s = go s.is_built
+abbrev pub a_value : Text → Text → Text → Use
+a_value word id text = by_option (rule_named word id) id text
+
+found_below : (word : Text) (entries : List Entry) (more : List Shape) (entry : Entry) → find (λ e. bytes_eq word e.word) entries ≡ Some entry
+    → find (λ x. answers_to word (label_of x)) (map below (map leaf_shape entries) ++ more) ≡ Some (below (leaf_shape entry))
+found_below word [] more entry is = absurd (cc)
+found_below word (x ∷ xs) more entry is = go (λ later. found_below word xs more entry later) (bytes_eq word x.word) refl is
   where
-    go : (b : Bool) → label_of (if b then inherited (marked_built pdp8_top) s else built_leaf (record (inherited (marked_built pdp8_top) s) { is_built = false })) ≡ label_of s
-    go true = refl
-    go false = refl
+    go : (find (λ e. bytes_eq word e.word) xs ≡ Some entry → find (λ x. answers_to word (label_of x)) (map below (map leaf_shape xs) ++ more) ≡ Some (below (leaf_shape entry)))
+        → (b : Bool) → bytes_eq word x.word ≡ b → cond b (Some x) (find (λ e. bytes_eq word e.word) xs) ≡ Some entry
+        → cond (bytes_eq x.word word || false) (Some (below (leaf_shape x))) (find (λ x. answers_to word (label_of x)) (map below (map leaf_shape xs) ++ more)) ≡ Some (below (leaf_shape entry))
+    go later true same is =
+        let named : bytes_eq x.word word ≡ true = (bytes_eq-Decides x.word word).1 (sym ((bytes_eq-Decides word x.word).0 same)) in
+        ap (λ b. cond (b || false) (Some (below (leaf_shape x))) (find (λ x. answers_to word (label_of x)) (map below (map leaf_shape xs) ++ more))) named
+        ∙ ap (λ (e : Entry). Some (below (leaf_shape e))) (some_eq x entry is)
+    go later false other is =
+        ap (λ b. cond (b || false) (Some (below (leaf_shape x))) (find (λ x. answers_to word (label_of x)) (map below (map leaf_shape xs) ++ more))) (same_false word x.word other)
+        ∙ later is
 
-found_below : (word : Text) (list more : List Shape) (s : Shape) → find (λ x. answers_to word (label_of x)) list ≡ Some s
-    → find (λ x. answers_to word (label_of x)) (map below list ++ more) ≡ Some (below s)
-found_below word [] more s is = absurd (cc)
-found_below word (x ∷ xs) more s is =
-    ap (λ l. if answers_to word l then Some (below x) else find (λ x. answers_to word (label_of x)) (map below xs ++ more)) (below_label x)
-    ∙ go (λ later. found_below word xs more s later) (answers_to word (label_of x)) is
+found_word : (word : Text) (entries : List Entry) (entry : Entry) → find (λ e. bytes_eq word e.word) entries ≡ Some entry → entry.word ≡ word
+found_word word [] entry is = absurd (cc)
+found_word word (x ∷ xs) entry is = go (λ later. found_word word xs entry later) (bytes_eq word x.word) refl is
   where
-    go : (find (λ x. answers_to word (label_of x)) xs ≡ Some s → find (λ x. answers_to word (label_of x)) (map below xs ++ more) ≡ Some (below s)) → (b : Bool)
-        → (if b then Some x else find (λ x. answers_to word (label_of x)) xs) ≡ Some s
-        → (if b then Some (below x) else find (λ x. answers_to word (label_of x)) (map below xs ++ more)) ≡ Some (below s)
-    go later true is = ap (λ (y : Shape). Some (below y)) (some_eq x s is)
-    go later false is = later is
-
-built_subs : (built pdp8).subs ≡ map below leaves ++ below help_shape ∷ []
-built_subs = refl
-
-finds : (which : Verb) → Finds (built pdp8) (word which) (below (leaf_of which).top)
-finds which = record {
-  found = ap (find (λ x. answers_to (word which) (label_of x))) built_subs ∙ found_below (word which) leaves (below help_shape ∷ []) (leaf_of which).top (is_in which).found;
-  name = ap (λ (l : Text × List Text). l.0) (below_label (leaf_of which).top) ∙ (is_in which).name;
-  no_help = (is_in which).no_help;
-}
+    go : (find (λ e. bytes_eq word e.word) xs ≡ Some entry → entry.word ≡ word) → (b : Bool) → bytes_eq word x.word ≡ b
+        → cond b (Some x) (find (λ e. bytes_eq word e.word) xs) ≡ Some entry → entry.word ≡ word
+    go later true same is = ap (λ (e : Entry). e.word) (sym (some_eq x entry is)) ∙ sym ((bytes_eq-Decides word x.word).0 same)
+    go later false other is = later is
 
 no_more : asks_no_more (built pdp8) ≡ true
 no_more = refl
 
 -- what a subcommand finds in the words
-abbrev pub found_by : Verb → List Use → List Row
-found_by which uses = finished (below (leaf_of which).top).rules (after (below (leaf_of which).top).rules nothing_held uses)
+abbrev pub found_by : Text → List Use → List Row
+found_by word uses = finished (below (leaf_shape (entry_for word))).rules (after (below (leaf_shape (entry_for word))).rules nothing_held uses)
 
 -- what the subcommand takes, the program takes, and it asks for the same
-pub entered_as : (which : Verb) (uses : List Use) (P : Task → Type 0) → Takes (below (leaf_of which).top) uses → (name : Text)
-    → ((task : Task) → Seen which task → AsksFor (word which) (found_by which uses) task → P task)
-    → IsTakenAs (name ∷ word which ∷ words_of uses) P
-entered_as which uses P takes name asked = (
-  ap₂ (λ (a b : Bool). a && b) is_plain (enter_takes (built pdp8) (word which) s (words_of uses) found no_more (level_goes_by s uses takes)),
+pub entered_as : (word : Text) (uses : List Use) (P : Task → Type 0) → entry_named word ≡ Some (entry_for word) → bytes_eq word (codes "help") ≡ false
+    → Takes (below (leaf_shape (entry_for word))) uses → (name : Text)
+    → ((task : Task) → Seen (entry_for word).verb task → AsksOf (Some (entry_for word)) (found_by word uses) task → P task)
+    → IsTakenAs (name ∷ word ∷ words_of uses) P
+entered_as word uses P is no_help takes name asked = (
+  ap₂ (λ (a b : Bool). a && b) is_plain (enter_takes (built pdp8) word s (words_of uses) found no_more (level_goes_by s uses takes)),
   λ task asks.
-      let here : AsksFor s.name (rows_after s.rules [] (words_of uses)) task =
-      subst (λ (met : Option (Text × List Row)). Asks met task) (enter_met (built pdp8) (word which) s (words_of uses) found) asks in
-      let there : AsksFor (word which) (rows_after s.rules [] (words_of uses)) task = subst (λ (w : Text). AsksFor w (rows_after s.rules [] (words_of uses)) task) found.name here in
-      let seen : AsksFor (word which) (found_by which uses) task = subst (λ (rows : List Row). AsksFor (word which) rows task) (level_rows s uses takes) there in
-      asked task (seen_as which (found_by which uses) task seen) seen,
+      let here : AsksOf (entry_named s.name) (rows_after s.rules [] (words_of uses)) task =
+      subst (λ (met : Option (Text × List Row)). Asks met task) (enter_met (built pdp8) word s (words_of uses) found) asks in
+      let named : entry_named s.name ≡ Some (entry_for word) = ap entry_named found.name ∙ is in
+      let there : AsksOf (Some (entry_for word)) (rows_after s.rules [] (words_of uses)) task =
+      subst (λ (o : Option Entry). AsksOf o (rows_after s.rules [] (words_of uses)) task) named here in
+      let seen : AsksOf (Some (entry_for word)) (found_by word uses) task =
+      subst (λ (rows : List Row). AsksOf (Some (entry_for word)) rows task) (level_rows s uses takes) there in
+      asked task (seen_as (entry_for word).verb (found_by word uses) task seen.1) seen,
 )
   where
     s : Shape
-    s = below (leaf_of which).top
+    s = below (leaf_shape (entry_for word))
 
-    found : Finds (built pdp8) (word which) s
-    found = finds which
+    found : Finds (built pdp8) word s
+    found = record {
+      found = ap (find (λ x. answers_to word (label_of x))) pdp8_subs ∙ found_below word table (below help_shape ∷ []) (entry_for word) is;
+      name = found_word word table (entry_for word) is;
+      no_help = no_help;
+    }

@@ -19,49 +19,17 @@ use Rattle.clap.specs.declared.builder.action.ArgAction.TheVariants.{Append, Set
 use Rattle.clap.specs.declared.builder.value_parser.ValueParser.{ValueParser}
 use Rattle.clap.specs.declared.builder.value_parser.ValueParser.TheVariants.{Unsigned}
 use Rattle.clap.specs.declared.error.kind.ErrorKind.TheVariants.{DisplayHelp, InvalidValue, TooFewValues, TooManyValues, UnknownArgument, WrongNumberOfValues}
-use Rattle.command8.specs.Tasks.{blocks_rule, image_rule, may_words_rule, most_steps, pdp8_top, steps_rule, word_rule, words_rule}
-use Rattle.command8.specs.TaskSteps.{Has, HasBlocks, HasSome, HasSources, HasSteps}
-use Rattle.word12.specs.declared.sizes.TheConstants.{MOST_BLOCKS}
+use Rattle.command8.specs.Tables.{bare_app}
+use Rattle.command8.specs.Found.{Has}
 use Rattle.command8.proofs.WalkLemmas.{Acts, FitDefaults, Fits, HeldGood, IsPlainLeaf, IsUsage, TakesSome, append_met_good, flag_met_good, given_row, leaf_given, leaf_good, no_values, not_none, option_met_good, or_first, or_second, row_good, some_eq}
+
+-- the program above its subcommands
+abbrev pub above : Shape
+above = record bare_app.top { is_leaf = false }
 
 -- a subcommand as clap builds it, below the program
 abbrev pub below : Shape → Shape
-below s = built_leaf (inherited (marked_built pdp8_top) s)
-
-abbrev pub image_built : Rule
-image_built = with_index 1 (filled image_rule)
-
-abbrev pub tape_built : Rule
-tape_built = with_index 1 (filled (word_rule (codes "TAPE")))
-
-abbrev pub images_built : Rule
-images_built = with_index 1 (filled (words_rule (codes "IMAGE") MOST_BLOCKS))
-
-abbrev pub name_built : Rule
-name_built = with_index 2 (filled (new_rule (codes "NAME")))
-
--- where several may be given
-abbrev pub names_built : Rule
-names_built = with_index 2 (filled (may_words_rule (codes "NAME") MOST_BLOCKS))
-
--- and where one must
-abbrev pub put_built : Rule
-put_built = with_index 2 (filled (words_rule (codes "FILE") MOST_BLOCKS))
-
-abbrev pub new_built : Rule
-new_built = with_index 3 (filled (new_rule (codes "NEW")))
-
-abbrev pub to_built : Rule
-to_built = with_index 3 (filled (new_rule (codes "TO")))
-
-abbrev pub blocks_built : Rule
-blocks_built = with_index 2 (filled blocks_rule)
-
-abbrev pub files_built : Rule
-files_built = with_index 1 (filled (words_rule (codes "FILE") 8))
-
-abbrev pub steps_built : Rule
-steps_built = filled steps_rule
+below s = built_leaf (inherited (marked_built above) s)
 
 abbrev pub help_built : Rule
 help_built = filled help_rule
@@ -246,7 +214,7 @@ Faultless s words = level_fault s [] nothing_held words false [] ≡ []
 abbrev Given : Rule → List Row → Type 0
 Given a rows = (r : Row) × (find (λ x. bytes_eq x.id a.id) rows ≡ Some r) × Fits a r.values × (r.reading ≡ reading_by a)
 
-fit : (s : Shape) → IsLeaf s → (a : Rule) → arg_by_id s.rules a.id ≡ Some a → action_of a ≡ Set → (words : List Text) → Faultless s words
+pub fit : (s : Shape) → IsLeaf s → (a : Rule) → arg_by_id s.rules a.id ≡ Some a → action_of a ≡ Set → (words : List Text) → Faultless s words
     → (r : Row) → find (λ x. bytes_eq x.id a.id) (rows_after s.rules [] words) ≡ Some r → Fits a r.values × (r.reading ≡ reading_by a)
 fit s leaf a own set words none r is =
     let good = leaf_good s (parts_leaf s.rules s.args_override_self leaf.parts leaf.once) (parts_fit s.rules s.rules leaf.parts) [] nothing_held words false [] tt none in
@@ -283,7 +251,7 @@ passed parser text none = accepts-Accepts false parser text (taken (accepts fals
     taken false none = absurd (not_none (refused_kind parser) [] none)
 
 -- a number that is given is within the limits of its argument
-has_number : (s : Shape) → IsLeaf s → (a : Rule) → arg_by_id s.rules a.id ≡ Some a → action_of a ≡ Set
+pub has_number : (s : Shape) → IsLeaf s → (a : Rule) → arg_by_id s.rules a.id ≡ Some a → action_of a ≡ Set
     → nat_lt 0 (unwrap_or_range a.range).start_inclusive ≡ true → (low high : ℕ) → a.ignore_case ≡ false
     → parser_of_value a.parser ≡ Unsigned low high → (words : List Text) → Faultless s words → (text : Text)
     → one_of a.id (rows_after s.rules [] words) ≡ Some text → IsUnsignedIn low high text
@@ -303,17 +271,7 @@ has_number s leaf a own set some low high cased parser words none text is =
         subst (λ b. value_kinds b (Unsigned low high) first.0 ≡ []) cased (subst (λ p. value_kinds a.ignore_case p first.0 ≡ []) parser first.2) in
         subst (λ (t : Text). IsUnsignedIn low high t) (sym (some_eq text first.0 read)) (passed (Unsigned low high) first.0 took)
 
--- a number of blocks that is given is 8 to 4095
-pub has_blocks : (s : Shape) → IsLeaf s → arg_by_id s.rules (codes "BLOCKS") ≡ Some blocks_built → (words : List Text) → Faultless s words
-    → HasBlocks (rows_after s.rules [] words)
-has_blocks s leaf own words none = has_number s leaf blocks_built own refl refl 8 MOST_BLOCKS refl refl words none
-
--- a limit that is given is a number from 1 up
-pub has_steps : (s : Shape) → IsLeaf s → arg_by_id s.rules (codes "steps") ≡ Some steps_built → (words : List Text) → Faultless s words
-    → HasSteps (rows_after s.rules [] words)
-has_steps s leaf own words none = has_number s leaf steps_built own refl refl 1 most_steps refl refl words none
-
-one_up_to : (most n : ℕ) → range_kinds 1 most n ≡ [] → (1 ≤ n) × (n ≤ most)
+pub one_up_to : (most n : ℕ) → range_kinds 1 most n ≡ [] → (1 ≤ n) × (n ≤ most)
 one_up_to most n none = go (n == 0) (1 == most) (1 == n) (nat_lt n 1) (nat_lt most n) refl refl refl refl none
   where
     go : (empty fixed one few many : Bool) → (1 == most) ≡ fixed → (1 == n) ≡ one → nat_lt n 1 ≡ few → nat_lt most n ≡ many
@@ -327,21 +285,3 @@ one_up_to most n none = go (n == 0) (1 == most) (1 == n) (nat_lt n 1) (nat_lt mo
     go false false one true many is same low high none = absurd (not_none TooFewValues [] none)
     go false false one false true is same low high none = absurd (not_none TooManyValues [] none)
     go false false one false false is same low high none = (grind (arith, nat_tests), grind (arith, nat_tests))
-
-pub has_sources : (s : Shape) → IsLeaf s → arg_by_id s.rules (codes "FILE") ≡ Some files_built → (words : List Text) → Faultless s words
-    → HasSources (rows_after s.rules [] words)
-has_sources s leaf own words none =
-    let found = given s leaf files_built own refl refl words none in
-    let values = ap (λ o. unwrap_or (option_map (λ (r : Row). r.values) o) []) found.1 in
-    subst (λ (vs : List Text). (1 ≤ length vs) × (length vs ≤ 8)) (sym values) (one_up_to 8 (length found.0.values) found.2.0)
-
--- so many values that must be given in one place are 1 to 4095
-pub has_some : (s : Shape) → IsLeaf s → (a : Rule) → arg_by_id s.rules a.id ≡ Some a → a.required ≡ true → action_of a ≡ Set
-    → (unwrap_or_range a.range).start_inclusive ≡ 1 → most_values a ≡ MOST_BLOCKS → (words : List Text) → Faultless s words
-    → HasSome a.id (rows_after s.rules [] words)
-has_some s leaf a own needed set least most words none =
-    let found = given s leaf a own needed set words none in
-    let values = ap (λ o. unwrap_or (option_map (λ (r : Row). r.values) o) []) found.1 in
-    let range : range_kinds 1 MOST_BLOCKS (length found.0.values) ≡ [] =
-    subst (λ n. range_kinds 1 n (length found.0.values) ≡ []) most (subst (λ n. range_kinds n (most_values a) (length found.0.values) ≡ []) least found.2.0) in
-    subst (λ (vs : List Text). (1 ≤ length vs) × (length vs ≤ MOST_BLOCKS)) (sym values) (one_up_to MOST_BLOCKS (length found.0.values) range)

@@ -1,14 +1,12 @@
-pub mod ChangeLemmas
-pub mod CommandLemmas
-pub mod EnterLemmas
-pub mod EnteredLemmas
-pub mod FileLemmas
-pub mod LeafLemmas
-pub mod NumberLemmas
-pub mod PlainLemmas
-pub mod RefusalLemmas
-pub mod TaskLemmas
-pub mod UseLemmas
-pub mod VerbLemmas
-pub mod VolumeLemmas
-pub mod WalkLemmas
+mod CommandLemmas
+mod WalkLemmas
+mod LeafLemmas
+mod FoundLemmas
+mod RefusalLemmas
+mod TableLemmas
+mod NumberLemmas
+mod TaskLemmas
+mod EnterLemmas
+mod UseLemmas
+mod EnteredLemmas
+mod AskLemmas

@@ -4,7 +4,8 @@ use Rattle.std.specs.Prelude.{IfSome, nat_le}
 use Rattle.std.proofs.lemmas.Bool.Decides.{nat_tests}
 use Rattle.std.specs.Str.Parse.{ParsesUnsigned}
 use Rattle.clap.specs.Words.{IsUnsignedIn, ReadsOne, Text}
-use Rattle.command8.specs.Tasks.{is_limit, most_steps, number_of}
+use Rattle.command8.specs.Tables.{most_steps}
+use Rattle.command8.specs.Found.{is_limit, number_of}
 
 pub unsigned_reads : (E : Type 0) (G : List ℕ → Result ℕ E → Type 0) (low high : ℕ) (t : List ℕ) (r : Option ℕ) → ReadsOne G t r
     → ((u : List ℕ) (x : Result ℕ E) → G u x → ParsesUnsigned 64 10 u x) → IsUnsignedIn low high t
@@ -44,6 +45,9 @@ same_some x y same = cc
 
 pub none_some : {X : Type 0} (x : X) → None ≡ Some x → ⊥
 none_some x same = cc
+
+pub some_none : {X : Type 0} (x : X) → Some x ≡ None → ⊥
+some_none x same = cc
 
 -- decimal numbers of so many digits are below
 abbrev pub limit : ℕ → ℕ

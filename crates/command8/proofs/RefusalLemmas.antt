@@ -1,52 +1,24 @@
--- What is left to be refused of words that were judged in part, and what they have by then.
-use Rattle.std.proofs.Common.{◌≡◌, ◌∙◌, ◌&&◌, ◌||◌, ◌≤◌, ◌+◌, Bool, true, false, true≢false, not, if◌then◌else◌, arith, ap, map, option_map, refl, suc, sym, codes, is_some, length, List, [], ◌∷◌, Option, None, Some}
-use Rattle.std.specs.Prelude.{find, slice_get, unwrap_or}
+-- What arguments that are not refused have.
+use Rattle.std.proofs.Common.{◌≡◌, ◌∙◌, ◌&&◌, ◌||◌, ◌≤◌, ◌+◌, Bool, true, false, true≢false, not, if◌then◌else◌, arith, ap, map, option_map, refl, suc, subst, sym, codes, is_some, length, List, [], ◌∷◌, Option, None, Some}
+use Rattle.std.specs.Prelude.{find, option_and_then, slice_get, unwrap_or}
 use Rattle.std.specs.Str.{bytes_eq}
+use Rattle.clap.specs.Values.{read_as}
+use Rattle.clap.specs.Walk.{row_text}
 use Rattle.clap.specs.Words.{Row, Text, first_of, one_of}
-use Rattle.command8.specs.declared.faults.TaskFault.{TaskFault}
-use Rattle.command8.specs.declared.faults.TaskFault.TheVariants.{Words, Memory, LookAndKeep, InputTwice, CrossAlone, Start, Switches, SourceStart, Refused}
 use Rattle.command8.specs.declared.refusals.What.{What}
 use Rattle.command8.specs.declared.refusals.What.TheVariants as what
-use Rattle.command8.specs.declared.verbs.Verb.{Verb}
-use Rattle.command8.specs.declared.verbs.Verb.TheVariants as verb
-use Rattle.command8.specs.Found.{has, is_set, values_of}
-use Rattle.command8.specs.Refusals.{Said, blocks_missing, blocks_refused, is_alone, missing, missing_of, moved_missing, names_one, names_some, or_else, pair_of, place_refused, places_refused, refusal_of, together, values_refused, word, words_refused}
-use Rattle.command8.specs.TaskSteps.{Has, IsRefusedAs, IsRefusedBy}
-use Rattle.command8.specs.Tasks.{behind, number_of}
+use Rattle.command8.specs.declared.table.Kind.TheVariants.{Word}
+use Rattle.command8.specs.declared.table.Verb.{Verb}
+use Rattle.command8.specs.declared.table.Verb.TheVariants as verb
+use Rattle.command8.specs.Found.{AllHold, Has, has, is_set, number_in, number_of, place_of, values_of}
+use Rattle.command8.specs.Refusals.{Bad, Said, bad_block, blocks_missing, blocks_word, both_given, first_bad, input_twice, is_alone, missing, missing_of, moved_missing, names_input_twice, names_one, names_some, or_else, refusal_of, said_of, together, unexpected, unexpected_of}
+use Rattle.command8.specs.Tables.{Entry, entry_named, kind_at, rows_for, takes_text}
+use Rattle.command8.specs.TaskSteps.{IsWhole, Needs}
+use Rattle.command8.specs.Tasks.{after}
+use Rattle.command8.proofs.FoundLemmas.{all_well}
+use Rattle.command8.proofs.WalkLemmas.{some_eq}
 
--- ## What is refused
-
--- what is left is what is refused
-pub refused_as : (which : Verb) (values : List Row) (left : Option Said) (fault : TaskFault) → refusal_of which values ≡ left
-    → IsRefusedAs which left fault → IsRefusedBy which values fault
-refused_as which values left (Words error) same is = absurd is
-refused_as which values left Memory same is = tt
-refused_as which values left LookAndKeep same is = absurd is
-refused_as which values left InputTwice same is = absurd is
-refused_as which values left CrossAlone same is = absurd is
-refused_as which values left (Start runner text) same is = absurd is
-refused_as which values left (Switches runner text) same is = absurd is
-refused_as which values left (SourceStart text) same is = absurd is
-refused_as which values left (Refused again refusal) same is =
-    (ap word (sym is.0), ap (λ w. refusal_of w values) is.0 ∙ (same ∙ is.1))
-
--- the same of the first of two
-pub refused_first : (which : Verb) (values : List Row) (left later : Option Said) (fault : TaskFault) → refusal_of which values ≡ or_else left later
-    → IsRefusedAs which left fault → IsRefusedBy which values fault
-refused_first which values left later (Words error) same is = absurd is
-refused_first which values left later Memory same is = tt
-refused_first which values left later LookAndKeep same is = absurd is
-refused_first which values left later InputTwice same is = absurd is
-refused_first which values left later CrossAlone same is = absurd is
-refused_first which values left later (Start runner text) same is = absurd is
-refused_first which values left later (Switches runner text) same is = absurd is
-refused_first which values left later (SourceStart text) same is = absurd is
-refused_first which values left later (Refused again refusal) same is =
-    (ap word (sym is.0), ap (λ w. refusal_of w values) is.0 ∙ (same ∙ ap (λ o. or_else o later) is.1))
-
--- where the words pass, the values are left
-pub values_left : (which : Verb) (values : List Row) → words_refused which values ≡ None → refusal_of which values ≡ values_refused which values
-values_left which values none = ap (λ o. or_else o (values_refused which values)) none
+-- ## What is not refused
 
 or_first : (a b : Option Said) → or_else a b ≡ None → a ≡ None
 or_first None b none = refl
@@ -60,28 +32,26 @@ map_none : {X : Type 0} (f : X → Said) (o : Option X) → option_map f o ≡ N
 map_none f None none = refl
 map_none f (Some x) none = absurd (cc)
 
--- and nothing is missing
-pub none_missing : (which : Verb) (values : List Row) → words_refused which values ≡ None → missing_of which values ≡ None
-none_missing which values none =
-    map_none missing (missing_of which values) (or_first (option_map missing (missing_of which values)) _ (or_second (option_map together (pair_of values)) _ none))
+once : (is_twice : Bool) → (if is_twice then Some input_twice else None) ≡ None → is_twice ≡ false
+once true none = absurd (cc)
+once false none = refl
 
--- of `get`, where no blocks are got
-pub one_left : (values : List Row) → refusal_of verb.Get values ≡ values_refused verb.Get values → is_set (codes "blocks") values ≡ false
-    → has (codes "into") values ≡ false → refusal_of verb.Get values ≡ place_refused values
-one_left values left no_blocks one =
-    left ∙ (ap (λ b. if b then blocks_refused values else if has (codes "into") values then places_refused values else place_refused values) no_blocks
-    ∙ ap (λ b. if b then places_refused values else place_refused values) one)
-
-pub many_left : (values : List Row) → refusal_of verb.Get values ≡ values_refused verb.Get values → is_set (codes "blocks") values ≡ false
-    → has (codes "into") values ≡ true → refusal_of verb.Get values ≡ places_refused values
-many_left values left no_blocks many =
-    left ∙ (ap (λ b. if b then blocks_refused values else if has (codes "into") values then places_refused values else place_refused values) no_blocks
-    ∙ ap (λ b. if b then places_refused values else place_refused values) many)
-
-pub blocks_left : (values : List Row) → refusal_of verb.Get values ≡ values_refused verb.Get values → is_set (codes "blocks") values ≡ true
-    → refusal_of verb.Get values ≡ blocks_refused values
-blocks_left values left blocks =
-    left ∙ ap (λ b. if b then blocks_refused values else if has (codes "into") values then places_refused values else place_refused values) blocks
+-- a subcommand whose arguments are not refused has what it needs
+pub entry_needs : (name : Text) (values : List Row) (entry : Entry) → entry_named name ≡ Some entry → IsWhole name values → refusal_of entry.verb values ≡ None
+    → Needs entry.verb values
+entry_needs name values entry is whole none =
+    let which = entry.verb in
+    let same : whole.0 ≡ entry = some_eq whole.0 entry (sym whole.1 ∙ is) in
+    let one = or_second (option_map (λ pair. together pair.0 pair.1) (both_given which values)) _ none in
+    let two = or_second (option_map missing (missing_of which values)) _ one in
+    let three = or_second (if names_input_twice which values then Some input_twice else None) _ two in
+    let four = or_second (option_map unexpected (unexpected_of values)) _ three in (
+      subst (λ (e : Entry). AllHold (rows_for e.verb) values) same whole.2,
+      all_well (rows_for which) values (map_none said_of (first_bad (rows_for which) values) (or_first (option_map said_of (first_bad (rows_for which) values)) _ four)),
+      map_none missing (missing_of which values) (or_first (option_map missing (missing_of which values)) _ one),
+      once (names_input_twice which values) (or_first (if names_input_twice which values then Some input_twice else None) _ two),
+      map_none said_of (bad_block which values) (or_second (option_map said_of (first_bad (rows_for which) values)) _ four),
+    )
 
 -- ## What words have with nothing missing
 
@@ -129,10 +99,10 @@ moved_named id one both values none = go (has (codes "NAME") values) none
         missed true is = some_what one is
         missed false is = some_what both is
 
--- and the word behind it is there
-pub moved_behind : (id : Text) (one both : What) (values : List Row) → moved_missing id one both values ≡ None
-    → Has (behind (codes "NAME") id values) values
-moved_behind id one both values none = go (has (codes "at") values) refl
+-- and the argument after it is there
+pub moved_after : (id : Text) (one both : What) (values : List Row) → moved_missing id one both values ≡ None
+    → Has (after (codes "NAME") id values) values
+moved_after id one both values none = go (has (codes "at") values) refl
   where
     named : Has (codes "NAME") values
     named = moved_named id one both values none
@@ -150,14 +120,14 @@ moved_behind id one both values none = go (has (codes "at") values) refl
         else if has (codes "at") values || has id values then None else Some one) named) ∙ none)
 
 -- the first value of an argument is the first of its values
-some_values : (id : Text) (values : List Row) → has id values ≡ true → 1 ≤ length (values_of id values)
+pub some_values : (id : Text) (values : List Row) → has id values ≡ true → 1 ≤ length (values_of id values)
 some_values id values is = go (find (λ r. bytes_eq r.id id) values) is
   where
     by_values : (vs : List Text) → is_some (slice_get vs 0) ≡ true → 1 ≤ length vs
     by_values [] is = absurd (true≢false (sym is))
     by_values (v ∷ vs) is = omega arith
 
-    go : (o : Option Row) → is_some (Rattle.std.specs.Prelude.option_and_then (λ (r : Row). slice_get r.values 0) o) ≡ true
+    go : (o : Option Row) → is_some (option_and_then (λ (r : Row). slice_get r.values 0) o) ≡ true
         → 1 ≤ length (unwrap_or (option_map (λ (r : Row). r.values) o) [])
     go None is = absurd (true≢false (sym is))
     go (Some r) is = by_values r.values is
@@ -194,12 +164,12 @@ sized_tape values none unnumbered = go (has (codes "BLOCKS") values) (is_set (co
     unsized : one_of (codes "BLOCKS") values ≡ None
     unsized = no_text (one_of (codes "BLOCKS") values) unnumbered
 
-    no_first : (o : Option Row) → Rattle.std.specs.Prelude.option_and_then Rattle.clap.specs.Walk.row_text o ≡ None
-        → is_some (Rattle.std.specs.Prelude.option_and_then (λ (r : Row). slice_get r.values 0) o) ≡ true → ⊥
+    no_first : (o : Option Row) → option_and_then row_text o ≡ None
+        → is_some (option_and_then (λ (r : Row). slice_get r.values 0) o) ≡ true → ⊥
     no_first None is has = true≢false (sym has)
     no_first (Some r) is has = by_value (slice_get r.values 0) is has
       where
-        by_value : (o : Option Text) → option_map (Rattle.clap.specs.Values.read_as r.reading) o ≡ None → is_some o ≡ true → ⊥
+        by_value : (o : Option Text) → option_map (read_as r.reading) o ≡ None → is_some o ≡ true → ⊥
         by_value None is has = true≢false (sym has)
         by_value (Some text) is has = cc
 
@@ -207,3 +177,43 @@ sized_tape values none unnumbered = go (has (codes "BLOCKS") values) (is_set (co
     go blocks true sized none = refl
     go true false sized none = absurd (no_first (find (λ r. bytes_eq r.id (codes "BLOCKS")) values) unsized sized)
     go false false sized none = absurd (some_what what.Blocks none)
+
+-- the argument after a file takes a text
+pub after_takes : (which : Verb) (moved own : Text) (values : List Row) → takes_text (kind_at moved (rows_for which)) ≡ true
+    → takes_text (kind_at own (rows_for which)) ≡ true → takes_text (kind_at (after moved own values) (rows_for which)) ≡ true
+after_takes which moved own values one other = go (has (codes "at") values)
+  where
+    go : (at : Bool) → takes_text (kind_at (if at then moved else own) (rows_for which)) ≡ true
+    go true = one
+    go false = other
+
+-- the two numbers of blocks are some
+pub first_read : (values : List Row) → is_set (codes "blocks") values ≡ true → bad_block verb.Get values ≡ None
+    → is_some (number_in 0 4094 (blocks_word 0 values)) ≡ true
+first_read values blocks none = go (is_some (number_in 0 4094 (blocks_word 0 values))) (sym (ap (λ b. if not b then None else if not (is_some (number_in 0 4094 (blocks_word 0 values)))
+    then Some (codes "<FIRST>", codes "not a block, 0 to 4094", blocks_word 0 values) else later) blocks) ∙ none)
+  where
+    later : Option Bad
+    later = if not (is_some (number_in 1 4095 (blocks_word 1 values))) then Some (codes "<COUNT>", codes "not a number of blocks, 1 to 4095", blocks_word 1 values) else None
+
+    go : (b : Bool) → (if not b then Some (codes "<FIRST>", codes "not a block, 0 to 4094", blocks_word 0 values) else later) ≡ None → b ≡ true
+    go true is = refl
+    go false is = absurd (cc)
+
+pub count_read : (values : List Row) → is_set (codes "blocks") values ≡ true → bad_block verb.Get values ≡ None
+    → is_some (number_in 1 4095 (blocks_word 1 values)) ≡ true
+count_read values blocks none = go (is_some (number_in 1 4095 (blocks_word 1 values))) (sym (ap (λ b. if not b then Some (codes "<FIRST>", codes "not a block, 0 to 4094", blocks_word 0 values) else later (is_some (number_in 1 4095 (blocks_word 1 values)))) (first_read values blocks none))
+    ∙ (sym (ap (λ b. if not b then None else if not (is_some (number_in 0 4094 (blocks_word 0 values)))
+    then Some (codes "<FIRST>", codes "not a block, 0 to 4094", blocks_word 0 values) else later (is_some (number_in 1 4095 (blocks_word 1 values)))) blocks) ∙ none))
+  where
+    later : Bool → Option Bad
+    later b = if not b then Some (codes "<COUNT>", codes "not a number of blocks, 1 to 4095", blocks_word 1 values) else None
+
+    go : (b : Bool) → later b ≡ None → b ≡ true
+    go true is = refl
+    go false is = absurd (cc)
+
+-- what gives no block was not given
+pub not_placed : (o : Option Text) → option_map place_of o ≡ None → is_some o ≡ false
+not_placed None is = refl
+not_placed (Some text) is = absurd (cc)

@@ -1,8 +1,12 @@
--- What is read of the values that `clap` found for the words of a subcommand.
-use Rattle.std.specs.Prelude.{◌+◌, ◌-◌, ◌*◌, ◌&&◌, Bool, false, if◌then◌else◌, ℕ, nat_le, nat_lt, codes, is_some, length, List, [], ◌∷◌, Option, None, Some, option_and_then, option_map, slice_get, unwrap_or}
+-- What is read of the values that `clap` found for the arguments of a subcommand.
+use Rattle.std.specs.Prelude.{◌≡◌, ⊤, ◌≤◌, ◌+◌, ◌-◌, ◌*◌, ◌&&◌, ◌||◌, Bool, true, false, if◌then◌else◌, ℕ, nat_le, nat_lt, codes, is_some, length, List, [], ◌∷◌, Option, None, Some, option_map, slice_get, unwrap_or}
 use Rattle.std.specs.Option.{option_map_or}
 use Rattle.std.specs.Str.{bytes_eq}
-use Rattle.clap.specs.Words.{Row, Text, all_of, first_of}
+use Rattle.std.specs.Str.Parse.{digits_value, without_leading_plus}
+use Rattle.clap.specs.Words.{Row, Text, all_of, first_of, one_of, IsUnsignedIn}
+use Rattle.command8.specs.Tables.{Argument, most_steps}
+use Rattle.command8.specs.declared.table.Kind.{Kind}
+use Rattle.command8.specs.declared.table.Kind.TheVariants.{Word, Words, Size, Flag, Value, Values, Count, Cell, Cells, Octal, Octals, Volume, Block, Blocks}
 use Rattle.word12.specs.Octal.{octal_of}
 use Rattle.word12.specs.declared.sizes.TheConstants.{MOST_BLOCKS}
 use Rattle.disk8.specs.declared.layouts.Layout.{Layout}
@@ -49,30 +53,91 @@ number_in least most text = within least most (number_of_digits text)
 abbrev pub place_of : Text → Option ℕ
 place_of text = number_in 0 MOST_BLOCKS text
 
--- ## What is none
+-- the number that decimal digits spell, after a plus sign if there is one
+abbrev pub number_of : Text → ℕ
+number_of text = digits_value 10 (without_leading_plus text)
 
--- the first of the texts that is no number within these limits
-abbrev pub first_no_number : ℕ → ℕ → List Text → Option Text
-first_no_number least most [] = None
-first_no_number least most (text ∷ texts) =
-    if is_some (number_in least most text) then first_no_number least most texts else Some text
+-- a limit is 1 up, if there is one
+abbrev pub is_limit : Option ℕ → Bool
+is_limit steps = option_map_or (λ count. nat_le 1 count) steps true
 
--- the first of the texts that is no octal number of so many digits
-abbrev pub first_no_octal : ℕ → List Text → Option Text
-first_no_octal count [] = None
-first_no_octal count (text ∷ texts) = if is_some (octal_of count text) then first_no_octal count texts else Some text
+-- an octal number of so many digits is this one, if it was given
+abbrev pub IsOctalOf : ℕ → Option Text → Option ℕ → Type 0
+IsOctalOf count given number = option_map (octal_of count) given ≡ option_map Some number
 
 -- ## Where a volume lies in its file
-
--- what an option tells that is the number of no volume of a disk, which has two
-abbrev pub no_volume : Text → List Row → Option Text
-no_volume id values =
-    option_and_then (λ text. if bytes_eq text (codes "1") then None else if bytes_eq text (codes "2") then None else Some text)
-    (first_of id values)
 
 abbrev pub volume_of : Text → Layout
 volume_of text = if bytes_eq text (codes "1") then First else Second
 
--- on a DECtape where the second option says so, or the volume of a disk that the first one tells
+-- on a DECtape where the second option says so, or the volume of a disk that the first one gives
 abbrev pub layout_of : Text → Text → List Row → Option Layout
 layout_of volume dectape values = if is_set dectape values then Some Dectape else option_map volume_of (first_of volume values)
+
+-- ## What an argument of the table has found
+
+-- an argument has a value
+abbrev pub Has : Text → List Row → Type 0
+Has id values = is_some (first_of id values) ≡ true
+
+abbrev pub HasWhere : Bool → Text → List Row → Type 0
+HasWhere true id values = Has id values
+HasWhere false id values = ⊤
+
+-- what `clap` took is of its kind
+abbrev pub IsTaken : Kind → Text → List Row → Type 0
+IsTaken (Words most) id values = length (values_of id values) ≤ most
+IsTaken Size id values = (text : Text) → one_of id values ≡ Some text → IsUnsignedIn 8 MOST_BLOCKS text
+IsTaken Count id values = (text : Text) → one_of id values ≡ Some text → IsUnsignedIn 1 most_steps text
+IsTaken kind id values = ⊤
+
+-- one that must be given has at least one value
+abbrev pub HasSomeWhere : Bool → Text → List Row → Type 0
+HasSomeWhere true id values = 1 ≤ length (values_of id values)
+HasSomeWhere false id values = ⊤
+
+-- the arguments have what the table says of them
+abbrev pub Holds : Argument → List Row → Type 0
+Holds row values = HasWhere row.is_required row.id values × HasSomeWhere row.is_required row.id values × IsTaken row.kind row.id values
+
+abbrev pub AllHold : List Argument → List Row → Type 0
+AllHold [] values = ⊤
+AllHold (row ∷ rows) values = Holds row values × AllHold rows values
+
+-- ## Values that are none of their kind
+
+-- what a value is tested for: nothing, so many octal digits, a block, or the number of a disk's volume
+pub data Test : Type 0 where
+  a_text : Test
+  octal_digits : ℕ → Test
+  a_block : Test
+  a_volume : Test
+
+abbrev pub test_of : Kind → Test
+test_of Cell = octal_digits 5
+test_of Cells = octal_digits 5
+test_of Octal = octal_digits 4
+test_of Octals = octal_digits 4
+test_of Volume = a_volume
+test_of Block = a_block
+test_of Blocks = a_block
+test_of kind = a_text
+
+abbrev pub passes : Test → Text → Bool
+passes a_text text = true
+passes (octal_digits count) text = is_some (octal_of count text)
+passes a_block text = is_some (place_of text)
+passes a_volume text = bytes_eq text (codes "1") || bytes_eq text (codes "2")
+
+-- the first of the values that does not pass
+abbrev pub first_not : Test → List Text → Option Text
+first_not test [] = None
+first_not test (text ∷ texts) = if passes test text then first_not test texts else Some text
+
+-- all pass
+abbrev pub IsWell : Kind → Text → List Row → Type 0
+IsWell kind id values = first_not (test_of kind) (values_of id values) ≡ None
+
+abbrev pub AllWell : List Argument → List Row → Type 0
+AllWell [] values = ⊤
+AllWell (row ∷ rows) values = IsWell row.kind row.id values × AllWell rows values

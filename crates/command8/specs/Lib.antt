@@ -1,6 +1,6 @@
 pub mod CommandSteps
+pub mod Tables
 pub mod Found
 pub mod Refusals
 pub mod Tasks
 pub mod TaskSteps
-pub mod Usage

@@ -1,80 +1,67 @@
--- What is refused of words that `clap` takes for a subcommand on volumes: the first that is wrong with them. Two arguments that don't go
--- together come before one that is missing, that before a word too many, and that before a value that is none, of which those of
--- `--volume` and `--to-volume` come before those of `--at` and `--info`, or the two numbers of blocks.
-use Rattle.std.specs.Prelude.{◌&&◌, ◌||◌, not, Bool, false, if◌then◌else◌, ℕ, codes, find, is_some, List, [], ◌∷◌, Option, None, Some, option_map, unwrap_or}
+-- What is refused of a command line that `clap` takes: the first that is wrong with it. Two arguments that exclude each other come before one
+-- that is missing, that before standard input named twice, that before an argument too many, and that before a value that is none of its
+-- kind, by the order of the table; the two numbers of `get --blocks` come last.
+use Rattle.std.specs.Prelude.{◌+◌, ◌&&◌, ◌||◌, not, Bool, false, if◌then◌else◌, ℕ, nat_lt, codes, is_some, List, [], ◌∷◌, Option, None, Some, option_map, unwrap_or}
 use Rattle.std.specs.Str.{bytes_eq}
 use Rattle.clap.specs.Words.{Row, Text, first_of}
 use Rattle.word12.specs.declared.sizes.TheConstants.{MOST_BLOCKS}
-use Rattle.command8.specs.declared.refusals.Pair.{Pair}
-use Rattle.command8.specs.declared.refusals.Pair.TheVariants as pair
-use Rattle.command8.specs.declared.refusals.Place.{Place}
-use Rattle.command8.specs.declared.refusals.Place.TheVariants as place
 use Rattle.command8.specs.declared.refusals.Refusal.{Refusal}
 use Rattle.command8.specs.declared.refusals.Refusal.TheVariants as refusal
 use Rattle.command8.specs.declared.refusals.What.{What}
 use Rattle.command8.specs.declared.refusals.What.TheVariants as what
-use Rattle.command8.specs.declared.verbs.Verb.{Verb}
-use Rattle.command8.specs.declared.verbs.Verb.TheVariants as verb
-use Rattle.command8.specs.Found.{first_no_number, first_no_octal, has, is_set, no_volume, values_of, word_at}
+use Rattle.command8.specs.declared.table.Kind.{Kind}
+use Rattle.command8.specs.declared.table.Kind.TheVariants as kind
+use Rattle.command8.specs.declared.table.Verb.{Verb}
+use Rattle.command8.specs.declared.table.Verb.TheVariants as verb
+use Rattle.command8.specs.Found.{first_not, has, is_set, number_in, test_of, values_of, word_at}
+use Rattle.command8.specs.Tables.{Argument, pairs, rows_for}
 
--- the subcommands by their names
-abbrev pub word : Verb → Text
-word verb.Tape = codes "tape"
-word verb.Rim = codes "rim"
-word verb.Source = codes "source"
-word verb.Assemble = codes "assemble"
-word verb.Teletype = codes "teletype"
-word verb.Trace = codes "trace"
-word verb.Profile = codes "profile"
-word verb.Run = codes "run"
-word verb.Create = codes "create"
-word verb.List = codes "list"
-word verb.Get = codes "get"
-word verb.Put = codes "put"
-word verb.Delete = codes "delete"
-word verb.Rename = codes "rename"
-word verb.Copy = codes "copy"
-word verb.Squeeze = codes "squeeze"
-word verb.Check = codes "check"
-
--- what is said of words that are refused
+-- what is said of a refusal
 pub data Said : Type 0 where
-  together : Pair → Said
+  together : Text → Text → Said
   missing : What → Said
+  input_twice : Said
   unexpected : Text → Said
-  value : Place → Text → Said
+  value : Text → Text → Text → Said
 
 abbrev pub said : Refusal → Said
-said (refusal.Together pair) = together pair
+said (refusal.Together one other) = together one.now other.now
 said (refusal.Missing what) = missing what
+said refusal.InputTwice = input_twice
 said (refusal.Unexpected text) = unexpected text.bytes.items
-said (refusal.Value place text) = value place text.bytes.items
+said (refusal.Value shown why text) = value shown.now why.now text.bytes.items
 
--- ## Arguments that don't go together
+-- ## Arguments that exclude each other
 
-abbrev pub are_both : Pair → List Row → Bool
-are_both pair.VolumeDectape values = has (codes "volume") values && is_set (codes "dectape") values
-are_both pair.ToVolumeToDectape values = has (codes "to-volume") values && is_set (codes "to-dectape") values
-are_both pair.SizeDectape values = has (codes "BLOCKS") values && is_set (codes "dectape") values
-are_both pair.BlocksAt values = is_set (codes "blocks") values && has (codes "at") values
-are_both pair.BlocksInto values = is_set (codes "blocks") values && has (codes "into") values
-are_both pair.BlocksAll values = is_set (codes "blocks") values && is_set (codes "all") values
-are_both pair.BlocksForce values = is_set (codes "blocks") values && is_set (codes "force") values
-are_both pair.BlocksTextOf values = is_set (codes "blocks") values && has (codes "text-of") values
-are_both pair.BlocksTape values = is_set (codes "blocks") values && is_set (codes "tape") values
-are_both pair.BlocksBin values = is_set (codes "blocks") values && is_set (codes "bin") values
-are_both pair.TapeInto values = is_set (codes "tape") values && has (codes "into") values
-are_both pair.BinInto values = is_set (codes "bin") values && has (codes "into") values
-are_both pair.AsTextOf values = has (codes "as") values && has (codes "text-of") values
+abbrev pub is_given : Text → Kind → List Row → Bool
+is_given id kind.Flag values = is_set id values
+is_given id other values = has id values
 
-abbrev pub pairs : List Pair
-pairs =
-    pair.VolumeDectape ∷ pair.ToVolumeToDectape ∷ pair.SizeDectape ∷ pair.BlocksAt ∷ pair.BlocksInto ∷ pair.BlocksAll
-    ∷ pair.BlocksForce ∷ pair.BlocksTextOf ∷ pair.BlocksTape ∷ pair.BlocksBin ∷ pair.TapeInto ∷ pair.BinInto
-    ∷ pair.AsTextOf ∷ []
+-- what an argument is called, if it was given
+abbrev pub shown_of : Argument → List Row → Option Text
+shown_of row values = if is_given row.id row.kind values then Some row.shown else None
 
-abbrev pub pair_of : List Row → Option Pair
-pair_of values = find (λ pair. are_both pair values) pairs
+abbrev pub shown_in : List Argument → Text → List Row → Option Text
+shown_in [] id values = None
+shown_in (row ∷ rows) id values = if bytes_eq row.id id then shown_of row values else shown_in rows id values
+
+abbrev pub both_of : Option Text → Option Text → Option (Text × Text)
+both_of None other = None
+both_of (Some one) None = None
+both_of (Some one) (Some other) = Some (one, other)
+
+abbrev pub pair_or : Option (Text × Text) → Option (Text × Text) → Option (Text × Text)
+pair_or None rest = rest
+pair_or (Some pair) rest = Some pair
+
+-- the first of these pairs of which both were given
+abbrev pub first_pair : List (Text × Text) → List Argument → List Row → Option (Text × Text)
+first_pair [] rows values = None
+first_pair (pair ∷ later) rows values =
+    pair_or (both_of (shown_in rows pair.0 values) (shown_in rows pair.1 values)) (first_pair later rows values)
+
+abbrev pub both_given : Verb → List Row → Option (Text × Text)
+both_given which values = first_pair pairs (rows_for which) values
 
 -- ## Arguments that are missing
 
@@ -106,13 +93,14 @@ abbrev pub names_input : List Text → Bool
 names_input [] = false
 names_input (name ∷ names) = bytes_eq name (codes "-") || names_input names
 
--- of a file and the word behind it, which stands in the place of the name where `--at` tells the file
+-- of a file and the argument after it, which stands in the place of the name where `--at` gives the file
 abbrev pub moved_missing : Text → What → What → List Row → Option What
 moved_missing id one both values =
     if not (has (codes "NAME") values) then (if has (codes "at") values then Some one else Some both)
     else if has (codes "at") values || has id values then None else Some one
 
 abbrev pub missing_of : Verb → List Row → Option What
+missing_of verb.Assemble values = if is_set (codes "cross") values && not (has (codes "list") values) then Some what.List else None
 missing_of verb.Create values = if has (codes "BLOCKS") values || is_set (codes "dectape") values then None else Some what.Blocks
 missing_of verb.Get values =
     if is_set (codes "blocks") values then blocks_missing values
@@ -125,9 +113,20 @@ missing_of verb.Rename values = moved_missing (codes "NEW") what.New what.NameAn
 missing_of verb.Copy values = moved_missing (codes "TO") what.To what.NameAndTo values
 missing_of which values = None
 
--- ## A word too many
+-- ## Standard input named twice
 
--- the third behind an image whose blocks are got, the last where `--at` stands for a name, or the second file where one is given a name
+-- how many of the names are that of standard input
+abbrev pub input_count : List Text → ℕ
+input_count [] = 0
+input_count (name ∷ names) = (if bytes_eq name (codes "-") then 1 else 0) + input_count names
+
+abbrev pub names_input_twice : Verb → List Row → Bool
+names_input_twice verb.Assemble values = nat_lt 1 (input_count (values_of (codes "FILE") values))
+names_input_twice which values = false
+
+-- ## An argument too many
+
+-- the third after an image whose blocks are got, the last where `--at` stands for a name, or the second file where one is given a name
 abbrev pub unexpected_of : List Row → Option Text
 unexpected_of values =
     if is_set (codes "blocks") values then word_at (codes "NAME") 2 values
@@ -137,57 +136,63 @@ unexpected_of values =
 
 -- ## Values that are none
 
+-- what is wrong with it
+abbrev pub why : Kind → Text
+why kind.Cell = codes "not five octal digits, a field and an address"
+why kind.Cells = codes "not five octal digits, a field and an address"
+why kind.Octal = codes "not four octal digits"
+why kind.Octals = codes "not four octal digits"
+why kind.Volume = codes "not 1 or 2"
+why kind.Block = codes "not a block, 0 to 4095"
+why kind.Blocks = codes "not a block, 0 to 4095"
+why other = codes "not a value of it"
+
+-- the argument, what is wrong with the value, and the value
+abbrev pub Bad : Type 0
+Bad = Text × Text × Text
+
+abbrev pub bad_or : Argument → Option Text → Option Bad → Option Bad
+bad_or row None rest = rest
+bad_or row (Some text) rest = Some (row.shown, why row.kind, text)
+
+-- the first value that is none of its argument's kind
+abbrev pub first_bad : List Argument → List Row → Option Bad
+first_bad [] values = None
+first_bad (row ∷ rows) values = bad_or row (first_not (test_of row.kind) (values_of row.id values)) (first_bad rows values)
+
+-- the first block and their number, where blocks are got
+abbrev pub gets_blocks : Verb → List Row → Bool
+gets_blocks verb.Get values = is_set (codes "blocks") values
+gets_blocks which values = false
+
+abbrev pub blocks_word : ℕ → List Row → Text
+blocks_word index values = unwrap_or (word_at (codes "NAME") index values) []
+
+abbrev pub bad_block : Verb → List Row → Option Bad
+bad_block which values =
+    if not (gets_blocks which values) then None
+    else if not (is_some (number_in 0 4094 (blocks_word 0 values))) then Some (codes "<FIRST>", codes "not a block, 0 to 4094", blocks_word 0 values)
+    else if not (is_some (number_in 1 MOST_BLOCKS (blocks_word 1 values))) then Some (codes "<COUNT>", codes "not a number of blocks, 1 to 4095", blocks_word 1 values)
+    else None
+
+-- ## What is refused
+
 -- the first that is there
 abbrev pub or_else : Option Said → Option Said → Option Said
 or_else None later = later
 or_else (Some first) later = Some first
 
--- `--at`, where it may be given several times
-abbrev pub places_refused : List Row → Option Said
-places_refused values = option_map (value place.At) (first_no_number 0 MOST_BLOCKS (values_of (codes "at") values))
+abbrev said_twice : Bool → Option Said
+said_twice is_twice = if is_twice then Some input_twice else None
 
--- and where it is given once
-abbrev pub one_or_none : Option Text → List Text
-one_or_none None = []
-one_or_none (Some text) = text ∷ []
-
-abbrev pub place_refused : List Row → Option Said
-place_refused values = option_map (value place.At) (first_no_number 0 MOST_BLOCKS (one_or_none (first_of (codes "at") values)))
-
--- the first block and their number, where blocks are got
-abbrev pub blocks_word : ℕ → List Row → Text
-blocks_word index values = unwrap_or (word_at (codes "NAME") index values) []
-
-abbrev pub blocks_refused : List Row → Option Said
-blocks_refused values =
-    or_else (option_map (value place.First) (first_no_number 0 4094 (blocks_word 0 values ∷ [])))
-    (option_map (value place.Count) (first_no_number 1 MOST_BLOCKS (blocks_word 1 values ∷ [])))
-
-abbrev pub info_refused : List Row → Option Said
-info_refused values = option_map (value place.Info) (first_no_octal 4 (values_of (codes "info") values))
-
--- but for `--volume`
-abbrev pub values_refused : Verb → List Row → Option Said
-values_refused verb.Get values =
-    if is_set (codes "blocks") values then blocks_refused values
-    else if has (codes "into") values then places_refused values
-    else place_refused values
-values_refused verb.Put values = info_refused values
-values_refused verb.Delete values = places_refused values
-values_refused verb.Rename values = place_refused values
-values_refused verb.Copy values = place_refused values
-values_refused which values = None
-
--- ## What is refused
-
--- before the values of options, but for those of `--volume`
-abbrev pub words_refused : Verb → List Row → Option Said
-words_refused which values =
-    or_else (option_map together (pair_of values))
-    (or_else (option_map missing (missing_of which values))
-    (or_else (option_map unexpected (unexpected_of values))
-    (or_else (option_map (value place.Volume) (no_volume (codes "volume") values))
-    (option_map (value place.ToVolume) (no_volume (codes "to-volume") values)))))
+abbrev pub said_of : Bad → Said
+said_of bad = value bad.0 bad.1 bad.2
 
 abbrev pub refusal_of : Verb → List Row → Option Said
-refusal_of which values = or_else (words_refused which values) (values_refused which values)
+refusal_of which values =
+    or_else (option_map (λ pair. together pair.0 pair.1) (both_given which values))
+    (or_else (option_map missing (missing_of which values))
+    (or_else (said_twice (names_input_twice which values))
+    (or_else (option_map unexpected (unexpected_of values))
+    (or_else (option_map said_of (first_bad (rows_for which) values))
+    (option_map said_of (bad_block which values))))))

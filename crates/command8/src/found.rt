@@ -1,13 +1,18 @@
-//! What `clap` found for an argument, by the kind of argument.
-ghost use Rattle.std.specs.Prelude.{◌≡◌, ◌≤◌, true, codes, is_some, map, option_map, slice_get, IfOk, IfSome, Some};
+//! What `clap` found for an argument, by the kind of argument. A reader asks for the kind that the subcommand's table gives the argument.
+ghost use Rattle.std.specs.Prelude.{◌≡◌, ◌≤◌, [], true, map, option_map, slice_get, unwrap_or, IfOk, IfSome, Some};
 ghost use Rattle.clap.specs.Words.{first_of, found_of, one_of, rows_of};
 ghost use Rattle.word12.specs.declared.sizes.TheConstants.{MOST_BLOCKS};
-ghost use Rattle.command8.specs.Tasks.{is_limit, number_of};
+ghost use Rattle.command8.specs.Found.{Has, IsOctalOf, IsTaken, IsWell, is_limit, number_of, place_of};
+ghost use Rattle.command8.specs.Tables.{has_text, kind_at, rows_for, takes_block, takes_text, takes_texts};
+ghost use Rattle.command8.specs.declared.table.Kind.TheVariants as kind;
 ghost use Rattle.command8.specs.Found as spec;
-ghost use Rattle.command8.specs.TaskSteps.{HasBlocks, HasSteps};
 
+use crate::numbers::number_in;
+use crate::table::Verb;
 use clap::ArgMatches;
+use disk8::Layout;
 use std::alloc::{AllocError, Global};
+use word12::{Cell, MOST_BLOCKS, Word, octal_cell, octal_word};
 
 /// The value of an argument, if it was given.
 pub fn text_of<'a>(found: &ArgMatches<'a>, id: &str) -> Option<&'a str>
@@ -23,15 +28,40 @@ pub fn has(found: &ArgMatches<'_>, id: &str) -> bool
     text_of(found, id).is_some()
 }
 
-/// A value of an argument that may have several, if there are as many.
+/// Whether an option without a value was given.
+pub fn is_set(found: &ArgMatches<'_>, id: &str) -> bool
+    ensures { result ≡ spec.is_set id.now (rows_of (found_of found.now)) }
+{
+    match text_of(found, id) {
+        Some(text) => text == "true",
+        None => false,
+    }
+}
+
+/// The values of an argument that may have several.
+pub fn texts_in<'a: 'b, 'b>(found: &'b ArgMatches<'a>, id: &str) -> &'b [&'a str]
+    ensures { map (λ text. text.now) result.now ≡ spec.values_of id.now (rows_of (found_of found.now)) }
+{
+    texts_or_none(found.get_strs(id))
+}
+
+/// Texts, or none.
+fn texts_or_none<'a, 'b>(texts: Option<&'b [&'a str]>) -> &'b [&'a str]
+    ensures { map (λ text. text.now) result.now
+        ≡ unwrap_or (option_map (λ s. map (λ text. text.now) s.now) texts.entry) [] }
+{
+    match texts {
+        Some(texts) => texts,
+        None => &[],
+    }
+}
+
+/// One of them, if there are as many.
 pub fn word_at<'a>(found: &ArgMatches<'a>, id: &str, index: usize) -> Option<&'a str>
     ensures { option_map (λ text. text.now) result
         ≡ slice_get (spec.values_of id.now (rows_of (found_of found.now))) index }
 {
-    match found.get_strs(id) {
-        Some(words) => nth(words, index),
-        None => None,
-    }
+    nth(texts_in(found, id), index)
 }
 
 /// The text at a place, if there are as many.
@@ -44,19 +74,23 @@ fn nth<'a>(words: &[&'a str], index: usize) -> Option<&'a str>
     None
 }
 
-/// Whether an option without a value was given.
-pub fn is_set(found: &ArgMatches<'_>, id: &str) -> bool
+/// Whether an option of the subcommand, which takes no value, was given.
+pub fn flag(found: &ArgMatches<'_>, _verb: Verb, id: &str) -> bool
+    requires { kind_at id.now (rows_for _verb) ≡ Some kind.Flag }
     ensures { result ≡ spec.is_set id.now (rows_of (found_of found.now)) }
 {
-    match text_of(found, id) {
-        Some(text) => text == "true",
-        None => false,
-    }
+    is_set(found, id)
 }
 
-/// A copy of the value of an argument that was given.
-pub fn value_of(alloc: Global, found: &ArgMatches<'_>, id: &str) -> Result<String, AllocError>
-    requires { is_some (first_of id.now (rows_of (found_of found.now))) ≡ true }
+/// A copy of the text of an argument that was given.
+pub fn value_of(
+    alloc: Global,
+    found: &ArgMatches<'_>,
+    _verb: Verb,
+    id: &str,
+) -> Result<String, AllocError>
+    requires kind { takes_text (kind_at id.now (rows_for _verb)) ≡ true }
+    requires given { Has id.now (rows_of (found_of found.now)) }
     ensures { IfOk result (λ text. first_of id.now (rows_of (found_of found.now)) ≡ Some text.bytes.items) }
 {
     match text_of(found, id) {
@@ -65,12 +99,14 @@ pub fn value_of(alloc: Global, found: &ArgMatches<'_>, id: &str) -> Result<Strin
     }
 }
 
-/// A copy of the value of an argument, if it was given.
+/// A copy of the text of an argument, if it was given.
 pub fn value_if_given(
     alloc: Global,
     found: &ArgMatches<'_>,
+    _verb: Verb,
     id: &str,
 ) -> Result<Option<String>, AllocError>
+    requires { takes_text (kind_at id.now (rows_for _verb)) ≡ true }
     ensures { IfOk result (λ given. first_of id.now (rows_of (found_of found.now))
         ≡ option_map (λ text. text.bytes.items) given) }
 {
@@ -83,15 +119,18 @@ pub fn value_if_given(
     }
 }
 
-/// Copies of the values of an argument that may have several.
-pub fn values_of(alloc: Global, found: &ArgMatches<'_>, id: &str) -> Result<Vec<String>, AllocError>
+/// Copies of the texts of an argument that may have several.
+pub fn values_of(
+    alloc: Global,
+    found: &ArgMatches<'_>,
+    _verb: Verb,
+    id: &str,
+) -> Result<Vec<String>, AllocError>
+    requires { takes_texts (kind_at id.now (rows_for _verb)) ≡ true }
     ensures { IfOk result (λ texts. map (λ text. text.bytes.items) texts.items
         ≡ spec.values_of id.now (rows_of (found_of found.now))) }
 {
-    match found.get_strs(id) {
-        Some(words) => copies(alloc, words),
-        None => Ok(Vec::new(alloc)),
-    }
+    copies(alloc, texts_in(found, id))
 }
 
 /// Copies of texts.
@@ -107,20 +146,110 @@ fn copies(alloc: Global, words: &[&str]) -> Result<Vec<String>, AllocError>
     Ok(texts)
 }
 
-/// The number of a new volume's blocks, if it was given.
-pub fn blocks_of(found: &ArgMatches<'_>) -> Option<usize>
-    requires { HasBlocks (rows_of (found_of found.now)) }
-    ensures number { option_map number_of (one_of (codes "BLOCKS") (rows_of (found_of found.now))) ≡ result }
-    ensures range { IfSome result (λ blocks. (8 ≤ blocks) × (blocks ≤ MOST_BLOCKS)) }
+/// The first text of an argument that was given.
+pub fn first_value_of(
+    alloc: Global,
+    found: &ArgMatches<'_>,
+    _verb: Verb,
+    id: &str,
+) -> Result<String, AllocError>
+    requires kind { has_text (kind_at id.now (rows_for _verb)) ≡ true }
+    requires given { Has id.now (rows_of (found_of found.now)) }
+    ensures { IfOk result (λ text. first_of id.now (rows_of (found_of found.now)) ≡ Some text.bytes.items) }
 {
-    found.get_one::<usize>("BLOCKS")
+    match text_of(found, id) {
+        Some(text) => String::from_str(alloc, text),
+        None => unreachable!(),
+    }
 }
 
-/// The limit of instructions, if one was given.
-pub fn steps_of(found: &ArgMatches<'_>) -> Option<u64>
-    requires { HasSteps (rows_of (found_of found.now)) }
-    ensures number { option_map number_of (one_of (codes "steps") (rows_of (found_of found.now))) ≡ result }
+/// The number of an option, from 1 up, if it was given.
+pub fn count_of(found: &ArgMatches<'_>, _verb: Verb, id: &str) -> Option<u64>
+    requires kind { kind_at id.now (rows_for _verb) ≡ Some kind.Count }
+    requires taken { IsTaken kind.Count id.now (rows_of (found_of found.now)) }
+    ensures number { option_map number_of (one_of id.now (rows_of (found_of found.now))) ≡ result }
     ensures range { is_limit result ≡ true }
 {
-    found.get_one::<u64>("steps")
+    found.get_one::<u64>(id)
+}
+
+/// The number of a new volume's blocks, if it was given.
+pub fn size_of(found: &ArgMatches<'_>, _verb: Verb, id: &str) -> Option<usize>
+    requires kind { kind_at id.now (rows_for _verb) ≡ Some kind.Size }
+    requires taken { IsTaken kind.Size id.now (rows_of (found_of found.now)) }
+    ensures number { option_map number_of (one_of id.now (rows_of (found_of found.now))) ≡ result }
+    ensures range { IfSome result (λ blocks. (8 ≤ blocks) × (blocks ≤ MOST_BLOCKS)) }
+{
+    found.get_one::<usize>(id)
+}
+
+/// The cell of an option, if it was given.
+pub fn cell_of(found: &ArgMatches<'_>, _verb: Verb, id: &str) -> Option<Cell>
+    requires kind { kind_at id.now (rows_for _verb) ≡ Some kind.Cell }
+    requires well { IsWell kind.Cell id.now (rows_of (found_of found.now)) }
+    ensures { IsOctalOf 5 (first_of id.now (rows_of (found_of found.now))) result }
+{
+    match text_of(found, id) {
+        Some(text) => match octal_cell(text.as_bytes()) {
+            Some(cell) => Some(cell),
+            None => unreachable!(),
+        },
+        None => None,
+    }
+}
+
+/// The word of an option, if it was given.
+pub fn octal_of(found: &ArgMatches<'_>, _verb: Verb, id: &str) -> Option<Word>
+    requires kind { kind_at id.now (rows_for _verb) ≡ Some kind.Octal }
+    requires well { IsWell kind.Octal id.now (rows_of (found_of found.now)) }
+    ensures { IsOctalOf 4 (first_of id.now (rows_of (found_of found.now))) result }
+{
+    match text_of(found, id) {
+        Some(text) => match octal_word(text.as_bytes()) {
+            Some(word) => Some(word),
+            None => unreachable!(),
+        },
+        None => None,
+    }
+}
+
+/// The block of an option, the first, if it was given.
+pub fn block_of(found: &ArgMatches<'_>, _verb: Verb, id: &str) -> Option<usize>
+    requires kind { takes_block (kind_at id.now (rows_for _verb)) ≡ true }
+    requires well { IsWell kind.Block id.now (rows_of (found_of found.now)) }
+    ensures { option_map place_of (first_of id.now (rows_of (found_of found.now)))
+        ≡ option_map (λ place. Some place) result }
+{
+    match text_of(found, id) {
+        Some(text) => match number_in(text.as_bytes(), 0, MOST_BLOCKS) {
+            Some(block) => Some(block),
+            None => unreachable!(),
+        },
+        None => None,
+    }
+}
+
+/// Where a volume lies in its file, as two options say.
+pub fn layout_of(found: &ArgMatches<'_>, _verb: Verb, volume: &str, dectape: &str) -> Option<Layout>
+    requires volume { kind_at volume.now (rows_for _verb) ≡ Some kind.Volume }
+    requires dectape { kind_at dectape.now (rows_for _verb) ≡ Some kind.Flag }
+    ensures { result ≡ spec.layout_of volume.now dectape.now (rows_of (found_of found.now)) }
+{
+    if is_set(found, dectape) {
+        return Some(Layout::Dectape);
+    }
+    match text_of(found, volume) {
+        Some(text) => Some(volume_of(text)),
+        None => None,
+    }
+}
+
+/// The volume of a disk with this number.
+fn volume_of(text: &str) -> Layout
+    ensures { result ≡ spec.volume_of text.now }
+{
+    if text == "1" {
+        return Layout::First;
+    }
+    Layout::Second
 }

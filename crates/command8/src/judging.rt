@@ -1,126 +1,264 @@
-//! What is wrong with the words of a subcommand on volumes, as far as it is told before the values of its options are read.
-ghost use Rattle.std.specs.Prelude.{◌≡◌, codes, find, map, option_map, slice_get, IfErr, IfOk, None, ℕ, Option};
+//! What is wrong with the arguments of a subcommand, as `clap` takes them.
+ghost use Rattle.std.specs.Prelude.{◌≡◌, ◌≤◌, length, map, option_map, IfErr, IfOk, None};
 ghost use Rattle.clap.specs.Words.{found_of, rows_of};
-ghost use Rattle.command8.specs.Found as found_spec;
-ghost use Rattle.command8.specs.Refusals.{are_both, missing_of, names_input, refusal_of, values_refused, words_refused};
+ghost use Rattle.command8.specs.Found.{first_not, passes, test_of};
+ghost use Rattle.command8.specs.Refusals.{refusal_of};
 ghost use Rattle.command8.specs.Refusals as spec;
+ghost use Rattle.command8.specs.Tables.{entry_of, pair_of, row_of, rows_for};
 ghost use Rattle.command8.specs.TaskSteps.{IsRefusedBy};
-ghost use Rattle.command8.specs.declared.verbs.Verb.TheVariants as verb;
 
 use crate::TaskFault;
-use crate::found::{has, is_set, text_of, word_at};
-use crate::refusals::{Pair, Place, Refusal, What};
-use crate::verbs::Verb;
+use crate::found::{has, is_set, text_of, texts_in, word_at};
+use crate::missing::missing_of;
+use crate::numbers::number_in;
+use crate::refusals::Refusal;
+use crate::table::{Argument, Entry, Kind, Pair, Verb, arguments_of, pairs};
 use clap::ArgMatches;
 use std::alloc::Global;
+use word12::{MOST_BLOCKS, octal_cell, octal_word};
 
-/// Refuses the words where two arguments don't go together, one is missing, there is a word too many, or `--volume` tells no volume: the
-/// first of these in this order.
-pub fn judged(
-    alloc: Global,
-    found: &ArgMatches<'_>,
-    which: Verb,
-    missing: Option<What>,
-) -> Result<(), TaskFault>
-    requires { missing ≡ missing_of which (rows_of (found_of found.now)) }
-    ensures whole { IfOk result (λ _. missing_of which (rows_of (found_of found.now)) ≡ None) }
-    ensures left { IfOk result (λ _. refusal_of which (rows_of (found_of found.now))
-        ≡ values_refused which (rows_of (found_of found.now))) }
-    ensures refused { IfErr result (IsRefusedBy which (rows_of (found_of found.now))) }
+/// Refuses the arguments where two exclude each other, one is missing, standard input is named twice, there is one too many, or a value is
+/// none of its argument's kind: the first of these in this order.
+pub fn judged(alloc: Global, found: &ArgMatches<'_>, entry: &'static Entry) -> Result<(), TaskFault>
+    ensures passed { IfOk result (λ _. refusal_of entry.now.verb (rows_of (found_of found.now)) ≡ None) }
+    ensures refused { IfErr result (IsRefusedBy (entry_of entry.now) (rows_of (found_of found.now))) }
 {
-    words_judged(alloc, found, which, missing)
-}
-
-/// Refuses them so; where they pass, no part of what is refused of words is there.
-fn words_judged(
-    alloc: Global,
-    found: &ArgMatches<'_>,
-    which: Verb,
-    missing: Option<What>,
-) -> Result<(), TaskFault>
-    requires { missing ≡ missing_of which (rows_of (found_of found.now)) }
-    ensures passed { IfOk result (λ _. words_refused which (rows_of (found_of found.now)) ≡ None) }
-    ensures refused { IfErr result (IsRefusedBy which (rows_of (found_of found.now))) }
-{
-    if let Some(pair) = pair_of(found) {
-        return Err(TaskFault::Refused(which, Refusal::Together(pair)));
+    if let Some((one, other)) = both_given(found, entry.verb) {
+        return Err(TaskFault::Refused(entry.usage, Refusal::Together(one, other)));
     }
-    if let Some(what) = missing {
-        return Err(TaskFault::Refused(which, Refusal::Missing(what)));
+    if let Some(what) = missing_of(found, entry.verb) {
+        return Err(TaskFault::Refused(entry.usage, Refusal::Missing(what)));
+    }
+    if names_input_twice(found, entry.verb) {
+        return Err(TaskFault::Refused(entry.usage, Refusal::InputTwice));
     }
     if let Some(text) = unexpected_of(found) {
         let text = String::from_str(alloc, text)?;
-        return Err(TaskFault::Refused(which, Refusal::Unexpected(text)));
+        return Err(TaskFault::Refused(entry.usage, Refusal::Unexpected(text)));
     }
-    if let Some(text) = no_volume(found, "volume") {
+    if let Some((shown, why, text)) = bad_value(found, entry.verb) {
         let text = String::from_str(alloc, text)?;
-        return Err(TaskFault::Refused(which, Refusal::Value(Place::Volume, text)));
+        return Err(TaskFault::Refused(entry.usage, Refusal::Value(shown, why, text)));
     }
-    if let Some(text) = no_volume(found, "to-volume") {
+    if let Some((shown, why, text)) = bad_block(found, entry.verb) {
         let text = String::from_str(alloc, text)?;
-        return Err(TaskFault::Refused(which, Refusal::Value(Place::ToVolume, text)));
+        return Err(TaskFault::Refused(entry.usage, Refusal::Value(shown, why, text)));
     }
     Ok(())
 }
 
-/// Arguments that don't go together.
-const PAIRS: [Pair; 13] = [
-    Pair::VolumeDectape,
-    Pair::ToVolumeToDectape,
-    Pair::SizeDectape,
-    Pair::BlocksAt,
-    Pair::BlocksInto,
-    Pair::BlocksAll,
-    Pair::BlocksForce,
-    Pair::BlocksTextOf,
-    Pair::BlocksTape,
-    Pair::BlocksBin,
-    Pair::TapeInto,
-    Pair::BinInto,
-    Pair::AsTextOf,
-];
-
-/// The first two arguments that were given and don't go together.
-fn pair_of(found: &ArgMatches<'_>) -> Option<Pair>
-    ensures { result ≡ spec.pair_of (rows_of (found_of found.now)) }
+/// The first two arguments of a subcommand that were given and exclude each other.
+fn both_given(found: &ArgMatches<'_>, verb: Verb) -> Option<Pair>
+    ensures { option_map pair_of result ≡ spec.both_given verb (rows_of (found_of found.now)) }
 {
-    first_pair(found, &PAIRS)
+    first_pair(found, pairs(), arguments_of(verb))
 }
 
 /// The first of these pairs of which both were given.
-fn first_pair(found: &ArgMatches<'_>, pairs: &[Pair]) -> Option<Pair>
-    ensures { result ≡ find (λ pair. are_both pair (rows_of (found_of found.now))) pairs.now }
+fn first_pair(
+    found: &ArgMatches<'_>,
+    pairs: &'static [Pair],
+    rows: &'static [Argument],
+) -> Option<Pair>
+    ensures { option_map pair_of result
+        ≡ spec.first_pair (map pair_of pairs.now) (map row_of rows.now) (rows_of (found_of found.now)) }
 {
     for pair in pairs {
-        if is_both(found, *pair) {
-            return Some(*pair);
+        if let Some(both) = both_of(shown_in(found, rows, pair.0), shown_in(found, rows, pair.1)) {
+            return Some(both);
         }
     }
     None
 }
 
-/// Whether both arguments were given.
-fn is_both(found: &ArgMatches<'_>, pair: Pair) -> bool
-    ensures { result ≡ are_both pair (rows_of (found_of found.now)) }
+/// Both, if they are there.
+fn both_of(one: Option<&'static str>, other: Option<&'static str>) -> Option<Pair>
+    ensures { option_map pair_of result
+        ≡ spec.both_of (option_map (λ text. text.now) one.entry) (option_map (λ text. text.now) other.entry) }
 {
-    match pair {
-        Pair::VolumeDectape => has(found, "volume") && is_set(found, "dectape"),
-        Pair::ToVolumeToDectape => has(found, "to-volume") && is_set(found, "to-dectape"),
-        Pair::SizeDectape => has(found, "BLOCKS") && is_set(found, "dectape"),
-        Pair::BlocksAt => is_set(found, "blocks") && has(found, "at"),
-        Pair::BlocksInto => is_set(found, "blocks") && has(found, "into"),
-        Pair::BlocksAll => is_set(found, "blocks") && is_set(found, "all"),
-        Pair::BlocksForce => is_set(found, "blocks") && is_set(found, "force"),
-        Pair::BlocksTextOf => is_set(found, "blocks") && has(found, "text-of"),
-        Pair::BlocksTape => is_set(found, "blocks") && is_set(found, "tape"),
-        Pair::BlocksBin => is_set(found, "blocks") && is_set(found, "bin"),
-        Pair::TapeInto => is_set(found, "tape") && has(found, "into"),
-        Pair::BinInto => is_set(found, "bin") && has(found, "into"),
-        Pair::AsTextOf => has(found, "as") && has(found, "text-of"),
+    match one {
+        Some(one) => match other {
+            Some(other) => Some((one, other)),
+            None => None,
+        },
+        None => None,
     }
 }
 
-/// A word too many: the third behind an image whose blocks are got, the last where `--at` stands for a name, or the second file where
+/// What the argument of a name is called in refusals, if it was given.
+fn shown_in(found: &ArgMatches<'_>, rows: &'static [Argument], id: &str) -> Option<&'static str>
+    ensures { option_map (λ text. text.now) result
+        ≡ spec.shown_in (map row_of rows.now) id.now (rows_of (found_of found.now)) }
+{
+    for row in rows {
+        if row.id == id {
+            return shown_of(found, row);
+        }
+    }
+    None
+}
+
+/// What an argument is called in refusals, if it was given.
+fn shown_of(found: &ArgMatches<'_>, row: &'static Argument) -> Option<&'static str>
+    ensures { option_map (λ text. text.now) result ≡ spec.shown_of (row_of row.now) (rows_of (found_of found.now)) }
+{
+    if is_given(found, row.id, row.kind) {
+        return Some(row.shown);
+    }
+    None
+}
+
+/// Whether an argument of a kind was given.
+fn is_given(found: &ArgMatches<'_>, id: &str, kind: Kind) -> bool
+    ensures { result ≡ spec.is_given id.now kind (rows_of (found_of found.now)) }
+{
+    match kind {
+        Kind::Flag => is_set(found, id),
+        Kind::Word
+        | Kind::Words(_)
+        | Kind::Size
+        | Kind::Value
+        | Kind::Values
+        | Kind::Count
+        | Kind::Cell
+        | Kind::Cells
+        | Kind::Octal
+        | Kind::Octals
+        | Kind::Volume
+        | Kind::Block
+        | Kind::Blocks => has(found, id),
+    }
+}
+
+/// A value that is none of its argument's kind: the argument, what is wrong with the value, and the value.
+type Bad<'a> = (&'static str, &'static str, &'a str);
+
+/// The first value of a subcommand that is none of its argument's kind.
+fn bad_value<'a>(found: &ArgMatches<'a>, verb: Verb) -> Option<Bad<'a>>
+    ensures { option_map (λ bad. (bad.0.now, bad.1.now, bad.2.now)) result
+        ≡ spec.first_bad (rows_for verb) (rows_of (found_of found.now)) }
+{
+    first_bad(found, arguments_of(verb))
+}
+
+/// The first value of these arguments that is none of its kind.
+fn first_bad<'a>(found: &ArgMatches<'a>, rows: &'static [Argument]) -> Option<Bad<'a>>
+    ensures { option_map (λ bad. (bad.0.now, bad.1.now, bad.2.now)) result
+        ≡ spec.first_bad (map row_of rows.now) (rows_of (found_of found.now)) }
+{
+    for row in rows {
+        if let Some(text) = first_of(texts_in(found, row.id), row.kind) {
+            return Some((row.shown, why(row.kind), text));
+        }
+    }
+    None
+}
+
+/// The first of texts that is none of a kind.
+fn first_of<'a>(texts: &[&'a str], kind: Kind) -> Option<&'a str>
+    ensures { option_map (λ text. text.now) result ≡ first_not (test_of kind) (map (λ text. text.now) texts.now) }
+{
+    for text in texts {
+        if !is_of(kind, text) {
+            return Some(*text);
+        }
+    }
+    None
+}
+
+/// Whether a text is of a kind.
+fn is_of(kind: Kind, text: &str) -> bool
+    ensures { result ≡ passes (test_of kind) text.now }
+{
+    match kind {
+        Kind::Cell | Kind::Cells => octal_cell(text.as_bytes()).is_some(),
+        Kind::Octal | Kind::Octals => octal_word(text.as_bytes()).is_some(),
+        Kind::Block | Kind::Blocks => number_in(text.as_bytes(), 0, MOST_BLOCKS).is_some(),
+        Kind::Volume => text == "1" || text == "2",
+        Kind::Word
+        | Kind::Words(_)
+        | Kind::Size
+        | Kind::Flag
+        | Kind::Value
+        | Kind::Values
+        | Kind::Count => true,
+    }
+}
+
+/// What is wrong with a value that is none of a kind.
+fn why(kind: Kind) -> &'static str
+    ensures { result.now ≡ spec.why kind }
+{
+    match kind {
+        Kind::Cell | Kind::Cells => "not five octal digits, a field and an address",
+        Kind::Octal | Kind::Octals => "not four octal digits",
+        Kind::Block | Kind::Blocks => "not a block, 0 to 4095",
+        Kind::Volume => "not 1 or 2",
+        Kind::Word
+        | Kind::Words(_)
+        | Kind::Size
+        | Kind::Flag
+        | Kind::Value
+        | Kind::Values
+        | Kind::Count => "not a value of it",
+    }
+}
+
+/// The number of the two of `get --blocks` that is none.
+fn bad_block<'a>(found: &ArgMatches<'a>, verb: Verb) -> Option<Bad<'a>>
+    ensures { option_map (λ bad. (bad.0.now, bad.1.now, bad.2.now)) result
+        ≡ spec.bad_block verb (rows_of (found_of found.now)) }
+{
+    if !gets_blocks(found, verb) {
+        return None;
+    }
+    let first = blocks_word(found, 0);
+    if number_in(first.as_bytes(), 0, 4094).is_none() {
+        return Some(("<FIRST>", "not a block, 0 to 4094", first));
+    }
+    let count = blocks_word(found, 1);
+    if number_in(count.as_bytes(), 1, MOST_BLOCKS).is_none() {
+        return Some(("<COUNT>", "not a number of blocks, 1 to 4095", count));
+    }
+    None
+}
+
+/// Whether blocks are got.
+fn gets_blocks(found: &ArgMatches<'_>, verb: Verb) -> bool
+    ensures { result ≡ spec.gets_blocks verb (rows_of (found_of found.now)) }
+{
+    match verb {
+        Verb::Get => is_set(found, "blocks"),
+        Verb::Tape
+        | Verb::Rim
+        | Verb::Source
+        | Verb::Assemble
+        | Verb::Teletype
+        | Verb::Trace
+        | Verb::Profile
+        | Verb::Run
+        | Verb::Create
+        | Verb::List
+        | Verb::Put
+        | Verb::Delete
+        | Verb::Rename
+        | Verb::Copy
+        | Verb::Squeeze
+        | Verb::Check => false,
+    }
+}
+
+/// An argument after the image, an empty text where there is none.
+pub fn blocks_word<'a>(found: &ArgMatches<'a>, index: usize) -> &'a str
+    ensures { result.now ≡ spec.blocks_word index (rows_of (found_of found.now)) }
+{
+    match word_at(found, "NAME", index) {
+        Some(text) => text,
+        None => "",
+    }
+}
+
+/// An argument too many: the third after an image whose blocks are got, the last where `--at` stands for a name, or the second file where
 /// one is given a name.
 fn unexpected_of<'a>(found: &ArgMatches<'a>) -> Option<&'a str>
     ensures { option_map (λ text. text.now) result ≡ spec.unexpected_of (rows_of (found_of found.now)) }
@@ -137,139 +275,41 @@ fn unexpected_of<'a>(found: &ArgMatches<'a>) -> Option<&'a str>
     None
 }
 
-/// What an option gives that is the number of no volume.
-fn no_volume<'a>(found: &ArgMatches<'a>, id: &str) -> Option<&'a str>
-    ensures { option_map (λ text. text.now) result
-        ≡ found_spec.no_volume id.now (rows_of (found_of found.now)) }
+/// Whether standard input is named twice among sources.
+fn names_input_twice(found: &ArgMatches<'_>, verb: Verb) -> bool
+    ensures { result ≡ spec.names_input_twice verb (rows_of (found_of found.now)) }
 {
-    match text_of(found, id) {
-        Some(text) if text != "1" && text != "2" => Some(text),
-        _ => None,
+    match verb {
+        Verb::Assemble => input_count(texts_in(found, "FILE")) > 1,
+        Verb::Tape
+        | Verb::Rim
+        | Verb::Source
+        | Verb::Teletype
+        | Verb::Trace
+        | Verb::Profile
+        | Verb::Run
+        | Verb::Create
+        | Verb::List
+        | Verb::Get
+        | Verb::Put
+        | Verb::Delete
+        | Verb::Rename
+        | Verb::Copy
+        | Verb::Squeeze
+        | Verb::Check => false,
     }
 }
 
-/// What is missing of a new volume: its size.
-pub fn create_missing(found: &ArgMatches<'_>) -> Option<What>
-    ensures { result ≡ missing_of verb.Create (rows_of (found_of found.now)) }
+/// How many of the names are that of standard input.
+fn input_count(names: &[&str]) -> usize
+    ensures value { result ≡ spec.input_count (map (λ name. name.now) names.now) }
+    ensures range { result ≤ length names.now }
 {
-    if has(found, "BLOCKS") || is_set(found, "dectape") {
-        return None;
-    }
-    Some(What::Blocks)
-}
-
-/// What is missing where files are got.
-pub fn get_missing(found: &ArgMatches<'_>) -> Option<What>
-    ensures { result ≡ missing_of verb.Get (rows_of (found_of found.now)) }
-{
-    if is_set(found, "blocks") {
-        return blocks_missing(found);
-    }
-    if !names_some(found) {
-        return Some(What::Name);
-    }
-    if has(found, "into") || names_one(found) {
-        return None;
-    }
-    Some(What::Into)
-}
-
-/// What is missing where blocks are got.
-fn blocks_missing(found: &ArgMatches<'_>) -> Option<What>
-    ensures { result ≡ spec.blocks_missing (rows_of (found_of found.now)) }
-{
-    if !has(found, "NAME") {
-        return Some(What::FirstAndCount);
-    }
-    if word_at(found, "NAME", 1).is_none() {
-        return Some(What::Count);
-    }
-    None
-}
-
-/// Whether a file is named.
-fn names_some(found: &ArgMatches<'_>) -> bool
-    ensures { result ≡ spec.names_some (rows_of (found_of found.now)) }
-{
-    is_set(found, "all") || has(found, "NAME") || has(found, "at")
-}
-
-/// Whether one file is named, and nothing is said of several.
-fn names_one(found: &ArgMatches<'_>) -> bool
-    ensures { result ≡ spec.names_one (rows_of (found_of found.now)) }
-{
-    let is_one = is_alone(found, "NAME", "at") || is_alone(found, "at", "NAME");
-    is_one && !is_set(found, "all") && !is_set(found, "force") && !has(found, "text-of")
-}
-
-/// Whether an argument has one value, and another none.
-fn is_alone(found: &ArgMatches<'_>, id: &str, other: &str) -> bool
-    ensures { result ≡ spec.is_alone id.now other.now (rows_of (found_of found.now)) }
-{
-    has(found, id) && word_at(found, id, 1).is_none() && !has(found, other)
-}
-
-/// What is missing where files are put: a name for standard input.
-pub fn put_missing(found: &ArgMatches<'_>) -> Option<What>
-    ensures { result ≡ missing_of verb.Put (rows_of (found_of found.now)) }
-{
-    if puts_many(found) && puts_input(found) {
-        return Some(What::As);
-    }
-    None
-}
-
-/// Whether files of the host are put under their own names.
-pub fn puts_many(found: &ArgMatches<'_>) -> bool
-    ensures { result ≡ spec.puts_many (rows_of (found_of found.now)) }
-{
-    !has(found, "as")
-}
-
-/// Whether standard input is among the files that are put.
-fn puts_input(found: &ArgMatches<'_>) -> bool
-    ensures { result ≡ names_input (found_spec.values_of (codes "FILE") (rows_of (found_of found.now))) }
-{
-    match found.get_strs("FILE") {
-        Some(names) => has_input(names),
-        None => false,
-    }
-}
-
-/// Whether standard input is among these files.
-fn has_input(names: &[&str]) -> bool
-    ensures { result ≡ names_input (map (λ name. name.now) names.now) }
-{
+    let mut count = 0;
     for name in names {
         if *name == "-" {
-            return true;
+            count += 1;
         }
     }
-    false
-}
-
-/// What is missing where files are taken out.
-pub fn delete_missing(found: &ArgMatches<'_>) -> Option<What>
-    ensures { result ≡ missing_of verb.Delete (rows_of (found_of found.now)) }
-{
-    if has(found, "NAME") || has(found, "at") {
-        return None;
-    }
-    Some(What::Name)
-}
-
-/// What is missing of a file and the word behind it, which stands in the place of the name where `--at` tells the file.
-pub fn moved_missing(found: &ArgMatches<'_>, id: &str, one: What, both: What) -> Option<What>
-    ensures { result ≡ spec.moved_missing id.now one both (rows_of (found_of found.now)) }
-{
-    if !has(found, "NAME") {
-        if has(found, "at") {
-            return Some(one);
-        }
-        return Some(both);
-    }
-    if has(found, "at") || has(found, id) {
-        return None;
-    }
-    Some(one)
+    count
 }

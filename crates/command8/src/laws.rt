@@ -1,5 +1,5 @@
 //! What plain command lines ask for.
-ghost use Rattle.std.specs.Prelude.{◌≡◌, ◌∷◌, [], ℕ, List, codes, false, true, None, Some};
+ghost use Rattle.std.specs.Prelude.{◌≡◌, ◌∷◌, [], ℕ, List, codes, false, map, true, None, Some};
 ghost use Rattle.clap.specs.Words.{IsUnsignedIn};
 ghost use Rattle.task8.specs.declared.tasks.RimForm.TheVariants.{Lines, Bin};
 ghost use Rattle.task8.specs.declared.tasks.Saving.TheVariants.{AtEnd, Never, Always};
@@ -9,11 +9,12 @@ ghost use Rattle.disk8.specs.declared.layouts.Layout.{Layout};
 ghost use Rattle.disk8.specs.declared.layouts.Layout.TheVariants.{Dectape};
 ghost use Rattle.word12.specs.Octal.{octal_of};
 ghost use Rattle.word12.specs.declared.sizes.TheConstants.{MOST_BLOCKS};
-ghost use Rattle.command8.specs.Found.{number_in, place_of};
+ghost use Rattle.command8.specs.Found.{number_in, number_of, place_of};
+ghost use Rattle.command8.specs.Tables.{are_distinct, pairs, table};
 ghost use Rattle.command8.specs.Tasks.{IsAssembleOf, IsAt, IsCheckOf, IsCopyOf, IsCreateOf, IsCreateTapeOf, IsDeleteOf, IsGetBinOf};
 ghost use Rattle.command8.specs.Tasks.{IsGetBlocksOf, IsGetManyOf, IsGetOf, IsListLongOf, IsListOf, IsNamed, IsPlain, IsProfileOf};
 ghost use Rattle.command8.specs.Tasks.{IsPutManyOf, IsPutOf, IsRenameOf, IsRimOf, IsRunOf, IsSourceOf, IsSqueezeOf, IsTakenAs, IsTape};
-ghost use Rattle.command8.specs.Tasks.{IsTeletypeOf, IsTraceOf, IsVolume, number_of};
+ghost use Rattle.command8.specs.Tasks.{IsTeletypeOf, IsTraceOf, IsVolume};
 
 /// A law: plain command lines are taken, and ask for what they say; a run that is both to look and to keep asks for no task (this
 /// project's profile). A word that names a file or gives a number is plain where it begins with no hyphen.
@@ -196,4 +197,14 @@ pub fn plain_words()
     ensures check_dectape { (name image : List ℕ) → IsPlain image
         → IsTakenAs (name ∷ codes "check" ∷ image ∷ codes "--dectape" ∷ [])
         (IsCheckOf (image ∷ []) (Some Dectape) false) }
+{}
+
+/// A law: no two subcommands share a name, and these arguments exclude each other.
+pub fn excluded_arguments()
+    ensures words { are_distinct (map (λ entry. entry.word) table) ≡ true }
+    ensures pairs { pairs ≡ (codes "volume", codes "dectape") ∷ (codes "to-volume", codes "to-dectape")
+        ∷ (codes "BLOCKS", codes "dectape") ∷ (codes "blocks", codes "at") ∷ (codes "blocks", codes "into")
+        ∷ (codes "blocks", codes "all") ∷ (codes "blocks", codes "force") ∷ (codes "blocks", codes "text-of")
+        ∷ (codes "blocks", codes "tape") ∷ (codes "blocks", codes "bin") ∷ (codes "tape", codes "into")
+        ∷ (codes "bin", codes "into") ∷ (codes "as", codes "text-of") ∷ (codes "look", codes "keep") ∷ [] }
 {}

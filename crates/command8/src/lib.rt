@@ -1,31 +1,26 @@
-//! What the words of the program's command line ask for, as the library `clap` reads them. No task is done here.
+//! What a command line asks of the program, as the library `clap` reads it: its subcommands and their arguments stand in one table. No task is
+//! done here.
 #![tactic(auto)]
 
-mod assembling;
-mod changes;
+mod build;
 mod faults;
-mod file_commands;
+mod files;
 mod found;
-mod getting;
 mod judging;
 mod laws;
-mod listings;
+mod lists;
+mod missing;
 mod numbers;
-mod parts;
-mod putting;
 mod refusals;
-mod runs;
+mod table;
 mod tapes;
 mod tasks;
-mod teletypes;
-mod traces;
-mod verbs;
-mod volume_words;
+mod texts;
 mod volumes;
 
-pub use faults::{Runner, TaskFault};
-pub use laws::plain_words;
-pub use refusals::{Pair, Place, Refusal, What};
-pub use runs::SCRIPT_LINES;
+pub use faults::TaskFault;
+pub use laws::{excluded_arguments, plain_words};
+pub use refusals::{Refusal, What};
+pub use table::{Argument, ArgumentOf, COMMANDS, Entry, EntryOf, Kind, PAIRS, Pair, Verb};
 pub use tasks::task;
-pub use verbs::Verb;
+pub use texts::SCRIPT_LINES;

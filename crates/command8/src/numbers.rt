@@ -1,5 +1,5 @@
 //! Decimal numbers of few digits.
-ghost use Rattle.std.specs.Prelude.{◌≡◌, ◌≤◌, IfSome, length};
+ghost use Rattle.std.specs.Prelude.{◌≡◌, ◌≤◌, true, is_some, IfSome, Some, length};
 ghost use Rattle.command8.specs.Found.{digits_from, number_of_digits};
 ghost use Rattle.command8.specs.Found as spec;
 
@@ -37,4 +37,16 @@ fn digits_value(digits: &[u8]) -> Option<usize>
         }
     }
     Some(value)
+}
+
+/// A decimal number of 1 to 4 digits, which is within these limits.
+pub fn number_of(digits: &[u8], least: usize, most: usize) -> usize
+    requires { is_some (spec.number_in least most digits.now) ≡ true }
+    ensures value { spec.number_in least most digits.now ≡ Some result }
+    ensures range { (least ≤ result) × (result ≤ most) }
+{
+    match number_in(digits, least, most) {
+        Some(number) => number,
+        None => unreachable!(),
+    }
 }

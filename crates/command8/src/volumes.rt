@@ -1,43 +1,95 @@
-//! The subcommand for a new volume.
-ghost use Rattle.std.specs.Prelude.{codes, IfOk};
+//! What is asked of volumes as a whole.
+ghost use Rattle.std.specs.Prelude.{◌≡◌, codes, true, IfOk, Some};
 ghost use Rattle.clap.specs.Words.{found_of, rows_of};
-ghost use Rattle.command8.specs.CommandSteps.{IsDraft};
-ghost use Rattle.command8.specs.Tasks.{create_app};
-ghost use Rattle.command8.specs.TaskSteps.{Gives, Needs};
-ghost use Rattle.command8.specs.declared.verbs.Verb.TheVariants as verb;
+ghost use Rattle.command8.specs.Found.{Has};
+ghost use Rattle.command8.specs.Tables.{kind_at, rows_for, takes_text};
+ghost use Rattle.command8.specs.Tasks.{IsImage};
+ghost use Rattle.command8.specs.Tasks as spec;
+ghost use Rattle.command8.specs.TaskSteps.{IsAskedBy, Needs};
+ghost use Rattle.command8.specs.declared.table.Kind.TheVariants as kind;
+ghost use Rattle.command8.specs.declared.table.Verb.TheVariants as verb;
 
-use crate::TaskFault;
-use crate::found::{blocks_of, value_of};
-use crate::judging::{create_missing, judged};
-use crate::parts::{Draft, blocks, flag, leaf, with_argument, with_image};
-use crate::verbs::Verb;
+use crate::found::{flag, layout_of, size_of, value_of, values_of};
+use crate::table::Verb;
 use clap::ArgMatches;
-use std::alloc::Global;
-use task8::Task;
+use std::alloc::{AllocError, Global};
+use task8::{CheckForm, ImageForm, RunForm, Saving, Task};
 
-pub fn create<'a>(alloc: Global) -> Draft<'a>
-    ensures { IsDraft result create_app }
+/// The volume that a subcommand works on.
+pub fn image_of(alloc: Global, found: &ArgMatches<'_>, verb: Verb) -> Result<ImageForm, AllocError>
+    requires image { takes_text (kind_at (codes "IMAGE") (rows_for verb)) ≡ true }
+    requires volume { kind_at (codes "volume") (rows_for verb) ≡ Some kind.Volume }
+    requires dectape { kind_at (codes "dectape") (rows_for verb) ≡ Some kind.Flag }
+    requires given { Has (codes "IMAGE") (rows_of (found_of found.now)) }
+    ensures { IfOk result (IsImage (rows_of (found_of found.now))) }
 {
-    let bare = leaf(
-        alloc,
-        "create",
-        "Write an empty volume",
-        "Writes an empty OS/8 volume of BLOCKS blocks of 512 bytes to the file IMAGE, in place of any{n}file of that name, and prints CREATED and the number of blocks. With --dectape the file is that of a{n}DECtape of 1474 blocks of 129 words.",
-    );
-    let command = with_argument(with_image(alloc, Ok(bare)), blocks(alloc));
-    let dectape = "Write the file of a DECtape";
-    with_argument(command, flag(alloc, "dectape", dectape))
+    let file = value_of(alloc, found, verb, "IMAGE")?;
+    let layout = layout_of(found, verb, "volume", "dectape");
+    Ok(ImageForm { file, layout })
+}
+
+/// The run of a script.
+pub fn run(alloc: Global, found: &ArgMatches<'_>) -> Result<Task, AllocError>
+    requires { Needs verb.Run (rows_of (found_of found.now)) }
+    ensures { IfOk result (IsAskedBy verb.Run (rows_of (found_of found.now))) }
+{
+    let image = image_of(alloc, found, Verb::Run)?;
+    let form = RunForm {
+        saving: saving(found),
+        is_strict: flag(found, Verb::Run, "strict"),
+    };
+    Ok(Task::Run(image, form))
+}
+
+/// When the image is written.
+fn saving(found: &ArgMatches<'_>) -> Saving
+    ensures { result ≡ spec.saving_of (rows_of (found_of found.now)) }
+{
+    if flag(found, Verb::Run, "look") {
+        return Saving::Never;
+    }
+    if flag(found, Verb::Run, "keep") {
+        return Saving::Always;
+    }
+    Saving::AtEnd
 }
 
 /// The new volume that is asked for.
-pub fn create_asked(alloc: Global, found: &ArgMatches<'_>) -> Result<Task, TaskFault>
+pub fn create(alloc: Global, found: &ArgMatches<'_>) -> Result<Task, AllocError>
     requires { Needs verb.Create (rows_of (found_of found.now)) }
-    ensures { Gives (codes "create") (rows_of (found_of found.now)) result }
+    ensures { IfOk result (IsAskedBy verb.Create (rows_of (found_of found.now))) }
 {
-    judged(alloc, found, Verb::Create, create_missing(found))?;
-    let image = value_of(alloc, found, "IMAGE")?;
-    match blocks_of(found) {
-        Some(blocks) => Ok(Task::Create(image, blocks)),
-        None => Ok(Task::CreateTape(image)),
+    let image = value_of(alloc, found, Verb::Create, "IMAGE")?;
+    if flag(found, Verb::Create, "dectape") {
+        return Ok(Task::CreateTape(image));
     }
+    match size_of(found, Verb::Create, "BLOCKS") {
+        Some(blocks) => Ok(Task::Create(image, blocks)),
+        None => unreachable!(),
+    }
+}
+
+/// The volume whose files are to be listed.
+pub fn list(alloc: Global, found: &ArgMatches<'_>) -> Result<Task, AllocError>
+    requires { Needs verb.List (rows_of (found_of found.now)) }
+    ensures { IfOk result (IsAskedBy verb.List (rows_of (found_of found.now))) }
+{
+    let image = image_of(alloc, found, Verb::List)?;
+    if flag(found, Verb::List, "long") {
+        return Ok(Task::ListLong(image));
+    }
+    Ok(Task::List(image))
+}
+
+/// The volumes that are to be checked.
+pub fn check(alloc: Global, found: &ArgMatches<'_>) -> Result<Task, AllocError>
+    requires { Needs verb.Check (rows_of (found_of found.now)) }
+    ensures { IfOk result (IsAskedBy verb.Check (rows_of (found_of found.now))) }
+{
+    let images = values_of(alloc, found, Verb::Check, "IMAGE")?;
+    Ok(Task::Check(CheckForm {
+        images,
+        layout: layout_of(found, Verb::Check, "volume", "dectape"),
+        is_all: flag(found, Verb::Check, "all"),
+    }))
 }

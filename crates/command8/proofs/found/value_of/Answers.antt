@@ -6,7 +6,7 @@ use Rattle.command8.proofs.found.value_of.Goals as goal
 pub unreachable-requires : goal.unreachable-requires
 unreachable-requires c =
     let none = ap (option_map (λ s. s.now)) (sym c.in-None.is) ∙ c.text_of.ensures in
-    true≢false (sym c.requires ∙ ap is_some (sym none))
+    true≢false (sym c.requires.given ∙ ap is_some (sym none))
 
 pub returns : goal.returns
 returns c =

@@ -1,10 +1,9 @@
-use Rattle.std.proofs.Common.{◌≡◌, drop}
-use Rattle.std.specs.Prelude.{find}
+use Rattle.std.proofs.Common.{◌≡◌, drop, map}
 use Rattle.clap.specs.Words.{found_of, rows_of}
-use Rattle.command8.specs.Refusals.{are_both}
+use Rattle.command8.specs.Refusals.{first_pair}
+use Rattle.command8.specs.Tables.{pair_of, row_of}
 use Rattle.command8.proofs.judging.first_pair.Given as goal
 
--- of none of those so far both were given
+-- of none of the pairs so far both were given
 abbrev pub invariant-loop-pair : goal.invariant-loop-pair
-invariant-loop-pair l =
-    find (λ pair. are_both pair (rows_of (found_of l.found))) (drop l.pair-index l.pairs) ≡ find (λ pair. are_both pair (rows_of (found_of l.found))) l.pairs
+invariant-loop-pair l = first_pair (map pair_of l.pairs) (map row_of l.rows) (rows_of (found_of l.found)) ≡ first_pair (map pair_of (drop l.pair-index l.pairs)) (map row_of l.rows) (rows_of (found_of l.found))

@@ -1,72 +1,459 @@
-use Rattle.command8.proofs.ChangeLemmas.{plain_copy, plain_copy_as, plain_copy_at, plain_copy_dectape, plain_delete, plain_delete_at, plain_delete_two, plain_rename, plain_rename_at}
-use Rattle.command8.proofs.FileLemmas.{plain_get_all, plain_get_at, plain_get_bin, plain_get_blocks, plain_get_frames, plain_get_into, plain_get_tape, plain_get_text, plain_put_as, plain_put_file, plain_put_files, plain_put_info, plain_put_input, plain_put_own, plain_put_text}
-use Rattle.command8.proofs.PlainLemmas.{plain_assemble, plain_assemble_input, plain_assemble_output, plain_assemble_two, plain_profile, plain_profile_file, plain_profile_keys, plain_rim, plain_rim_bin, plain_source, plain_source_file, plain_source_names, plain_source_start, plain_tape, plain_teletype, plain_teletype_file, plain_teletype_start, plain_trace, plain_trace_file, plain_trace_keys}
-use Rattle.command8.proofs.VolumeLemmas.{plain_check, plain_check_all, plain_check_dectape, plain_check_two, plain_check_volume, plain_create, plain_create_tape, plain_list, plain_list_dectape, plain_list_long, plain_list_volume, plain_run, plain_run_both, plain_run_dectape, plain_run_keep, plain_run_look, plain_run_strict, plain_run_volume, plain_squeeze}
+use Rattle.std.proofs.Common.{◌≡◌, ◌∙◌, ◌&&◌, codes, true, false, refl, sym, ap, [], ◌∷◌, Some, None}
+use Rattle.clap.proofs.ValueTestLemmas.{Accepts-accepts}
+use Rattle.clap.specs.Words.{Text}
+use Rattle.clap.specs.declared.builder.value_parser.ValueParser.TheVariants.{Unsigned}
+use Rattle.char_pack.specs.declared.forms.GetForm.TheVariants as get_as
+use Rattle.char_pack.specs.declared.forms.PutForm.TheVariants as put_as
+use Rattle.disk8.specs.declared.layouts.Layout.TheVariants.{Dectape}
+use Rattle.task8.specs.declared.tasks.RimForm.TheVariants.{Lines, Bin}
+use Rattle.task8.specs.declared.tasks.Saving.TheVariants.{AtEnd, Never, Always}
+use Rattle.word12.specs.Octal.{octal_of}
+use Rattle.word12.specs.declared.sizes.TheConstants.{MOST_BLOCKS}
+use Rattle.command8.specs.Found.{number_of}
+use Rattle.command8.specs.Refusals.{together}
+use Rattle.command8.specs.Tasks.{IsAssembleOf, IsAt, IsCheckOf, IsCopyOf, IsCreateOf, IsCreateTapeOf, IsDeleteOf, IsGetBinOf, IsGetBlocksOf, IsGetManyOf, IsGetOf, IsListLongOf, IsListOf, IsNamed, IsProfileOf, IsPutManyOf, IsPutOf, IsRenameOf, IsRimOf, IsRunOf, IsSourceOf, IsSqueezeOf, IsTape, IsTeletypeOf, IsTraceOf}
+use Rattle.command8.proofs.AskLemmas.{asks_assemble, asks_check, asks_copy, asks_create, asks_create_tape, asks_delete, asks_get, asks_get_bin, asks_get_blocks, asks_get_many, asks_list, asks_list_long, asks_put, asks_put_many, asks_rename, asks_rim, asks_run, asks_squeeze, asks_tape, named_file, no_info, no_numbers, no_octal, no_value, number_plain, one_info, one_number, placed_file, profile_asked, read_given, source_asked, teletype_asked, trace_asked, traced, volume_told, word_plain}
+use Rattle.command8.proofs.EnteredLemmas.{a_flag, a_value, a_word, entered_as, found_by}
+use Rattle.command8.proofs.NumberLemmas.{some_none}
+use Rattle.command8.proofs.UseLemmas.{no_option}
 use Rattle.command8.proofs.laws.plain_words.Goals as goal
 
-pub returns : goal.returns
-returns c = record {
-  tape = plain_tape;
-  rim = plain_rim;
-  rim_bin = plain_rim_bin;
-  source = plain_source;
-  source_file = plain_source_file;
-  source_start = plain_source_start;
-  source_names = plain_source_names;
-  run = plain_run;
-  run_look = plain_run_look;
-  run_keep = plain_run_keep;
-  run_strict = plain_run_strict;
-  run_both = plain_run_both;
-  run_volume = plain_run_volume;
-  run_dectape = plain_run_dectape;
-  create = plain_create;
-  create_tape = plain_create_tape;
-  list = plain_list;
-  list_long = plain_list_long;
-  list_volume = plain_list_volume;
-  list_dectape = plain_list_dectape;
-  get = plain_get_frames;
-  get_text = plain_get_text;
-  get_tape = plain_get_tape;
-  get_bin = plain_get_bin;
-  get_at = plain_get_at;
-  get_into = plain_get_into;
-  get_all = plain_get_all;
-  get_blocks = plain_get_blocks;
-  put = plain_put_own;
-  put_as = plain_put_as;
-  put_input = plain_put_input;
-  put_text = plain_put_text;
-  put_info = plain_put_info;
-  put_two = plain_put_files;
-  put_files = plain_put_file;
-  delete = plain_delete;
-  delete_two = plain_delete_two;
-  delete_at = plain_delete_at;
-  rename = plain_rename;
-  rename_at = plain_rename_at;
-  copy = plain_copy;
-  copy_as = plain_copy_as;
-  copy_at = plain_copy_at;
-  copy_dectape = plain_copy_dectape;
-  squeeze = plain_squeeze;
-  assemble = plain_assemble;
-  assemble_input = plain_assemble_input;
-  assemble_two = plain_assemble_two;
-  assemble_output = plain_assemble_output;
-  teletype = plain_teletype;
-  teletype_file = plain_teletype_file;
-  teletype_start = plain_teletype_start;
-  trace = plain_trace;
-  trace_file = plain_trace_file;
-  trace_keys = plain_trace_keys;
-  profile = plain_profile;
-  profile_file = plain_profile_file;
-  profile_keys = plain_profile_keys;
-  check = plain_check;
-  check_two = plain_check_two;
-  check_all = plain_check_all;
-  check_volume = plain_check_volume;
-  check_dectape = plain_check_dectape;
-}
+pub returns-clause-tape : goal.returns-clause-tape
+returns-clause-tape c = λ name.
+    let uses = [] in
+    let rows = found_by (codes "tape") uses in
+    entered_as (codes "tape") uses IsTape refl refl (record { pass = tt; settles = refl; defaults = refl; valid = refl }) name
+    (λ task seen asks. asks_tape rows task seen asks.1)
+
+pub returns-clause-rim : goal.returns-clause-rim
+returns-clause-rim c = λ name.
+    let uses = [] in
+    let rows = found_by (codes "rim") uses in
+    entered_as (codes "rim") uses (IsRimOf Lines) refl refl (record { pass = tt; settles = refl; defaults = refl; valid = refl }) name
+    (λ task seen asks. asks_rim Lines rows refl task seen asks.1)
+
+pub returns-clause-rim_bin : goal.returns-clause-rim_bin
+returns-clause-rim_bin c = λ name.
+    let uses = a_flag (codes "rim") (codes "bin") ∷ [] in
+    let rows = found_by (codes "rim") uses in
+    entered_as (codes "rim") uses (IsRimOf Bin) refl refl (record { pass = (record { read = refl; found = refl; takes_value = refl }, refl, tt); settles = refl; defaults = refl; valid = refl }) name
+    (λ task seen asks. asks_rim Bin rows refl task seen asks.1)
+
+pub returns-clause-source : goal.returns-clause-source
+returns-clause-source c = λ name.
+    let uses = [] in
+    let rows = found_by (codes "source") uses in
+    entered_as (codes "source") uses (IsSourceOf None None [] None) refl refl (record { pass = tt; settles = refl; defaults = refl; valid = refl }) name
+    (λ task seen asks. source_asked None None None [] rows refl no_numbers task seen asks.1)
+
+pub returns-clause-source_file : goal.returns-clause-source_file
+returns-clause-source_file c = λ name tape tape_is.
+    let uses = a_word (codes "source") (codes "TAPE") tape ∷ [] in
+    let rows = found_by (codes "source") uses in
+    entered_as (codes "source") uses (IsSourceOf (Some tape) None [] None) refl refl (record { pass = (no_option tape tape_is, record { found = refl; passes = refl; no_end = refl }, tt); settles = refl; defaults = refl; valid = refl }) name
+    (λ task seen asks. source_asked (Some tape) None None [] rows refl no_numbers task seen asks.1)
+
+pub returns-clause-source_start : goal.returns-clause-source_start
+returns-clause-source_start c = λ name start cell octal.
+    let uses = a_value (codes "source") (codes "start") start ∷ [] in
+    let rows = found_by (codes "source") uses in
+    entered_as (codes "source") uses (IsSourceOf None None (cell ∷ []) None) refl refl (record { pass = (no_option start (no_octal start cell octal), record { read = refl; found = refl; takes_value = refl }, record { own = refl; one = refl; passes = refl }, tt); settles = refl; defaults = refl; valid = refl }) name
+    (λ task seen asks. source_asked None None None (cell ∷ []) rows refl (λ given is. one_number cell given (ap (λ o. o ∷ []) (sym octal) ∙ is)) task seen asks.1)
+
+pub returns-clause-source_names : goal.returns-clause-source_names
+returns-clause-source_names c = λ name file file_is.
+    let uses = a_value (codes "source") (codes "names") file ∷ [] in
+    let rows = found_by (codes "source") uses in
+    entered_as (codes "source") uses (IsSourceOf None None [] (Some file)) refl refl (record { pass = (no_option file file_is, record { read = refl; found = refl; takes_value = refl }, record { own = refl; one = refl; passes = refl }, tt); settles = refl; defaults = refl; valid = refl }) name
+    (λ task seen asks. source_asked None None (Some file) [] rows refl no_numbers task seen asks.1)
+
+pub returns-clause-run : goal.returns-clause-run
+returns-clause-run c = λ name image image_is.
+    let uses = a_word (codes "run") (codes "IMAGE") image ∷ [] in
+    let rows = found_by (codes "run") uses in
+    entered_as (codes "run") uses (IsRunOf image None AtEnd false) refl refl (record { pass = (no_option image image_is, record { found = refl; passes = refl; no_end = refl }, tt); settles = refl; defaults = refl; valid = refl }) name
+    (λ task seen asks. asks_run image None AtEnd false rows refl task seen asks.1)
+
+pub returns-clause-run_look : goal.returns-clause-run_look
+returns-clause-run_look c = λ name image image_is.
+    let uses = a_word (codes "run") (codes "IMAGE") image ∷ a_flag (codes "run") (codes "look") ∷ [] in
+    let rows = found_by (codes "run") uses in
+    entered_as (codes "run") uses (IsRunOf image None Never false) refl refl (record { pass = (no_option image image_is, record { found = refl; passes = refl; no_end = refl }, (record { read = refl; found = refl; takes_value = refl }, refl, tt)); settles = refl; defaults = refl; valid = refl }) name
+    (λ task seen asks. asks_run image None Never false rows refl task seen asks.1)
+
+pub returns-clause-run_keep : goal.returns-clause-run_keep
+returns-clause-run_keep c = λ name image image_is.
+    let uses = a_word (codes "run") (codes "IMAGE") image ∷ a_flag (codes "run") (codes "keep") ∷ [] in
+    let rows = found_by (codes "run") uses in
+    entered_as (codes "run") uses (IsRunOf image None Always false) refl refl (record { pass = (no_option image image_is, record { found = refl; passes = refl; no_end = refl }, (record { read = refl; found = refl; takes_value = refl }, refl, tt)); settles = refl; defaults = refl; valid = refl }) name
+    (λ task seen asks. asks_run image None Always false rows refl task seen asks.1)
+
+pub returns-clause-run_strict : goal.returns-clause-run_strict
+returns-clause-run_strict c = λ name image image_is.
+    let uses = a_word (codes "run") (codes "IMAGE") image ∷ a_flag (codes "run") (codes "strict") ∷ [] in
+    let rows = found_by (codes "run") uses in
+    entered_as (codes "run") uses (IsRunOf image None AtEnd true) refl refl (record { pass = (no_option image image_is, record { found = refl; passes = refl; no_end = refl }, (record { read = refl; found = refl; takes_value = refl }, refl, tt)); settles = refl; defaults = refl; valid = refl }) name
+    (λ task seen asks. asks_run image None AtEnd true rows refl task seen asks.1)
+
+pub returns-clause-run_both : goal.returns-clause-run_both
+returns-clause-run_both c = λ name image image_is.
+    let uses = a_word (codes "run") (codes "IMAGE") image ∷ a_flag (codes "run") (codes "look") ∷ a_flag (codes "run") (codes "keep") ∷ [] in
+    entered_as (codes "run") uses (λ task. ⊥) refl refl (record { pass = (no_option image image_is, record { found = refl; passes = refl; no_end = refl }, (record { read = refl; found = refl; takes_value = refl }, refl, (record { read = refl; found = refl; takes_value = refl }, refl, tt))); settles = refl; defaults = refl; valid = refl }) name
+    (λ task seen asks. some_none (together (codes "--look") (codes "--keep")) asks.0)
+
+pub returns-clause-run_volume : goal.returns-clause-run_volume
+returns-clause-run_volume c = λ name image text layout image_is is.
+    let uses = a_word (codes "run") (codes "IMAGE") image ∷ a_value (codes "run") (codes "volume") text ∷ [] in
+    let rows = found_by (codes "run") uses in
+    entered_as (codes "run") uses (IsRunOf image (Some layout) AtEnd false) refl refl (record { pass = (no_option image image_is, record { found = refl; passes = refl; no_end = refl }, ((volume_told text layout is).0, record { read = refl; found = refl; takes_value = refl }, record { own = refl; one = refl; passes = refl }, tt)); settles = refl; defaults = refl; valid = refl }) name
+    (λ task seen asks. asks_run image (Some layout) AtEnd false rows (ap (λ l. (Some image, Some l, AtEnd, false)) (volume_told text layout is).1) task seen asks.1)
+
+pub returns-clause-run_dectape : goal.returns-clause-run_dectape
+returns-clause-run_dectape c = λ name image image_is.
+    let uses = a_word (codes "run") (codes "IMAGE") image ∷ a_flag (codes "run") (codes "dectape") ∷ [] in
+    let rows = found_by (codes "run") uses in
+    entered_as (codes "run") uses (IsRunOf image (Some Dectape) AtEnd false) refl refl (record { pass = (no_option image image_is, record { found = refl; passes = refl; no_end = refl }, (record { read = refl; found = refl; takes_value = refl }, refl, tt)); settles = refl; defaults = refl; valid = refl }) name
+    (λ task seen asks. asks_run image (Some Dectape) AtEnd false rows refl task seen asks.1)
+
+pub returns-clause-create : goal.returns-clause-create
+returns-clause-create c = λ name image blocks image_is blocks_is fit.
+    let uses = a_word (codes "create") (codes "IMAGE") image ∷ a_word (codes "create") (codes "BLOCKS") blocks ∷ [] in
+    let rows = found_by (codes "create") uses in
+    entered_as (codes "create") uses (IsCreateOf image (number_of blocks)) refl refl (record { pass = (no_option image image_is, record { found = refl; passes = refl; no_end = refl }, (no_option blocks blocks_is, record { found = refl; passes = refl; no_end = refl }, tt)); settles = ap (λ b. b && true) (Accepts-accepts false (Unsigned 8 4095) blocks fit); defaults = refl; valid = refl }) name
+    (λ task seen asks. asks_create image blocks rows refl task seen asks.1)
+
+pub returns-clause-create_tape : goal.returns-clause-create_tape
+returns-clause-create_tape c = λ name image image_is.
+    let uses = a_word (codes "create") (codes "IMAGE") image ∷ a_flag (codes "create") (codes "dectape") ∷ [] in
+    let rows = found_by (codes "create") uses in
+    entered_as (codes "create") uses (IsCreateTapeOf image) refl refl (record { pass = (no_option image image_is, record { found = refl; passes = refl; no_end = refl }, (record { read = refl; found = refl; takes_value = refl }, refl, tt)); settles = refl; defaults = refl; valid = refl }) name
+    (λ task seen asks. asks_create_tape image rows refl task seen asks.1)
+
+pub returns-clause-list : goal.returns-clause-list
+returns-clause-list c = λ name image image_is.
+    let uses = a_word (codes "list") (codes "IMAGE") image ∷ [] in
+    let rows = found_by (codes "list") uses in
+    entered_as (codes "list") uses (IsListOf image None) refl refl (record { pass = (no_option image image_is, record { found = refl; passes = refl; no_end = refl }, tt); settles = refl; defaults = refl; valid = refl }) name
+    (λ task seen asks. asks_list image None rows refl task seen asks.1)
+
+pub returns-clause-list_long : goal.returns-clause-list_long
+returns-clause-list_long c = λ name image image_is.
+    let uses = a_word (codes "list") (codes "IMAGE") image ∷ a_flag (codes "list") (codes "long") ∷ [] in
+    let rows = found_by (codes "list") uses in
+    entered_as (codes "list") uses (IsListLongOf image None) refl refl (record { pass = (no_option image image_is, record { found = refl; passes = refl; no_end = refl }, (record { read = refl; found = refl; takes_value = refl }, refl, tt)); settles = refl; defaults = refl; valid = refl }) name
+    (λ task seen asks. asks_list_long image None rows refl task seen asks.1)
+
+pub returns-clause-list_volume : goal.returns-clause-list_volume
+returns-clause-list_volume c = λ name image text layout image_is is.
+    let uses = a_word (codes "list") (codes "IMAGE") image ∷ a_value (codes "list") (codes "volume") text ∷ [] in
+    let rows = found_by (codes "list") uses in
+    entered_as (codes "list") uses (IsListOf image (Some layout)) refl refl (record { pass = (no_option image image_is, record { found = refl; passes = refl; no_end = refl }, ((volume_told text layout is).0, record { read = refl; found = refl; takes_value = refl }, record { own = refl; one = refl; passes = refl }, tt)); settles = refl; defaults = refl; valid = refl }) name
+    (λ task seen asks. asks_list image (Some layout) rows (ap (λ l. (Some image, Some l, false)) (volume_told text layout is).1) task seen asks.1)
+
+pub returns-clause-list_dectape : goal.returns-clause-list_dectape
+returns-clause-list_dectape c = λ name image image_is.
+    let uses = a_word (codes "list") (codes "IMAGE") image ∷ a_flag (codes "list") (codes "dectape") ∷ [] in
+    let rows = found_by (codes "list") uses in
+    entered_as (codes "list") uses (IsListOf image (Some Dectape)) refl refl (record { pass = (no_option image image_is, record { found = refl; passes = refl; no_end = refl }, (record { read = refl; found = refl; takes_value = refl }, refl, tt)); settles = refl; defaults = refl; valid = refl }) name
+    (λ task seen asks. asks_list image (Some Dectape) rows refl task seen asks.1)
+
+pub returns-clause-get : goal.returns-clause-get
+returns-clause-get c = λ name image file image_is file_is.
+    let uses = a_word (codes "get") (codes "IMAGE") image ∷ a_word (codes "get") (codes "NAME") file ∷ [] in
+    let rows = found_by (codes "get") uses in
+    entered_as (codes "get") uses (IsGetOf image (IsNamed file) get_as.Frames) refl refl (record { pass = (no_option image image_is, record { found = refl; passes = refl; no_end = refl }, (no_option file file_is, record { found = refl; passes = refl; no_end = refl }, tt)); settles = refl; defaults = refl; valid = refl }) name
+    (λ task seen asks. asks_get image (IsNamed file) get_as.Frames rows refl refl (named_file file rows refl refl) task seen asks.1)
+
+pub returns-clause-get_text : goal.returns-clause-get_text
+returns-clause-get_text c = λ name image file image_is file_is.
+    let uses = a_word (codes "get") (codes "IMAGE") image ∷ a_word (codes "get") (codes "NAME") file ∷ a_flag (codes "get") (codes "text") ∷ [] in
+    let rows = found_by (codes "get") uses in
+    entered_as (codes "get") uses (IsGetOf image (IsNamed file) get_as.Text) refl refl (record { pass = (no_option image image_is, record { found = refl; passes = refl; no_end = refl }, (no_option file file_is, record { found = refl; passes = refl; no_end = refl }, (record { read = refl; found = refl; takes_value = refl }, refl, tt))); settles = refl; defaults = refl; valid = refl }) name
+    (λ task seen asks. asks_get image (IsNamed file) get_as.Text rows refl refl (named_file file rows refl refl) task seen asks.1)
+
+pub returns-clause-get_tape : goal.returns-clause-get_tape
+returns-clause-get_tape c = λ name image file image_is file_is.
+    let uses = a_word (codes "get") (codes "IMAGE") image ∷ a_word (codes "get") (codes "NAME") file ∷ a_flag (codes "get") (codes "tape") ∷ [] in
+    let rows = found_by (codes "get") uses in
+    entered_as (codes "get") uses (IsGetOf image (IsNamed file) get_as.Tape) refl refl (record { pass = (no_option image image_is, record { found = refl; passes = refl; no_end = refl }, (no_option file file_is, record { found = refl; passes = refl; no_end = refl }, (record { read = refl; found = refl; takes_value = refl }, refl, tt))); settles = refl; defaults = refl; valid = refl }) name
+    (λ task seen asks. asks_get image (IsNamed file) get_as.Tape rows refl refl (named_file file rows refl refl) task seen asks.1)
+
+pub returns-clause-get_bin : goal.returns-clause-get_bin
+returns-clause-get_bin c = λ name image file image_is file_is.
+    let uses = a_word (codes "get") (codes "IMAGE") image ∷ a_word (codes "get") (codes "NAME") file ∷ a_flag (codes "get") (codes "bin") ∷ [] in
+    let rows = found_by (codes "get") uses in
+    entered_as (codes "get") uses (IsGetBinOf image file) refl refl (record { pass = (no_option image image_is, record { found = refl; passes = refl; no_end = refl }, (no_option file file_is, record { found = refl; passes = refl; no_end = refl }, (record { read = refl; found = refl; takes_value = refl }, refl, tt))); settles = refl; defaults = refl; valid = refl }) name
+    (λ task seen asks. asks_get_bin image file rows refl refl refl task seen asks.1)
+
+pub returns-clause-get_at : goal.returns-clause-get_at
+returns-clause-get_at c = λ name image place n image_is read.
+    let uses = a_word (codes "get") (codes "IMAGE") image ∷ a_value (codes "get") (codes "at") place ∷ [] in
+    let rows = found_by (codes "get") uses in
+    entered_as (codes "get") uses (IsGetOf image (IsAt n) get_as.Frames) refl refl (record { pass = (no_option image image_is, record { found = refl; passes = refl; no_end = refl }, (no_option place (number_plain 0 MOST_BLOCKS place n read), record { read = refl; found = refl; takes_value = refl }, record { own = refl; one = refl; passes = refl }, tt)); settles = refl; defaults = refl; valid = refl }) name
+    (λ task seen asks. asks_get image (IsAt n) get_as.Frames rows refl refl (placed_file place n rows refl read) task seen asks.1)
+
+pub returns-clause-get_into : goal.returns-clause-get_into
+returns-clause-get_into c = λ name image file folder image_is file_is folder_is.
+    let uses = a_word (codes "get") (codes "IMAGE") image ∷ a_word (codes "get") (codes "NAME") file ∷ a_value (codes "get") (codes "into") folder ∷ [] in
+    let rows = found_by (codes "get") uses in
+    entered_as (codes "get") uses (IsGetManyOf image (file ∷ []) false folder) refl refl (record { pass = (no_option image image_is, record { found = refl; passes = refl; no_end = refl }, (no_option file file_is, record { found = refl; passes = refl; no_end = refl }, (no_option folder folder_is, record { read = refl; found = refl; takes_value = refl }, record { own = refl; one = refl; passes = refl }, tt))); settles = refl; defaults = refl; valid = refl }) name
+    (λ task seen asks. asks_get_many image (file ∷ []) false folder rows refl refl task seen asks.1)
+
+pub returns-clause-get_all : goal.returns-clause-get_all
+returns-clause-get_all c = λ name image folder image_is folder_is.
+    let uses = a_word (codes "get") (codes "IMAGE") image ∷ a_flag (codes "get") (codes "all") ∷ a_value (codes "get") (codes "into") folder ∷ [] in
+    let rows = found_by (codes "get") uses in
+    entered_as (codes "get") uses (IsGetManyOf image [] true folder) refl refl (record { pass = (no_option image image_is, record { found = refl; passes = refl; no_end = refl }, (record { read = refl; found = refl; takes_value = refl }, refl, (no_option folder folder_is, record { read = refl; found = refl; takes_value = refl }, record { own = refl; one = refl; passes = refl }, tt))); settles = refl; defaults = refl; valid = refl }) name
+    (λ task seen asks. asks_get_many image [] true folder rows refl refl task seen asks.1)
+
+pub returns-clause-get_blocks : goal.returns-clause-get_blocks
+returns-clause-get_blocks c = λ name image first count n m image_is one two.
+    let uses = a_word (codes "get") (codes "IMAGE") image ∷ a_flag (codes "get") (codes "blocks") ∷ a_word (codes "get") (codes "NAME") first ∷ a_word (codes "get") (codes "NAME") count ∷ [] in
+    let rows = found_by (codes "get") uses in
+    entered_as (codes "get") uses (IsGetBlocksOf image n m get_as.Frames) refl refl (record { pass = (no_option image image_is, record { found = refl; passes = refl; no_end = refl }, (record { read = refl; found = refl; takes_value = refl }, refl, (no_option first (number_plain 0 4094 first n one), record { found = refl; passes = refl; no_end = refl }, (no_option count (number_plain 1 MOST_BLOCKS count m two), record { found = refl; passes = refl; no_end = refl }, tt)))); settles = refl; defaults = refl; valid = refl }) name
+    (λ task seen asks. asks_get_blocks image n m rows refl one two refl task seen asks.1)
+
+pub returns-clause-put : goal.returns-clause-put
+returns-clause-put c = λ name image file image_is file_is.
+    let uses = a_word (codes "put") (codes "IMAGE") image ∷ a_word (codes "put") (codes "FILE") file ∷ [] in
+    let rows = found_by (codes "put") uses in
+    entered_as (codes "put") uses (IsPutManyOf image (file ∷ [])) refl refl (record { pass = (no_option image image_is, record { found = refl; passes = refl; no_end = refl }, (no_option file file_is, record { found = refl; passes = refl; no_end = refl }, tt)); settles = refl; defaults = refl; valid = refl }) name
+    (λ task seen asks. asks_put_many image file (file ∷ []) rows refl refl task seen asks.1)
+
+pub returns-clause-put_as : goal.returns-clause-put_as
+returns-clause-put_as c = λ name image file member image_is file_is member_is.
+    let uses = a_word (codes "put") (codes "IMAGE") image ∷ a_word (codes "put") (codes "FILE") file ∷ a_value (codes "put") (codes "as") member ∷ [] in
+    let rows = found_by (codes "put") uses in
+    entered_as (codes "put") uses (IsPutOf image file member put_as.Frames None) refl refl (record { pass = (no_option image image_is, record { found = refl; passes = refl; no_end = refl }, (no_option file file_is, record { found = refl; passes = refl; no_end = refl }, (no_option member member_is, record { read = refl; found = refl; takes_value = refl }, record { own = refl; one = refl; passes = refl }, tt))); settles = refl; defaults = refl; valid = refl }) name
+    (λ task seen asks. asks_put image file member put_as.Frames None rows refl refl no_info task seen asks.1)
+
+pub returns-clause-put_input : goal.returns-clause-put_input
+returns-clause-put_input c = λ name image member image_is member_is.
+    let uses = a_word (codes "put") (codes "IMAGE") image ∷ a_word (codes "put") (codes "FILE") (codes "-") ∷ a_value (codes "put") (codes "as") member ∷ [] in
+    let rows = found_by (codes "put") uses in
+    entered_as (codes "put") uses (IsPutOf image (codes "-") member put_as.Frames None) refl refl (record { pass = (no_option image image_is, record { found = refl; passes = refl; no_end = refl }, (record { no_long = refl; no_short = refl; no_dashes = refl }, record { found = refl; passes = refl; no_end = refl }, (no_option member member_is, record { read = refl; found = refl; takes_value = refl }, record { own = refl; one = refl; passes = refl }, tt))); settles = refl; defaults = refl; valid = refl }) name
+    (λ task seen asks. asks_put image (codes "-") member put_as.Frames None rows refl refl no_info task seen asks.1)
+
+pub returns-clause-put_text : goal.returns-clause-put_text
+returns-clause-put_text c = λ name image file member image_is file_is member_is.
+    let uses = a_word (codes "put") (codes "IMAGE") image ∷ a_word (codes "put") (codes "FILE") file ∷ a_value (codes "put") (codes "as") member ∷ a_flag (codes "put") (codes "text") ∷ [] in
+    let rows = found_by (codes "put") uses in
+    entered_as (codes "put") uses (IsPutOf image file member put_as.Text None) refl refl (record { pass = (no_option image image_is, record { found = refl; passes = refl; no_end = refl }, (no_option file file_is, record { found = refl; passes = refl; no_end = refl }, (no_option member member_is, record { read = refl; found = refl; takes_value = refl }, record { own = refl; one = refl; passes = refl }, (record { read = refl; found = refl; takes_value = refl }, refl, tt)))); settles = refl; defaults = refl; valid = refl }) name
+    (λ task seen asks. asks_put image file member put_as.Text None rows refl refl no_info task seen asks.1)
+
+pub returns-clause-put_info : goal.returns-clause-put_info
+returns-clause-put_info c = λ name image file member info n image_is file_is member_is read.
+    let uses = a_word (codes "put") (codes "IMAGE") image ∷ a_word (codes "put") (codes "FILE") file ∷ a_value (codes "put") (codes "as") member ∷ a_value (codes "put") (codes "info") info ∷ [] in
+    let rows = found_by (codes "put") uses in
+    entered_as (codes "put") uses (IsPutOf image file member put_as.Frames (Some (n ∷ []))) refl refl (record { pass = (no_option image image_is, record { found = refl; passes = refl; no_end = refl }, (no_option file file_is, record { found = refl; passes = refl; no_end = refl }, (no_option member member_is, record { read = refl; found = refl; takes_value = refl }, record { own = refl; one = refl; passes = refl }, (no_option info (word_plain info n read), record { read = refl; found = refl; takes_value = refl }, record { own = refl; one = refl; passes = refl }, tt)))); settles = refl; defaults = refl; valid = refl }) name
+    (λ task seen asks. asks_put image file member put_as.Frames (Some (n ∷ [])) rows refl refl (one_info info n read) task seen asks.1)
+
+pub returns-clause-put_two : goal.returns-clause-put_two
+returns-clause-put_two c = λ name image file other image_is file_is other_is.
+    let uses = a_word (codes "put") (codes "IMAGE") image ∷ a_word (codes "put") (codes "FILE") file ∷ a_word (codes "put") (codes "FILE") other ∷ [] in
+    let rows = found_by (codes "put") uses in
+    entered_as (codes "put") uses (IsPutManyOf image (file ∷ other ∷ [])) refl refl (record { pass = (no_option image image_is, record { found = refl; passes = refl; no_end = refl }, (no_option file file_is, record { found = refl; passes = refl; no_end = refl }, (no_option other other_is, record { found = refl; passes = refl; no_end = refl }, tt))); settles = refl; defaults = refl; valid = refl }) name
+    (λ task seen asks. asks_put_many image file (file ∷ other ∷ []) rows refl refl task seen asks.1)
+
+pub returns-clause-put_files : goal.returns-clause-put_files
+returns-clause-put_files c = λ name image file image_is file_is.
+    let uses = a_word (codes "put") (codes "IMAGE") image ∷ a_flag (codes "put") (codes "files") ∷ a_word (codes "put") (codes "FILE") file ∷ [] in
+    let rows = found_by (codes "put") uses in
+    entered_as (codes "put") uses (IsPutManyOf image (file ∷ [])) refl refl (record { pass = (no_option image image_is, record { found = refl; passes = refl; no_end = refl }, (record { read = refl; found = refl; takes_value = refl }, refl, (no_option file file_is, record { found = refl; passes = refl; no_end = refl }, tt))); settles = refl; defaults = refl; valid = refl }) name
+    (λ task seen asks. asks_put_many image file (file ∷ []) rows refl refl task seen asks.1)
+
+pub returns-clause-delete : goal.returns-clause-delete
+returns-clause-delete c = λ name image file image_is file_is.
+    let uses = a_word (codes "delete") (codes "IMAGE") image ∷ a_word (codes "delete") (codes "NAME") file ∷ [] in
+    let rows = found_by (codes "delete") uses in
+    entered_as (codes "delete") uses (IsDeleteOf image (file ∷ []) []) refl refl (record { pass = (no_option image image_is, record { found = refl; passes = refl; no_end = refl }, (no_option file file_is, record { found = refl; passes = refl; no_end = refl }, tt)); settles = refl; defaults = refl; valid = refl }) name
+    (λ task seen asks. asks_delete image (file ∷ []) [] rows refl no_numbers task seen asks.1)
+
+pub returns-clause-delete_two : goal.returns-clause-delete_two
+returns-clause-delete_two c = λ name image file other image_is file_is other_is.
+    let uses = a_word (codes "delete") (codes "IMAGE") image ∷ a_word (codes "delete") (codes "NAME") file ∷ a_word (codes "delete") (codes "NAME") other ∷ [] in
+    let rows = found_by (codes "delete") uses in
+    entered_as (codes "delete") uses (IsDeleteOf image (file ∷ other ∷ []) []) refl refl (record { pass = (no_option image image_is, record { found = refl; passes = refl; no_end = refl }, (no_option file file_is, record { found = refl; passes = refl; no_end = refl }, (no_option other other_is, record { found = refl; passes = refl; no_end = refl }, tt))); settles = refl; defaults = refl; valid = refl }) name
+    (λ task seen asks. asks_delete image (file ∷ other ∷ []) [] rows refl no_numbers task seen asks.1)
+
+pub returns-clause-delete_at : goal.returns-clause-delete_at
+returns-clause-delete_at c = λ name image place n image_is read.
+    let uses = a_word (codes "delete") (codes "IMAGE") image ∷ a_value (codes "delete") (codes "at") place ∷ [] in
+    let rows = found_by (codes "delete") uses in
+    entered_as (codes "delete") uses (IsDeleteOf image [] (n ∷ [])) refl refl (record { pass = (no_option image image_is, record { found = refl; passes = refl; no_end = refl }, (no_option place (number_plain 0 MOST_BLOCKS place n read), record { read = refl; found = refl; takes_value = refl }, record { own = refl; one = refl; passes = refl }, tt)); settles = refl; defaults = refl; valid = refl }) name
+    (λ task seen asks. asks_delete image [] (n ∷ []) rows refl (λ given is. one_number n given (ap (λ o. o ∷ []) (sym read) ∙ is)) task seen asks.1)
+
+pub returns-clause-rename : goal.returns-clause-rename
+returns-clause-rename c = λ name image file new image_is file_is new_is.
+    let uses = a_word (codes "rename") (codes "IMAGE") image ∷ a_word (codes "rename") (codes "NAME") file ∷ a_word (codes "rename") (codes "NEW") new ∷ [] in
+    let rows = found_by (codes "rename") uses in
+    entered_as (codes "rename") uses (IsRenameOf image (IsNamed file) new) refl refl (record { pass = (no_option image image_is, record { found = refl; passes = refl; no_end = refl }, (no_option file file_is, record { found = refl; passes = refl; no_end = refl }, (no_option new new_is, record { found = refl; passes = refl; no_end = refl }, tt))); settles = refl; defaults = refl; valid = refl }) name
+    (λ task seen asks. asks_rename image (IsNamed file) new rows refl (named_file file rows refl refl) task seen asks.1)
+
+pub returns-clause-rename_at : goal.returns-clause-rename_at
+returns-clause-rename_at c = λ name image place new n image_is new_is read.
+    let uses = a_word (codes "rename") (codes "IMAGE") image ∷ a_value (codes "rename") (codes "at") place ∷ a_word (codes "rename") (codes "NAME") new ∷ [] in
+    let rows = found_by (codes "rename") uses in
+    entered_as (codes "rename") uses (IsRenameOf image (IsAt n) new) refl refl (record { pass = (no_option image image_is, record { found = refl; passes = refl; no_end = refl }, (no_option place (number_plain 0 MOST_BLOCKS place n read), record { read = refl; found = refl; takes_value = refl }, record { own = refl; one = refl; passes = refl }, (no_option new new_is, record { found = refl; passes = refl; no_end = refl }, tt))); settles = refl; defaults = refl; valid = refl }) name
+    (λ task seen asks. asks_rename image (IsAt n) new rows refl (placed_file place n rows refl read) task seen asks.1)
+
+pub returns-clause-copy : goal.returns-clause-copy
+returns-clause-copy c = λ name image file to image_is file_is to_is.
+    let uses = a_word (codes "copy") (codes "IMAGE") image ∷ a_word (codes "copy") (codes "NAME") file ∷ a_word (codes "copy") (codes "TO") to ∷ [] in
+    let rows = found_by (codes "copy") uses in
+    entered_as (codes "copy") uses (IsCopyOf image (IsNamed file) to None None) refl refl (record { pass = (no_option image image_is, record { found = refl; passes = refl; no_end = refl }, (no_option file file_is, record { found = refl; passes = refl; no_end = refl }, (no_option to to_is, record { found = refl; passes = refl; no_end = refl }, tt))); settles = refl; defaults = refl; valid = refl }) name
+    (λ task seen asks. asks_copy image (IsNamed file) to None None rows refl (named_file file rows refl refl) task seen asks.1)
+
+pub returns-clause-copy_as : goal.returns-clause-copy_as
+returns-clause-copy_as c = λ name image file to new image_is file_is to_is new_is.
+    let uses = a_word (codes "copy") (codes "IMAGE") image ∷ a_word (codes "copy") (codes "NAME") file ∷ a_word (codes "copy") (codes "TO") to ∷ a_word (codes "copy") (codes "NEW") new ∷ [] in
+    let rows = found_by (codes "copy") uses in
+    entered_as (codes "copy") uses (IsCopyOf image (IsNamed file) to None (Some new)) refl refl (record { pass = (no_option image image_is, record { found = refl; passes = refl; no_end = refl }, (no_option file file_is, record { found = refl; passes = refl; no_end = refl }, (no_option to to_is, record { found = refl; passes = refl; no_end = refl }, (no_option new new_is, record { found = refl; passes = refl; no_end = refl }, tt)))); settles = refl; defaults = refl; valid = refl }) name
+    (λ task seen asks. asks_copy image (IsNamed file) to None (Some new) rows refl (named_file file rows refl refl) task seen asks.1)
+
+pub returns-clause-copy_at : goal.returns-clause-copy_at
+returns-clause-copy_at c = λ name image place to n image_is to_is read.
+    let uses = a_word (codes "copy") (codes "IMAGE") image ∷ a_value (codes "copy") (codes "at") place ∷ a_word (codes "copy") (codes "NAME") to ∷ [] in
+    let rows = found_by (codes "copy") uses in
+    entered_as (codes "copy") uses (IsCopyOf image (IsAt n) to None None) refl refl (record { pass = (no_option image image_is, record { found = refl; passes = refl; no_end = refl }, (no_option place (number_plain 0 MOST_BLOCKS place n read), record { read = refl; found = refl; takes_value = refl }, record { own = refl; one = refl; passes = refl }, (no_option to to_is, record { found = refl; passes = refl; no_end = refl }, tt))); settles = refl; defaults = refl; valid = refl }) name
+    (λ task seen asks. asks_copy image (IsAt n) to None None rows refl (placed_file place n rows refl read) task seen asks.1)
+
+pub returns-clause-copy_dectape : goal.returns-clause-copy_dectape
+returns-clause-copy_dectape c = λ name image file to image_is file_is to_is.
+    let uses = a_word (codes "copy") (codes "IMAGE") image ∷ a_word (codes "copy") (codes "NAME") file ∷ a_word (codes "copy") (codes "TO") to ∷ a_flag (codes "copy") (codes "to-dectape") ∷ [] in
+    let rows = found_by (codes "copy") uses in
+    entered_as (codes "copy") uses (IsCopyOf image (IsNamed file) to (Some Dectape) None) refl refl (record { pass = (no_option image image_is, record { found = refl; passes = refl; no_end = refl }, (no_option file file_is, record { found = refl; passes = refl; no_end = refl }, (no_option to to_is, record { found = refl; passes = refl; no_end = refl }, (record { read = refl; found = refl; takes_value = refl }, refl, tt)))); settles = refl; defaults = refl; valid = refl }) name
+    (λ task seen asks. asks_copy image (IsNamed file) to (Some Dectape) None rows refl (named_file file rows refl refl) task seen asks.1)
+
+pub returns-clause-squeeze : goal.returns-clause-squeeze
+returns-clause-squeeze c = λ name image image_is.
+    let uses = a_word (codes "squeeze") (codes "IMAGE") image ∷ [] in
+    let rows = found_by (codes "squeeze") uses in
+    entered_as (codes "squeeze") uses (IsSqueezeOf image) refl refl (record { pass = (no_option image image_is, record { found = refl; passes = refl; no_end = refl }, tt); settles = refl; defaults = refl; valid = refl }) name
+    (λ task seen asks. asks_squeeze image rows refl refl task seen asks.1)
+
+pub returns-clause-assemble : goal.returns-clause-assemble
+returns-clause-assemble c = λ name file file_is.
+    let uses = a_word (codes "assemble") (codes "FILE") file ∷ [] in
+    let rows = found_by (codes "assemble") uses in
+    entered_as (codes "assemble") uses (IsAssembleOf (file ∷ []) None) refl refl (record { pass = (no_option file file_is, record { found = refl; passes = refl; no_end = refl }, tt); settles = refl; defaults = refl; valid = refl }) name
+    (λ task seen asks. asks_assemble (file ∷ []) None rows refl task seen asks.1)
+
+pub returns-clause-assemble_input : goal.returns-clause-assemble_input
+returns-clause-assemble_input c = λ name.
+    let uses = a_word (codes "assemble") (codes "FILE") (codes "-") ∷ [] in
+    let rows = found_by (codes "assemble") uses in
+    entered_as (codes "assemble") uses (IsAssembleOf (codes "-" ∷ []) None) refl refl (record { pass = (record { no_long = refl; no_short = refl; no_dashes = refl }, record { found = refl; passes = refl; no_end = refl }, tt); settles = refl; defaults = refl; valid = refl }) name
+    (λ task seen asks. asks_assemble (codes "-" ∷ []) None rows refl task seen asks.1)
+
+pub returns-clause-assemble_two : goal.returns-clause-assemble_two
+returns-clause-assemble_two c = λ name file other file_is other_is.
+    let uses = a_word (codes "assemble") (codes "FILE") file ∷ a_word (codes "assemble") (codes "FILE") other ∷ [] in
+    let rows = found_by (codes "assemble") uses in
+    entered_as (codes "assemble") uses (IsAssembleOf (file ∷ other ∷ []) None) refl refl (record { pass = (no_option file file_is, record { found = refl; passes = refl; no_end = refl }, (no_option other other_is, record { found = refl; passes = refl; no_end = refl }, tt)); settles = refl; defaults = refl; valid = refl }) name
+    (λ task seen asks. asks_assemble (file ∷ other ∷ []) None rows refl task seen asks.1)
+
+pub returns-clause-assemble_output : goal.returns-clause-assemble_output
+returns-clause-assemble_output c = λ name file output file_is output_is.
+    let uses = a_word (codes "assemble") (codes "FILE") file ∷ a_value (codes "assemble") (codes "output") output ∷ [] in
+    let rows = found_by (codes "assemble") uses in
+    entered_as (codes "assemble") uses (IsAssembleOf (file ∷ []) (Some output)) refl refl (record { pass = (no_option file file_is, record { found = refl; passes = refl; no_end = refl }, (no_option output output_is, record { read = refl; found = refl; takes_value = refl }, record { own = refl; one = refl; passes = refl }, tt)); settles = refl; defaults = refl; valid = refl }) name
+    (λ task seen asks. asks_assemble (file ∷ []) (Some output) rows refl task seen asks.1)
+
+pub returns-clause-teletype : goal.returns-clause-teletype
+returns-clause-teletype c = λ name tape tape_is.
+    let uses = a_word (codes "teletype") (codes "TAPE") tape ∷ [] in
+    let rows = found_by (codes "teletype") uses in
+    entered_as (codes "teletype") uses (IsTeletypeOf tape None None) refl refl (record { pass = (no_option tape tape_is, record { found = refl; passes = refl; no_end = refl }, tt); settles = refl; defaults = refl; valid = refl }) name
+    (λ task seen asks. teletype_asked tape None None rows refl refl (λ given is. no_value Some given is) (refl, refl, refl, refl) task seen asks.1)
+
+pub returns-clause-teletype_file : goal.returns-clause-teletype_file
+returns-clause-teletype_file c = λ name image file image_is file_is.
+    let uses = a_word (codes "teletype") (codes "TAPE") image ∷ a_word (codes "teletype") (codes "NAME") file ∷ [] in
+    let rows = found_by (codes "teletype") uses in
+    entered_as (codes "teletype") uses (IsTeletypeOf image (Some file) None) refl refl (record { pass = (no_option image image_is, record { found = refl; passes = refl; no_end = refl }, (no_option file file_is, record { found = refl; passes = refl; no_end = refl }, tt)); settles = refl; defaults = refl; valid = refl }) name
+    (λ task seen asks. teletype_asked image (Some file) None rows refl refl (λ given is. no_value Some given is) (refl, refl, refl, refl) task seen asks.1)
+
+pub returns-clause-teletype_start : goal.returns-clause-teletype_start
+returns-clause-teletype_start c = λ name tape start cell tape_is octal.
+    let uses = a_word (codes "teletype") (codes "TAPE") tape ∷ a_value (codes "teletype") (codes "start") start ∷ [] in
+    let rows = found_by (codes "teletype") uses in
+    entered_as (codes "teletype") uses (IsTeletypeOf tape None (Some cell)) refl refl (record { pass = (no_option tape tape_is, record { found = refl; passes = refl; no_end = refl }, (no_option start (no_octal start cell octal), record { read = refl; found = refl; takes_value = refl }, record { own = refl; one = refl; passes = refl }, tt)); settles = refl; defaults = refl; valid = refl }) name
+    (λ task seen asks. teletype_asked tape None (Some cell) rows refl refl (λ given is. read_given (octal_of 5 start) given is ∙ octal) (refl, refl, refl, refl) task seen asks.1)
+
+pub returns-clause-trace : goal.returns-clause-trace
+returns-clause-trace c = λ name tape tape_is.
+    let uses = a_word (codes "trace") (codes "TAPE") tape ∷ [] in
+    let rows = found_by (codes "trace") uses in
+    entered_as (codes "trace") uses (IsTraceOf tape None None) refl refl (record { pass = (no_option tape tape_is, record { found = refl; passes = refl; no_end = refl }, tt); settles = refl; defaults = refl; valid = refl }) name
+    (λ task seen asks. trace_asked tape None None rows (λ form. traced tape None None rows form refl refl refl (refl, refl, refl)) task seen asks.1)
+
+pub returns-clause-trace_file : goal.returns-clause-trace_file
+returns-clause-trace_file c = λ name image file image_is file_is.
+    let uses = a_word (codes "trace") (codes "TAPE") image ∷ a_word (codes "trace") (codes "NAME") file ∷ [] in
+    let rows = found_by (codes "trace") uses in
+    entered_as (codes "trace") uses (IsTraceOf image (Some file) None) refl refl (record { pass = (no_option image image_is, record { found = refl; passes = refl; no_end = refl }, (no_option file file_is, record { found = refl; passes = refl; no_end = refl }, tt)); settles = refl; defaults = refl; valid = refl }) name
+    (λ task seen asks. trace_asked image (Some file) None rows (λ form. traced image (Some file) None rows form refl refl refl (refl, refl, refl)) task seen asks.1)
+
+pub returns-clause-trace_keys : goal.returns-clause-trace_keys
+returns-clause-trace_keys c = λ name tape keys tape_is keys_is.
+    let uses = a_word (codes "trace") (codes "TAPE") tape ∷ a_value (codes "trace") (codes "keys") keys ∷ [] in
+    let rows = found_by (codes "trace") uses in
+    entered_as (codes "trace") uses (IsTraceOf tape None (Some keys)) refl refl (record { pass = (no_option tape tape_is, record { found = refl; passes = refl; no_end = refl }, (no_option keys keys_is, record { read = refl; found = refl; takes_value = refl }, record { own = refl; one = refl; passes = refl }, tt)); settles = refl; defaults = refl; valid = refl }) name
+    (λ task seen asks. trace_asked tape None (Some keys) rows (λ form. traced tape None (Some keys) rows form refl refl refl (refl, refl, refl)) task seen asks.1)
+
+pub returns-clause-profile : goal.returns-clause-profile
+returns-clause-profile c = λ name tape tape_is.
+    let uses = a_word (codes "profile") (codes "TAPE") tape ∷ [] in
+    let rows = found_by (codes "profile") uses in
+    entered_as (codes "profile") uses (IsProfileOf tape None None) refl refl (record { pass = (no_option tape tape_is, record { found = refl; passes = refl; no_end = refl }, tt); settles = refl; defaults = refl; valid = refl }) name
+    (λ task seen asks. profile_asked tape None None rows (λ form. traced tape None None rows form refl refl refl (refl, refl, refl)) task seen asks.1)
+
+pub returns-clause-profile_file : goal.returns-clause-profile_file
+returns-clause-profile_file c = λ name image file image_is file_is.
+    let uses = a_word (codes "profile") (codes "TAPE") image ∷ a_word (codes "profile") (codes "NAME") file ∷ [] in
+    let rows = found_by (codes "profile") uses in
+    entered_as (codes "profile") uses (IsProfileOf image (Some file) None) refl refl (record { pass = (no_option image image_is, record { found = refl; passes = refl; no_end = refl }, (no_option file file_is, record { found = refl; passes = refl; no_end = refl }, tt)); settles = refl; defaults = refl; valid = refl }) name
+    (λ task seen asks. profile_asked image (Some file) None rows (λ form. traced image (Some file) None rows form refl refl refl (refl, refl, refl)) task seen asks.1)
+
+pub returns-clause-profile_keys : goal.returns-clause-profile_keys
+returns-clause-profile_keys c = λ name tape keys tape_is keys_is.
+    let uses = a_word (codes "profile") (codes "TAPE") tape ∷ a_value (codes "profile") (codes "keys") keys ∷ [] in
+    let rows = found_by (codes "profile") uses in
+    entered_as (codes "profile") uses (IsProfileOf tape None (Some keys)) refl refl (record { pass = (no_option tape tape_is, record { found = refl; passes = refl; no_end = refl }, (no_option keys keys_is, record { read = refl; found = refl; takes_value = refl }, record { own = refl; one = refl; passes = refl }, tt)); settles = refl; defaults = refl; valid = refl }) name
+    (λ task seen asks. profile_asked tape None (Some keys) rows (λ form. traced tape None (Some keys) rows form refl refl refl (refl, refl, refl)) task seen asks.1)
+
+pub returns-clause-check : goal.returns-clause-check
+returns-clause-check c = λ name image image_is.
+    let uses = a_word (codes "check") (codes "IMAGE") image ∷ [] in
+    let rows = found_by (codes "check") uses in
+    entered_as (codes "check") uses (IsCheckOf (image ∷ []) None false) refl refl (record { pass = (no_option image image_is, record { found = refl; passes = refl; no_end = refl }, tt); settles = refl; defaults = refl; valid = refl }) name
+    (λ task seen asks. asks_check (image ∷ []) None false rows refl task seen asks.1)
+
+pub returns-clause-check_two : goal.returns-clause-check_two
+returns-clause-check_two c = λ name image other image_is other_is.
+    let uses = a_word (codes "check") (codes "IMAGE") image ∷ a_word (codes "check") (codes "IMAGE") other ∷ [] in
+    let rows = found_by (codes "check") uses in
+    entered_as (codes "check") uses (IsCheckOf (image ∷ other ∷ []) None false) refl refl (record { pass = (no_option image image_is, record { found = refl; passes = refl; no_end = refl }, (no_option other other_is, record { found = refl; passes = refl; no_end = refl }, tt)); settles = refl; defaults = refl; valid = refl }) name
+    (λ task seen asks. asks_check (image ∷ other ∷ []) None false rows refl task seen asks.1)
+
+pub returns-clause-check_all : goal.returns-clause-check_all
+returns-clause-check_all c = λ name image image_is.
+    let uses = a_word (codes "check") (codes "IMAGE") image ∷ a_flag (codes "check") (codes "all") ∷ [] in
+    let rows = found_by (codes "check") uses in
+    entered_as (codes "check") uses (IsCheckOf (image ∷ []) None true) refl refl (record { pass = (no_option image image_is, record { found = refl; passes = refl; no_end = refl }, (record { read = refl; found = refl; takes_value = refl }, refl, tt)); settles = refl; defaults = refl; valid = refl }) name
+    (λ task seen asks. asks_check (image ∷ []) None true rows refl task seen asks.1)
+
+pub returns-clause-check_volume : goal.returns-clause-check_volume
+returns-clause-check_volume c = λ name image text layout image_is is.
+    let uses = a_word (codes "check") (codes "IMAGE") image ∷ a_value (codes "check") (codes "volume") text ∷ [] in
+    let rows = found_by (codes "check") uses in
+    entered_as (codes "check") uses (IsCheckOf (image ∷ []) (Some layout) false) refl refl (record { pass = (no_option image image_is, record { found = refl; passes = refl; no_end = refl }, ((volume_told text layout is).0, record { read = refl; found = refl; takes_value = refl }, record { own = refl; one = refl; passes = refl }, tt)); settles = refl; defaults = refl; valid = refl }) name
+    (λ task seen asks. asks_check (image ∷ []) (Some layout) false rows (ap (λ l. (image ∷ [], Some l, false)) (volume_told text layout is).1) task seen asks.1)
+
+pub returns-clause-check_dectape : goal.returns-clause-check_dectape
+returns-clause-check_dectape c = λ name image image_is.
+    let uses = a_word (codes "check") (codes "IMAGE") image ∷ a_flag (codes "check") (codes "dectape") ∷ [] in
+    let rows = found_by (codes "check") uses in
+    entered_as (codes "check") uses (IsCheckOf (image ∷ []) (Some Dectape) false) refl refl (record { pass = (no_option image image_is, record { found = refl; passes = refl; no_end = refl }, (record { read = refl; found = refl; takes_value = refl }, refl, tt)); settles = refl; defaults = refl; valid = refl }) name
+    (λ task seen asks. asks_check (image ∷ []) (Some Dectape) false rows refl task seen asks.1)

@@ -20,7 +20,7 @@ returns-clause-answer c =
     asked_answer words (subcommand_rows_of c.in_ok-matches.matches) c.asked.result (sym met) none c.asked.ensures
 
 pub returns-clause-taken : goal.returns-clause-taken
-returns-clause-taken c = λ takes. asked_kind _ c.asked.result c.asked.ensures
+returns-clause-taken c = λ takes. asked_kind (subcommand_rows_of c.in_ok-matches.matches) c.asked.result c.asked.ensures
 
 pub returns-in_err-matches-clause-taken : goal.returns-in_err-matches-clause-taken
 returns-in_err-matches-clause-taken c = λ taken.

@@ -1,10 +1,9 @@
-use Rattle.std.proofs.Common.{codes, ◌∷◌, []}
-use Rattle.clap.specs.Words.{new_app}
-use Rattle.command8.specs.Tasks.{blocks_rule, flag_rule, image_rule, subcommand}
+use Rattle.std.proofs.Common.{◌∙◌, sym, true≢false}
+use Rattle.clap.specs.Words.{found_of, rows_of}
+use Rattle.command8.proofs.RefusalLemmas.{sized_tape}
 use Rattle.command8.proofs.volumes.create.Goals as goal
 
-pub returns : goal.returns
-returns c =
-    let image = c.with_image.ensures (new_app (codes "create")) c.leaf-bare.ensures in
-    let sized = c.with_argument-command.ensures (subcommand (codes "create") (image_rule ∷ [])) blocks_rule image c.blocks-2.ensures in
-    c.with_argument.ensures (subcommand (codes "create") (image_rule ∷ blocks_rule ∷ [])) (flag_rule (codes "dectape")) sized c.flag.ensures
+pub unreachable-requires : goal.unreachable-requires
+unreachable-requires c =
+    let sized = sized_tape (rows_of (found_of c.args.found.now)) c.requires.2 (c.size_of.ensures.number ∙ c.in-None.is) in
+    true≢false (sym sized ∙ (sym c.flag.ensures ∙ c.if-flag.false))

@@ -1,0 +1,402 @@
+-- What plain command lines ask for, by what they give their arguments.
+use Rattle.std.proofs.Common.{◌≡◌, ◌∙◌, if◌then◌else◌, ℕ, Bool, codes, true, false, true≢false, refl, sym, ap, map, option_map, subst, List, [], ◌∷◌, Option, Some, None, is_some}
+use Rattle.std.specs.Prelude.{length, nat_eq, nat_le}
+use Rattle.clap.specs.Words.{Row, Text, all_of, first_of, one_of}
+use Rattle.char_pack.specs.declared.forms.GetForm.{GetForm}
+use Rattle.char_pack.specs.declared.forms.GetForm.TheVariants as get_as
+use Rattle.char_pack.specs.declared.forms.PutForm.{PutForm}
+use Rattle.disk8.specs.declared.layouts.Layout.{Layout}
+use Rattle.disk8.specs.declared.layouts.Layout.TheVariants.{First, Second, Dectape}
+use Rattle.task8.specs.declared.forms.FileForm.{FileForm}
+use Rattle.task8.specs.declared.forms.FileForm.TheVariants.{Name, At}
+use Rattle.task8.specs.declared.forms.ImageForm.{ImageForm}
+use Rattle.task8.specs.declared.tasks.RimForm.{RimForm}
+use Rattle.task8.specs.declared.tasks.Saving.{Saving}
+use Rattle.task8.specs.declared.tasks.TraceForm.{TraceForm}
+use Rattle.task8.specs.declared.tasks.Task.{Task}
+use Rattle.word12.specs.Octal.{octal_from, octal_of}
+use Rattle.word12.specs.declared.sizes.TheConstants.{MOST_BLOCKS}
+use Rattle.command8.specs.declared.table.Verb.TheVariants as verb
+use Rattle.command8.specs.Found.{digits_from, is_set, layout_of, number_in, number_of, place_of, values_of, volume_of, within}
+use Rattle.command8.specs.Refusals.{blocks_word, puts_many}
+use Rattle.command8.specs.Tasks.{AsksFor, IsAssembleOf, IsAt, IsCheckOf, IsCopyOf, IsCreateOf, IsCreateTapeOf, IsDeleteOf, IsFile, IsGetBinOf, IsGetBlocksOf, IsGetManyOf, IsGetOf, IsImage, IsImageOf, IsListLongOf, IsListOf, IsNamed, IsPlain, IsProfileOf, IsPutManyOf, IsPutOf, IsRenameOf, IsRimOf, IsRunOf, IsSourceOf, IsSqueezeOf, IsTape, IsTeletypeOf, IsTraceForm, IsTraceFormOf, IsTraceOf, IsVolume, after, get_form, put_form, rim_form, saving_of}
+use Rattle.command8.proofs.EnteredLemmas.{Seen, a_assemble, a_check, a_copy, a_create, a_create_tape, a_delete, a_get, a_get_bin, a_get_blocks, a_get_many, a_list, a_list_long, a_profile, a_put, a_put_many, a_rename, a_rim, a_run, a_source, a_squeeze, a_tape, a_teletype, a_trace}
+use Rattle.command8.proofs.NumberLemmas.{none_some}
+use Rattle.command8.proofs.UseLemmas.{IsNoOption}
+use Rattle.command8.proofs.WalkLemmas.{some_eq}
+
+-- ## Numbers and texts
+
+pub no_value : {X Y : Type 0} (f : X → Y) (o : Option X) → None ≡ option_map f o → o ≡ None
+no_value f None is = refl
+no_value f (Some x) is = absurd (cc)
+
+pub no_octal : (digits : Text) (cell : ℕ) → octal_of 5 digits ≡ Some cell → IsPlain digits
+no_octal [] cell is = tt
+no_octal (b ∷ rest) cell is = λ hyphen. go (nat_eq (length (45 ∷ rest)) 5) (subst (λ (x : ℕ). octal_of 5 (x ∷ rest) ≡ Some cell) hyphen is)
+  where
+    go : (b : Bool) → (if b then octal_from 0 (45 ∷ rest) else None) ≡ Some cell → ⊥
+    go true is = none_some cell is
+    go false is = none_some cell is
+
+pub read_given : (read : Option ℕ) (given : Option ℕ) → Some read ≡ option_map Some given → given ≡ read
+read_given read None is = absurd (cc)
+read_given read (Some number) is = sym (some_eq read (Some number) is)
+
+-- a number is no option
+pub number_plain : (least most : ℕ) (text : Text) (n : ℕ) → number_in least most text ≡ Some n → IsPlain text
+number_plain least most [] n is = tt
+number_plain least most (b ∷ rest) n is = λ hyphen. go (nat_le (length rest) 3) (subst (λ (x : ℕ). number_in least most (x ∷ rest) ≡ Some n) hyphen is)
+  where
+    go : (b : Bool) → within least most (if b then digits_from 0 (45 ∷ rest) else None) ≡ Some n → ⊥
+    go true is = none_some n is
+    go false is = none_some n is
+
+-- nor is a word of four octal digits
+pub word_plain : (text : Text) (n : ℕ) → octal_of 4 text ≡ Some n → IsPlain text
+word_plain [] n is = tt
+word_plain (b ∷ rest) n is = λ hyphen. go (nat_eq (length (45 ∷ rest)) 4) (subst (λ (x : ℕ). octal_of 4 (x ∷ rest) ≡ Some n) hyphen is)
+  where
+    go : (b : Bool) → (if b then octal_from 0 (45 ∷ rest) else None) ≡ Some n → ⊥
+    go true is = none_some n is
+    go false is = none_some n is
+
+pub no_numbers : (given : List ℕ) → [] ≡ map (λ number. Some number) given → given ≡ []
+no_numbers [] is = refl
+no_numbers (number ∷ given) is = absurd (cc)
+
+pub one_number : (number : ℕ) (given : List ℕ) → Some number ∷ [] ≡ map (λ number. Some number) given → given ≡ number ∷ []
+one_number number [] is = absurd (cc)
+one_number number (first ∷ []) is = cc
+one_number number (first ∷ other ∷ given) is = absurd (cc)
+
+-- ## Tapes and sources
+
+pub asks_tape : (rows : List Row) (task : Task) → Seen verb.Tape task → AsksFor verb.Tape rows task → IsTape task
+asks_tape rows task a_tape asks = tt
+
+pub asks_rim : (form : RimForm) (rows : List Row) → rim_form rows ≡ form → (task : Task) → Seen verb.Rim task → AsksFor verb.Rim rows task → IsRimOf form task
+asks_rim form rows is task (a_rim own) asks = asks.1 ∙ is
+
+abbrev told_assemble : List Row → List Text × Option Text × Option Text × Bool
+told_assemble rows = (values_of (codes "FILE") rows, first_of (codes "output") rows, first_of (codes "list") rows, is_set (codes "cross") rows)
+
+pub asks_assemble : (files : List Text) (output : Option Text) (rows : List Row) → told_assemble rows ≡ (files, output, None, false)
+    → (task : Task) → Seen verb.Assemble task → AsksFor verb.Assemble rows task → IsAssembleOf files output task
+asks_assemble files output rows is task (a_assemble form) asks = (
+  sym asks.1.0 ∙ ap (λ p. p.0) is,
+  sym asks.1.1 ∙ ap (λ p. p.1) is,
+  no_value (λ file. file.bytes.items) form.list (sym (ap (λ p. p.2) is) ∙ asks.1.2),
+  asks.1.3 ∙ ap (λ p. p.3) is,
+)
+
+-- what is asked for, but for the file, its member and the start
+pub teletype_asked : (file : Text) (member : Option Text) (start : Option ℕ) (rows : List Row) → first_of (codes "TAPE") rows ≡ Some file → first_of (codes "NAME") rows ≡ member
+    → ((given : Option ℕ) → option_map (octal_of 5) (first_of (codes "start") rows) ≡ option_map Some given → given ≡ start)
+    → (first_of (codes "switches") rows ≡ None) × (one_of (codes "steps") rows ≡ None) × (is_set (codes "raw") rows ≡ false) × (is_set (codes "live") rows ≡ false)
+    → (task : Task) → Seen verb.Teletype task → AsksFor verb.Teletype rows task → IsTeletypeOf file member start task
+teletype_asked file member start rows file_is member_is start_is rest task (a_teletype form) asks = (
+  some_eq form.file.bytes.items file (sym asks.1.0 ∙ file_is),
+  sym asks.1.1 ∙ member_is,
+  start_is form.start asks.1.2,
+  no_value Some form.switches (sym (ap (option_map (octal_of 4)) rest.0) ∙ asks.1.3),
+  sym asks.1.4 ∙ ap (option_map number_of) rest.1,
+  asks.1.5 ∙ rest.2,
+  asks.1.6 ∙ rest.3,
+)
+
+-- what is asked for, but for the file, its member and the keys
+pub traced : (file : Text) (member keys : Option Text) (rows : List Row) (form : TraceForm) → first_of (codes "TAPE") rows ≡ Some file → first_of (codes "NAME") rows ≡ member
+    → first_of (codes "keys") rows ≡ keys
+    → (first_of (codes "start") rows ≡ None) × (first_of (codes "switches") rows ≡ None) × (one_of (codes "steps") rows ≡ None)
+    → IsTraceForm rows form → IsTraceFormOf file member keys form
+traced file member keys rows form file_is member_is keys_are rest asks = (
+  some_eq form.file.bytes.items file (sym asks.0 ∙ file_is),
+  sym asks.1 ∙ member_is,
+  no_value Some form.start (sym (ap (option_map (octal_of 5)) rest.0) ∙ asks.2),
+  no_value Some form.switches (sym (ap (option_map (octal_of 4)) rest.1) ∙ asks.3),
+  sym asks.4 ∙ ap (option_map number_of) rest.2,
+  sym asks.5 ∙ keys_are,
+)
+
+pub trace_asked : (file : Text) (member keys : Option Text) (rows : List Row) → ((form : TraceForm) → IsTraceForm rows form → IsTraceFormOf file member keys form)
+    → (task : Task) → Seen verb.Trace task → AsksFor verb.Trace rows task → IsTraceOf file member keys task
+trace_asked file member keys rows is task (a_trace form) asks = is form asks.1
+
+pub profile_asked : (file : Text) (member keys : Option Text) (rows : List Row) → ((form : TraceForm) → IsTraceForm rows form → IsTraceFormOf file member keys form)
+    → (task : Task) → Seen verb.Profile task → AsksFor verb.Profile rows task → IsProfileOf file member keys task
+profile_asked file member keys rows is task (a_profile form) asks = is form asks.1
+
+abbrev with_source : List Row → Option Text × Option Text × Option Text
+with_source rows = (first_of (codes "TAPE") rows, first_of (codes "NAME") rows, first_of (codes "names") rows)
+
+pub source_asked : (file member names : Option Text) (starts : List ℕ) (rows : List Row) → with_source rows ≡ (file, member, names)
+    → ((given : List ℕ) → map (octal_of 5) (values_of (codes "start") rows) ≡ map (λ start. Some start) given → given ≡ starts)
+    → (task : Task) → Seen verb.Source task → AsksFor verb.Source rows task → IsSourceOf file member starts names task
+source_asked file member names starts rows is starts_are task (a_source form) asks = (
+  sym asks.1.0 ∙ ap (λ p. p.0) is,
+  sym asks.1.1 ∙ ap (λ p. p.1) is,
+  starts_are form.starts.items asks.1.2,
+  sym asks.1.3 ∙ ap (λ p. p.2) is,
+)
+
+-- ## Volumes
+
+-- the number of a volume is no option, and tells it
+abbrev Told : Text → Layout → Type 0
+Told text layout = IsNoOption text × (volume_of text ≡ layout)
+
+pub volume_told : (text : Text) (layout : Layout) → IsVolume text layout → Told text layout
+volume_told text First is = (subst IsNoOption (sym is) (record { no_long = refl; no_short = refl; no_dashes = refl }), ap volume_of is)
+volume_told text Second is = (subst IsNoOption (sym is) (record { no_long = refl; no_short = refl; no_dashes = refl }), ap volume_of is)
+volume_told text Dectape is = absurd is
+
+-- the image that is asked for
+pub image_is : (image : Text) (layout : Option Layout) (rows : List Row) (own : ImageForm) → first_of (codes "IMAGE") rows ≡ Some image
+    → layout_of (codes "volume") (codes "dectape") rows ≡ layout → IsImage rows own → IsImageOf image layout own
+image_is image layout rows own named placed is = (some_eq own.file.bytes.items image (sym is.0 ∙ named), sym is.1 ∙ placed)
+
+abbrev told_list : List Row → Option Text × Option Layout × Bool
+told_list rows = (first_of (codes "IMAGE") rows, layout_of (codes "volume") (codes "dectape") rows, is_set (codes "long") rows)
+
+pub asks_list : (image : Text) (layout : Option Layout) (rows : List Row) → told_list rows ≡ (Some image, layout, false) → (task : Task) → Seen verb.List task
+    → AsksFor verb.List rows task → IsListOf image layout task
+asks_list image layout rows is task (a_list own) asks = image_is image layout rows own (ap (λ p. p.0) is) (ap (λ p. p.1) is) asks.1
+asks_list image layout rows is task (a_list_long own) asks = absurd (true≢false (sym asks.2 ∙ ap (λ p. p.2) is))
+
+pub asks_list_long : (image : Text) (layout : Option Layout) (rows : List Row) → told_list rows ≡ (Some image, layout, true) → (task : Task) → Seen verb.List task
+    → AsksFor verb.List rows task → IsListLongOf image layout task
+asks_list_long image layout rows is task (a_list own) asks = absurd (true≢false (sym (ap (λ p. p.2) is) ∙ asks.2))
+asks_list_long image layout rows is task (a_list_long own) asks = image_is image layout rows own (ap (λ p. p.0) is) (ap (λ p. p.1) is) asks.1
+
+abbrev told_check : List Row → List Text × Option Layout × Bool
+told_check rows = (values_of (codes "IMAGE") rows, layout_of (codes "volume") (codes "dectape") rows, is_set (codes "all") rows)
+
+pub asks_check : (images : List Text) (layout : Option Layout) (is_all : Bool) (rows : List Row) → told_check rows ≡ (images, layout, is_all) → (task : Task)
+    → Seen verb.Check task → AsksFor verb.Check rows task → IsCheckOf images layout is_all task
+asks_check images layout is_all rows is task (a_check form) asks =
+    (sym asks.1.0 ∙ ap (λ p. p.0) is, sym asks.1.1 ∙ ap (λ p. p.1) is, asks.1.2 ∙ ap (λ p. p.2) is)
+
+-- the image, where it lies, when it is written, and whether refusals are faults
+abbrev told_run : List Row → Option Text × Option Layout × Saving × Bool
+told_run rows = (
+  first_of (codes "IMAGE") rows,
+  layout_of (codes "volume") (codes "dectape") rows,
+  saving_of rows,
+  is_set (codes "strict") rows,
+)
+
+pub asks_run : (image : Text) (layout : Option Layout) (saving : Saving) (is_strict : Bool) (rows : List Row)
+    → told_run rows ≡ (Some image, layout, saving, is_strict) → (task : Task) → Seen verb.Run task → AsksFor verb.Run rows task
+    → IsRunOf image layout saving is_strict task
+asks_run image layout saving is_strict rows is task (a_run own form) asks = (
+  image_is image layout rows own (ap (λ p. p.0) is) (ap (λ p. p.1) is) asks.1,
+  asks.2.0 ∙ ap (λ p. p.2) is,
+  asks.2.1 ∙ ap (λ p. p.3) is,
+)
+
+abbrev told_create : List Row → Option Text × Option Text × Bool
+told_create rows = (first_of (codes "IMAGE") rows, one_of (codes "BLOCKS") rows, is_set (codes "dectape") rows)
+
+pub asks_create : (image blocks : Text) (rows : List Row) → told_create rows ≡ (Some image, Some blocks, false) → (task : Task) → Seen verb.Create task
+    → AsksFor verb.Create rows task → IsCreateOf image (number_of blocks) task
+asks_create image blocks rows is task (a_create own count) asks = (
+  some_eq own.bytes.items image (sym asks.1 ∙ ap (λ p. p.0) is),
+  some_eq count (number_of blocks) (sym asks.3 ∙ ap (λ p. option_map number_of p.1) is),
+)
+asks_create image blocks rows is task (a_create_tape own) asks = absurd (true≢false (sym asks.2 ∙ ap (λ p. p.2) is))
+
+pub asks_create_tape : (image : Text) (rows : List Row) → told_create rows ≡ (Some image, None, true) → (task : Task) → Seen verb.Create task
+    → AsksFor verb.Create rows task → IsCreateTapeOf image task
+asks_create_tape image rows is task (a_create own count) asks = absurd (true≢false (sym (ap (λ p. p.2) is) ∙ asks.2))
+asks_create_tape image rows is task (a_create_tape own) asks = some_eq own.bytes.items image (sym asks.1 ∙ ap (λ p. p.0) is)
+
+pub asks_squeeze : (image : Text) (rows : List Row) → first_of (codes "IMAGE") rows ≡ Some image → layout_of (codes "volume") (codes "dectape") rows ≡ None
+    → (task : Task) → Seen verb.Squeeze task → AsksFor verb.Squeeze rows task → IsSqueezeOf image task
+asks_squeeze image rows named placed task (a_squeeze own) asks = image_is image None rows own named placed asks.1
+
+-- ## Files
+
+-- the file of a name
+pub named_file : (file : Text) (rows : List Row) → first_of (codes "at") rows ≡ None → first_of (codes "NAME") rows ≡ Some file → (form : FileForm)
+    → IsFile rows form → IsNamed file form
+named_file file rows free named (Name own) is = some_eq own.bytes.items file (sym is.1 ∙ named)
+named_file file rows free named (At place) is = absurd (none_some (Some place) (sym (ap (option_map place_of) free) ∙ is))
+
+-- the file at a block
+pub placed_file : (place : Text) (n : ℕ) (rows : List Row) → first_of (codes "at") rows ≡ Some place → place_of place ≡ Some n → (form : FileForm)
+    → IsFile rows form → IsAt n form
+placed_file place n rows given read (Name own) is = absurd (true≢false (sym (ap is_some given) ∙ is.0))
+placed_file place n rows given read (At same) is =
+    some_eq same n (some_eq (Some same) (Some n) (sym is ∙ (ap (option_map place_of) given ∙ ap Some read)))
+
+-- the image, where it lies, whether blocks are got, whether there is a folder, whether the core image is made a tape
+abbrev told_get : List Row → Option Text × Option Layout × Bool × Option Text × Bool
+told_get rows = (
+  first_of (codes "IMAGE") rows,
+  layout_of (codes "volume") (codes "dectape") rows,
+  is_set (codes "blocks") rows,
+  first_of (codes "into") rows,
+  is_set (codes "bin") rows,
+)
+
+pub asks_get : (image : Text) (IsIt : FileForm → Type 0) (form : GetForm) (rows : List Row) → told_get rows ≡ (Some image, None, false, None, false)
+    → get_form rows ≡ form → ((file : FileForm) → IsFile rows file → IsIt file) → (task : Task) → Seen verb.Get task → AsksFor verb.Get rows task
+    → IsGetOf image IsIt form task
+asks_get image IsIt form rows is how it task (a_get own member kind) asks =
+    (image_is image None rows own (ap (λ p. p.0) is) (ap (λ p. p.1) is) asks.2, it member asks.3, asks.4 ∙ how)
+asks_get image IsIt form rows is how it task (a_get_bin own member) asks = absurd (true≢false (sym asks.4 ∙ ap (λ p. p.4) is))
+asks_get image IsIt form rows is how it task (a_get_many own) asks = absurd (none_some own.folder.bytes.items (sym (ap (λ p. p.3) is) ∙ asks.2.4))
+asks_get image IsIt form rows is how it task (a_get_blocks own) asks = absurd (true≢false (sym asks.1 ∙ ap (λ p. p.2) is))
+
+pub asks_get_bin : (image file : Text) (rows : List Row) → told_get rows ≡ (Some image, None, false, None, true) → first_of (codes "at") rows ≡ None
+    → first_of (codes "NAME") rows ≡ Some file → (task : Task) → Seen verb.Get task → AsksFor verb.Get rows task → IsGetBinOf image file task
+asks_get_bin image file rows is free named task (a_get own member kind) asks = absurd (true≢false (sym (ap (λ p. p.4) is) ∙ asks.5))
+asks_get_bin image file rows is free named task (a_get_bin own member) asks =
+    (image_is image None rows own (ap (λ p. p.0) is) (ap (λ p. p.1) is) asks.2, named_file file rows free named member asks.3)
+asks_get_bin image file rows is free named task (a_get_many own) asks = absurd (none_some own.folder.bytes.items (sym (ap (λ p. p.3) is) ∙ asks.2.4))
+asks_get_bin image file rows is free named task (a_get_blocks own) asks = absurd (true≢false (sym asks.1 ∙ ap (λ p. p.2) is))
+
+-- the names, the blocks, whether all files are got, which are texts, and whether older files may go
+abbrev told_many : List Row → List Text × List Text × Bool × Bool × List Text × Bool
+told_many rows = (
+  values_of (codes "NAME") rows,
+  values_of (codes "at") rows,
+  is_set (codes "all") rows,
+  is_set (codes "text") rows,
+  values_of (codes "text-of") rows,
+  is_set (codes "force") rows,
+)
+
+pub asks_get_many : (image : Text) (names : List Text) (is_all : Bool) (folder : Text) (rows : List Row)
+    → told_get rows ≡ (Some image, None, false, Some folder, false) → told_many rows ≡ (names, [], is_all, false, [], false) → (task : Task)
+    → Seen verb.Get task → AsksFor verb.Get rows task → IsGetManyOf image names is_all folder task
+asks_get_many image names is_all folder rows is many task (a_get own member kind) asks = absurd (true≢false (sym (ap (λ p. is_some p.3) is) ∙ asks.1.1))
+asks_get_many image names is_all folder rows is many task (a_get_bin own member) asks = absurd (true≢false (sym (ap (λ p. is_some p.3) is) ∙ asks.1.1))
+asks_get_many image names is_all folder rows is many task (a_get_blocks own) asks = absurd (true≢false (sym asks.1 ∙ ap (λ p. p.2) is))
+asks_get_many image names is_all folder rows is many task (a_get_many form) asks = (
+  image_is image None rows form.image (ap (λ p. p.0) is) (ap (λ p. p.1) is) asks.2.0,
+  sym asks.2.1 ∙ ap (λ p. p.0) many,
+  no_numbers form.places.items (sym (ap (λ p. map place_of p.1) many) ∙ asks.2.2),
+  asks.2.3 ∙ ap (λ p. p.2) many,
+  some_eq form.folder.bytes.items folder (sym asks.2.4 ∙ ap (λ p. p.3) is),
+  asks.2.5.0 ∙ ap (λ p. p.3) many,
+  sym asks.2.5.1 ∙ ap (λ p. p.4) many,
+  asks.2.6 ∙ ap (λ p. p.5) many,
+)
+
+pub asks_get_blocks : (image : Text) (first count : ℕ) (rows : List Row) → told_get rows ≡ (Some image, None, true, None, false)
+    → number_in 0 4094 (blocks_word 0 rows) ≡ Some first → number_in 1 MOST_BLOCKS (blocks_word 1 rows) ≡ Some count → get_form rows ≡ get_as.Frames
+    → (task : Task) → Seen verb.Get task → AsksFor verb.Get rows task → IsGetBlocksOf image first count get_as.Frames task
+asks_get_blocks image first count rows is one two how task (a_get own member kind) asks = absurd (true≢false (sym (ap (λ p. p.2) is) ∙ asks.1.0))
+asks_get_blocks image first count rows is one two how task (a_get_bin own member) asks = absurd (true≢false (sym (ap (λ p. p.2) is) ∙ asks.1.0))
+asks_get_blocks image first count rows is one two how task (a_get_many own) asks = absurd (true≢false (sym (ap (λ p. p.2) is) ∙ asks.1))
+asks_get_blocks image first count rows is one two how task (a_get_blocks form) asks = (
+  image_is image None rows form.image (ap (λ p. p.0) is) (ap (λ p. p.1) is) asks.2.0,
+  some_eq form.first first (sym asks.2.1 ∙ one),
+  some_eq form.count count (sym asks.2.2 ∙ two),
+  asks.2.3 ∙ how,
+)
+
+-- the image, where it lies, the first file, the name that it gets, whether several are put, and whether files may be emptied
+abbrev told_put : List Row → Option Text × Option Layout × Option Text × Option Text × Bool × Bool
+told_put rows = (
+  first_of (codes "IMAGE") rows,
+  layout_of (codes "volume") (codes "dectape") rows,
+  first_of (codes "FILE") rows,
+  first_of (codes "as") rows,
+  puts_many rows,
+  is_set (codes "empty") rows,
+)
+
+pub asks_put : (image file member : Text) (form : PutForm) (info : Option (List ℕ)) (rows : List Row)
+    → told_put rows ≡ (Some image, None, Some file, Some member, false, false) → put_form rows ≡ form
+    → ((given : Option (List ℕ)) → option_map (map (octal_of 4)) (all_of (codes "info") rows) ≡ option_map (map (λ word. Some word)) given → given ≡ info)
+    → (task : Task) → Seen verb.Put task → AsksFor verb.Put rows task → IsPutOf image file member form info task
+asks_put image file member form info rows is how info_is task (a_put own) asks = (
+  image_is image None rows own.image (ap (λ p. p.0) is) (ap (λ p. p.1) is) asks.2.0,
+  some_eq own.file.bytes.items file (sym asks.2.1 ∙ ap (λ p. p.2) is),
+  some_eq own.name.bytes.items member (sym asks.2.2 ∙ ap (λ p. p.3) is),
+  asks.2.3 ∙ how,
+  asks.2.4 ∙ ap (λ p. p.5) is,
+  info_is (option_map (λ words. words.items) own.info) asks.2.5,
+)
+asks_put image file member form info rows is how info_is task (a_put_many own) asks = absurd (true≢false (sym asks.1 ∙ ap (λ p. p.4) is))
+
+pub no_info : (given : Option (List ℕ)) → None ≡ option_map (map (λ word. Some word)) given → given ≡ None
+no_info given is = no_value (map (λ word. Some word)) given is
+
+pub one_info : (text : Text) (word : ℕ) → octal_of 4 text ≡ Some word → (given : Option (List ℕ))
+    → Some (octal_of 4 text ∷ []) ≡ option_map (map (λ word. Some word)) given → given ≡ Some (word ∷ [])
+one_info text word read None is = absurd (cc)
+one_info text word read (Some words) is =
+    ap Some (one_number word words (ap (λ o. o ∷ []) (sym read) ∙ some_eq (octal_of 4 text ∷ []) (map (λ word. Some word) words) is))
+
+-- whether texts are told, and the information words
+abbrev told_files : List Row → List Text × Bool × List Text × Option (List Text)
+told_files rows = (
+  values_of (codes "FILE") rows,
+  is_set (codes "text") rows,
+  values_of (codes "text-of") rows,
+  all_of (codes "info") rows,
+)
+
+pub asks_put_many : (image first : Text) (files : List Text) (rows : List Row) → told_put rows ≡ (Some image, None, Some first, None, true, false)
+    → told_files rows ≡ (files, false, [], None) → (task : Task) → Seen verb.Put task → AsksFor verb.Put rows task → IsPutManyOf image files task
+asks_put_many image first files rows is many task (a_put own) asks = absurd (true≢false (sym (ap (λ p. p.4) is) ∙ asks.1))
+asks_put_many image first files rows is many task (a_put_many form) asks = (
+  image_is image None rows form.image (ap (λ p. p.0) is) (ap (λ p. p.1) is) asks.2.0,
+  sym asks.2.1 ∙ ap (λ p. p.0) many,
+  asks.2.2.0 ∙ ap (λ p. p.1) many,
+  sym asks.2.2.1 ∙ ap (λ p. p.2) many,
+  asks.2.3 ∙ ap (λ p. p.5) is,
+  no_value (λ words. words.items) form.info
+      (sym (no_info (option_map (λ words. words.items) form.info) (sym (ap (λ p. option_map (map (octal_of 4)) p.3) many) ∙ asks.2.4))),
+)
+
+abbrev told_delete : List Row → Option Text × Option Layout × List Text
+told_delete rows = (first_of (codes "IMAGE") rows, layout_of (codes "volume") (codes "dectape") rows, values_of (codes "NAME") rows)
+
+pub asks_delete : (image : Text) (files : List Text) (places : List ℕ) (rows : List Row) → told_delete rows ≡ (Some image, None, files)
+    → ((given : List ℕ) → map place_of (values_of (codes "at") rows) ≡ map (λ place. Some place) given → given ≡ places) → (task : Task)
+    → Seen verb.Delete task → AsksFor verb.Delete rows task → IsDeleteOf image files places task
+asks_delete image files places rows is places_are task (a_delete form) asks = (
+  image_is image None rows form.image (ap (λ p. p.0) is) (ap (λ p. p.1) is) asks.1.0,
+  sym asks.1.1 ∙ ap (λ p. p.2) is,
+  places_are form.places.items asks.1.2,
+)
+
+abbrev told_rename : List Row → Option Text × Option Layout × Option Text
+told_rename rows = (
+  first_of (codes "IMAGE") rows,
+  layout_of (codes "volume") (codes "dectape") rows,
+  first_of (after (codes "NAME") (codes "NEW") rows) rows,
+)
+
+pub asks_rename : (image : Text) (IsIt : FileForm → Type 0) (new : Text) (rows : List Row) → told_rename rows ≡ (Some image, None, Some new)
+    → ((file : FileForm) → IsFile rows file → IsIt file) → (task : Task) → Seen verb.Rename task → AsksFor verb.Rename rows task
+    → IsRenameOf image IsIt new task
+asks_rename image IsIt new rows is it task (a_rename own member other) asks = (
+  image_is image None rows own (ap (λ p. p.0) is) (ap (λ p. p.1) is) asks.1,
+  it member asks.2,
+  some_eq other.bytes.items new (sym asks.3 ∙ ap (λ p. p.2) is),
+)
+
+abbrev told_copy : List Row → Option Text × Option Layout × Option Text × Option Layout × Option Text
+told_copy rows = (
+  first_of (codes "IMAGE") rows,
+  layout_of (codes "volume") (codes "dectape") rows,
+  first_of (after (codes "NAME") (codes "TO") rows) rows,
+  layout_of (codes "to-volume") (codes "to-dectape") rows,
+  first_of (after (codes "TO") (codes "NEW") rows) rows,
+)
+
+pub asks_copy : (image : Text) (IsIt : FileForm → Type 0) (to : Text) (layout : Option Layout) (new : Option Text) (rows : List Row)
+    → told_copy rows ≡ (Some image, None, Some to, layout, new) → ((file : FileForm) → IsFile rows file → IsIt file) → (task : Task)
+    → Seen verb.Copy task → AsksFor verb.Copy rows task → IsCopyOf image IsIt to layout new task
+asks_copy image IsIt to layout new rows is it task (a_copy form) asks = (
+  image_is image None rows form.image (ap (λ p. p.0) is) (ap (λ p. p.1) is) asks.1.0,
+  it form.file asks.1.1,
+  (some_eq form.to.file.bytes.items to (sym asks.1.2 ∙ ap (λ p. p.2) is), sym asks.1.3 ∙ ap (λ p. p.3) is),
+  sym asks.1.4 ∙ ap (λ p. p.4) is,
+)

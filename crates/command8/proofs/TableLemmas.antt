@@ -1,0 +1,197 @@
+-- Each subcommand of a sound table, as clap builds it: words in which it finds no fault give each argument what the table says of it.
+use Rattle.std.proofs.Common.{◌≡◌, ◌∙◌, ◌&&◌, ◌||◌, ◌≤◌, ℕ, Bool, cond, codes, true, false, not, refl, sym, ap, arith, subst, true≢false, List, [], ◌∷◌, ◌++◌, map, Option, Some, None, is_some, length}
+use Rattle.std.specs.Prelude.{⊤, ◌==◌, find, nat_lt, option_map, unwrap_or}
+use Rattle.std.specs.List.{list_all, list_any}
+use Rattle.std.specs.Str.{bytes_eq}
+use Rattle.std.proofs.lemmas.Bool.Decides.{nat_tests}
+use Rattle.std.proofs.lemmas.Slice.Eq.{bytes_eq-Decides}
+use Rattle.clap.proofs.WalkLemmas.{both}
+use Rattle.clap.specs.Lexer.{usize_max}
+use Rattle.clap.specs.Walk.{Row, Rule, Text, arg_by_id, rows_after}
+use Rattle.clap.specs.Simple.{Shape, filled, filled_from, help_rule, index_after, with_index}
+use Rattle.command8.specs.declared.table.Kind.{Kind}
+use Rattle.command8.specs.declared.table.Kind.TheVariants.{Word, Words, Size, Flag, Value, Values, Count, Cell, Cells, Octal, Octals, Volume, Block, Blocks}
+use Rattle.command8.specs.Tables.{Argument, Entry, are_distinct, can_be_required, ids_of, is_fit, is_sound, kind_rule, leaf_shape, most_steps, rows_for, rule_for, rules_for}
+use Rattle.command8.specs.Found.{AllHold, Has, HasSomeWhere, HasWhere, Holds, IsTaken, values_of}
+use Rattle.command8.proofs.LeafLemmas.{AllParts, Faultless, IsLeaf, IsPart, a_flag, a_help, a_word, an_appending, an_option, below, fit, has_number, has_word, one_up_to}
+use Rattle.command8.proofs.RefusalLemmas.{some_values}
+use Rattle.command8.proofs.WalkLemmas.{Fits, some_eq}
+use Rattle.word12.specs.declared.sizes.TheConstants.{MOST_BLOCKS}
+
+-- ## Names that stand once
+
+abbrev AllOwn : List Rule → List Rule → Type 0
+AllOwn c [] = ⊤
+AllOwn c (a ∷ rest) = (arg_by_id c a.id ≡ Some a) × AllOwn c rest
+
+pub same_text : (text : Text) → bytes_eq text text ≡ true
+same_text text = (bytes_eq-Decides text text).1 refl
+
+-- a rule in front of others, of which it has the name of none
+own_behind : (x : Rule) (c rest : List Rule) → list_any (λ other. bytes_eq other x.id) (map (λ r. r.id) rest) ≡ false → AllOwn c rest → AllOwn (x ∷ c) rest
+own_behind x c [] none all = tt
+own_behind x c (a ∷ rest) none all = (here (bytes_eq x.id a.id) refl, own_behind x c rest (right_false _ _ none) all.1)
+  where
+    right_false : (a b : Bool) → (a || b) ≡ false → b ≡ false
+    right_false true b none = absurd (true≢false none)
+    right_false false b none = none
+
+    left_false : (a b : Bool) → (a || b) ≡ false → a ≡ false
+    left_false true b none = absurd (true≢false none)
+    left_false false b none = refl
+
+    here : (b : Bool) → bytes_eq x.id a.id ≡ b → cond b (Some x) (arg_by_id c a.id) ≡ Some a
+    here false other = all.0
+    here true same =
+        let named : x.id ≡ a.id = (bytes_eq-Decides x.id a.id).0 same in
+        absurd (true≢false (sym (subst (λ (t : Text). bytes_eq a.id t ≡ true) (sym named) (same_text a.id)) ∙ left_false _ _ none))
+
+not_true : (b : Bool) → not b ≡ true → b ≡ false
+not_true true is = absurd (true≢false (sym is))
+not_true false is = refl
+
+all_own : (c : List Rule) → are_distinct (map (λ r. r.id) c) ≡ true → AllOwn c c
+all_own [] distinct = tt
+all_own (x ∷ xs) distinct =
+    let parts = both _ _ distinct in
+    (ap (λ b. cond b (Some x) (arg_by_id xs x.id)) (same_text x.id), own_behind x xs xs (not_true _ parts.0) (all_own xs parts.1))
+
+ids_filled : (i : ℕ) (rules : List Rule) → map (λ (r : Rule). r.id) (filled_from i rules) ≡ map (λ (r : Rule). r.id) rules
+ids_filled i [] = refl
+ids_filled i (a ∷ rest) = ap (λ (ids : List Text). a.id ∷ ids) (ids_filled (index_after i a) rest)
+
+ids_rules : (rows : List Argument) → map (λ (r : Rule). r.id) (rules_for rows ++ help_rule ∷ []) ≡ ids_of rows ++ codes "help" ∷ []
+ids_rules [] = refl
+ids_rules (row ∷ rows) = ap (λ (ids : List Text). row.id ∷ ids) (ids_rules rows)
+
+-- ## The kinds of argument
+
+abbrev built_rule : ℕ → Text → Kind → Bool → Rule
+built_rule i id kind required = with_index i (filled (record (kind_rule id kind) { required = required }))
+
+some_not_all : (most : ℕ) → is_fit (Words most) ≡ true → (most == usize_max) ≡ false
+some_not_all most fits = grind (arith, nat_tests)
+
+part_of : (c : List Rule) (i : ℕ) (id : Text) (required : Bool) (kind : Kind) → is_fit kind ≡ true → arg_by_id c id ≡ Some (built_rule i id kind required)
+    → IsPart c (built_rule i id kind required)
+part_of c i id required Word fits own = a_word (record { placed = refl; some = (refl, refl); bare = refl; own = own })
+part_of c i id required (Words most) fits own = a_word (record {
+  placed = refl;
+  some = (rw (some_not_all most fits) refl, refl);
+  bare = rw (some_not_all most fits) refl;
+  own = own;
+})
+part_of c i id required Size fits own = a_word (record { placed = refl; some = (refl, refl); bare = refl; own = own })
+part_of c i id required Flag fits own = a_flag (record { bare = refl; set = refl; own = own; no_letter = λ x. refl })
+part_of c i id required Value fits own = an_option (record { takes = refl; some = (refl, refl); bare = refl; own = own; no_letter = λ x. refl })
+part_of c i id required Count fits own = an_option (record { takes = refl; some = (refl, refl); bare = refl; own = own; no_letter = λ x. refl })
+part_of c i id required Cell fits own = an_option (record { takes = refl; some = (refl, refl); bare = refl; own = own; no_letter = λ x. refl })
+part_of c i id required Octal fits own = an_option (record { takes = refl; some = (refl, refl); bare = refl; own = own; no_letter = λ x. refl })
+part_of c i id required Volume fits own = an_option (record { takes = refl; some = (refl, refl); bare = refl; own = own; no_letter = λ x. refl })
+part_of c i id required Block fits own = an_option (record { takes = refl; some = (refl, refl); bare = refl; own = own; no_letter = λ x. refl })
+part_of c i id required Values fits own = an_appending (record { takes = refl; appends = refl; bare = refl; own = own; no_letter = λ x. refl })
+part_of c i id required Cells fits own = an_appending (record { takes = refl; appends = refl; bare = refl; own = own; no_letter = λ x. refl })
+part_of c i id required Octals fits own = an_appending (record { takes = refl; appends = refl; bare = refl; own = own; no_letter = λ x. refl })
+part_of c i id required Blocks fits own = an_appending (record { takes = refl; appends = refl; bare = refl; own = own; no_letter = λ x. refl })
+
+all_parts : (c : List Rule) (i : ℕ) (rows : List Argument) → list_all (λ row. is_fit row.kind) rows ≡ true
+    → AllOwn c (filled_from i (rules_for rows ++ help_rule ∷ [])) → AllParts c (filled_from i (rules_for rows ++ help_rule ∷ []))
+all_parts c i [] fits own = (a_help refl, tt)
+all_parts c i (row ∷ rows) fits own =
+    let parts = both _ _ fits in
+    (part_of c i row.id row.is_required row.kind parts.0 own.0, all_parts c (index_after i (rule_for row)) rows parts.1 own.1)
+
+record IsSound (entry : Entry) : Type 0 where
+  fits : list_all (λ row. is_fit row.kind) (rows_for entry.verb) ≡ true
+  requires : list_all (λ row. not row.is_required || can_be_required row.kind) (rows_for entry.verb) ≡ true
+  distinct : are_distinct (ids_of (rows_for entry.verb) ++ codes "help" ∷ []) ≡ true
+
+sound_parts : (entry : Entry) → is_sound entry ≡ true → IsSound entry
+sound_parts entry sound =
+    let one = both _ _ sound in
+    let two = both _ _ one.1 in
+    record { fits = one.0; requires = two.0; distinct = two.1 }
+
+entry_own : (entry : Entry) → is_sound entry ≡ true → AllOwn (below (leaf_shape entry)).rules (below (leaf_shape entry)).rules
+entry_own entry sound =
+    all_own (below (leaf_shape entry)).rules
+    (ap are_distinct (ids_filled 1 (rules_for (rows_for entry.verb) ++ help_rule ∷ []) ∙ ids_rules (rows_for entry.verb)) ∙ (sound_parts entry sound).distinct)
+
+pub entry_leaf : (entry : Entry) → is_sound entry ≡ true → IsLeaf (below (leaf_shape entry))
+entry_leaf entry sound = record {
+  parts = all_parts (below (leaf_shape entry)).rules 1 (rows_for entry.verb) (sound_parts entry sound).fits (entry_own entry sound);
+  negates = refl;
+  once = refl;
+}
+
+-- ## What words with no fault give
+
+row_holds : (s : Shape) → IsLeaf s → (i : ℕ) (id : Text) (required : Bool) (kind : Kind) → is_fit kind ≡ true → (not required || can_be_required kind) ≡ true
+    → arg_by_id s.rules id ≡ Some (built_rule i id kind required) → (words : List Text) → Faultless s words
+    → HasWhere required id (rows_after s.rules [] words) × HasSomeWhere required id (rows_after s.rules [] words) × IsTaken kind id (rows_after s.rules [] words)
+row_holds s leaf i id required kind fits can own words none = (where_required required kind fits can own, some_where required (where_required required kind fits can own), taken kind fits own)
+  where
+    rows : List Row
+    rows = rows_after s.rules [] words
+
+    where_required : (required : Bool) (kind : Kind) → is_fit kind ≡ true → (not required || can_be_required kind) ≡ true
+        → arg_by_id s.rules id ≡ Some (built_rule i id kind required) → HasWhere required id (rows_after s.rules [] words)
+    where_required false kind fits can own = tt
+    where_required true Word fits can own = has_word s leaf (built_rule i id Word true) own refl (refl, refl) words none
+    where_required true (Words most) fits can own =
+        has_word s leaf (built_rule i id (Words most) true) own refl (rw (some_not_all most fits) refl, refl) words none
+    where_required true Size fits can own = has_word s leaf (built_rule i id Size true) own refl (refl, refl) words none
+    where_required true Value fits can own = has_word s leaf (built_rule i id Value true) own refl (refl, refl) words none
+    where_required true Count fits can own = has_word s leaf (built_rule i id Count true) own refl (refl, refl) words none
+    where_required true Cell fits can own = has_word s leaf (built_rule i id Cell true) own refl (refl, refl) words none
+    where_required true Octal fits can own = has_word s leaf (built_rule i id Octal true) own refl (refl, refl) words none
+    where_required true Volume fits can own = has_word s leaf (built_rule i id Volume true) own refl (refl, refl) words none
+    where_required true Block fits can own = has_word s leaf (built_rule i id Block true) own refl (refl, refl) words none
+    where_required true Flag fits can own = absurd (true≢false (sym can))
+    where_required true Values fits can own = absurd (true≢false (sym can))
+    where_required true Cells fits can own = absurd (true≢false (sym can))
+    where_required true Octals fits can own = absurd (true≢false (sym can))
+    where_required true Blocks fits can own = absurd (true≢false (sym can))
+
+    some_where : (required : Bool) → HasWhere required id (rows_after s.rules [] words) → HasSomeWhere required id (rows_after s.rules [] words)
+    some_where true has = some_values id (rows_after s.rules [] words) has
+    some_where false has = tt
+
+    up_to : (most : ℕ) (o : Option Row) → ((r : Row) → o ≡ Some r → Fits (built_rule i id (Words most) required) r.values)
+        → length (unwrap_or (option_map (λ (r : Row). r.values) o) []) ≤ most
+    up_to most None given = omega arith
+    up_to most (Some r) given = (one_up_to most (length r.values) (given r refl).0).1
+
+    taken : (kind : Kind) → is_fit kind ≡ true → arg_by_id s.rules id ≡ Some (built_rule i id kind required) → IsTaken kind id (rows_after s.rules [] words)
+    taken Word fits own = tt
+    taken (Words most) fits own =
+        up_to most (find (λ x. bytes_eq x.id id) (rows_after s.rules [] words))
+        (λ r is. (fit s leaf (built_rule i id (Words most) required) own (rw (some_not_all most fits) refl) words none r is).0)
+    taken Flag fits own = tt
+    taken Value fits own = tt
+    taken Values fits own = tt
+    taken Cell fits own = tt
+    taken Cells fits own = tt
+    taken Octal fits own = tt
+    taken Octals fits own = tt
+    taken Volume fits own = tt
+    taken Block fits own = tt
+    taken Blocks fits own = tt
+    taken Size fits own = has_number s leaf (built_rule i id Size required) own refl refl 8 MOST_BLOCKS refl refl words none
+    taken Count fits own = has_number s leaf (built_rule i id Count required) own refl refl 1 most_steps refl refl words none
+
+rows_hold : (s : Shape) → IsLeaf s → (i : ℕ) (rows : List Argument) → list_all (λ row. is_fit row.kind) rows ≡ true
+    → list_all (λ row. not row.is_required || can_be_required row.kind) rows ≡ true → AllOwn s.rules (filled_from i (rules_for rows ++ help_rule ∷ []))
+    → (words : List Text) → Faultless s words → AllHold rows (rows_after s.rules [] words)
+rows_hold s leaf i [] fits can own words none = tt
+rows_hold s leaf i (row ∷ rows) fits can own words none =
+    let fit = both _ _ fits in
+    let may = both _ _ can in
+    (row_holds s leaf i row.id row.is_required row.kind fit.0 may.0 own.0 words none, rows_hold s leaf (index_after i (rule_for row)) rows fit.1 may.1 own.1 words none)
+
+-- a subcommand of a sound table, entered with no fault, has what the table says
+pub entry_holds : (entry : Entry) → is_sound entry ≡ true → (words : List Text) → Faultless (below (leaf_shape entry)) words
+    → AllHold (rows_for entry.verb) (rows_after (below (leaf_shape entry)).rules [] words)
+entry_holds entry sound words none =
+    let parts = sound_parts entry sound in
+    rows_hold (below (leaf_shape entry)) (entry_leaf entry sound) 1 (rows_for entry.verb) parts.fits parts.requires (entry_own entry sound) words none

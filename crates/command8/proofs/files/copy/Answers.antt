@@ -1,0 +1,26 @@
+use Rattle.std.proofs.Common.{◌≡◌, codes, refl, subst, sym, true}
+use Rattle.clap.specs.Words.{Text, found_of, rows_of}
+use Rattle.command8.specs.declared.refusals.What.TheVariants as what
+use Rattle.command8.specs.declared.table.Verb.TheVariants as verb
+use Rattle.command8.specs.Found.{Has}
+use Rattle.command8.specs.Tables.{kind_at, rows_for, takes_text}
+use Rattle.command8.proofs.RefusalLemmas.{after_takes, moved_after, moved_named}
+use Rattle.command8.proofs.files.copy.Goals as goal
+
+pub file_of-requires-clause-given : goal.file_of-requires-clause-given
+file_of-requires-clause-given c = λ free. moved_named (codes "TO") what.To what.NameAndTo (rows_of (found_of c.args.found.now)) c.requires.2
+
+pub value_of-requires-clause-kind : goal.value_of-requires-clause-kind
+value_of-requires-clause-kind c =
+    subst (λ (id : Text). takes_text (kind_at id (rows_for verb.Copy)) ≡ true) (sym c.after.ensures)
+    (after_takes verb.Copy (codes "NAME") (codes "TO") (rows_of (found_of c.args.found.now)) refl refl)
+
+pub value_of-requires-clause-given : goal.value_of-requires-clause-given
+value_of-requires-clause-given c =
+    let rows = rows_of (found_of c.args.found.now) in
+    subst (λ (id : Text). Has id rows) (sym c.after.ensures) (moved_after (codes "TO") what.To what.NameAndTo rows c.requires.2)
+
+pub value_if_given-requires : goal.value_if_given-requires
+value_if_given-requires c =
+    subst (λ (id : Text). takes_text (kind_at id (rows_for verb.Copy)) ≡ true) (sym c.after-2.ensures)
+    (after_takes verb.Copy (codes "TO") (codes "NEW") (rows_of (found_of c.args.found.now)) refl refl)

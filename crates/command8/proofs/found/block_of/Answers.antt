@@ -1,0 +1,13 @@
+use Rattle.std.proofs.Common.{◌≡◌, ◌∙◌, ap, sym, option_map, Some, subst, true≢false, true}
+use Rattle.std.specs.Prelude.{is_some}
+use Rattle.command8.specs.Found.{place_of}
+use Rattle.clap.specs.Words.{found_of, rows_of}
+use Rattle.command8.specs.declared.table.Kind.TheVariants.{Block}
+use Rattle.command8.proofs.FoundLemmas.{first_is_of}
+use Rattle.command8.proofs.found.block_of.Goals as goal
+
+pub unreachable-requires : goal.unreachable-requires
+unreachable-requires c =
+    let given = ap (option_map (λ text. text.now)) (sym c.in-Some.is) ∙ c.text_of.ensures in
+    let well = first_is_of Block c.args.id.now (rows_of (found_of c.args.found.now)) c.in-Some.text.now c.requires.well (sym given) in
+    true≢false (sym well ∙ ap is_some (ap place_of (sym c.as_bytes.ensures.value) ∙ (sym c.number_in.ensures.value ∙ c.in-None-number_in.is)))

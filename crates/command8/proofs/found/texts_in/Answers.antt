@@ -1,0 +1,9 @@
+use Rattle.std.proofs.Common.{◌∙◌, ap, []}
+use Rattle.std.specs.Prelude.{unwrap_or}
+use Rattle.clap.proofs.WalkLemmas.{raw_values-rows}
+use Rattle.clap.specs.Words.{found_of}
+use Rattle.command8.proofs.found.texts_in.Goals as goal
+
+pub returns : goal.returns
+returns c =
+    c.texts_or_none.ensures ∙ ap (λ o. unwrap_or o []) (c.get_strs.ensures ∙ raw_values-rows (found_of c.args.found.now) c.args.id.now)

@@ -1,4 +1,0 @@
-use Rattle.command8.proofs.tapes.tape.Goals as goal
-
-pub returns : goal.returns
-returns c = c.leaf.ensures

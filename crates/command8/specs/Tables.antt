@@ -1,0 +1,255 @@
+-- The command line that the table describes, as `clap` reads it: one definition, computed from the table.
+use Rattle.std.specs.Prelude.{find, option_map, ◌≡◌, ◌&&◌, ◌||◌, Bool, true, false, ℕ, nat_lt, codes, List, [], ◌∷◌, ◌++◌, map, length, not, Option, Some, None}
+use Rattle.std.specs.List.{list_all, list_any}
+use Rattle.std.specs.Str.{bytes_eq}
+use Rattle.clap.specs.Lexer.{usize_max}
+use Rattle.clap.specs.Walk.{is_empty}
+use Rattle.clap.specs.Simple.{new_shape}
+use Rattle.clap.specs.Words.{App, Rule, Shape, Text, new_app, new_rule}
+use Rattle.clap.specs.declared.builder.range.ValueRange.{ValueRange}
+use Rattle.clap.specs.declared.builder.value_parser.ValueParser.{ValueParser}
+use Rattle.clap.specs.declared.builder.value_parser.ValueParser.TheVariants.{Unsigned}
+use Rattle.word12.specs.declared.sizes.TheConstants.{MOST_BLOCKS}
+use Rattle.clap.specs.declared.builder.action.ArgAction.{ArgAction}
+use Rattle.clap.specs.declared.builder.action.ArgAction.TheVariants.{Append, SetTrue}
+use Rattle.command8.specs.declared.table.Kind.{Kind}
+use Rattle.command8.specs.declared.table.Kind.TheVariants.{Word, Words, Size, Flag, Value, Values, Count, Cell, Cells, Octal, Octals, Volume, Block, Blocks}
+use Rattle.std.specs.Borrow.{Bor}
+use Rattle.command8.specs.declared.table.ArgumentOf.{ArgumentOf}
+use Rattle.command8.specs.declared.table.EntryOf.{EntryOf}
+use Rattle.command8.specs.declared.table.TheConstants.{COMMANDS, PAIRS, RIM, SOURCE, ASSEMBLE, TELETYPE, TRACE, RUN, CREATE, LIST, GET, PUT, DELETE, RENAME, COPY, SQUEEZE, CHECK}
+use Rattle.command8.specs.declared.table.Verb.{Verb}
+use Rattle.command8.specs.declared.table.Verb.TheVariants as verb
+
+-- the most that `u64` holds
+abbrev pub most_steps : ℕ
+most_steps = 18446744073709551615
+
+-- a row, with its texts
+abbrev pub Argument : Type 0
+Argument = ArgumentOf Text
+
+abbrev pub Entry : Type 0
+Entry = EntryOf Text
+
+-- ## The table, as functions get it and as it is declared
+
+abbrev pub row_of : ArgumentOf (Bor Text) → Argument
+row_of row = record {
+  id = row.id.now;
+  kind = row.kind;
+  is_required = row.is_required;
+  is_hidden = row.is_hidden;
+  value = row.value.now;
+  shown = row.shown.now;
+  help = row.help.now;
+}
+
+abbrev pub entry_of : EntryOf (Bor Text) → Entry
+entry_of entry = record {
+  verb = entry.verb;
+  word = entry.word.now;
+  usage = entry.usage.now;
+}
+
+-- a text and a list of the declared constants
+abbrev pub Said : Type 0 → Type 0
+Said A = record { now : A }
+
+abbrev pub declared_row : ArgumentOf (Said Text) → Argument
+declared_row row = record {
+  id = row.id.now;
+  kind = row.kind;
+  is_required = row.is_required;
+  is_hidden = row.is_hidden;
+  value = row.value.now;
+  shown = row.shown.now;
+  help = row.help.now;
+}
+
+abbrev pub declared_entry : EntryOf (Said Text) → Entry
+declared_entry entry = record {
+  verb = entry.verb;
+  word = entry.word.now;
+  usage = entry.usage.now;
+}
+
+-- the arguments of a subcommand
+abbrev pub rows_for : Verb → List Argument
+rows_for verb.Tape = []
+rows_for verb.Rim = map declared_row RIM.now
+rows_for verb.Source = map declared_row SOURCE.now
+rows_for verb.Assemble = map declared_row ASSEMBLE.now
+rows_for verb.Teletype = map declared_row TELETYPE.now
+rows_for verb.Trace = map declared_row TRACE.now
+rows_for verb.Profile = map declared_row TRACE.now
+rows_for verb.Run = map declared_row RUN.now
+rows_for verb.Create = map declared_row CREATE.now
+rows_for verb.List = map declared_row LIST.now
+rows_for verb.Get = map declared_row GET.now
+rows_for verb.Put = map declared_row PUT.now
+rows_for verb.Delete = map declared_row DELETE.now
+rows_for verb.Rename = map declared_row RENAME.now
+rows_for verb.Copy = map declared_row COPY.now
+rows_for verb.Squeeze = map declared_row SQUEEZE.now
+rows_for verb.Check = map declared_row CHECK.now
+
+-- the subcommands
+abbrev pub table : List Entry
+table = map declared_entry COMMANDS.now
+
+-- two arguments that exclude each other, by their names
+abbrev pub pair_of : Bor Text × Bor Text → Text × Text
+pair_of pair = (pair.0.now, pair.1.now)
+
+abbrev declared_pair : Said Text × Said Text → Text × Text
+declared_pair pair = (pair.0.now, pair.1.now)
+
+abbrev pub pairs : List (Text × Text)
+pairs = map declared_pair PAIRS.now
+
+-- ## The kinds of argument
+
+abbrev pub option_rule : Text → Rule
+option_rule id = record (new_rule id) { long = Some id; value_names = 1 }
+
+abbrev pub options_rule : Text → Rule
+options_rule id = record (option_rule id) { action = Some Append }
+
+abbrev pub kind_long : Text → Kind → Option Text
+kind_long id Word = None
+kind_long id (Words most) = None
+kind_long id Size = None
+kind_long id kind = Some id
+
+abbrev pub kind_action : Kind → Option ArgAction
+kind_action Flag = Some SetTrue
+kind_action Values = Some Append
+kind_action Cells = Some Append
+kind_action Octals = Some Append
+kind_action Blocks = Some Append
+kind_action kind = None
+
+abbrev pub kind_range : Kind → Option ValueRange
+kind_range (Words most) = Some (record { start_inclusive = 1; end_inclusive = most })
+kind_range kind = None
+
+abbrev pub kind_names : Kind → ℕ
+kind_names Word = 0
+kind_names (Words most) = 0
+kind_names Size = 0
+kind_names Flag = 0
+kind_names kind = 1
+
+abbrev pub kind_parser : Kind → Option ValueParser
+kind_parser Size = Some (Unsigned 8 MOST_BLOCKS)
+kind_parser Count = Some (Unsigned 1 most_steps)
+kind_parser kind = None
+
+abbrev pub kind_rule : Text → Kind → Rule
+kind_rule id kind = record (new_rule id) {
+  long = kind_long id kind;
+  action = kind_action kind;
+  range = kind_range kind;
+  value_names = kind_names kind;
+  parser = kind_parser kind;
+}
+
+-- what `clap` reads of an argument of the table
+abbrev pub rule_for : Argument → Rule
+rule_for row = record (kind_rule row.id row.kind) { required = row.is_required }
+
+-- ## The command
+
+abbrev pub rules_for : List Argument → List Rule
+rules_for rows = map rule_for rows
+
+abbrev pub leaf_with : Text → List Rule → App
+leaf_with word rules = record { top = record (new_shape word) { rules = rules }; subs = [] }
+
+abbrev pub leaf_app : Entry → App
+leaf_app entry = leaf_with entry.word (rules_for (rows_for entry.verb))
+
+-- a subcommand of the table
+abbrev pub leaf_shape : Entry → Shape
+leaf_shape entry = (leaf_app entry).top
+
+-- the program without its subcommands: it must get one, and has a version to show
+abbrev pub bare_app : App
+bare_app = record (new_app (codes "pdp8")) {
+  top = record (new_app (codes "pdp8")).top { subcommand_required = true; has_version = true };
+}
+
+abbrev pub app_with : List Shape → App
+app_with subs = record { top = record bare_app.top { is_leaf = is_empty subs }; subs = subs }
+
+abbrev pub app_of_table : List Entry → App
+app_of_table entries = app_with (map leaf_shape entries)
+
+-- the program: to its subcommands `clap` adds what is its own, help and version
+abbrev pub pdp8 : App
+pdp8 = app_of_table table
+
+-- ## A table that is sound
+
+-- several texts in one place are some, and fewer than all
+abbrev pub is_fit : Kind → Bool
+is_fit (Words most) = nat_lt 0 most && nat_lt most usize_max
+is_fit kind = true
+
+-- no name stands twice
+abbrev pub are_distinct : List Text → Bool
+are_distinct [] = true
+are_distinct (id ∷ ids) = not (list_any (λ other. bytes_eq other id) ids) && are_distinct ids
+
+abbrev pub ids_of : List Argument → List Text
+ids_of rows = map (λ row. row.id) rows
+
+-- what must be given is no list of an option, and no flag
+abbrev pub can_be_required : Kind → Bool
+can_be_required Flag = false
+can_be_required Values = false
+can_be_required Cells = false
+can_be_required Octals = false
+can_be_required Blocks = false
+can_be_required kind = true
+
+-- each kind fits, no two arguments have one name, and none is that of help
+abbrev pub is_sound : Entry → Bool
+is_sound entry = list_all (λ row. is_fit row.kind) (rows_for entry.verb)
+    && (list_all (λ row. not row.is_required || can_be_required row.kind) (rows_for entry.verb)
+    && are_distinct (ids_of (rows_for entry.verb) ++ codes "help" ∷ []))
+
+-- ## A subcommand of the table
+
+-- the subcommand of this name
+abbrev pub entry_named : Text → Option Entry
+entry_named name = find (λ entry. bytes_eq name entry.word) table
+
+-- ## An argument by its name
+
+abbrev pub kind_at : Text → List Argument → Option Kind
+kind_at id rows = option_map (λ row. row.kind) (find (λ row. bytes_eq row.id id) rows)
+
+-- one that takes a text, and one that takes several
+abbrev pub takes_text : Option Kind → Bool
+takes_text (Some Word) = true
+takes_text (Some Value) = true
+takes_text kind = false
+
+abbrev pub takes_texts : Option Kind → Bool
+takes_texts (Some (Words most)) = true
+takes_texts (Some Values) = true
+takes_texts kind = false
+
+-- and one that takes one at least
+abbrev pub has_text : Option Kind → Bool
+has_text (Some Word) = true
+has_text (Some Value) = true
+has_text kind = takes_texts kind
+
+-- and one that takes a block
+abbrev pub takes_block : Option Kind → Bool
+takes_block (Some Block) = true
+takes_block (Some Blocks) = true
+takes_block kind = false

@@ -1,0 +1,138 @@
+//! What `clap` found for an option that is given several times, where each value is a number.
+ghost use Rattle.std.specs.Prelude.{◌≡◌, ◌++◌, ◌∷◌, [], codes, map, option_map, IfOk, None, OnOk, Some};
+ghost use Rattle.clap.specs.Words.{found_of, rows_of};
+ghost use Rattle.word12.specs.Octal.{octal_of};
+ghost use Rattle.command8.specs.Found.{IsWell, a_block, first_not, octal_digits, place_of};
+ghost use Rattle.command8.specs.Found as spec;
+ghost use Rattle.command8.specs.Tables.{kind_at, rows_for};
+ghost use Rattle.command8.specs.Tasks.{IsInfo};
+ghost use Rattle.command8.specs.declared.table.Kind.TheVariants as kind;
+
+use crate::found::texts_in;
+use crate::numbers::number_in;
+use crate::table::Verb;
+use clap::ArgMatches;
+use std::alloc::{AllocError, Global};
+use word12::{Cell, MOST_BLOCKS, Word, octal_cell, octal_word};
+
+/// The cells of an option.
+pub fn cells_of(
+    alloc: Global,
+    found: &ArgMatches<'_>,
+    _verb: Verb,
+    id: &str,
+) -> Result<Vec<Cell>, AllocError>
+    requires kind { kind_at id.now (rows_for _verb) ≡ Some kind.Cells }
+    requires well { IsWell kind.Cells id.now (rows_of (found_of found.now)) }
+    ensures { IfOk result (λ cells. map (octal_of 5) (spec.values_of id.now (rows_of (found_of found.now)))
+        ≡ map (λ cell. Some cell) cells.items) }
+{
+    cells_in(alloc, texts_in(found, id))
+}
+
+/// The cells of texts, each of five octal digits.
+fn cells_in(alloc: Global, texts: &[&str]) -> Result<Vec<Cell>, AllocError>
+    requires { first_not (octal_digits 5) (map (λ text. text.now) texts.now) ≡ None }
+    ensures { IfOk result (λ cells. map (octal_of 5) (map (λ text. text.now) texts.now)
+        ≡ map (λ cell. Some cell) cells.items) }
+{
+    let mut cells = Vec::new(alloc);
+    for text in texts {
+        let Some(cell) = octal_cell(text.as_bytes()) else {
+            unreachable!()
+        };
+        put_cell(&mut cells, cell)?;
+    }
+    Ok(cells)
+}
+
+/// Puts a cell after others.
+fn put_cell(cells: &mut Vec<Cell>, cell: Cell) -> Result<(), AllocError>
+    ensures { OnOk result (cells.new.items ≡ cells.old.items ++ cell ∷ []) }
+{
+    cells.push(cell)?;
+    Ok(())
+}
+
+/// The blocks of an option.
+pub fn blocks_of(
+    alloc: Global,
+    found: &ArgMatches<'_>,
+    _verb: Verb,
+    id: &str,
+) -> Result<Vec<usize>, AllocError>
+    requires kind { kind_at id.now (rows_for _verb) ≡ Some kind.Blocks }
+    requires well { IsWell kind.Blocks id.now (rows_of (found_of found.now)) }
+    ensures { IfOk result (λ blocks. map place_of (spec.values_of id.now (rows_of (found_of found.now)))
+        ≡ map (λ block. Some block) blocks.items) }
+{
+    blocks_in(alloc, texts_in(found, id))
+}
+
+/// The blocks of texts, each 0 to 4095.
+fn blocks_in(alloc: Global, texts: &[&str]) -> Result<Vec<usize>, AllocError>
+    requires { first_not a_block (map (λ text. text.now) texts.now) ≡ None }
+    ensures { IfOk result (λ blocks. map place_of (map (λ text. text.now) texts.now)
+        ≡ map (λ block. Some block) blocks.items) }
+{
+    let mut blocks = Vec::new(alloc);
+    for text in texts {
+        let Some(block) = number_in(text.as_bytes(), 0, MOST_BLOCKS) else {
+            unreachable!()
+        };
+        put_block(&mut blocks, block)?;
+    }
+    Ok(blocks)
+}
+
+/// Puts a block after others.
+fn put_block(blocks: &mut Vec<usize>, block: usize) -> Result<(), AllocError>
+    ensures { OnOk result (blocks.new.items ≡ blocks.old.items ++ block ∷ []) }
+{
+    blocks.push(block)?;
+    Ok(())
+}
+
+/// The information words, if any is given.
+pub fn info_of(
+    alloc: Global,
+    found: &ArgMatches<'_>,
+    _verb: Verb,
+) -> Result<Option<Vec<Word>>, AllocError>
+    requires kind { kind_at (codes "info") (rows_for _verb) ≡ Some kind.Octals }
+    requires well { IsWell kind.Octals (codes "info") (rows_of (found_of found.now)) }
+    ensures { IfOk result (λ info.
+        IsInfo (rows_of (found_of found.now)) (option_map (λ words. words.items) info)) }
+{
+    match found.get_strs("info") {
+        Some(texts) => {
+            let words = words_in(alloc, texts)?;
+            Ok(Some(words))
+        }
+        None => Ok(None),
+    }
+}
+
+/// The words of texts, each of four octal digits.
+fn words_in(alloc: Global, texts: &[&str]) -> Result<Vec<Word>, AllocError>
+    requires { first_not (octal_digits 4) (map (λ text. text.now) texts.now) ≡ None }
+    ensures { IfOk result (λ words. map (octal_of 4) (map (λ text. text.now) texts.now)
+        ≡ map (λ word. Some word) words.items) }
+{
+    let mut words = Vec::new(alloc);
+    for text in texts {
+        let Some(word) = octal_word(text.as_bytes()) else {
+            unreachable!()
+        };
+        put_word(&mut words, word)?;
+    }
+    Ok(words)
+}
+
+/// Puts a word after others.
+fn put_word(words: &mut Vec<Word>, word: Word) -> Result<(), AllocError>
+    ensures { OnOk result (words.new.items ≡ words.old.items ++ word ∷ []) }
+{
+    words.push(word)?;
+    Ok(())
+}

@@ -1,0 +1,354 @@
+//! The subcommands and their arguments: what each takes, which exclude each other, and what help says of them. All else that the command
+//! line does is read from here.
+ghost use Rattle.std.specs.Prelude.{◌≡◌, map};
+ghost use Rattle.command8.specs.Tables.{entry_of, pair_of, row_of, rows_for};
+ghost use Rattle.command8.specs.Tables as spec;
+
+use word12::MOST_BLOCKS;
+
+/// What an argument takes.
+#[derive(Clone, Copy)]
+pub enum Kind {
+    /// A text in its place.
+    Word,
+
+    /// 1 to so many texts in one place.
+    Words(usize),
+
+    /// The number of a new volume's blocks in its place, 8 to 4095.
+    Size,
+
+    /// An option that takes no value.
+    Flag,
+
+    /// An option with a text.
+    Value,
+
+    /// An option with a text, which may be given several times.
+    Values,
+
+    /// An option with a number from 1 up.
+    Count,
+
+    /// An option with a cell, five octal digits.
+    Cell,
+
+    /// An option with a cell, which may be given several times.
+    Cells,
+
+    /// An option with a word, four octal digits.
+    Octal,
+
+    /// An option with a word, which may be given several times.
+    Octals,
+
+    /// An option with the number of a disk's volume, 1 or 2.
+    Volume,
+
+    /// An option with a block, 0 to 4095.
+    Block,
+
+    /// An option with a block, which may be given several times.
+    Blocks,
+}
+
+/// A subcommand.
+#[derive(Clone, Copy)]
+pub enum Verb {
+    Tape,
+    Rim,
+    Source,
+    Assemble,
+    Teletype,
+    Trace,
+    Profile,
+    Run,
+    Create,
+    List,
+    Get,
+    Put,
+    Delete,
+    Rename,
+    Copy,
+    Squeeze,
+    Check,
+}
+
+/// An argument of a subcommand, with texts of the type `T`.
+pub struct ArgumentOf<T> {
+    /// Its name, which is also that of its option.
+    pub id: T,
+
+    pub kind: Kind,
+    pub is_required: bool,
+
+    /// Whether help leaves it out.
+    pub is_hidden: bool,
+
+    /// What help calls its value.
+    pub value: T,
+
+    /// What refusals call it.
+    pub shown: T,
+
+    pub help: T,
+}
+
+/// A row of the table.
+pub type Argument = ArgumentOf<&'static str>;
+
+/// A subcommand, with texts of the type `T`.
+pub struct EntryOf<T> {
+    pub verb: Verb,
+
+    /// Its name.
+    pub word: T,
+
+    /// The line on its usage.
+    pub usage: T,
+}
+
+/// A subcommand of the table.
+pub type Entry = EntryOf<&'static str>;
+
+/// Two arguments, by their names.
+pub type Pair = (&'static str, &'static str);
+
+/// The rows of a subcommand: an argument that must be given, one that may, an option with no value, one that help leaves out, and one with a
+/// value.
+macro_rules! rows {
+    (@row $id:literal must $kind:expr, $value:literal, $help:literal) => {
+        ArgumentOf { id: $id, kind: $kind, is_required: true, is_hidden: false, value: $value, shown: concat!("<", $id, ">"), help: $help }
+    };
+    (@row $id:literal may $kind:expr, $value:literal, $help:literal) => {
+        ArgumentOf { id: $id, kind: $kind, is_required: false, is_hidden: false, value: $value, shown: concat!("[", $id, "]"), help: $help }
+    };
+    (@row $id:literal flag $kind:expr, $value:literal, $help:literal) => {
+        ArgumentOf { id: $id, kind: $kind, is_required: false, is_hidden: false, value: $value, shown: concat!("--", $id), help: $help }
+    };
+    (@row $id:literal hidden $kind:expr, $value:literal, $help:literal) => {
+        ArgumentOf { id: $id, kind: $kind, is_required: false, is_hidden: true, value: $value, shown: concat!("--", $id), help: $help }
+    };
+    (@row $id:literal option $kind:expr, $value:literal, $help:literal) => {
+        ArgumentOf { id: $id, kind: $kind, is_required: false, is_hidden: false, value: $value, shown: concat!("--", $id, " <", $value, ">"), help: $help }
+    };
+    ($($id:literal $form:ident $kind:expr, $value:literal, $help:literal;)*) => {
+        &[$(rows!(@row $id $form $kind, $value, $help)),*]
+    };
+}
+
+/// The subcommands: each its name and its usage.
+macro_rules! entries {
+    ($($verb:expr, $word:literal, $usage:literal;)*) => {
+        &[$(EntryOf { verb: $verb, word: $word, usage: $usage }),*]
+    };
+}
+
+/// The subcommands.
+pub const COMMANDS: &[Entry] = entries! {
+    Verb::Tape, "tape", "Usage: pdp8 tape";
+    Verb::Rim, "rim", "Usage: pdp8 rim [OPTIONS]";
+    Verb::Source, "source", "Usage: pdp8 source [OPTIONS] [TAPE] [NAME]";
+    Verb::Assemble, "assemble", "Usage: pdp8 assemble [OPTIONS] <FILE>...";
+    Verb::Teletype, "teletype", "Usage: pdp8 teletype [OPTIONS] <TAPE> [NAME]";
+    Verb::Trace, "trace", "Usage: pdp8 trace [OPTIONS] <TAPE> [NAME]";
+    Verb::Profile, "profile", "Usage: pdp8 profile [OPTIONS] <TAPE> [NAME]";
+    Verb::Run, "run", "Usage: pdp8 run [OPTIONS] <IMAGE>";
+    Verb::Create, "create", "Usage: pdp8 create [OPTIONS] <IMAGE> [BLOCKS]";
+    Verb::List, "list", "Usage: pdp8 list [OPTIONS] <IMAGE>";
+    Verb::Get, "get", "Usage: pdp8 get [OPTIONS] <IMAGE> [NAME]...";
+    Verb::Put, "put", "Usage: pdp8 put [OPTIONS] <IMAGE> <FILE>...";
+    Verb::Delete, "delete", "Usage: pdp8 delete [OPTIONS] <IMAGE> [NAME]...";
+    Verb::Rename, "rename", "Usage: pdp8 rename [OPTIONS] <IMAGE> [NAME] [NEW]";
+    Verb::Copy, "copy", "Usage: pdp8 copy [OPTIONS] <IMAGE> [NAME] [TO] [NEW]";
+    Verb::Squeeze, "squeeze", "Usage: pdp8 squeeze [OPTIONS] <IMAGE>";
+    Verb::Check, "check", "Usage: pdp8 check [OPTIONS] <IMAGE>...";
+};
+
+/// The arguments that exclude each other, in whatever subcommand they are.
+pub const PAIRS: &[Pair] = &[
+    ("volume", "dectape"),
+    ("to-volume", "to-dectape"),
+    ("BLOCKS", "dectape"),
+    ("blocks", "at"),
+    ("blocks", "into"),
+    ("blocks", "all"),
+    ("blocks", "force"),
+    ("blocks", "text-of"),
+    ("blocks", "tape"),
+    ("blocks", "bin"),
+    ("tape", "into"),
+    ("bin", "into"),
+    ("as", "text-of"),
+    ("look", "keep"),
+];
+
+pub const RIM: &[Argument] = rows! {
+    "bin" flag Kind::Flag, "", "Write the BIN tape of its words";
+};
+
+pub const SOURCE: &[Argument] = rows! {
+    "TAPE" may Kind::Word, "", "The file of the tape, or of the image that holds NAME; else standard input";
+    "NAME" may Kind::Word, "", "The name of the file on the volume";
+    "start" option Kind::Cells, "FAAAA", "A cell at which the program starts, field and address in octal; it may be given several times";
+    "names" option Kind::Value, "FILE", "A file of names, a line FAAAA NAME for each cell that gets one";
+};
+
+pub const ASSEMBLE: &[Argument] = rows! {
+    "FILE" must Kind::Words(8), "", "The 1 to 8 sources, which stand together; - is standard input, once at most";
+    "output" option Kind::Value, "TAPE", "The file that gets the tape, in place of standard output";
+    "list" option Kind::Value, "LISTING", "Write a listing to the file LISTING too";
+    "cross" flag Kind::Flag, "", "Put a table of cross references after the listing; it needs --list";
+};
+
+pub const TELETYPE: &[Argument] = rows! {
+    "TAPE" must Kind::Word, "", "The file of the tape, or of the image that holds NAME";
+    "NAME" may Kind::Word, "", "The name of the file on the volume";
+    "start" option Kind::Cell, "FAAAA", "The cell to start at, field and address in octal; else that of the tape's first word";
+    "switches" option Kind::Octal, "WWWW", "The word that the switches are set to, in octal; else 0000";
+    "steps" option Kind::Count, "N", "The most instructions that are done, 1 up; without it there is no limit";
+    "raw" flag Kind::Flag, "", "Strike each byte as it is, with no change of line ends and no top bit set";
+    "live" hidden Kind::Flag, "", "Take the keys as they are struck";
+};
+
+/// The arguments of `trace` and of `profile`.
+pub const TRACE: &[Argument] = rows! {
+    "TAPE" must Kind::Word, "", "The file of the tape, or of the image that holds NAME";
+    "NAME" may Kind::Word, "", "The name of the file on the volume";
+    "start" option Kind::Cell, "FAAAA", "The cell to start at, field and address in octal; else that of the tape's first word";
+    "switches" option Kind::Octal, "WWWW", "The word that the switches are set to, in octal; else 0000";
+    "steps" option Kind::Count, "N", "The most steps that are made, 1 up";
+    "keys" option Kind::Value, "TEXT", "The keys to strike, each where the program asks for one; a line's end is CR";
+};
+
+pub const RUN: &[Argument] = rows! {
+    "IMAGE" must Kind::Word, "", "The file that holds the volume";
+    "look" flag Kind::Flag, "", "Never write the image, whatever the script does";
+    "keep" flag Kind::Flag, "", "Write the image after each entry that changed it, before its reply";
+    "strict" flag Kind::Flag, "", "End with status 1 where a reply was a refusal";
+    "volume" option Kind::Volume, "N", "The volume of an RK05 disk, 1 or 2, where IMAGE is the file of one";
+    "dectape" flag Kind::Flag, "", "IMAGE is the file of a DECtape, of 129 words a block";
+};
+
+pub const CREATE: &[Argument] = rows! {
+    "IMAGE" must Kind::Word, "", "The file that holds the volume";
+    "BLOCKS" may Kind::Size, "", "The number of blocks, 8 to 4095";
+    "dectape" flag Kind::Flag, "", "Write the file of a DECtape";
+};
+
+pub const LIST: &[Argument] = rows! {
+    "IMAGE" must Kind::Word, "", "The file that holds the volume";
+    "long" flag Kind::Flag, "", "Show where each file lies, and its information words, in octal";
+    "volume" option Kind::Volume, "N", "The volume of an RK05 disk, 1 or 2, where IMAGE is the file of one";
+    "dectape" flag Kind::Flag, "", "IMAGE is the file of a DECtape, of 129 words a block";
+};
+
+pub const GET: &[Argument] = rows! {
+    "IMAGE" must Kind::Word, "", "The file that holds the volume";
+    "NAME" may Kind::Words(MOST_BLOCKS), "", "The names of the files on the volume; with --blocks FIRST and COUNT";
+    "at" option Kind::Blocks, "BLOCK", "The first block of a file, 0 to 4095, where no typed name is its own; it may be given several times";
+    "text" flag Kind::Flag, "", "Write its text, each line ended by LF; with --into of files whose extension says text";
+    "tape" flag Kind::Flag, "", "Write the BIN tape that it begins with, also where --text is given";
+    "bin" flag Kind::Flag, "", "Write the BIN tape of the core image that it is, also where others are given";
+    "into" option Kind::Value, "FOLDER", "The folder that gets the files";
+    "all" flag Kind::Flag, "", "Get all files of the volume";
+    "force" flag Kind::Flag, "", "Write over older files of the folder";
+    "text-of" option Kind::Values, "LIST", "Extensions of files that are texts, as PA,TX; it may be given several times";
+    "blocks" flag Kind::Flag, "", "Write blocks of the volume: COUNT from block FIRST on";
+    "volume" option Kind::Volume, "N", "The volume of an RK05 disk, 1 or 2, where IMAGE is the file of one";
+    "dectape" flag Kind::Flag, "", "IMAGE is the file of a DECtape, of 129 words a block";
+};
+
+pub const PUT: &[Argument] = rows! {
+    "IMAGE" must Kind::Word, "", "The file that holds the volume";
+    "FILE" must Kind::Words(MOST_BLOCKS), "", "The files of this system that are put; - is standard input";
+    "text" flag Kind::Flag, "", "Keep as texts, each LF as CR and LF, control Z at the end, those whose extension says text; with --as the one";
+    "text-of" option Kind::Values, "LIST", "Extensions of files that are texts, as PA,TX; it may be given several times";
+    "files" flag Kind::Flag, "", "Changes nothing: FILE are files of this system";
+    "info" option Kind::Octals, "WWWW", "An information word of the file, in octal; it may be given several times";
+    "as" option Kind::Value, "NAME", "The name on the volume of the one file that is put";
+    "empty" flag Kind::Flag, "", "Let a file of no byte replace one that has words";
+    "volume" option Kind::Volume, "N", "The volume of an RK05 disk, 1 or 2, where IMAGE is the file of one";
+    "dectape" flag Kind::Flag, "", "IMAGE is the file of a DECtape, of 129 words a block";
+};
+
+pub const DELETE: &[Argument] = rows! {
+    "IMAGE" must Kind::Word, "", "The file that holds the volume";
+    "NAME" may Kind::Words(MOST_BLOCKS), "", "The names of the files on the volume";
+    "at" option Kind::Blocks, "BLOCK", "The first block of a file, 0 to 4095; it may be given several times";
+    "volume" option Kind::Volume, "N", "The volume of an RK05 disk, 1 or 2, where IMAGE is the file of one";
+    "dectape" flag Kind::Flag, "", "IMAGE is the file of a DECtape, of 129 words a block";
+};
+
+pub const RENAME: &[Argument] = rows! {
+    "IMAGE" must Kind::Word, "", "The file that holds the volume";
+    "NAME" may Kind::Word, "", "The name of the file on the volume, where --at does not give its block";
+    "NEW" may Kind::Word, "", "The new name of the file";
+    "at" option Kind::Block, "BLOCK", "The first block of the file, 0 to 4095, in place of NAME";
+    "volume" option Kind::Volume, "N", "The volume of an RK05 disk, 1 or 2, where IMAGE is the file of one";
+    "dectape" flag Kind::Flag, "", "IMAGE is the file of a DECtape, of 129 words a block";
+};
+
+pub const COPY: &[Argument] = rows! {
+    "IMAGE" must Kind::Word, "", "The file that holds the volume";
+    "NAME" may Kind::Word, "", "The name of the file on the volume, where --at does not give its block";
+    "TO" may Kind::Word, "", "The file that holds the volume that gets it";
+    "NEW" may Kind::Word, "", "The name of the file on that volume, if it is another";
+    "at" option Kind::Block, "BLOCK", "The first block of the file, 0 to 4095, in place of NAME";
+    "to-volume" option Kind::Volume, "N", "The volume of an RK05 disk, 1 or 2, where TO is the file of one";
+    "to-dectape" flag Kind::Flag, "", "TO is the file of a DECtape, of 129 words a block";
+    "volume" option Kind::Volume, "N", "The volume of an RK05 disk, 1 or 2, where IMAGE is the file of one";
+    "dectape" flag Kind::Flag, "", "IMAGE is the file of a DECtape, of 129 words a block";
+};
+
+pub const SQUEEZE: &[Argument] = rows! {
+    "IMAGE" must Kind::Word, "", "The file that holds the volume";
+    "volume" option Kind::Volume, "N", "The volume of an RK05 disk, 1 or 2, where IMAGE is the file of one";
+    "dectape" flag Kind::Flag, "", "IMAGE is the file of a DECtape, of 129 words a block";
+};
+
+pub const CHECK: &[Argument] = rows! {
+    "IMAGE" must Kind::Words(MOST_BLOCKS), "", "The files that hold the volumes";
+    "all" flag Kind::Flag, "", "Show each fault of the directory, and the files that are sound";
+    "volume" option Kind::Volume, "N", "The volume of an RK05 disk, 1 or 2, where IMAGE is the file of one";
+    "dectape" flag Kind::Flag, "", "IMAGE is the file of a DECtape, of 129 words a block";
+};
+
+/// The arguments of a subcommand.
+pub fn arguments_of(verb: Verb) -> &'static [Argument]
+    ensures { map row_of result.now ≡ rows_for verb }
+{
+    match verb {
+        Verb::Tape => &[],
+        Verb::Rim => RIM,
+        Verb::Source => SOURCE,
+        Verb::Assemble => ASSEMBLE,
+        Verb::Teletype => TELETYPE,
+        Verb::Trace => TRACE,
+        Verb::Profile => TRACE,
+        Verb::Run => RUN,
+        Verb::Create => CREATE,
+        Verb::List => LIST,
+        Verb::Get => GET,
+        Verb::Put => PUT,
+        Verb::Delete => DELETE,
+        Verb::Rename => RENAME,
+        Verb::Copy => COPY,
+        Verb::Squeeze => SQUEEZE,
+        Verb::Check => CHECK,
+    }
+}
+
+/// The subcommands.
+pub fn table() -> &'static [Entry]
+    ensures { map entry_of result.now ≡ spec.table }
+{
+    COMMANDS
+}
+
+/// The arguments that exclude each other.
+pub fn pairs() -> &'static [Pair]
+    ensures { map pair_of result.now ≡ spec.pairs }
+{
+    PAIRS
+}

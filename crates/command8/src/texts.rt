@@ -1,0 +1,153 @@
+//! What help says of the subcommands.
+use crate::table::Verb;
+
+/// The forms of a script's lines, one a line after the first, each with what it does (docs/SCRIPT.md).
+pub const SCRIPT_LINES: &str = "\
+Lines of a script:
+  STORE NAME N           stores the N lines after it as a text file
+  DELETE NAME            takes a file out
+  DIRECT                 shows the files and the free blocks
+  ASSEMBLE NAME<NAME,..  begins a job that assembles 1 to 8 sources to a tape
+  LOAD NAME              begins a job that loads a tape into core
+  SQUEEZE                begins a job that moves the files together
+  TURN J                 gives job J a turn
+  FINISH                 gives the jobs turns until none is left
+  START FAAAA            starts the processor at a cell, field and address in octal
+  STEP N                 makes N steps, 1 to 1000000
+  GO N                   makes N steps, as far as a break
+  RUN FAAAA N            is START and GO, with a printer that is always quick
+  KEY KKK                strikes the key of a character
+  DONE                   ends the character that is being printed
+  SWITCHES WWWW          sets the switches
+  EXAMINE FAAAA          shows the word of a cell
+  DEPOSIT FAAAA WWWW     gives a cell a word
+  REGISTERS              shows the registers
+  BREAK FAAAA ON|OFF     sets a break at a cell, or takes it away
+  PRINTED                shows the characters that were printed";
+
+/// Its text for the list of the subcommands and for short help.
+pub fn about_of(verb: Verb) -> &'static str {
+    match verb {
+        Verb::Tape => "List the memory words of a BIN paper tape",
+        Verb::Rim => "List the memory words of a RIM paper tape",
+        Verb::Source => "Write the PAL III source of a BIN paper tape",
+        Verb::Assemble => "Assemble PAL III sources to a BIN paper tape",
+        Verb::Teletype => "Run a BIN paper tape with the terminal as the Teletype",
+        Verb::Trace => "Run a BIN paper tape, and print a line for each step",
+        Verb::Profile => "Run a BIN paper tape, and count how often each cell is fetched",
+        Verb::Run => "Run a script on a volume",
+        Verb::Create => "Write an empty volume",
+        Verb::List => "List the files of a volume",
+        Verb::Get => "Write files of a volume to standard output or to a folder",
+        Verb::Put => "Make files of this system, or standard input, files of a volume",
+        Verb::Delete => "Take files out of a volume",
+        Verb::Rename => "Give a file of a volume another name",
+        Verb::Copy => "Copy a file from volume to volume",
+        Verb::Squeeze => "Move the files of a volume together",
+        Verb::Check => "Show what a volume's directory says",
+    }
+}
+
+/// Its text for long help, where `{n}` ends a line.
+pub fn long_about_of(verb: Verb) -> &'static str {
+    match verb {
+        Verb::Tape => {
+            "Reads a BIN paper tape from standard input, and prints a line F AAAA WWWW for each memory{n}word that it loads: field, address and word, in octal, by rising address."
+        }
+        Verb::Rim => {
+            "Reads a RIM paper tape from standard input, and prints a line F AAAA WWWW for each memory{n}word that it loads: field, address and word, in octal, by rising address. With --bin it writes{n}the BIN paper tape of the same words instead, and the line of a fault goes to standard error."
+        }
+        Verb::Source => {
+            "Reads a BIN paper tape from standard input, from the file TAPE, or from what the file NAME of the OS/8{n}volume in the image TAPE holds, and prints a PAL III source that assembles to the words that it{n}loads, one line a word, with the cell and the word in octal after it. With --start the words that{n}a program reaches from there are shown as instructions, and all others as numbers. The line of a{n}fault goes to standard error."
+        }
+        Verb::Assemble => {
+            "Assembles the PAL III sources in the files FILE, one after the other as one program, to a BIN paper{n}tape, which goes to standard output, or to the file TAPE. The line of a fault goes to standard{n}error. The exit status is 1 after a fault of a source or of a file."
+        }
+        Verb::Teletype => {
+            "Loads the BIN paper tape in the file TAPE into core, or the tape that the file NAME of the OS/8{n}volume in the image TAPE begins with, and starts the processor. What it prints goes to standard{n}output with its top bit dropped; standard input is the keyboard. It ends where the processor{n}halts, where the program waits for a key and there are no more, and at a limit. The exit status is{n}0 after HALT or where the keys ended, 1 after a word that is no instruction, the limit or a fault{n}of the tape, and 2 for a command line that is refused."
+        }
+        Verb::Trace => {
+            "Loads the BIN paper tape in the file TAPE into core, or that of the file NAME of the OS/8 volume{n}in the image TAPE, starts the processor, and prints a line for each step: its cell and word, the{n}instruction, AC and L after it, the cell and the new word where it changed one, and the character{n}that it printed. It ends as teletype does, and after 1000 steps if N isn't given; the last line{n}is STEPS n, why, and the cell. The exit status is 0, 1 after a fault, and 2 for a command line{n}that is refused."
+        }
+        Verb::Profile => {
+            "Loads the BIN paper tape in the file TAPE into core, or that of the file NAME of the OS/8 volume{n}in the image TAPE, starts the processor, and prints how often the word of each cell was fetched,{n}the most often first, and which cells of the tape never were. It ends as teletype does, and after{n}1000000 steps if N isn't given; the last line is STEPS n, why, and the cell. The exit status is 0,{n}1 after a fault, and 2 for a command line that is refused."
+        }
+        Verb::Run => {
+            "Runs the script of standard input on the OS/8 volume in the file IMAGE, prints the replies, and{n}writes the image back to the file. Each line gets its reply as it comes. IMAGE may be the file of a{n}disk of two volumes or of a DECtape, as --volume and --dectape say.{n}{n}Examples:{n}  pdp8 run disk.rk05 < session.txt{n}  pdp8 run disk.rk05 --look --strict < session.txt"
+        }
+        Verb::Create => {
+            "Writes an empty OS/8 volume of BLOCKS blocks of 512 bytes to the file IMAGE, in place of any{n}file of that name, and prints CREATED and the number of blocks. With --dectape the file is that of a{n}DECtape of 1474 blocks of 129 words."
+        }
+        Verb::List => {
+            "Prints a line NAME n for each file of the OS/8 volume in the file IMAGE, in name order, with its{n}length in blocks, and a line FREE n for the blocks of no file. With --long the files are in the{n}order of the directory, each with its first block and its information words after it. IMAGE may be{n}the file of a disk of two volumes or of a DECtape, as --volume and --dectape say. The image is not{n}written."
+        }
+        Verb::Get => {
+            "Writes the file NAME of the OS/8 volume in the file IMAGE to standard output: its words, three bytes{n}for each two. With --into the files NAME, or with --all all files, go to files of their names{n}in FOLDER; a pattern, as '*.PA', stands for each name that it fits. With --blocks the arguments after{n}IMAGE are the number of a block and how many are written, whatever the directory says. The line of a{n}fault goes to standard error. The image is not written."
+        }
+        Verb::Put => {
+            "Puts the files FILE of this system, each under its own name, all or none, on the OS/8 volume in the{n}file IMAGE, in place of older ones, and prints STORED, the name and the number of blocks for each.{n}With --as one FILE gets another name; - is standard input, and needs --as. A file keeps the{n}information words of the one that it replaces, where --info gives none. An empty FILE replaces no{n}file unless --empty is given. After a fault the image is as it was."
+        }
+        Verb::Delete => {
+            "Takes the files NAME out of the OS/8 volume in the file IMAGE, and those whose first blocks --at{n}gives, and prints DELETED and the name of each. After a fault of one of them the image is as it{n}was."
+        }
+        Verb::Rename => {
+            "Gives the file NAME of the OS/8 volume in the file IMAGE the name NEW, which no other file has, and{n}prints RENAMED and both. With --at the file is the one at that block, and the argument after IMAGE{n}is NEW. Its words, its information words and its place stay. After a fault the image is as it was."
+        }
+        Verb::Copy => {
+            "Copies the file NAME of the OS/8 volume in the file IMAGE, with its information words, to the volume{n}in the file TO, under the name NEW if one is given, in place of an older file there, and prints{n}STORED, the name and the number of blocks. With --at the file is the one at that block, and the{n}arguments after IMAGE are TO and NEW. After a fault both images are as they were."
+        }
+        Verb::Squeeze => {
+            "Moves the files of the OS/8 volume in the file IMAGE down, so that all free blocks lie after the{n}last, and prints SQUEEZED. No file changes its words. After a fault the image is as it was. IMAGE may{n}be the file of a disk of two volumes or of a DECtape, as --volume and --dectape say."
+        }
+        Verb::Check => {
+            "Accepts or refuses the OS/8 volume in the file IMAGE, and prints its blocks, the segments of its{n}directory, each file and empty with its first block and its length, and the blocks that the{n}directory does not cover. With --all it goes on after a fault, and shows each. Of several images{n}each line begins with the image's name, and a summary comes last. No image is written."
+        }
+    }
+}
+
+/// What stands at the end of its long help: two examples, or for `run` the lines of a script.
+pub fn examples_of(verb: Verb) -> &'static str {
+    match verb {
+        Verb::Tape => {
+            "Examples:\n  pdp8 tape < examples/add-one.bin\n  pdp8 assemble add.pa | pdp8 tape"
+        }
+        Verb::Rim => {
+            "Examples:\n  pdp8 rim < loader.rim\n  pdp8 rim --bin < loader.rim > loader.bin"
+        }
+        Verb::Source => {
+            "Examples:\n  pdp8 source examples/add-one.bin\n  pdp8 source disk.rk05 ADD.BN --start 00200"
+        }
+        Verb::Assemble => {
+            "Examples:\n  pdp8 assemble add.pa --output add.bin\n  pdp8 assemble main.pa tables.pa --list main.ls --cross > main.bin"
+        }
+        Verb::Teletype => {
+            "Examples:\n  pdp8 teletype hello.bin\n  pdp8 teletype disk.rk05 HELLO.BN --start 00200 --switches 0017"
+        }
+        Verb::Trace => {
+            "Examples:\n  pdp8 trace hello.bin --steps 20\n  pdp8 trace echo.bin --keys 'HELLO'"
+        }
+        Verb::Profile => {
+            "Examples:\n  pdp8 profile hello.bin\n  pdp8 profile disk.rk05 HELLO.BN --steps 50000"
+        }
+        Verb::Run => SCRIPT_LINES,
+        Verb::Create => "Examples:\n  pdp8 create disk.img 256\n  pdp8 create tape.dt8 --dectape",
+        Verb::List => "Examples:\n  pdp8 list disk.img\n  pdp8 list disk.rk05 --volume 2 --long",
+        Verb::Get => {
+            "Examples:\n  pdp8 get disk.img NOTES.TX --text\n  pdp8 get disk.img '*.PA' --into sources --text"
+        }
+        Verb::Put => {
+            "Examples:\n  pdp8 put disk.img ADD.PA NOTES.TX --text\n  pdp8 assemble add.pa | pdp8 put disk.img - --as ADD.BN"
+        }
+        Verb::Delete => {
+            "Examples:\n  pdp8 delete disk.img OLD.TX\n  pdp8 delete disk.img --at 70 --at 83"
+        }
+        Verb::Rename => {
+            "Examples:\n  pdp8 rename disk.img OLD.PA NEW.PA\n  pdp8 rename disk.img --at 70 NEW.PA"
+        }
+        Verb::Copy => {
+            "Examples:\n  pdp8 copy disk.img ADD.PA other.img\n  pdp8 copy disk.img ADD.PA tape.dt8 SUM.PA --to-dectape"
+        }
+        Verb::Squeeze => "Examples:\n  pdp8 squeeze disk.img\n  pdp8 squeeze disk.rk05 --volume 1",
+        Verb::Check => "Examples:\n  pdp8 check disk.img\n  pdp8 check --all *.img",
+    }
+}
