@@ -26,7 +26,8 @@ use Rattle.std.proofs.lemmas.List.{length-append, map_more, take_all}
 use Rattle.std.proofs.lemmas.Simd.{map-map}
 use Rattle.clap.specs.Walk.{is_empty}
 use Rattle.clap.specs.Words.{Shape, Text}
-use Rattle.command8.specs.Tables.{Argument, Entry, app_of_table, app_with, entry_of, row_of, rows_for, is_fit, is_sound, leaf_app, leaf_shape, leaf_with, rule_for, rules_for}
+use Rattle.command8.specs.Tables.{Argument, Entry, app_of_table, app_with, rows_for, leaf_app, leaf_shape, leaf_with, rule_for, rules_for}
+use Rattle.command8.specs.TableSteps.{entry_of, row_of, is_fit, is_sound}
 use Rattle.command8.specs.declared.table.Kind.TheVariants.{Words}
 use Rattle.command8.specs.CommandSteps.{IsArgument, IsCommand, with_leaf}
 

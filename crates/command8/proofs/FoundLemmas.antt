@@ -5,7 +5,8 @@ use Rattle.std.specs.Str.{bytes_eq}
 use Rattle.clap.specs.Walk.{Row, Text, first_of}
 use Rattle.command8.specs.declared.table.Kind.{Kind}
 use Rattle.command8.specs.Tables.{Argument}
-use Rattle.command8.specs.Found.{AllWell, IsWell, Test, first_not, passes, test_of, values_of}
+use Rattle.command8.specs.Found.{Test, first_not, passes, test_of, values_of}
+use Rattle.command8.specs.FoundSteps.{AllWell, IsWell}
 use Rattle.command8.specs.Refusals.{Bad, bad_or, first_bad}
 use Rattle.command8.proofs.WalkLemmas.{some_eq}
 

@@ -20,7 +20,7 @@ use Rattle.clap.specs.declared.builder.value_parser.ValueParser.{ValueParser}
 use Rattle.clap.specs.declared.builder.value_parser.ValueParser.TheVariants.{Unsigned}
 use Rattle.clap.specs.declared.error.kind.ErrorKind.TheVariants.{DisplayHelp, InvalidValue, TooFewValues, TooManyValues, UnknownArgument, WrongNumberOfValues}
 use Rattle.command8.specs.Tables.{bare_app}
-use Rattle.command8.specs.Found.{Has}
+use Rattle.command8.specs.FoundSteps.{Has}
 use Rattle.command8.proofs.WalkLemmas.{Acts, FitDefaults, Fits, HeldGood, IsPlainLeaf, IsUsage, TakesSome, append_met_good, flag_met_good, given_row, leaf_given, leaf_good, no_values, not_none, option_met_good, or_first, or_second, row_good, some_eq}
 
 -- the program above its subcommands

@@ -10,9 +10,11 @@ use Rattle.command8.specs.declared.refusals.What.TheVariants as what
 use Rattle.command8.specs.declared.table.Kind.TheVariants.{Word}
 use Rattle.command8.specs.declared.table.Verb.{Verb}
 use Rattle.command8.specs.declared.table.Verb.TheVariants as verb
-use Rattle.command8.specs.Found.{AllHold, Has, has, is_set, number_in, number_of, place_of, values_of}
+use Rattle.command8.specs.Found.{has, is_set, number_in, number_of, place_of, values_of}
+use Rattle.command8.specs.FoundSteps.{AllHold, Has}
 use Rattle.command8.specs.Refusals.{Bad, Said, bad_block, blocks_missing, blocks_word, both_given, first_bad, input_twice, is_alone, missing, missing_of, moved_missing, names_input_twice, names_one, names_some, or_else, refusal_of, said_of, together, unexpected, unexpected_of}
-use Rattle.command8.specs.Tables.{Entry, entry_named, kind_at, rows_for, takes_text}
+use Rattle.command8.specs.Tables.{Entry, entry_named, rows_for}
+use Rattle.command8.specs.TableSteps.{kind_at, takes_text}
 use Rattle.command8.specs.TaskSteps.{IsWhole, Needs}
 use Rattle.command8.specs.Tasks.{after}
 use Rattle.command8.proofs.FoundLemmas.{all_well}

@@ -11,8 +11,10 @@ use Rattle.clap.specs.Walk.{Row, Rule, Text, arg_by_id, rows_after}
 use Rattle.clap.specs.Simple.{Shape, filled, filled_from, help_rule, index_after, with_index}
 use Rattle.command8.specs.declared.table.Kind.{Kind}
 use Rattle.command8.specs.declared.table.Kind.TheVariants.{Word, Words, Size, Flag, Value, Values, Count, Cell, Cells, Octal, Octals, Volume, Block, Blocks}
-use Rattle.command8.specs.Tables.{Argument, Entry, are_distinct, can_be_required, ids_of, is_fit, is_sound, kind_rule, leaf_shape, most_steps, rows_for, rule_for, rules_for}
-use Rattle.command8.specs.Found.{AllHold, Has, HasSomeWhere, HasWhere, Holds, IsTaken, values_of}
+use Rattle.command8.specs.Tables.{Argument, Entry, are_distinct, kind_rule, leaf_shape, most_steps, rows_for, rule_for, rules_for}
+use Rattle.command8.specs.TableSteps.{can_be_required, ids_of, is_fit, is_sound}
+use Rattle.command8.specs.Found.{values_of}
+use Rattle.command8.specs.FoundSteps.{AllHold, Has, HasSomeWhere, HasWhere, Holds, IsTaken}
 use Rattle.command8.proofs.LeafLemmas.{AllParts, Faultless, IsLeaf, IsPart, a_flag, a_help, a_word, an_appending, an_option, below, fit, has_number, has_word, one_up_to}
 use Rattle.command8.proofs.RefusalLemmas.{some_values}
 use Rattle.command8.proofs.WalkLemmas.{Fits, some_eq}

@@ -21,10 +21,11 @@ use Rattle.task8.specs.declared.tasks.Task.{Task}
 use Rattle.command8.specs.CommandSteps.{IsCommand}
 use Rattle.command8.specs.declared.faults.TaskFault.{TaskFault}
 use Rattle.command8.specs.declared.faults.TaskFault.TheVariants.{Words, Memory, Refused}
-use Rattle.command8.specs.Tables.{Argument, Entry, entry_named, is_sound, leaf_shape, pdp8, rows_for, table}
+use Rattle.command8.specs.Tables.{Argument, Entry, entry_named, leaf_shape, pdp8, rows_for, table}
+use Rattle.command8.specs.TableSteps.{is_sound}
 use Rattle.command8.specs.Tasks.{Answers, Asks, IsFaultOf, IsPastClap, Refuses}
 use Rattle.command8.specs.TaskSteps.{GivesMet, HasMet, IsWhole}
-use Rattle.command8.specs.Found.{AllHold}
+use Rattle.command8.specs.FoundSteps.{AllHold}
 use Rattle.command8.proofs.LeafLemmas.{Faultless, above, below}
 use Rattle.command8.proofs.TableLemmas.{entry_holds, same_text}
 use Rattle.command8.proofs.WalkLemmas.{IsNoHelp, level_stops, some_eq}

@@ -74,36 +74,6 @@ volume_of text = if bytes_eq text (codes "1") then First else Second
 abbrev pub layout_of : Text → Text → List Row → Option Layout
 layout_of volume dectape values = if is_set dectape values then Some Dectape else option_map volume_of (first_of volume values)
 
--- ## What an argument of the table has found
-
--- an argument has a value
-abbrev pub Has : Text → List Row → Type 0
-Has id values = is_some (first_of id values) ≡ true
-
-abbrev pub HasWhere : Bool → Text → List Row → Type 0
-HasWhere true id values = Has id values
-HasWhere false id values = ⊤
-
--- what `clap` took is of its kind
-abbrev pub IsTaken : Kind → Text → List Row → Type 0
-IsTaken (Words most) id values = length (values_of id values) ≤ most
-IsTaken Size id values = (text : Text) → one_of id values ≡ Some text → IsUnsignedIn 8 MOST_BLOCKS text
-IsTaken Count id values = (text : Text) → one_of id values ≡ Some text → IsUnsignedIn 1 most_steps text
-IsTaken kind id values = ⊤
-
--- one that must be given has at least one value
-abbrev pub HasSomeWhere : Bool → Text → List Row → Type 0
-HasSomeWhere true id values = 1 ≤ length (values_of id values)
-HasSomeWhere false id values = ⊤
-
--- the arguments have what the table says of them
-abbrev pub Holds : Argument → List Row → Type 0
-Holds row values = HasWhere row.is_required row.id values × HasSomeWhere row.is_required row.id values × IsTaken row.kind row.id values
-
-abbrev pub AllHold : List Argument → List Row → Type 0
-AllHold [] values = ⊤
-AllHold (row ∷ rows) values = Holds row values × AllHold rows values
-
 -- ## Values that are none of their kind
 
 -- what a value is tested for: nothing, so many octal digits, a block, or the number of a disk's volume
@@ -133,11 +103,3 @@ passes a_volume text = bytes_eq text (codes "1") || bytes_eq text (codes "2")
 abbrev pub first_not : Test → List Text → Option Text
 first_not test [] = None
 first_not test (text ∷ texts) = if passes test text then first_not test texts else Some text
-
--- all pass
-abbrev pub IsWell : Kind → Text → List Row → Type 0
-IsWell kind id values = first_not (test_of kind) (values_of id values) ≡ None
-
-abbrev pub AllWell : List Argument → List Row → Type 0
-AllWell [] values = ⊤
-AllWell (row ∷ rows) values = IsWell row.kind row.id values × AllWell rows values

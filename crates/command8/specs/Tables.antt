@@ -1,8 +1,7 @@
 -- The command line that the table describes, as `clap` reads it: one definition, computed from the table.
 use Rattle.std.specs.Prelude.{find, option_map, ◌≡◌, ◌&&◌, ◌||◌, Bool, true, false, ℕ, nat_lt, codes, List, [], ◌∷◌, ◌++◌, map, length, not, Option, Some, None}
-use Rattle.std.specs.List.{list_all, list_any}
+use Rattle.std.specs.List.{list_any}
 use Rattle.std.specs.Str.{bytes_eq}
-use Rattle.clap.specs.Lexer.{usize_max}
 use Rattle.clap.specs.Walk.{is_empty}
 use Rattle.clap.specs.Simple.{new_shape}
 use Rattle.clap.specs.Words.{App, Rule, Shape, Text, new_app, new_rule}
@@ -33,24 +32,6 @@ abbrev pub Entry : Type 0
 Entry = EntryOf Text
 
 -- ## The table, as functions get it and as it is declared
-
-abbrev pub row_of : ArgumentOf (Bor Text) → Argument
-row_of row = record {
-  id = row.id.now;
-  kind = row.kind;
-  is_required = row.is_required;
-  is_hidden = row.is_hidden;
-  value = row.value.now;
-  shown = row.shown.now;
-  help = row.help.now;
-}
-
-abbrev pub entry_of : EntryOf (Bor Text) → Entry
-entry_of entry = record {
-  verb = entry.verb;
-  word = entry.word.now;
-  usage = entry.usage.now;
-}
 
 -- a text and a list of the declared constants
 abbrev pub Said : Type 0 → Type 0
@@ -98,10 +79,6 @@ rows_for verb.Check = map declared_row CHECK.now
 abbrev pub table : List Entry
 table = map declared_entry COMMANDS.now
 
--- two arguments that exclude each other, by their names
-abbrev pub pair_of : Bor Text × Bor Text → Text × Text
-pair_of pair = (pair.0.now, pair.1.now)
-
 abbrev declared_pair : Said Text × Said Text → Text × Text
 declared_pair pair = (pair.0.now, pair.1.now)
 
@@ -109,12 +86,6 @@ abbrev pub pairs : List (Text × Text)
 pairs = map declared_pair PAIRS.now
 
 -- ## The kinds of argument
-
-abbrev pub option_rule : Text → Rule
-option_rule id = record (new_rule id) { long = Some id; value_names = 1 }
-
-abbrev pub options_rule : Text → Rule
-options_rule id = record (option_rule id) { action = Some Append }
 
 abbrev pub kind_long : Text → Kind → Option Text
 kind_long id Word = None
@@ -190,66 +161,13 @@ app_of_table entries = app_with (map leaf_shape entries)
 abbrev pub pdp8 : App
 pdp8 = app_of_table table
 
--- ## A table that is sound
-
--- several texts in one place are some, and fewer than all
-abbrev pub is_fit : Kind → Bool
-is_fit (Words most) = nat_lt 0 most && nat_lt most usize_max
-is_fit kind = true
-
 -- no name stands twice
 abbrev pub are_distinct : List Text → Bool
 are_distinct [] = true
 are_distinct (id ∷ ids) = not (list_any (λ other. bytes_eq other id) ids) && are_distinct ids
-
-abbrev pub ids_of : List Argument → List Text
-ids_of rows = map (λ row. row.id) rows
-
--- what must be given is no list of an option, and no flag
-abbrev pub can_be_required : Kind → Bool
-can_be_required Flag = false
-can_be_required Values = false
-can_be_required Cells = false
-can_be_required Octals = false
-can_be_required Blocks = false
-can_be_required kind = true
-
--- each kind fits, no two arguments have one name, and none is that of help
-abbrev pub is_sound : Entry → Bool
-is_sound entry = list_all (λ row. is_fit row.kind) (rows_for entry.verb)
-    && (list_all (λ row. not row.is_required || can_be_required row.kind) (rows_for entry.verb)
-    && are_distinct (ids_of (rows_for entry.verb) ++ codes "help" ∷ []))
 
 -- ## A subcommand of the table
 
 -- the subcommand of this name
 abbrev pub entry_named : Text → Option Entry
 entry_named name = find (λ entry. bytes_eq name entry.word) table
-
--- ## An argument by its name
-
-abbrev pub kind_at : Text → List Argument → Option Kind
-kind_at id rows = option_map (λ row. row.kind) (find (λ row. bytes_eq row.id id) rows)
-
--- one that takes a text, and one that takes several
-abbrev pub takes_text : Option Kind → Bool
-takes_text (Some Word) = true
-takes_text (Some Value) = true
-takes_text kind = false
-
-abbrev pub takes_texts : Option Kind → Bool
-takes_texts (Some (Words most)) = true
-takes_texts (Some Values) = true
-takes_texts kind = false
-
--- and one that takes one at least
-abbrev pub has_text : Option Kind → Bool
-has_text (Some Word) = true
-has_text (Some Value) = true
-has_text kind = takes_texts kind
-
--- and one that takes a block
-abbrev pub takes_block : Option Kind → Bool
-takes_block (Some Block) = true
-takes_block (Some Blocks) = true
-takes_block kind = false

@@ -5,7 +5,7 @@ use Rattle.task8.specs.declared.tasks.Task.{Task}
 use Rattle.command8.specs.declared.table.Verb.{Verb}
 use Rattle.command8.specs.declared.faults.TaskFault.{TaskFault}
 use Rattle.command8.specs.declared.faults.TaskFault.TheVariants.{Words, Memory, Refused}
-use Rattle.command8.specs.Found.{AllHold, AllWell}
+use Rattle.command8.specs.FoundSteps.{AllHold, AllWell}
 use Rattle.command8.specs.Refusals.{bad_block, missing_of, names_input_twice}
 use Rattle.command8.specs.Tables.{Entry, entry_named, rows_for}
 use Rattle.command8.specs.Tasks.{Asks, AsksFor, HasFitBlocks, Refuses, RefusesOf}

@@ -3,7 +3,8 @@ ghost use Rattle.std.specs.Prelude.{◌≡◌, ◌<◌, true, codes, map, IfOk};
 ghost use Rattle.std.specs.List.{list_all};
 ghost use Rattle.clap.specs.Words.{new_app, new_rule};
 ghost use Rattle.command8.specs.CommandSteps.{IsArgument, IsCommand, IsDraft};
-ghost use Rattle.command8.specs.Tables.{bare_app, entry_of, is_fit, is_sound, kind_rule, leaf_app, pdp8, row_of, rule_for};
+ghost use Rattle.command8.specs.Tables.{bare_app, kind_rule, leaf_app, pdp8, rule_for};
+ghost use Rattle.command8.specs.TableSteps.{entry_of, is_fit, is_sound, row_of, option_rule, options_rule};
 ghost use Rattle.command8.specs.Tables as spec;
 ghost use Rattle.command8.specs.declared.table.Kind.TheVariants as kind;
 
@@ -48,14 +49,14 @@ fn of_kind<'a>(alloc: Global, id: &'a str, kind: Kind, value: &'a str) -> Arg<'a
 
 /// An option with a value of this name.
 fn with_value<'a>(alloc: Global, id: &'a str, value: &'a str) -> Arg<'a>
-    ensures { IsArgument result (spec.option_rule id.entry.now) }
+    ensures { IsArgument result (option_rule id.entry.now) }
 {
     Arg::new(alloc, id).long(id).value_name(value)
 }
 
 /// An option with a value of this name, which may be given several times.
 fn with_values<'a>(alloc: Global, id: &'a str, value: &'a str) -> Arg<'a>
-    ensures { IsArgument result (spec.options_rule id.entry.now) }
+    ensures { IsArgument result (options_rule id.entry.now) }
 {
     with_value(alloc, id, value).action(ArgAction::Append)
 }

@@ -1,9 +1,11 @@
 //! What is asked of the files of volumes.
 ghost use Rattle.std.specs.Prelude.{◌≡◌, ◌≤◌, codes, false, true, if◌then◌else◌, is_some, IfOk, Some};
 ghost use Rattle.clap.specs.Words.{found_of, rows_of};
-ghost use Rattle.command8.specs.Found.{Has, IsWell, has, is_set, number_in};
+ghost use Rattle.command8.specs.Found.{has, is_set, number_in};
+ghost use Rattle.command8.specs.FoundSteps.{Has, IsWell};
 ghost use Rattle.command8.specs.Refusals as refusals;
-ghost use Rattle.command8.specs.Tables.{has_text, kind_at, rows_for, takes_block, takes_text, takes_texts};
+ghost use Rattle.command8.specs.Tables.{rows_for};
+ghost use Rattle.command8.specs.TableSteps.{has_text, kind_at, takes_block, takes_text, takes_texts};
 ghost use Rattle.command8.specs.Tasks.{AreTexts, IsFile};
 ghost use Rattle.command8.specs.Tasks as spec;
 ghost use Rattle.command8.specs.TaskSteps.{IsAskedBy, Needs};

@@ -2,8 +2,10 @@
 ghost use Rattle.std.specs.Prelude.{◌≡◌, ◌≤◌, [], true, map, option_map, slice_get, unwrap_or, IfOk, IfSome, Some};
 ghost use Rattle.clap.specs.Words.{first_of, found_of, one_of, rows_of};
 ghost use Rattle.word12.specs.declared.sizes.TheConstants.{MOST_BLOCKS};
-ghost use Rattle.command8.specs.Found.{Has, IsOctalOf, IsTaken, IsWell, is_limit, number_of, place_of};
-ghost use Rattle.command8.specs.Tables.{has_text, kind_at, rows_for, takes_block, takes_text, takes_texts};
+ghost use Rattle.command8.specs.Found.{IsOctalOf, is_limit, number_of, place_of};
+ghost use Rattle.command8.specs.FoundSteps.{Has, IsTaken, IsWell};
+ghost use Rattle.command8.specs.Tables.{rows_for};
+ghost use Rattle.command8.specs.TableSteps.{has_text, kind_at, takes_block, takes_text, takes_texts};
 ghost use Rattle.command8.specs.declared.table.Kind.TheVariants as kind;
 ghost use Rattle.command8.specs.Found as spec;
 

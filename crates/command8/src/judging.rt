@@ -4,7 +4,8 @@ ghost use Rattle.clap.specs.Words.{found_of, rows_of};
 ghost use Rattle.command8.specs.Found.{first_not, passes, test_of};
 ghost use Rattle.command8.specs.Refusals.{refusal_of};
 ghost use Rattle.command8.specs.Refusals as spec;
-ghost use Rattle.command8.specs.Tables.{entry_of, pair_of, row_of, rows_for};
+ghost use Rattle.command8.specs.Tables.{rows_for};
+ghost use Rattle.command8.specs.TableSteps.{entry_of, pair_of, row_of};
 ghost use Rattle.command8.specs.TaskSteps.{IsRefusedBy};
 
 use crate::TaskFault;

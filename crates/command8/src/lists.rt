@@ -2,9 +2,11 @@
 ghost use Rattle.std.specs.Prelude.{◌≡◌, ◌++◌, ◌∷◌, [], codes, map, option_map, IfOk, None, OnOk, Some};
 ghost use Rattle.clap.specs.Words.{found_of, rows_of};
 ghost use Rattle.word12.specs.Octal.{octal_of};
-ghost use Rattle.command8.specs.Found.{IsWell, a_block, first_not, octal_digits, place_of};
+ghost use Rattle.command8.specs.Found.{a_block, first_not, octal_digits, place_of};
+ghost use Rattle.command8.specs.FoundSteps.{IsWell};
 ghost use Rattle.command8.specs.Found as spec;
-ghost use Rattle.command8.specs.Tables.{kind_at, rows_for};
+ghost use Rattle.command8.specs.Tables.{rows_for};
+ghost use Rattle.command8.specs.TableSteps.{kind_at};
 ghost use Rattle.command8.specs.Tasks.{IsInfo};
 ghost use Rattle.command8.specs.declared.table.Kind.TheVariants as kind;
 

@@ -1,7 +1,8 @@
 //! The subcommands and their arguments: what each takes, which exclude each other, and what help says of them. All else that the command
 //! line does is read from here.
 ghost use Rattle.std.specs.Prelude.{◌≡◌, map};
-ghost use Rattle.command8.specs.Tables.{entry_of, pair_of, row_of, rows_for};
+ghost use Rattle.command8.specs.Tables.{rows_for};
+ghost use Rattle.command8.specs.TableSteps.{entry_of, pair_of, row_of};
 ghost use Rattle.command8.specs.Tables as spec;
 
 use word12::MOST_BLOCKS;

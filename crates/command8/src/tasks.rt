@@ -1,7 +1,8 @@
 ghost use Rattle.std.specs.Prelude.{◌≡◌, ◌∷◌, [], true, find, map, option_map, IfErr, IfOk};
 ghost use Rattle.std.specs.Str.{bytes_eq};
 ghost use Rattle.clap.specs.Words.{found_of, rows_of, subcommand_rows_of, takes};
-ghost use Rattle.command8.specs.Tables.{entry_of, pdp8};
+ghost use Rattle.command8.specs.Tables.{pdp8};
+ghost use Rattle.command8.specs.TableSteps.{entry_of};
 ghost use Rattle.command8.specs.Tasks.{Answers, IsPastClap};
 ghost use Rattle.command8.specs.TaskSteps.{Gives, GivesMet, HasMet, IsAskedBy, IsWhole, Needs};
 

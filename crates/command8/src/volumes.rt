@@ -1,8 +1,9 @@
 //! What is asked of volumes as a whole.
 ghost use Rattle.std.specs.Prelude.{◌≡◌, codes, true, IfOk, Some};
 ghost use Rattle.clap.specs.Words.{found_of, rows_of};
-ghost use Rattle.command8.specs.Found.{Has};
-ghost use Rattle.command8.specs.Tables.{kind_at, rows_for, takes_text};
+ghost use Rattle.command8.specs.FoundSteps.{Has};
+ghost use Rattle.command8.specs.Tables.{rows_for};
+ghost use Rattle.command8.specs.TableSteps.{kind_at, takes_text};
 ghost use Rattle.command8.specs.Tasks.{IsImage};
 ghost use Rattle.command8.specs.Tasks as spec;
 ghost use Rattle.command8.specs.TaskSteps.{IsAskedBy, Needs};

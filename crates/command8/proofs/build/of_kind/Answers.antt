@@ -3,7 +3,8 @@ use Rattle.clap.specs.Words.{new_rule}
 use Rattle.clap.specs.declared.builder.arg.Arg.{Arg}
 use Rattle.clap.specs.declared.builder.action.ArgAction.TheVariants.{SetTrue}
 use Rattle.command8.specs.CommandSteps.{IsArgument}
-use Rattle.command8.specs.Tables.{is_fit, kind_rule}
+use Rattle.command8.specs.Tables.{kind_rule}
+use Rattle.command8.specs.TableSteps.{is_fit}
 use Rattle.command8.specs.declared.table.Kind.{Kind}
 use Rattle.command8.specs.declared.table.Kind.TheVariants.{Words}
 use Rattle.command8.proofs.CommandLemmas.{action_too, fits_some, fresh, long_too, one_to, range_too}

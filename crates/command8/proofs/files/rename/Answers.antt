@@ -2,8 +2,9 @@ use Rattle.std.proofs.Common.{◌≡◌, codes, refl, subst, sym, true}
 use Rattle.clap.specs.Words.{Text, found_of, rows_of}
 use Rattle.command8.specs.declared.refusals.What.TheVariants as what
 use Rattle.command8.specs.declared.table.Verb.TheVariants as verb
-use Rattle.command8.specs.Found.{Has}
-use Rattle.command8.specs.Tables.{kind_at, rows_for, takes_text}
+use Rattle.command8.specs.FoundSteps.{Has}
+use Rattle.command8.specs.Tables.{rows_for}
+use Rattle.command8.specs.TableSteps.{kind_at, takes_text}
 use Rattle.command8.proofs.RefusalLemmas.{after_takes, moved_after, moved_named}
 use Rattle.command8.proofs.files.rename.Goals as goal
 

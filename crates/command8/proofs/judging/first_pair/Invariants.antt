@@ -1,7 +1,7 @@
 use Rattle.std.proofs.Common.{◌≡◌, drop, map}
 use Rattle.clap.specs.Words.{found_of, rows_of}
 use Rattle.command8.specs.Refusals.{first_pair}
-use Rattle.command8.specs.Tables.{pair_of, row_of}
+use Rattle.command8.specs.TableSteps.{pair_of, row_of}
 use Rattle.command8.proofs.judging.first_pair.Given as goal
 
 -- of none of the pairs so far both were given

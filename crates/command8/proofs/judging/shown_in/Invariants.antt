@@ -1,7 +1,7 @@
 use Rattle.std.proofs.Common.{◌≡◌, drop, map}
 use Rattle.clap.specs.Words.{found_of, rows_of}
 use Rattle.command8.specs.Refusals.{shown_in}
-use Rattle.command8.specs.Tables.{row_of}
+use Rattle.command8.specs.TableSteps.{row_of}
 use Rattle.command8.proofs.judging.shown_in.Given as goal
 
 -- no argument so far has the name

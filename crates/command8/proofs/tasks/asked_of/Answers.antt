@@ -2,7 +2,8 @@ use Rattle.std.proofs.Common.{◌≡◌, ◌∙◌, List, Some, ap, option_map, 
 use Rattle.std.specs.Prelude.{find}
 use Rattle.std.specs.Str.{bytes_eq}
 use Rattle.clap.specs.Words.{found_of, rows_of}
-use Rattle.command8.specs.Tables.{Entry, entry_of}
+use Rattle.command8.specs.Tables.{Entry}
+use Rattle.command8.specs.TableSteps.{entry_of}
 use Rattle.command8.proofs.RefusalLemmas.{entry_needs}
 use Rattle.command8.proofs.tasks.asked_of.Goals as goal
 

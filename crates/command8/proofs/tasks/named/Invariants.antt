@@ -1,7 +1,7 @@
 use Rattle.std.proofs.Common.{◌≡◌, drop, map}
 use Rattle.std.specs.Prelude.{find}
 use Rattle.std.specs.Str.{bytes_eq}
-use Rattle.command8.specs.Tables.{entry_of}
+use Rattle.command8.specs.TableSteps.{entry_of}
 use Rattle.command8.proofs.tasks.named.Given as goal
 
 -- no entry so far has the name
