@@ -239,9 +239,8 @@ class Tab extends Browser {
 
     async end() {
         this.accepts = true; // a page that asks before it is left is left
-        if (this.isUser) await Promise.race([this.call('Page.navigate', { url: 'about:blank' }), pause(2000)]);
-        const closed = this.isUser ? this.call('Target.disposeBrowserContext', { browserContextId: this.context }) : this.call('Target.closeTarget', { targetId: this.target });
-        await Promise.race([closed, pause(5000)]);
+        await Promise.race([this.call('Target.closeTarget', { targetId: this.target }), pause(3000)]);
+        if (this.isUser) await Promise.race([this.call('Target.disposeBrowserContext', { browserContextId: this.context }), pause(3000)]);
         for (let k = 0; k < 250 && (await this.call('Target.getTargets')).targetInfos.some(it => it.targetId === this.target); k++) await pause(20);
         this.browser.tabs.delete(this.own);
         if (this.isUser) rmSync(this.downloads, { recursive: true, force: true, maxRetries: 5 });
