@@ -401,7 +401,7 @@ export class Files {
         let isBad = false;
         await this.page.undo.group(volume, `putting ${names.join(', ')}`, async () => {
             for (const [k, file] of files.entries()) {
-                const { status, out, said } = await this.put(names[k], await bytesOfFile(file), ...formOf($('put-as').value, names[k]));
+                const { status, out, said } = await this.put(names[k], await bytesOfFile(file), $('put-as').value);
                 told.push(status === 0 ? textOf(out) + said : `${file.name}: ${textOf(out)}${said}`);
                 isBad ||= status !== 0;
             }
@@ -409,11 +409,16 @@ export class Files {
         tell('files-status', told.join(''), isBad);
     }
 
-    // Makes bytes a file of the volume; where it has one of that name the user is asked.
-    async put(name, bytes, ...form) {
-        const volume = this.name;
+    // Makes bytes a file of the volume, as `text` or `frames`, or as the program says by its `name`. Where the volume has one of that name the
+    // user is asked.
+    async put(name, bytes, form) {
+        const { programs, store, undo } = this.page, volume = this.name, path = `.put/${name}`;
         if (!await this.#mayWrite(volume, name)) return { status: 0, out: new Uint8Array(0), said: `${name} was left as it was\n` };
-        return this.page.undo.group(volume, `putting ${name}`, () => this.page.programs.ask(['put', volume, '-', '--as', name, ...form], bytes));
+        if (form === 'name') store.put(path, bytes);
+        const [words, input] = form === 'name' ? [[path, '--text'], ''] : [['-', '--as', name, ...(form === 'text' ? ['--text'] : [])], bytes];
+        const answer = await undo.group(volume, `putting ${name}`, () => programs.ask(['put', volume, ...words], input));
+        store.remove(path);
+        return answer;
     }
 
     // Whether a file of a volume may be written: where there is one of the name the user is asked.
@@ -442,12 +447,6 @@ export class Files {
         tell('files-status', textOf(out) + said, status !== 0);
     }
 }
-
-// The extensions of texts, where the user leaves it to the names.
-const TEXTS = ['PA', 'PL', 'TX', 'BI', 'BA', 'FT', 'RA', 'MA', 'LS', 'HL', 'DC', 'BT', 'DI'];
-
-// How a file is put: as the user chose, or by its name.
-function formOf(choice, name) { return choice === 'text' || (choice === 'name' && TEXTS.includes(name.split('.')[1])) ? ['--text'] : []; }
 
 // The name that a file of the host has on a volume; what can't be one is the program's to refuse. A browser may have added an ending to a
 // file that it had before, or a number in brackets.

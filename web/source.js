@@ -1,6 +1,6 @@
 // The Source pane: `assemble` over the text, its faults at their lines, its listing and symbols, and where the tape goes.
 import { $, made, tell, takeHome, bytesOfFile } from './dom.js';
-import { textOf } from './program.js';
+import { bytesOf, textOf } from './program.js';
 import { Texts } from './texts.js';
 import { Listing } from './listing.js';
 
@@ -248,8 +248,8 @@ export class Source {
             $('source-name').focus();
             return tell('source-status', 'The text has no name yet: give it one, and its files will have that.', true);
         }
-        for (const [name, bytes, ...form] of [[`${this.#name}.PA`, this.assembled, '--text'], [`${this.#name}.BN`, this.tape]]) {
-            const { status, out, said } = await files.put(name, bytes, ...form);
+        for (const [name, bytes, form] of [[`${this.#name}.PA`, bytesOf(this.assembled), 'text'], [`${this.#name}.BN`, this.tape, 'frames']]) {
+            const { status, out, said } = await files.put(name, bytes, form);
             told.push(textOf(out) + said);
             isBad ||= status !== 0;
         }

@@ -2,7 +2,7 @@
 // out is compared with the native program PROGRAM. PART takes the tests whose names have it. The last line is 'N passed, M failed'.
 import { randomBytes } from 'node:crypto';
 import { readFileSync, writeFileSync } from 'node:fs';
-import { alone, answer, create, file, further, holds, image, isTold, native, optionsOf, pane, put, run as runAll, same, setSource } from './tools.mjs';
+import { alone, answer, assemble, create, file, further, holds, image, isTold, native, optionsOf, pane, put, run as runAll, same, setSource } from './tools.mjs';
 
 const ONE = '*200\n\tCLA IAC\n\tHLT\n$\n', TWO = '*200\n\tCLA CMA\n\tHLT\n$\n', BAD = '*200\n\tTAD LIEN\n$\n';
 
@@ -229,10 +229,7 @@ Object.assign(tests, {
     'before the text goes over a file of the volume the user is asked': async (page, url) => {
         await page.go(url);
         await create(page, 'DISK');
-        await setSource(page, ONE);
-        await page.fill('#source-name', 'IT');
-        await page.click('#assemble');
-        await isTold(page, 'source-status', 'assembled');
+        await assemble(page, 'IT', ONE);
         await page.click('#to-volume');
         await isTold(page, 'source-status', 'STORED IT.BN');
         await pane(page, 'files');

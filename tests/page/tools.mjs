@@ -55,6 +55,14 @@ export async function setSource(page, text) {
     await page.fill('#text', text);
 }
 
+// A text of this name, and its tape.
+export async function assemble(page, name, text) {
+    await setSource(page, text);
+    await page.fill('#source-name', name);
+    await page.click('#assemble');
+    await isTold(page, 'source-status', 'assembled');
+}
+
 // Puts files into the volume that is open.
 export async function put(page, form, ...names) {
     await pane(page, 'files');

@@ -1,7 +1,7 @@
 // undone.mjs PROGRAM FOLDER [PART]: that what a user changed in the page comes back: by Undo, by the name of a text, under its own name from
 // home, and after a reload. As losses.mjs otherwise.
 import { readFileSync, writeFileSync } from 'node:fs';
-import { answer, create, file, further, holds, image, isTold, native, optionsOf, pane, put, run, same, setSource, volume } from './tools.mjs';
+import { answer, assemble, create, file, further, holds, image, isTold, native, optionsOf, pane, put, run, same, setSource, volume } from './tools.mjs';
 
 const ONE = '*200\n\tCLA IAC\n\tHLT\n$\n', TWO = '*200\n\tCLA CMA\n\tHLT\n$\n', BAD = '*200\n\tTAD LIEN\n$\n';
 const MARK = '*200\nSTART,\tCLA CLL CML\n\tTAD WORD\n\t6221\n\tHLT\n\tJMP START\nWORD,\t1234\n$\n';
@@ -206,10 +206,7 @@ await run('undone', {
     'what goes home comes back under its own name': async (page, url) => {
         await page.go(url);
         await create(page, 'DISK');
-        await setSource(page, ONE);
-        await page.fill('#source-name', 'IT');
-        await page.click('#assemble');
-        await isTold(page, 'source-status', 'assembled');
+        await assemble(page, 'IT', ONE);
         same('IT.PA', (await page.home('#text-home')).name, 'the text of Source');
         same('IT.BN', (await page.home('#tape-home')).name, 'the tape of Source');
         await page.click('#to-volume');
