@@ -5,6 +5,7 @@ let last = Promise.resolve();
 
 // Asks, after the questions that were asked before. Gives the value of the answer that was chosen, '' for none; `answers` are pairs of value
 // and words.
+/** @param {string} words @param {...string[]} answers @returns {Promise<string>} */
 export function ask(words, ...answers) {
     const answer = last.then(() => new Promise(go => {
         const dialog = $('question');
@@ -13,7 +14,7 @@ export function ask(words, ...answers) {
         dialog.returnValue = '';
         dialog.addEventListener('close', () => go(dialog.returnValue), { once: true });
         dialog.showModal();
-        $('answers').firstChild.focus();
+        $('answers').querySelector('button')?.focus();
     }));
     last = answer;
     return answer;

@@ -1,6 +1,8 @@
 // What all panes use.
-export const $ = id => document.getElementById(id);
+/** @template {keyof Ids} K @param {K} id @returns {Ids[K]} */
+export const $ = id => /** @type {any} */ (document.getElementById(id));
 
+/** @param {K} tag @param {Record<string, any>} [attributes] @param {...(string | Node)} children @template {keyof HTMLElementTagNameMap} K @returns {HTMLElementTagNameMap[K]} */
 export function made(tag, attributes = {}, ...children) {
     const it = document.createElement(tag);
     for (const [name, value] of Object.entries(attributes))
@@ -10,7 +12,16 @@ export function made(tag, attributes = {}, ...children) {
     return it;
 }
 
+// The element that an event came to.
+/** @param {Event} event */
+export const elementOf = event => /** @type {HTMLElement} */ (event.target);
+
+// Ids of elements, each as what it is.
+/** @template {keyof Ids} K @param {...K} all @returns {K[]} */
+export const ids = (...all) => all;
+
 // Shows what the program said, or the page, in a pane's line of status.
+/** @param {keyof Ids} id @param {string} text @param {boolean} [isBad] */
 export function tell(id, text, isBad = false) {
     const it = $(id);
     it.textContent = text.replace(/\n+$/, '');
@@ -18,7 +29,8 @@ export function tell(id, text, isBad = false) {
 }
 
 // Gives bytes to the browser as a file to be kept.
-export function takeHome(name, bytes) {
+/** @param {string} name @param {Uint8Array} [bytes] */
+export function takeHome(name, bytes = new Uint8Array(0)) {
     const url = URL.createObjectURL(new Blob([bytes], { type: 'application/octet-stream' }));
     made('a', { href: url, download: name }).click();
     setTimeout(() => URL.revokeObjectURL(url), 10000);
@@ -26,18 +38,21 @@ export function takeHome(name, bytes) {
 
 // The bytes of a file of the host. The program reads 16,777,216 bytes at most, and refuses what has more: it is given one more, no matter
 // how long the file is.
+/** @param {Blob} file */
 export async function bytesOfFile(file) {
     return new Uint8Array(await file.slice(0, 16777217).arrayBuffer());
 }
 
 // What is typed into an input is kept over a reload.
+/** @param {import('./store.js').Store} store @param {keyof Ids} id */
 export function keepInput(store, id) {
-    const it = $(id), isBox = it.type === 'checkbox', old = store.notes.get(id);
+    const it = /** @type {HTMLInputElement} */ ($(id)), isBox = it.type === 'checkbox', old = store.notes.get(id);
     if (old !== undefined) isBox ? it.checked = old : it.value = old;
     it.addEventListener(it.tagName === 'SELECT' || isBox ? 'change' : 'input', () => store.note(id, isBox ? it.checked : it.value));
 }
 
 // Adds to a text that is followed, and keeps its end in view unless the reader has gone back in it.
+/** @param {Element} it @param {string} text */
 export function follow(it, text) {
     const isAtEnd = it.scrollTop + it.clientHeight >= it.scrollHeight - 30;
     it.append(text);
@@ -45,17 +60,20 @@ export function follow(it, text) {
 }
 
 // Buttons of which one is a stop of Tab, and arrows go among them: left and right to the next, up and down to the next row of a table.
+/** @param {Element} box */
 export function rove(box) {
-    const all = () => [...box.querySelectorAll('button:not(:disabled)')];
+    const all = () => /** @type {HTMLButtonElement[]} */ ([...box.querySelectorAll('button:not(:disabled)')]);
+    /** @param {Element} it */
     const stop = it => all().forEach(one => { one.tabIndex = one === it ? 0 : -1; });
     const settle = () => { if (all().filter(it => it.tabIndex === 0).length !== 1) stop(all()[0]); };
-    box.addEventListener('focusin', ({ target }) => target.matches('button') && stop(target));
-    box.addEventListener('keydown', event => {
-        const own = event.target.closest('button');
+    box.addEventListener('focusin', event => elementOf(event).matches('button') && stop(elementOf(event)));
+    /** @type {HTMLElement} */ (box).addEventListener('keydown', event => {
+        const own = elementOf(event).closest('button');
         if (!own) return;
-        const to = { ArrowRight: () => next(all(), own, 1), ArrowLeft: () => next(all(), own, -1), ArrowDown: () => below(own, 'nextElementSibling'),
-            ArrowUp: () => below(own, 'previousElementSibling'), Home: () => all()[0], End: () => all().at(-1) }[event.key]?.();
-        if (!to) return;
+        /** @type {Record<string, () => Element | null | undefined>} */
+        const keys = { ArrowRight: () => next(all(), own, 1), ArrowLeft: () => next(all(), own, -1), ArrowDown: () => below(own, 'nextElementSibling'),
+            ArrowUp: () => below(own, 'previousElementSibling'), Home: () => all()[0], End: () => all().at(-1) }, to = keys[event.key]?.();
+        if (!(to instanceof HTMLElement)) return;
         event.preventDefault();
         to.focus();
     });
@@ -63,9 +81,11 @@ export function rove(box) {
     settle();
 }
 
+/** @param {Element[]} all @param {Element} own @param {number} by */
 function next(all, own, by) { return all[all.indexOf(own) + by]; }
 
+/** @param {Element} own @param {'nextElementSibling' | 'previousElementSibling'} way */
 function below(own, way) {
-    const row = own.closest('tr'), column = row && [...row.querySelectorAll('button')].indexOf(own);
+    const row = own.closest('tr'), column = row ? [...row.querySelectorAll('button')].findIndex(it => it === own) : 0;
     return row?.[way]?.querySelectorAll('button')[column];
 }

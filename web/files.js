@@ -1,34 +1,47 @@
 // The Files pane: each thing that it shows is a reply of `check`, `get`, `tape` or `source`, and each change `create`, `put` or a script.
-import { $, made, tell, takeHome, bytesOfFile, keepInput, rove } from './dom.js';
+import { $, made, tell, takeHome, bytesOfFile, elementOf, ids, keepInput, rove } from './dom.js';
 import { ask } from './ask.js';
 import { textOf } from './program.js';
 
 const COLOURS = ['directory', 'file', 'file-2', 'empty', 'outside', 'fault'];
 
 export class Files {
+    /** @param {Page} page */
     constructor(page) {
         this.page = page;
+        /** @type {string | null} */
         this.shown = null;
+        /** @type {Set<string>} */
         this.used = new Set();
+        /** @type {{ name: string, first: number, length: number }[]} */
+        this.entries = [];
+        /** @type {{ kind: string, of: string }[]} */
+        this.blocks = [];
+        /** @type {string | null} */
+        this.refusal = null;
+        /** @type {string | null} */
+        this.follows = null;
+        this.created = '';
+        this.turn = this.across = this.side = 0;
         keepInput(page.store, 'new-name');
         keepInput(page.store, 'new-blocks');
-        $('image').addEventListener('change', event => this.#opened(event.target));
+        $('image').addEventListener('change', () => this.#opened($('image')));
         $('create').addEventListener('click', () => this.create());
-        $('volume').addEventListener('change', event => this.open(event.target.value));
+        $('volume').addEventListener('change', () => this.open($('volume').value));
         $('take-image').addEventListener('click', () => takeHome(this.name, page.store.files.get(this.name)));
         $('drop-image').addEventListener('click', () => this.#remove());
         $('squeeze').addEventListener('click', () => this.#change('the squeeze', 'SQUEEZE', 'FINISH'));
         $('undo').addEventListener('click', () => this.#undo(false));
         $('redo').addEventListener('click', () => this.#undo(true));
         page.undo.addEventListener('change', () => this.#undoable());
-        for (const id of ['changes', 'volume-keys', 'begin']) rove($(id));
+        for (const id of ids('changes', 'volume-keys', 'begin')) rove($(id));
         rove($('directory').tBodies[0]);
         $('files').addEventListener('keydown', event => this.#key(event));
-        $('put').addEventListener('change', event => this.#put(event.target));
+        $('put').addEventListener('change', () => this.#put($('put')));
         $('blocks').addEventListener('mousemove', event => this.#point(event));
         $('blocks').addEventListener('mouseleave', () => { $('block-told').textContent = ''; });
-        new ResizeObserver(() => this.blocks && this.#draw()).observe($('blocks'));
-        matchMedia('(prefers-color-scheme: dark)').addEventListener('change', () => this.blocks && this.#draw());
+        new ResizeObserver(() => this.blocks.length && this.#draw()).observe($('blocks'));
+        matchMedia('(prefers-color-scheme: dark)').addEventListener('change', () => this.blocks.length && this.#draw());
         this.#drops();
         page.store.addEventListener('file', ({ detail }) => detail === this.name ? this.#again() : detail.startsWith('.') || this.#list());
         page.store.addEventListener('kept', () => this.#list());
@@ -39,26 +52,29 @@ export class Files {
     // Says what Undo and Do again would do.
     #undoable() {
         const { undo } = this.page;
-        for (const [id, words, text] of [['undo', undo.next, 'Undo'], ['redo', undo.again, 'Do again']]) {
-            $(id).disabled = words === null;
-            $(id).title = words ?? '';
-            $(id).textContent = words === null ? text : `${text}: ${words}`;
+        for (const { key, words, text } of [{ key: $('undo'), words: undo.next, text: 'Undo' }, { key: $('redo'), words: undo.again, text: 'Do again' }]) {
+            key.disabled = words === null;
+            key.title = words ?? '';
+            key.textContent = words === null ? text : `${text}: ${words}`;
         }
     }
 
     // Ctrl-Z and Ctrl-Y, where no text is typed.
+    /** @param {KeyboardEvent} event */
     #key(event) {
         const key = event.key.toLowerCase(), isAgain = key === 'y' || (key === 'z' && event.shiftKey);
-        if (!(event.ctrlKey || event.metaKey) || !(key === 'z' || key === 'y') || event.target.matches('input, textarea')) return;
+        if (!(event.ctrlKey || event.metaKey) || !(key === 'z' || key === 'y') || elementOf(event).matches('input, textarea')) return;
         event.preventDefault();
         this.#undo(isAgain);
     }
 
     // Undoes the newest change, or does it again, and shows the volume of it.
+    /** @param {boolean} isAgain */
     async #undo(isAgain) {
         const { undo, claims, source } = this.page, next = undo.step(isAgain);
         if (!next) return;
         let busy = null;
+        /** @param {Step} step */
         const mayChange = async ({ slot, key }) => {
             if (slot === 'notes') return !source.follows;
             busy = claims.has(`volume ${key}`) ? await this.#busy(key) : '? HOST BUSY';
@@ -73,11 +89,14 @@ export class Files {
 
     // Leaves to other tabs the volumes that this one doesn't use.
     #leave() {
-        const { claims, programs } = this.page, isUsed = it => it === this.name || this.used.has(it) || programs.isBusy(it);
+        const { claims, programs } = this.page;
+        /** @param {string} it */
+        const isUsed = it => it === this.name || this.used.has(it) || programs.isBusy(it);
         for (const it of claims.names.filter(it => it.startsWith('volume '))) if (!isUsed(it.slice(7))) claims.leave(it);
     }
 
     // Works with a volume that isn't open, which no other tab gets meanwhile.
+    /** @param {string} name @param {() => Promise<T>} work @template T */
     async #use(name, work) {
         this.used.add(name);
         await this.page.claims.claim(`volume ${name}`);
@@ -90,9 +109,11 @@ export class Files {
     }
 
     // Another tab has left a volume to this one: its image, as this tab has it, is kept.
+    /** @param {string} claim */
     #claimed(claim) {
         const { store } = this.page, name = claim.slice(7);
-        if (claim.startsWith('volume ') && this.follows === name && store.files.has(name)) store.put(name, store.files.get(name));
+        const image = store.files.get(name);
+        if (claim.startsWith('volume ') && this.follows === name && image) store.put(name, image);
         this.#tellClaim();
     }
 
@@ -124,6 +145,7 @@ export class Files {
     }
 
     // A volume's name, with a mark where the browser's store didn't take it.
+    /** @param {string} name */
     #mark(name) { return this.page.store.isUnkept(name) ? `${name}, not kept` : name; }
 
     #drops() {
@@ -133,12 +155,13 @@ export class Files {
         document.addEventListener('drop', event => {
             event.preventDefault();
             zone.classList.remove('over');
-            this.drop([...event.dataTransfer.files]);
+            this.drop([...event.dataTransfer?.files ?? []]);
         });
     }
 
     // Does with files of the host what they are: an image opens, a tape goes to the volume that is open or else to the Teletype, and any
     // other is a text for Source, or for the volume.
+    /** @param {File[]} files */
     async drop(files) {
         for (const file of files) {
             const bytes = await bytesOfFile(file), kind = await this.#kind(bytes);
@@ -150,6 +173,7 @@ export class Files {
     }
 
     // What bytes are, as the program says: an image of a volume, the tape of a program, or neither.
+    /** @param {Uint8Array} bytes */
     async #kind(bytes) {
         const { programs, store } = this.page;
         store.put('.asked', bytes);
@@ -159,13 +183,15 @@ export class Files {
         return bytes.length && (await programs.ask(['tape'], bytes)).status === 0 ? 'tape' : 'text';
     }
 
+    /** @param {HTMLInputElement} input */
     async #opened(input) {
-        const [file] = input.files;
+        const [file] = input.files ?? [];
         input.value = '';
         if (file) await this.take(file);
     }
 
     // Takes a file of the host as an image into the page. One that `check` refuses and that can't be an image of a volume is not kept.
+    /** @param {File} file */
     async take(file) {
         const { programs, store } = this.page, bytes = await bytesOfFile(file);
         store.put('.asked', bytes);
@@ -181,6 +207,7 @@ export class Files {
     }
 
     // The name for a new volume: where there is one of that name the user is asked. Null where none is to be made.
+    /** @param {string} wanted */
     async #name(wanted) {
         const { files } = this.page.store, plain = wanted.replace(/[/\\\s]/g, '_').replace(/^[.-]+/, '') || 'IMAGE';
         if (!files.has(plain)) return plain;
@@ -192,6 +219,7 @@ export class Files {
     }
 
     // Keeps an image as a volume, if no run and no other tab has one of that name.
+    /** @param {string} name @param {Uint8Array} bytes */
     async #keep(name, bytes) {
         if (this.page.store.files.has(name)) {
             await this.page.claims.claim(`volume ${name}`);
@@ -205,6 +233,7 @@ export class Files {
     }
 
     // The program's line where a run or another tab holds a volume, else null.
+    /** @param {string} name */
     async #busy(name) {
         if (!this.page.store.files.has(name)) return null;
         const { out, said } = await this.page.programs.ask(['run', name], '');
@@ -217,6 +246,7 @@ export class Files {
     }
 
     // The image of an empty volume of so many blocks, null where the program refuses.
+    /** @param {string} blocks */
     async blank(blocks) {
         const { programs, store } = this.page;
         store.remove('.new');
@@ -229,6 +259,7 @@ export class Files {
     }
 
     // A further volume, which is open from then on.
+    /** @param {string} wanted @param {Uint8Array} image */
     async add(wanted, image) {
         const name = await this.#name(wanted);
         if (name === null || !await this.#keep(name, image)) return;
@@ -236,12 +267,13 @@ export class Files {
         tell('files-status', this.created);
     }
 
+    /** @param {string} name */
     async open(name) {
         this.#list();
         $('volume').value = name;
         this.page.store.note('volume', name);
         tell('files-status', '');
-        this.#show(null, '');
+        this.#show(null, '', '');
         this.#leave();
         if (name !== '') await this.page.claims.claim(`volume ${name}`);
         this.#tellClaim();
@@ -262,7 +294,7 @@ export class Files {
     // Reads the volume anew and shows it.
     async #again() {
         this.#list();
-        const name = this.name, turn = this.turn = (this.turn ?? 0) + 1;
+        const name = this.name, turn = ++this.turn;
         $('volume-view').hidden = name === '';
         if (name !== '') $('shelf').open = false;
         if (name === '') {
@@ -279,16 +311,18 @@ export class Files {
         this.#lay(lines);
         this.#draw();
         this.#rows();
-        for (const id of ['squeeze', 'put']) $(id).disabled = this.refusal !== null;
+        for (const id of ids('squeeze', 'put')) $(id).disabled = this.refusal !== null;
         $('put-row').hidden = this.refusal !== null;
         this.page.store.dispatchEvent(new Event('volume'));
     }
 
     // What each block is, by the lines of `check`. Blocks 0 to 6 are the boot block and those of the directory.
+    /** @param {string[][]} lines */
     #lay(lines) {
         const count = Number(lines.find(it => it[0] === 'BLOCKS')?.[1] ?? 0);
         this.blocks = Array.from({ length: count }, (_, block) => ({ kind: block === 0 ? 'outside' : 'directory', of: block === 0 ? 'boot block' : 'directory' }));
         let turn = 0;
+        /** @param {number} first @param {number} length @param {string} kind @param {string} of */
         const lay = (first, length, kind, of) => { for (let k = 0; k < length; k++) this.blocks[first + k] = { kind, of }; };
         for (const [word, ...rest] of lines) {
             const [first, length] = rest.slice(-2).map(Number);
@@ -301,7 +335,7 @@ export class Files {
         }
         if (!this.refusal) return;
         const told = this.refusal.match(/^\? DIRECTORY [12] .* (\d+)$/);
-        const bytes = this.page.store.files.get(this.name).length;
+        const bytes = this.page.store.files.get(this.name)?.length ?? 0;
         this.blocks = Array.from({ length: Math.max(7, Math.floor(bytes / 512)) }, (_, block) => ({ kind: 'outside', of: 'of a volume that is refused' }));
         if (told) this.blocks[Number(told[1])] = { kind: 'fault', of: this.refusal };
         else for (let block = 1; block < 7; block++) this.blocks[block] = { kind: 'fault', of: this.refusal };
@@ -317,7 +351,7 @@ export class Files {
         canvas.style.height = `${down * side}px`;
         this.side = side;
         const colours = Object.fromEntries(COLOURS.map(it => [it, colourOf(style, `--${it}`)]));
-        const brush = canvas.getContext('2d');
+        const brush = /** @type {CanvasRenderingContext2D} */ (canvas.getContext('2d'));
         brush.scale(scale, scale);
         this.blocks.forEach(({ kind }, block) => {
             const x = block % across * this.across, y = Math.floor(block / across) * side;
@@ -329,6 +363,7 @@ export class Files {
             : `Volume of ${count} blocks: ${this.entries.length} files, ${free} blocks empty`);
     }
 
+    /** @param {MouseEvent} event */
     #point(event) {
         const column = Math.floor(event.offsetX / this.across), row = Math.floor(event.offsetY / this.side);
         const block = row * Math.round($('blocks').clientWidth / this.across) + column, it = this.blocks[block];
@@ -341,7 +376,9 @@ export class Files {
         $('directory').hidden = this.refusal !== null;
     }
 
+    /** @param {{ name: string, first: number, length: number }} it */
     #row({ name, first, length }) {
+        /** @param {string} text @param {() => void} what @param {string} label */
         const button = (text, what, label) => made('button', { onclick: what, 'aria-label': `${name} ${label}` }, text);
         const row = made('tr', { 'data-name': name }, made('td', {}, name), made('td', { class: 'n' }, String(length)), made('td', { class: 'n' }, String(first)),
             made('td', {}, button('text', () => this.show(name, 'text'), 'as a text'), ' ', button('listing', () => this.show(name, 'tape'), 'as the listing of a tape'),
@@ -354,12 +391,15 @@ export class Files {
         return row;
     }
 
+    /** @param {string} name @param {...string} form */
     #get(name, ...form) { return this.page.programs.ask(['get', this.name, name, ...form]); }
 
     // The frames of the tape that a file begins with, or the program's refusal.
+    /** @param {string} name */
     tape(name) { return this.#get(name, '--tape'); }
 
     // Shows a file: as a text, or its tape as a listing or as source.
+    /** @param {string} name @param {'text' | 'tape' | 'source'} as */
     async show(name, as) {
         const got = await this.#get(name, as === 'text' ? '--text' : '--tape');
         const given = got.status === 0 && as !== 'text' ? await this.page.programs.ask([as], got.out) : got;
@@ -371,6 +411,7 @@ export class Files {
         this.#show(name, textOf(given.out), { text: 'text', tape: 'listing of its tape', source: 'source of its tape' }[as]);
     }
 
+    /** @param {string | null} name @param {string} text @param {string} as */
     #show(name, text, as) {
         this.shown = name;
         $('shown-name').textContent = name ? `${name}, ${as}` : 'No file is shown';
@@ -379,6 +420,7 @@ export class Files {
     }
 
     // Takes a file home under its own name, so that it comes back under that.
+    /** @param {string} name @param {...string} form */
     async #home(name, ...form) {
         const { status, out, said } = await this.#get(name, ...form);
         if (status !== 0) {
@@ -389,15 +431,19 @@ export class Files {
         tell('files-status', `${name}: ${out.length} bytes`);
     }
 
+    /** @param {HTMLInputElement} input */
     async #put(input) {
-        const files = [...input.files];
+        const files = [...input.files ?? []];
         input.value = '';
         await this.#putFiles(files);
     }
 
     // Puts files of the host in, one after the other; all of it is one change.
+    /** @param {File[]} files */
     async #putFiles(files) {
-        const told = [], volume = this.name, names = files.map(it => nameOf(it.name));
+        /** @type {string[]} */
+        const told = [];
+        const volume = this.name, names = files.map(it => nameOf(it.name));
         let isBad = false;
         await this.page.undo.group(volume, `putting ${names.join(', ')}`, async () => {
             for (const [k, file] of files.entries()) {
@@ -411,6 +457,7 @@ export class Files {
 
     // Makes bytes a file of the volume, as `text` or `frames`, or as the program says by its `name`. Where the volume has one of that name the
     // user is asked.
+    /** @param {string} name @param {Uint8Array} bytes @param {string} form */
     async put(name, bytes, form) {
         const { programs, store, undo } = this.page, volume = this.name, path = `.put/${name}`;
         if (!await this.#mayWrite(volume, name)) return { status: 0, out: new Uint8Array(0), said: `${name} was left as it was\n` };
@@ -422,12 +469,14 @@ export class Files {
     }
 
     // Whether a file of a volume may be written: where there is one of the name the user is asked.
+    /** @param {string} volume @param {string} name */
     async #mayWrite(volume, name) {
         const isThere = (await this.page.programs.ask(['get', volume, name])).status === 0 && !await this.#busy(volume);
         return !isThere || await ask(`${volume} has a file ${name}. Writing over it loses what it has.`, ['', 'Leave it'], ['over', 'Write over it']) === 'over';
     }
 
     // Copies a file to another volume of the page, with its information words, and so its date.
+    /** @param {string} name */
     async #copy(name) {
         const { programs, undo } = this.page, others = this.volumes.filter(it => it !== this.name);
         if (!others.length) return tell('files-status', 'There is no other volume: open one, or make a new one.', true);
@@ -441,6 +490,7 @@ export class Files {
     }
 
     // Changes the volume by lines of a script, and tells their replies.
+    /** @param {string} words @param {...string} lines */
     async #change(words, ...lines) {
         const run = () => this.page.programs.ask(['run', this.name, '--strict'], `${lines.join('\n')}\n`);
         const { status, out, said } = await this.page.undo.group(this.name, words, run);
@@ -450,13 +500,15 @@ export class Files {
 
 // The name that a file of the host has on a volume; what can't be one is the program's to refuse. A browser may have added an ending to a
 // file that it had before, or a number in brackets.
+/** @param {string} path */
 function nameOf(path) {
     const name = path.toUpperCase().replace(/ ?\(\d+\)(?=\.|$)/, '').replace(/^([A-Z0-9]{1,6}\.[A-Z0-9]{1,2})\.(TXT|BIN)$/, '$1');
     const [first, ...rest] = name.split('.');
-    return rest.length ? `${first.slice(0, 6)}.${rest.at(-1).slice(0, 2)}` : first.slice(0, 6);
+    return rest.length ? `${first.slice(0, 6)}.${rest[rest.length - 1].slice(0, 2)}` : first.slice(0, 6);
 }
 
 // A colour of the style, light or dark, as a canvas takes it.
+/** @param {CSSStyleDeclaration} style @param {string} name */
 function colourOf(style, name) {
     const probe = made('span', { style: `color: var(${name})` });
     $('blocks').after(probe);

@@ -16,6 +16,7 @@ export class Held {
 
     get bytes() { return this.room.subarray(0, this.size); }
 
+    /** @param {number} at @param {Uint8Array} part */
     put(at, part) {
         const end = at + part.length;
         if (end > this.room.length) {
@@ -27,6 +28,7 @@ export class Held {
         this.size = Math.max(this.size, end);
     }
 
+    /** @param {number} size */
     cut(size) {
         this.put(size, new Uint8Array(0));
         this.size = size;
@@ -36,33 +38,47 @@ export class Held {
 // Runs the program with these words. `files` has get, set, has and delete, as a Map has. `read(most)` gives bytes for standard input,
 // none at its end, and `write(bytes, stream)` takes what is written to stream 1 or 2; where `promised` is given, the two may promise.
 // `locked(file)` tells whether another run holds a file, and `terminal` whether standard input is one. The answer is the exit status.
+/** @param {WebAssembly.Module} module @param {HostFiles} files @param {string[]} words @param {Host} host @returns {Promise<number>} */
 export async function command(module, files, words, host) {
+    /** @type {any} */
     let exports;
+    /** @param {number | bigint} at @param {number | bigint} count @returns {Uint8Array} */
     const memory = (at, count) => new Uint8Array(exports.memory.buffer, Number(at), Number(count));
     const calls = imports(memory, files, words, host);
     if (host.promised)
         for (const name of ['read', 'write'])
-            calls[name] = new WebAssembly.Suspending(calls[name]);
+            calls[name] = /** @type {any} */ (new WebAssembly.Suspending(calls[name]));
     exports = (await WebAssembly.instantiate(module, { env: calls })).exports;
     return (host.promised ? WebAssembly.promising(exports.main) : exports.main)(0, 0n);
 }
 
+/** @param {(at: bigint, count: number | bigint) => Uint8Array} memory @param {HostFiles} files @param {string[]} words @param {Host} host @returns {Calls} */
 function imports(memory, files, words, host) {
     let errno = 0, next = 3;
+    /** @type {Map<number, { file: HeldFile, name: string, folder: boolean, at: number }>} */
     const open = new Map();
+    // What is open as a number; the program asks for no other.
+    /** @param {number} number */
+    const own_of = number => /** @type {{ file: HeldFile, name: string, folder: boolean, at: number }} */ (open.get(number));
+    /** @param {number} why */
     const fail = why => { errno = why; return -1; };
+    /** @param {bigint} at @param {Uint8Array} bytes */
     const give = (at, bytes) => { memory(at, bytes.length).set(bytes); return BigInt(bytes.length); };
+    /** @param {bigint} at */
     const path = at => {
         const all = memory(at, 4096), end = all.indexOf(0);
         return text.decode(all.slice(0, end)).replace(/^\.\//, '');
     };
+    /** @param {HeldFile} file @param {string} name */
     const opened = (file, name, folder = false) => { open.set(next, { file, name, folder, at: 0 }); return next++; };
     // The folder of the page's files has no other name; it is opened so that its names come to the disk.
+    /** @param {string} name */
     const is_folder = name => name === '.' || files.has_folder?.(name);
+    /** @param {number} number @param {number} least */
     const copy = (number, least) => {
         next = Math.max(next, least);
         while (open.has(next)) next++;
-        open.set(next, open.get(number));
+        open.set(next, own_of(number));
         return next++;
     };
     return {
@@ -99,7 +115,7 @@ function imports(memory, files, words, host) {
                 const part = host.read(Number(most));
                 return part instanceof Promise ? part.then(it => give(at, it)) : give(at, part);
             }
-            const own = open.get(number), part = own.file.bytes.subarray(own.at, own.at + Number(most));
+            const own = own_of(number), part = own.file.bytes.subarray(own.at, own.at + Number(most));
             if (own.folder) return BigInt(fail(EISDIR));
             own.at += part.length;
             return give(at, part);
@@ -110,7 +126,7 @@ function imports(memory, files, words, host) {
                 const done = host.write(part, number);
                 return done instanceof Promise ? done.then(() => count) : count;
             }
-            const own = open.get(number);
+            const own = own_of(number);
             own.file.put(own.at, part);
             own.at += part.length;
             files.changed?.(own.file);
@@ -123,8 +139,8 @@ function imports(memory, files, words, host) {
             return BigInt(own.at);
         },
         ftruncate(number, size) {
-            open.get(number).file.cut(Number(size));
-            files.changed?.(open.get(number).file);
+            own_of(number).file.cut(Number(size));
+            files.changed?.(own_of(number).file);
             return 0;
         },
         statx(folder, at, flags, mask, to) {
@@ -167,12 +183,13 @@ function imports(memory, files, words, host) {
         },
         mkdir(at) { return files.make_folder?.(path(at)) === false ? fail(EACCES) : 0; },
         clock_gettime: () => fail(EINVAL),
-        flock(number) { return host.locked?.(open.get(number).name) ? fail(EAGAIN) : 0; },
+        flock(number) { return host.locked?.(own_of(number).name) ? fail(EAGAIN) : 0; },
         fchmod: () => 0, chown: () => 0, fsync: () => 0, fdatasync: () => 0, __sysv_signal: () => 0n,
     };
 }
 
 // A plain file of one user, as Linux tells of it (statx).
+/** @param {Uint8Array} bytes @param {HeldFile} file */
 function put_stat(bytes, file) {
     const at = new DataView(bytes.buffer, bytes.byteOffset, 256);
     bytes.fill(0);

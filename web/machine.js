@@ -1,5 +1,5 @@
 // The Machine pane: a `run` that lives, to whose console each key of the panel gives a line, and whose replies the lamps show.
-import { $, made, tell, keepInput } from './dom.js';
+import { $, ids, made, tell, keepInput } from './dom.js';
 import { Lines, canLive, textOf } from './program.js';
 import { Panel } from './panel.js';
 import { Paper, keyOf } from './paper.js';
@@ -8,17 +8,34 @@ import { Paper, keyOf } from './paper.js';
 const STEPS = 300, CHARACTER = 100;
 const MOST = 1000000, PICTURE = 11, CORE = 0o100000, LISTED = 6000;
 
+/** @param {number} number @param {number} digits */
 export const octal = (number, digits) => number.toString(8).padStart(digits, '0');
 
 export class Machine {
+    /** @type {Promise<Lines> | null} */
     lines = null;
+    /** @type {Registers | null} */
     registers = null;
+    /** @type {Element | undefined} */
+    marked = undefined;
+    /** @type {number | null} */
+    since = null;
+    isLoaded = false;
+    isPrinting = false;
+    printed = 0;
+    listedAt = 0;
+    reply = '';
+    keeping = 0;
     isGoing = false;
     many = 20000;
+    /** @type {Set<string>} */
     breaks = new Set();
+    /** @type {number[]} */
     keys = [];
+    /** @type {Map<string, Element>} */
     cells = new Map();
 
+    /** @param {Page} page */
     constructor(page) {
         this.page = page;
         this.panel = new Panel($('panel'), {
@@ -27,9 +44,9 @@ export class Machine {
             start: () => this.start(), stop: () => this.stop(), go: () => this.go(), step: () => this.step(),
         });
         this.paper = new Paper($('console'));
-        for (const id of ['speed', 'printer', 'core-from']) keepInput(page.store, id);
+        for (const id of ids('speed', 'printer', 'core-from')) keepInput(page.store, id);
         $('power').addEventListener('click', () => this.renew());
-        $('core-tape').addEventListener('change', event => this.#chosen(event.target));
+        $('core-tape').addEventListener('change', () => this.#chosen($('core-tape')));
         $('core-from').addEventListener('change', () => this.#core());
         $('console').addEventListener('keydown', event => this.#key(event));
         page.store.addEventListener('volume', () => this.#tapes());
@@ -54,7 +71,8 @@ export class Machine {
         if (!store.files.has('.machine')) await programs.ask(['create', '.machine', '8']);
         const lines = await Lines.begin(programs, ['run', '--look', '.machine'], { ended: (status, said) => this.#ended(status, said) });
         this.printed = 0;
-        const core = store.notes.get('core') ?? [], given = [];
+        /** @type {string[]} */
+        const given = [], core = /** @type {Uint16Array} */ (store.notes.get('core') ?? new Uint16Array(0));
         core.forEach((word, cell) => word && given.push(`DEPOSIT ${octal(cell, 5)} ${octal(word, 4)}`));
         given.push(...settingOf(store.notes.get('registers'), cell => core[cell] ?? 0));
         for (const cell of this.breaks) given.push(`BREAK ${cell} ON`);
@@ -63,8 +81,10 @@ export class Machine {
         return lines;
     }
 
+    /** @param {...string} lines */
     async #ask(...lines) { return (await this.#living()).ask(...lines); }
 
+    /** @param {number | null} status @param {string} said */
     #ended(status, said) {
         this.lines = null;
         this.isGoing = false;
@@ -74,7 +94,7 @@ export class Machine {
     // A machine whose core is empty.
     async renew() {
         this.isGoing = false;
-        (await this.lines)?.run.stop();
+        (await this.lines)?.stop();
         this.lines = null;
         this.page.store.note('core', new Uint16Array(0));
         this.page.store.note('registers', null);
@@ -88,6 +108,7 @@ export class Machine {
     }
 
     // Lays the words of a tape over core, one by one as `tape` lists them.
+    /** @param {Uint8Array} tape @param {string} name */
     async load(tape, name) {
         const { status, out, said } = await this.page.programs.ask(['tape'], tape);
         if (status !== 0) {
@@ -105,18 +126,20 @@ export class Machine {
         return true;
     }
 
+    /** @param {number} cell */
     #point(cell) {
         this.panel.address = cell;
         this.page.store.note('address', cell);
     }
 
+    /** @param {HTMLSelectElement} select */
     async #chosen(select) {
         const { files, source, programs } = this.page, name = select.value;
         select.value = '';
         if (name === '') return;
         if (name === 'source') {
             if (!await source.renew()) return tell('machine-status', `The source has no tape: ${$('source-status').textContent}`, true);
-            if (await this.load(source.tape, 'the source\'s tape')) this.list($('listing').textContent);
+            if (source.tape && await this.load(source.tape, 'the source\'s tape')) this.list($('listing').textContent);
             return;
         }
         const { status, out, said } = await files.tape(name.slice(5));
@@ -133,6 +156,7 @@ export class Machine {
     }
 
     // Shows a listing, whose cells are buttons for breaks.
+    /** @param {string} text */
     list(text) {
         this.cells.clear();
         const lines = text.split('\n'), shown = lines.slice(0, LISTED).map(it => this.#line(it));
@@ -143,6 +167,7 @@ export class Machine {
     }
 
     // A line begins with its cell, or ends with it and its word in a comment, as `assemble --list` and `source` write them.
+    /** @param {string} text */
     #line(text) {
         const cell = /^([0-7]{5})  [0-7]{4}/.exec(text)?.[1] ?? /\/([0-7]{5}) [0-7]{4}$/.exec(text)?.[1];
         if (!cell) return made('span', { class: 'l none' }, `${text}\n`);
@@ -153,6 +178,7 @@ export class Machine {
         return line;
     }
 
+    /** @param {string} cell @param {Element} button */
     async toggle(cell, button) {
         const how = this.breaks.has(cell) ? 'OFF' : 'ON';
         const reply = (await this.#ask(`BREAK ${cell} ${how}`))?.[0] ?? '';
@@ -173,6 +199,7 @@ export class Machine {
     }
 
     // The cell behind one, in its field.
+    /** @param {number} cell */
     #next(cell) { return (cell & 0o70000) + ((cell + 1) & 0o7777); }
 
     async #examine() { await this.#cell(`EXAMINE ${octal(this.panel.address, 5)}`); }
@@ -183,6 +210,7 @@ export class Machine {
         await this.#core();
     }
 
+    /** @param {string} line */
     async #cell(line) {
         const [reply] = await this.#ask(line) ?? [''], [cell, word] = reply.split(' ');
         tell('machine-status', reply);
@@ -198,6 +226,7 @@ export class Machine {
     }
 
     // Starts at a cell, and makes so many steps.
+    /** @param {number} cell @param {number} steps */
     async runTo(cell, steps) {
         this.#point(cell);
         await this.#ask(`START ${octal(cell, 5)}`);
@@ -242,7 +271,7 @@ export class Machine {
         const isStopped = !this.isGoing;
         this.isGoing = false;
         this.panel.runs(false);
-        tell('machine-status', isStopped ? `stopped by the key: ${this.reply}` : this.reply ?? '', why === 'UNASSIGNED');
+        tell('machine-status', isStopped ? `stopped by the key: ${this.reply}` : this.reply, why === 'UNASSIGNED');
         $('rate').textContent = '';
         await this.#stopped();
     }
@@ -250,6 +279,7 @@ export class Machine {
     total = 0;
 
     // Steps until so many are made, or the time for a picture is over.
+    /** @param {number} due @param {number} until @returns {Promise<string>} */
     async #picture(due, until) {
         let why = 'LIMIT', left = due;
         do {
@@ -268,6 +298,7 @@ export class Machine {
     }
 
     // A line STEP or GO, behind what the printer and the keyboard are due.
+    /** @param {string} word @param {number} count @returns {Promise<string>} */
     async #slice(word, count) {
         const lines = [];
         if (this.registers?.busy) {
@@ -279,13 +310,13 @@ export class Machine {
                 this.since = null;
             }
         }
-        if (this.keys.length && !this.registers?.kbd) lines.push(`KEY ${octal(this.keys.shift(), 3)}`);
+        if (this.keys.length && !this.registers?.kbd) lines.push(`KEY ${octal(this.keys.shift() ?? 0, 3)}`);
         lines.push(`${word} ${count}`, 'REGISTERS');
         const replies = await this.#ask(...lines);
         if (!replies) return 'ENDED';
-        this.reply = replies.at(-2);
-        this.registers = JSON.parse(replies.at(-1));
-        if (this.registers.busy) this.isPrinting = true;
+        this.reply = replies[replies.length - 2];
+        const registers = this.registers = /** @type {Registers} */ (JSON.parse(replies[replies.length - 1]));
+        if (registers.busy) this.isPrinting = true;
         const [, steps, why] = this.reply.split(' ');
         this.total += Number(steps);
         return why;
@@ -293,9 +324,9 @@ export class Machine {
 
     // What was printed since it was last shown.
     async #print() {
-        this.isPrinting = this.registers.busy;
+        this.isPrinting = this.registers?.busy ?? false;
         const [reply] = await this.#ask('PRINTED') ?? ['PRINTED'];
-        const all = reply.split(' ').slice(1), fresh = all.slice(this.printed ?? 0);
+        const all = reply.split(' ').slice(1), fresh = all.slice(this.printed);
         this.printed = all.length;
         if (fresh.length) this.paper.print(Uint8Array.from(fresh, it => Number.parseInt(it, 8) & 0o177));
     }
@@ -318,16 +349,16 @@ export class Machine {
 
     #show() {
         this.panel.show(this.registers, null, null, this.isGoing);
-        if (this.isGoing && performance.now() - (this.listedAt ?? 0) < 100) return;
+        if (this.isGoing && performance.now() - this.listedAt < 100) return;
         this.listedAt = performance.now();
-        $('registers').replaceChildren(...Object.entries(this.registers).map(([name, value]) => made('div', {}, made('dt', {}, name), made('dd', {}, String(value)))));
+        $('registers').replaceChildren(...Object.entries(this.registers ?? {}).map(([name, value]) => made('div', {}, made('dt', {}, name), made('dd', {}, String(value)))));
         this.#mark();
     }
 
     // Marks the line of the next instruction.
     #mark() {
         this.marked?.classList.remove('at');
-        this.marked = this.registers && this.cells.get(this.registers.if + this.registers.pc);
+        this.marked = this.registers ? this.cells.get(this.registers.if + this.registers.pc) : undefined;
         this.marked?.classList.add('at');
         if (!this.isGoing) this.marked?.scrollIntoView({ block: 'nearest' });
     }
@@ -345,17 +376,18 @@ export class Machine {
     // Has the page keep what core holds, once nothing has changed it for a while.
     #changed() {
         clearTimeout(this.keeping);
-        this.keeping = setTimeout(() => this.#keep(), 700);
+        this.keeping = window.setTimeout(() => this.#keep(), 700);
     }
 
     async #keep() {
         if (this.isGoing || !this.lines) return;
         const replies = await this.#ask('REGISTERS', ...Array.from({ length: CORE }, (_, cell) => `EXAMINE ${octal(cell, 5)}`));
         if (!replies) return;
-        this.page.store.note('registers', JSON.parse(replies.shift()));
+        this.page.store.note('registers', JSON.parse(replies.shift() ?? ''));
         this.page.store.note('core', Uint16Array.from(replies, it => Number.parseInt(it.slice(6), 8)));
     }
 
+    /** @param {KeyboardEvent} event */
     #key(event) {
         const key = keyOf(event);
         if (key === null) return;
@@ -365,15 +397,17 @@ export class Machine {
 }
 
 // The lines that give a new machine these registers: its own instructions do, in eight cells at the end of the field, whose words it gets back.
+/** @param {Registers | null | undefined} registers @param {(cell: number) => number} wordAt */
 function settingOf(registers, wordAt) {
     if (!registers?.pc) return [];
-    const field = Number(registers.if), at = address => octal(field * 0o10000 + address, 5), free = 0o7770;
+    const field = Number(registers.if), at = (/** @type {number} */ address) => octal(field * 0o10000 + address, 5), free = 0o7770;
     const words = [registers.l === '1' ? '7020' : '7000', '1375', `62${registers.df}1`, registers.ion ? '6001' : '7000', '5776', registers.ac, registers.pc];
     const laid = words.map((word, k) => `DEPOSIT ${at(free + k)} ${word}`);
     const back = words.map((_, k) => `DEPOSIT ${at(free + k)} ${octal(wordAt(field * 0o10000 + free + k), 4)}`);
     return [...laid, `START ${at(free)}`, 'STEP 5', ...back];
 }
 
+/** @param {number} thousands */
 function rateOf(thousands) {
     return thousands >= 1000 ? `${(thousands / 1000).toFixed(1)} million` : `${Math.round(thousands)} thousand`;
 }

@@ -12,15 +12,23 @@ import { Unkept } from './unkept.js';
 import { Undo } from './undo.js';
 import { Shelf } from './shelf.js';
 
-const PANES = ['files', 'source', 'machine', 'teletype', 'script'];
+const PANES = /** @type {const} */ (['files', 'source', 'machine', 'teletype', 'script']);
+/** @typedef {typeof PANES[number]} Pane */
 
+const isPane = (/** @type {string} */ it) => PANES.some(name => name === it);
+
+/** @param {string} text */
 function trouble(text) {
     $('trouble').textContent = text;
     $('trouble').hidden = false;
 }
 
 // Tabs as a keyboard works them: arrows go from one to the next, and Tab into the pane.
-class Tabs {
+export class Tabs {
+    /** @type {Pane | undefined} */
+    shown = undefined;
+
+    /** @param {import('./store.js').Store} store */
     constructor(store) {
         this.store = store;
         for (const name of PANES) {
@@ -28,15 +36,16 @@ class Tabs {
             tab.addEventListener('click', () => this.show(name));
             tab.addEventListener('keydown', event => this.#key(event, PANES.indexOf(name)));
         }
-        const asked = location.hash.slice(1);
-        this.show(PANES.includes(asked) ? asked : store.notes.get('pane') ?? 'files');
-        const first = this.shown;
+        const asked = /** @type {Pane} */ (location.hash.slice(1));
+        this.show(isPane(asked) ? asked : store.notes.get('pane') ?? 'files');
+        const first = this.shown ?? 'files';
         addEventListener('hashchange', () => {
-            const name = location.hash.slice(1) || first;
-            if (PANES.includes(name)) this.show(name, false);
+            const name = /** @type {Pane} */ (location.hash.slice(1) || first);
+            if (isPane(name)) this.show(name, false);
         });
     }
 
+    /** @param {KeyboardEvent} event @param {number} at */
     #key(event, at) {
         const to = { ArrowRight: at + 1, ArrowLeft: at + PANES.length - 1, Home: 0, End: PANES.length - 1 }[event.key];
         if (to === undefined) return;
@@ -47,12 +56,13 @@ class Tabs {
     }
 
     // Shows a pane. The address gets its name, so that Back and a link lead to it.
+    /** @param {Pane} name @param {boolean} [isNew] */
     show(name, isNew = true) {
         if (isNew && this.shown !== undefined && this.shown !== name) history.pushState(null, '', `#${name}`);
         this.shown = name;
         for (const it of PANES) {
             $(it).hidden = it !== name;
-            $(`tab-${it}`).setAttribute('aria-selected', it === name);
+            $(`tab-${it}`).setAttribute('aria-selected', String(it === name));
             $(`tab-${it}`).tabIndex = it === name ? 0 : -1;
         }
         this.store.note('pane', name);
@@ -68,7 +78,7 @@ async function begin() {
     }
     const claims = new Claims(), store = await Store.open(claims);
     const programs = new Programs(await load('pdp8.wasm'), store);
-    const page = { store, claims, programs, undo: new Undo(store), tell: trouble };
+    const page = /** @type {Page} */ ({ store, claims, programs, undo: new Undo(store), tell: trouble });
     page.tabs = new Tabs(store);
     page.files = new Files(page);
     page.machine = new Machine(page);
@@ -78,7 +88,7 @@ async function begin() {
     page.unkept = new Unkept(page);
     page.shelf = new Shelf(page);
     await Promise.all([page.files.begin(), page.source.begin()]);
-    page.tabs.show(page.tabs.shown);
+    page.tabs.show(page.tabs.shown ?? 'files');
     $('kept').textContent = store.isKept ? 'What you open and write stays in this browser until you remove it.'
         : 'This browser keeps nothing: take home what you want to keep.';
     if (!canLive)

@@ -1,10 +1,13 @@
 // The front panel as a picture that works: lamps that show what `REGISTERS` told, switches, and keys that give lines.
 import { made } from './dom.js';
 
+/** @type {[string, string, number][]} */
 const ROWS = [
     ['pc', 'Program counter', 12], ['ma', 'Memory address', 12], ['mb', 'Memory buffer', 12], ['ac', 'Accumulator', 12],
 ];
+/** @type {[string, string, number][]} */
 const SMALL = [['l', 'Link', 1], ['if', 'Inst field', 3], ['df', 'Data field', 3], ['run', 'Run', 1], ['ion', 'Ion', 1]];
+/** @type {[Exclude<keyof Doings, 'switches'>, string, string][]} */
 const KEYS = [
     ['start', 'Start', 'starts at the address, with AC and L clear'], ['load', 'Load add', 'takes the address from the switches'],
     ['deposit', 'Dep', 'deposits the switches at the address'], ['examine', 'Exam', 'shows the word at the address'],
@@ -12,12 +15,26 @@ const KEYS = [
 ];
 
 export class Panel {
+    /** @type {Record<string, Element[]>} */
     #lamps = {};
+    /** @type {Record<string, number | null>} */
+    #shown = {};
+    /** @type {Record<string, Element>} */
     #words = {};
+    /** @type {Record<string, HTMLButtonElement>} */
     #keys = {};
+    /** @type {Element[]} */
+    field = [];
+    /** @type {Element[]} */
+    register = [];
+    /** @type {Element | null} */
+    dragged = null;
+    side = '';
+    switchesShown = made('input');
     #address = 0;
 
     // `does` has what each key does, and `switches` what a change of the switches does.
+    /** @param {Element} element @param {Doings} does */
     constructor(element, does) {
         this.does = does;
         element.append(made('div', { class: 'brand' }, made('span', {}, 'programmed data processor'), made('span', {}, '8/I')));
@@ -35,6 +52,7 @@ export class Panel {
         element.append(keys);
     }
 
+    /** @param {[string, string, number]} it */
     #row([name, text, bits]) {
         const lamps = Array.from({ length: bits }, () => made('span', { class: 'lamp' }));
         this.#lamps[name] = lamps;
@@ -48,6 +66,7 @@ export class Panel {
         const register = this.register = Array.from({ length: 12 }, (_, bit) => this.#switch(`switch ${bit}`, () => this.does.switches(this.switches)));
         this.switchesShown = made('input', { class: 'word', id: 'switches-shown', size: 4, maxlength: 4, inputmode: 'numeric', 'aria-label': 'Switch register in octal' });
         this.switchesShown.addEventListener('change', () => this.#typed());
+        /** @param {string} text @param {Element[]} own @param {Element} shown @param {string} id */
         const line = (text, own, shown, id) => made('div', { class: 'switches', role: 'group', id, 'aria-label': text },
             made('span', { class: 'name' }, text), made('div', { class: 'bits' }, ...threes(own)), shown);
         const rows = made('div', {}, line('Field', field, made('span', { class: 'word' }), 'field-switches'), line('Switch register', register, this.switchesShown, 'switch-register'));
@@ -56,7 +75,9 @@ export class Panel {
     }
 
     // A click moves a switch; a drag over others moves them to the same side.
+    /** @param {string} label @param {() => void} changed */
     #switch(label, changed) {
+        /** @param {string} side */
         const move = side => {
             if (it.getAttribute('aria-checked') === side) return;
             it.setAttribute('aria-checked', side);
@@ -64,18 +85,19 @@ export class Panel {
             changed();
         };
         const it = made('button', { class: 'switch', role: 'switch', 'aria-checked': 'false', 'aria-label': label,
-            onclick: ({ detail }) => detail && this.dragged ? undefined : move(String(it.getAttribute('aria-checked') !== 'true')),
-            onpointerdown: ({ pointerId }) => {
+            onclick: (/** @type {MouseEvent} */ { detail }) => detail && this.dragged ? undefined : move(String(it.getAttribute('aria-checked') !== 'true')),
+            onpointerdown: (/** @type {PointerEvent} */ { pointerId }) => {
                 this.dragged = null;
                 this.side = String(it.getAttribute('aria-checked') !== 'true');
                 if (it.hasPointerCapture(pointerId)) it.releasePointerCapture(pointerId);
             },
-            onpointerenter: ({ buttons }) => { if (buttons === 1 && this.side !== undefined) this.#drag(it, move); },
-            onpointerleave: ({ buttons }) => { if (buttons === 1 && this.side !== undefined) this.#drag(it, move); } });
+            onpointerenter: (/** @type {PointerEvent} */ { buttons }) => { if (buttons === 1 && this.side) this.#drag(it, move); },
+            onpointerleave: (/** @type {PointerEvent} */ { buttons }) => { if (buttons === 1 && this.side) this.#drag(it, move); } });
         return it;
     }
 
     // A drag has come to a switch, or has left the one that it began at.
+    /** @param {Element} it @param {(side: string) => void} move */
     #drag(it, move) {
         this.dragged = it;
         move(this.side);
@@ -89,10 +111,11 @@ export class Panel {
         this.does.switches(this.switches);
     }
 
-    #told() { if (this.switchesShown) this.switchesShown.value = this.switches.toString(8).padStart(4, '0'); }
+    #told() { this.switchesShown.value = this.switches.toString(8).padStart(4, '0'); }
 
     get switches() { return wordOf(this.register); }
 
+    /** @param {number} word */
     set switches(word) {
         this.register.forEach((it, bit) => it.setAttribute('aria-checked', String((word >> (11 - bit) & 1) === 1)));
         this.#told();
@@ -102,19 +125,23 @@ export class Panel {
 
     get address() { return this.#address; }
 
+    /** @param {number} cell */
     set address(cell) {
         this.#address = cell;
         this.addressShown.textContent = `address ${cell.toString(8).padStart(5, '0')}`;
     }
 
+    /** @param {boolean} isAble */
     enable(isAble) { for (const it of Object.values(this.#keys)) it.disabled = !isAble; }
 
+    /** @param {boolean} isGoing */
     runs(isGoing) {
         this.#keys.stop.disabled = !isGoing;
         for (const name of ['go', 'step', 'load', 'deposit', 'examine']) this.#keys[name].disabled = isGoing;
     }
 
     // Shows the registers, and the address and the word that were last examined; where these are not known, their lamps are dark.
+    /** @param {Registers | null} registers @param {number | null} address @param {number | null} word @param {boolean} [isGoing] */
     show(registers, address, word, isGoing = false) {
         if (!registers) return;
         this.#light('pc', Number.parseInt(registers.pc, 8));
@@ -128,24 +155,27 @@ export class Panel {
         this.#light('mb', word);
     }
 
+    /** @param {string} name @param {number | null} word @param {string} [shown] */
     #light(name, word, shown) {
         const lamps = this.#lamps[name], bits = lamps.length;
         const text = shown ?? (word === null ? '' : word.toString(8).padStart(Math.ceil(bits / 3), '0'));
-        if (lamps.word === word) return;
-        lamps.word = word;
+        if (this.#shown[name] === word) return;
+        this.#shown[name] = word;
         lamps.forEach((it, bit) => it.classList.toggle('on', word !== null && (word >> (bits - 1 - bit) & 1) === 1));
         this.#words[name].textContent = text;
-        const row = this.#words[name].parentNode;
-        row.querySelector('.bits').classList.toggle('dark', word === null);
-        row.setAttribute('aria-label', `${row.querySelector('.name').textContent} ${word === null ? 'not known' : bits === 1 ? (word ? 'on' : 'off') : text}`);
+        const row = /** @type {Element} */ (this.#words[name].parentNode);
+        row.querySelector('.bits')?.classList.toggle('dark', word === null);
+        row.setAttribute('aria-label', `${row.querySelector('.name')?.textContent} ${word === null ? 'not known' : bits === 1 ? (word ? 'on' : 'off') : text}`);
     }
 }
 
 // Lamps or switches by threes, as their octal digits are.
+/** @param {Element[]} all */
 function threes(all) {
     return Array.from({ length: Math.ceil(all.length / 3) }, (_, k) => made('span', {}, ...all.slice(3 * k, 3 * k + 3)));
 }
 
+/** @param {Element[]} switches */
 function wordOf(switches) {
     return switches.reduce((word, it) => 2 * word + (it.getAttribute('aria-checked') === 'true' ? 1 : 0), 0);
 }

@@ -3,17 +3,22 @@
 const MOST = 60000, SHEET = 2000;
 
 export class Paper {
+    /** @type {Uint8Array[]} */
     #waiting = [];
+    /** @type {number | null} */
     #pace = null;
     #due = 0;
     #timer = 0;
     #isAsked = false;
 
     // `shown` is told how many characters were printed, `kept` what the paper then holds.
-    constructor(element, { shown = () => {}, kept = () => {} } = {}) {
+    /** @param {HTMLElement} element @param {{ shown?: (count: number) => void, kept?: (text: string) => void }} [how] */
+    constructor(element, how = {}) {
+        this.last = document.createTextNode('');
+        this.keeping = 0;
         this.element = element;
-        this.shown = shown;
-        this.kept = kept;
+        this.shown = how.shown ?? (() => {});
+        this.kept = how.kept ?? (() => {});
         this.length = 0;
         this.#sheet();
     }
@@ -28,11 +33,13 @@ export class Paper {
     }
 
     // Characters a second, null for full speed.
+    /** @param {number | null} pace */
     set pace(pace) {
         this.#pace = pace;
         this.#ask();
     }
 
+    /** @param {string} text */
     restore(text) {
         this.last.data = text;
         this.length = text.length;
@@ -46,6 +53,7 @@ export class Paper {
         this.kept('');
     }
 
+    /** @param {Uint8Array} bytes */
     print(bytes) {
         this.#waiting.push(bytes);
         this.#ask();
@@ -61,6 +69,7 @@ export class Paper {
     }
 
     // What is due at this picture.
+    /** @param {number} now */
     #frame(now) {
         this.#isAsked = false;
         let count = Infinity;
@@ -87,6 +96,7 @@ export class Paper {
     }
 
     // A character as a page shows it: a line feed goes on, a return alone begins the line anew, and the bell is seen.
+    /** @param {number} it */
     #character(it) {
         if (it === 0o7) this.#ring();
         if (it === 0o12) return '\n';
@@ -94,6 +104,7 @@ export class Paper {
         return it < 0o40 || it === 0o177 ? '' : String.fromCharCode(it);
     }
 
+    /** @param {string} text */
     #put(text) {
         const { element } = this, isAtEnd = element.scrollTop + element.clientHeight >= element.scrollHeight - 30;
         const cut = text.indexOf('\n') + 1;
@@ -104,13 +115,13 @@ export class Paper {
         } else this.last.appendData(text);
         this.length += text.length;
         while (this.length > MOST && element.children.length > 1) {
-            this.length -= element.firstChild.textContent.length;
-            element.firstChild.remove();
+            this.length -= element.children[0].textContent.length;
+            element.children[0].remove();
         }
         if (isAtEnd) element.scrollTop = element.scrollHeight;
         if (this.#pace && text.includes('\n')) this.#feed();
         clearTimeout(this.keeping);
-        this.keeping = setTimeout(() => this.kept(this.text), 500);
+        this.keeping = window.setTimeout(() => this.kept(this.text), 500);
     }
 
     #feed() {
@@ -126,10 +137,11 @@ export class Paper {
 }
 
 // The characters of a key that was struck, null for one that is the browser's: Tab goes on, as everywhere in a page.
+/** @param {KeyboardEvent} event */
 export function keyOf(event) {
     if (event.altKey || event.metaKey || event.isComposing) return null;
     if (event.ctrlKey) {
-        if (['c', 'v', 'x', 'a'].includes(event.key.toLowerCase()) && (event.key.toLowerCase() === 'v' || !getSelection().isCollapsed)) return null;
+        if (['c', 'v', 'x', 'a'].includes(event.key.toLowerCase()) && (event.key.toLowerCase() === 'v' || !getSelection()?.isCollapsed)) return null;
         return /^[a-z@[\\\]^_]$/i.test(event.key) ? String.fromCharCode(event.key.toUpperCase().charCodeAt(0) & 0o37) : null;
     }
     if (event.key === 'Enter') return '\r';

@@ -2,7 +2,9 @@
 const latin1 = new TextDecoder('latin1'), utf8 = new TextEncoder();
 const WAITING = 1 << 16;
 
+/** @param {string | Uint8Array} it */
 export const bytesOf = it => typeof it === 'string' ? utf8.encode(it) : it;
+/** @param {Uint8Array} bytes */
 export const textOf = bytes => latin1.decode(bytes);
 
 // Whether a call of the program can wait for what a user types: by promises in calls, or else by memory that two threads have. The page's
@@ -14,6 +16,7 @@ export const canLive = promises || (globalThis.crossOriginIsolated === true && a
 // Whether the browser has memories of 64 bits: the smallest module with one.
 export const hasWideMemory = WebAssembly.validate(new Uint8Array([0, 97, 115, 109, 1, 0, 0, 0, 5, 3, 1, 4, 1]));
 
+/** @param {string} url */
 export async function load(url) {
     const answer = await fetch(url);
     if (!answer.ok) throw new Error(`${url}: ${answer.status}`);
@@ -21,12 +24,19 @@ export async function load(url) {
 }
 
 export class Programs extends EventTarget {
+    /** @type {Promise<unknown>} */
     #last = Promise.resolve();
+    /** @type {Run | undefined} */
+    asked = undefined;
+    /** @type {Worker | null} */
     #spare = null;
+    /** @type {string[]} */
     #busy = [];
     #asked = 0;
+    /** @type {Set<string>} */
     held = new Set();
 
+    /** @param {WebAssembly.Module} module @param {import('./store.js').Store} store */
     constructor(module, store) {
         super();
         this.module = module;
@@ -37,9 +47,11 @@ export class Programs extends EventTarget {
     get isAsked() { return this.#asked > 0; }
 
     // Whether a run that was asked for and hasn't ended has a word.
+    /** @param {string} word */
     isBusy(word) { return this.#busy.includes(word); }
 
     // Counts the words of a run until it is over.
+    /** @param {string[]} words @param {Promise<unknown>} over */
     async #count(words, over) {
         this.#busy.push(...words);
         await over;
@@ -48,15 +60,20 @@ export class Programs extends EventTarget {
     }
 
     // The files that a run can't change: those that another run holds, and the volumes that another tab has.
+    /** @param {string[]} words */
     locked(words) {
         const { files, claims } = this.store;
         return [...this.held, ...words.filter(it => files.has(it) && !it.startsWith('.') && !claims.has(`volume ${it}`))];
     }
 
     // A whole run, behind those that were asked for before: its exit status, and what it wrote to each stream.
+    /** @param {string[]} words @param {string | Uint8Array} [input] @returns {Promise<Answer>} */
     ask(words, input = '') {
-        const answer = this.#last.then(() => this.store.claims.known()).then(() => new Promise(go => {
-            const out = [], said = [];
+        const answer = this.#last.then(() => this.store.claims.known()).then(() => /** @type {Promise<Answer>} */ (new Promise(go => {
+            /** @type {Uint8Array[]} */
+            const out = [];
+            /** @type {Uint8Array[]} */
+            const said = [];
             const run = new Run(this, words, {
                 input: bytesOf(input),
                 heard: it => out.push(it),
@@ -64,7 +81,7 @@ export class Programs extends EventTarget {
                 ended: status => go({ status, out: joined(out), said: textOf(joined(said)) }),
             });
             this.asked = run;
-        }));
+        })));
         this.#last = answer;
         this.#asked++;
         answer.then(() => { this.#asked--; });
@@ -76,9 +93,10 @@ export class Programs extends EventTarget {
     stop() { this.asked?.stop(); }
 
     // A run that lives until its input is ended, or it is stopped.
+    /** @param {string[]} words @param {How} how */
     async begin(words, how) {
-        let over;
-        this.#count(words, new Promise(go => { over = go; }));
+        let over = () => {};
+        this.#count(words, new Promise(go => { over = () => go(undefined); }));
         await this.#last;
         await this.store.claims.known();
         return new Run(this, words, { ...how, input: null, ended: status => { over(); how.ended?.(status); } });
@@ -96,11 +114,14 @@ export class Programs extends EventTarget {
 // stopped. `room` is how many bytes it may be ahead of what `show` was told, none for no limit; `patience` after how many milliseconds
 // a read gives nothing.
 export class Run {
+    /** @type {Uint8Array[]} */
     #queue = [];
     #ended = false;
+    /** @type {SharedArrayBuffer | null} */
     #channel = null;
     #isWanted = false;
 
+    /** @param {Programs} programs @param {string[]} words @param {How} how */
     constructor(programs, words, how) {
         this.programs = programs;
         this.how = how;
@@ -123,6 +144,7 @@ export class Run {
         this.isPaced = how.room !== undefined;
     }
 
+    /** @param {any} data */
     #take(data) {
         if (!this.isLive) return;
         if (data.files) for (const [name, bytes] of data.files) bytes ? this.programs.store.put(name, bytes) : this.programs.store.remove(name);
@@ -135,6 +157,7 @@ export class Run {
         } else this.#end(data.status, data.failed);
     }
 
+    /** @param {number | null} status @param {string | null} [failed] */
     #end(status, failed = null) {
         if (!this.isLive) return;
         this.isLive = false;
@@ -145,6 +168,7 @@ export class Run {
     }
 
     // Bytes for its standard input.
+    /** @param {string | Uint8Array} it */
     say(it) {
         if (!this.isLive) return;
         if (!this.#channel) return this.worker.postMessage({ bytes: bytesOf(it) });
@@ -161,6 +185,7 @@ export class Run {
     }
 
     // So many further bytes of its output were shown.
+    /** @param {number} count */
     show(count) {
         this.shown += count;
         if (!this.#channel) return this.isLive && this.worker.postMessage({ shown: this.shown });
@@ -187,20 +212,25 @@ export class Run {
 // A living `run` in which each line gets one line of reply.
 export class Lines {
     #text = '';
+    /** @type {{ count: number, go: (replies: string[] | null) => void }[]} */
     #waiting = [];
+    said = '';
+    /** @type {Run | undefined} */
+    run = undefined;
 
-    static async begin(programs, words, { ended, terminal } = {}) {
+    /** @param {Programs} programs @param {string[]} words @param {{ ended?: (status: number | null, said: string) => void, terminal?: boolean }} [how] */
+    static async begin(programs, words, how = {}) {
         const it = new Lines();
-        it.said = '';
         it.run = await programs.begin(words, {
-            terminal,
+            terminal: how.terminal,
             heard: bytes => it.#hear(textOf(bytes)),
             said: bytes => { it.said += textOf(bytes); },
-            ended: status => { it.#waiting.splice(0).forEach(({ go }) => go(null)); ended?.(status, it.said + it.#text); },
+            ended: status => { it.#waiting.splice(0).forEach(({ go }) => go(null)); how.ended?.(status, it.said + it.#text); },
         });
         return it;
     }
 
+    /** @param {string} text */
     #hear(text) {
         this.#text += text;
         while (this.#waiting.length) {
@@ -213,16 +243,21 @@ export class Lines {
         }
     }
 
+    stop() { this.run?.stop(); }
+
     // The replies to these lines, null where the run ends before they are all there.
+    /** @param {...string} lines @returns {Promise<string[] | null>} */
     ask(...lines) {
-        if (!this.run.isLive) return Promise.resolve(null);
+        const { run } = this;
+        if (!run?.isLive) return Promise.resolve(null);
         return new Promise(go => {
             this.#waiting.push({ count: lines.length, go });
-            this.run.say(lines.map(it => `${it}\n`).join(''));
+            run.say(lines.map(it => `${it}\n`).join(''));
         });
     }
 }
 
+/** @param {Uint8Array[]} parts */
 export function joined(parts) {
     const all = new Uint8Array(parts.reduce((sum, it) => sum + it.length, 0));
     parts.reduce((at, it) => { all.set(it, at); return at + it.length; }, 0);

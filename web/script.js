@@ -1,16 +1,21 @@
 // The Script pane: `run` over the volume that is open, a whole script at once, or a session whose lines are given one by one.
-import { $, tell, follow, keepInput } from './dom.js';
+import { $, follow, ids, keepInput, tell } from './dom.js';
 import { bytesOf, canLive, textOf } from './program.js';
 
 const FIRST = 'STORE HELLO.PA 4\n*200\n\tCLA IAC\n\tHLT\n$\nASSEMBLE HELLO.BN<HELLO.PA\nFINISH\nLOAD HELLO.BN\nFINISH\nRUN 00200 10\nREGISTERS\nDIRECT\n';
 
 export class Script {
+    /** @param {Page} page */
     constructor(page) {
         this.page = page;
+        /** @type {import('./program.js').Run | null} */
         this.run = null;
         this.isBegun = false;
+        this.volume = '';
+        /** @type {Uint8Array[] | null} */
+        this.shown = null;
         $('lines').value = FIRST;
-        for (const id of ['lines', 'script-saving', 'strict']) keepInput(page.store, id);
+        for (const id of ids('lines', 'script-saving', 'strict')) keepInput(page.store, id);
         $('script-run').addEventListener('click', () => this.whole());
         $('script-stop').addEventListener('click', () => this.run?.stop());
         $('session').addEventListener('click', () => this.#session());
@@ -43,6 +48,7 @@ export class Script {
         this.#ended(status, said);
     }
 
+    /** @param {string[]} words @param {boolean} [terminal] */
     async #begin(words, terminal = false) {
         this.isBegun = true;
         this.#buttons(false);
@@ -61,19 +67,22 @@ export class Script {
     }
 
     // Replies are shown a picture at a time, and the run waits where it is far ahead.
+    /** @param {Uint8Array} bytes */
     #show(bytes) {
         if (!this.shown) requestAnimationFrame(() => this.#flush());
-        (this.shown ??= []).push(bytes);
+        this.shown ??= [];
+        this.shown.push(bytes);
     }
 
     #flush() {
         const parts = this.shown ?? [], it = $('replies');
         this.shown = null;
         follow(it, parts.map(textOf).join(''));
-        while (it.childNodes.length > 300) it.firstChild.remove();
+        while (it.childNodes.length > 300) it.childNodes[0].remove();
         this.run?.show(parts.reduce((sum, part) => sum + part.length, 0));
     }
 
+    /** @param {number | null} status @param {string} said */
     #ended(status, said) {
         this.#flush();
         this.run = null;
@@ -83,11 +92,12 @@ export class Script {
         this.#buttons(false);
     }
 
+    /** @param {boolean} isSession */
     #buttons(isSession) {
         $('script-run').disabled = this.isBegun;
         $('script-stop').disabled = this.run === null;
         $('session').textContent = isSession ? 'End the session' : 'Begin a session';
-        for (const id of ['entry-line', 'entry-say']) $(id).disabled = !isSession;
+        for (const id of ids('entry-line', 'entry-say')) $(id).disabled = !isSession;
         if (isSession) $('entry-line').focus();
     }
 
@@ -98,6 +108,7 @@ export class Script {
         await this.#begin(words, true);
     }
 
+    /** @param {Event} event */
     #enter(event) {
         event.preventDefault();
         const line = $('entry-line').value;

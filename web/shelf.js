@@ -6,10 +6,14 @@ import { canLive } from './program.js';
 const TEXTS = ['hello', 'guess', 'sort', 'lights'];
 
 export class Shelf {
+    /** @param {Page} page */
     constructor(page) {
         this.page = page;
-        for (const it of $('shelf').querySelectorAll('button')) it.addEventListener('click', () => this.run(it.dataset.run));
-        for (const it of $('shelf').querySelectorAll('[data-run="sort"], [data-run="lights"]')) it.disabled = !canLive;
+        for (const it of $('shelf').querySelectorAll('button')) {
+            const name = it.dataset.run ?? '';
+            it.addEventListener('click', () => this.run(name));
+            it.disabled = !canLive && (name === 'sort' || name === 'lights');
+        }
         $('link').addEventListener('click', () => this.#copyLink());
         addEventListener('hashchange', () => this.follow());
     }
@@ -17,13 +21,15 @@ export class Shelf {
     // Does what the address asks for.
     async follow() {
         const asked = new URLSearchParams(location.hash.slice(1)), { tabs, texts } = this.page;
-        if (asked.has('run')) await this.run(asked.get('run'));
-        if (!asked.has('source')) return;
-        const text = await unpacked(asked.get('source')).catch(() => null);
+        const name = asked.get('run'), source = asked.get('source');
+        if (name !== null) await this.run(name);
+        if (source === null) return;
+        const text = await unpacked(source).catch(() => null);
         if (text === null) return this.page.tell('The link has no text that can be read.');
         if (await texts.add((asked.get('name') ?? '').replace(/[^A-Z0-9]/g, '').slice(0, 6), text)) tabs.show('source');
     }
 
+    /** @param {string} name */
     async run(name) {
         if (name === 'disk') return this.#disk();
         if (!TEXTS.includes(name)) return;
@@ -35,10 +41,11 @@ export class Shelf {
         await teletype.begin();
     }
 
+    /** @param {string} name */
     async #atPanel(name) {
         const { source, machine, tabs } = this.page;
         tabs.show('machine');
-        if (!await machine.load(source.tape, name)) return;
+        if (!source.tape || !await machine.load(source.tape, name)) return;
         machine.list($('listing').textContent);
         if (name === 'sort') return tell('machine-status', 'The words to be sorted are at 00240. Sing step makes one step; Cont runs it to its end.');
         $('speed').value = 'real';
@@ -47,7 +54,7 @@ export class Shelf {
 
     // A volume with the texts and their tapes.
     async #disk() {
-        const { files, programs, store } = this.page, image = await files.blank(737);
+        const { files, programs, store } = this.page, image = await files.blank('737');
         if (!image) return;
         store.put('.shelf', image);
         for (const it of TEXTS) {
@@ -55,11 +62,11 @@ export class Shelf {
             store.put('.shelf.pa', new TextEncoder().encode(text));
             await programs.ask(['assemble', '.shelf.pa', '--output', '.shelf.bn']);
             await programs.ask(['put', '.shelf', '-', '--as', `${it.toUpperCase()}.PA`, '--text'], text);
-            await programs.ask(['put', '.shelf', '-', '--as', `${it.toUpperCase()}.BN`], store.files.get('.shelf.bn'));
+            await programs.ask(['put', '.shelf', '-', '--as', `${it.toUpperCase()}.BN`], store.files.get('.shelf.bn') ?? '');
         }
         const made = store.files.get('.shelf');
         for (const it of ['.shelf', '.shelf.pa', '.shelf.bn']) store.remove(it);
-        await files.add('SHELF', made);
+        if (made) await files.add('SHELF', made);
     }
 
     // Copies an address that opens the text anywhere.
@@ -75,14 +82,17 @@ export class Shelf {
     }
 }
 
+/** @param {Uint8Array} bytes @param {ReadableWritablePair<Uint8Array, BufferSource>} way */
 const through = (bytes, way) => new Response(new Blob([bytes]).stream().pipeThrough(way)).arrayBuffer();
 
 // A text as what may stand in an address.
+/** @param {string} text */
 export async function packed(text) {
     const bytes = new Uint8Array(await through(new TextEncoder().encode(text), new CompressionStream('deflate-raw')));
     return btoa(Array.from(bytes, it => String.fromCharCode(it)).join('')).replaceAll('+', '-').replaceAll('/', '_').replaceAll('=', '');
 }
 
+/** @param {string} it */
 async function unpacked(it) {
     const bytes = Uint8Array.from(atob(it.replaceAll('-', '+').replaceAll('_', '/')), one => one.charCodeAt(0));
     return new TextDecoder().decode(await through(bytes, new DecompressionStream('deflate-raw')));

@@ -1,5 +1,5 @@
 // The Source pane: `assemble` over the text, its faults at their lines, its listing and symbols, and where the tape goes.
-import { $, made, tell, takeHome, bytesOfFile } from './dom.js';
+import { $, bytesOfFile, ids, made, takeHome, tell } from './dom.js';
 import { bytesOf, textOf } from './program.js';
 import { Texts } from './texts.js';
 import { Listing } from './listing.js';
@@ -9,9 +9,15 @@ const SOURCE = 'source.pa', TAPE = '.source.bin', LISTING = '.source.lst';
 const QUIET = 400;
 
 export class Source {
+    /** @param {Page} page */
     constructor(page) {
         this.page = page;
+        /** @type {Map<number, string>} */
         this.faulty = new Map();
+        this.numbered = 0;
+        this.looking = 0;
+        this.follows = false;
+        this.assembled = '';
         this.wasOld = false;
         this.mayLeave = false;
         this.texts = page.texts = new Texts(page);
@@ -29,8 +35,8 @@ export class Source {
         $('to-core').addEventListener('click', () => this.#toCore());
         $('to-teletype').addEventListener('click', () => this.#toTeletype());
         $('to-volume').addEventListener('click', () => this.#toVolume());
-        $('source-file').addEventListener('change', event => this.#opened(event.target));
-        $('example').addEventListener('change', event => this.#example(event.target));
+        $('source-file').addEventListener('change', () => this.#opened($('source-file')));
+        $('example').addEventListener('change', () => this.#example($('example')));
         page.store.addEventListener('volume', () => this.#buttons());
         page.store.addEventListener('note', ({ detail }) => this.#followed(detail));
         page.claims.addEventListener('claim', ({ detail }) => detail === 'text' && this.#claimed());
@@ -56,13 +62,14 @@ export class Source {
     #tellClaim() {
         this.follows = !this.page.claims.has('text');
         $('text').readOnly = $('source-name').readOnly = this.follows;
-        for (const id of ['source-file', 'example', 'texts', 'text-new', 'text-drop']) $(id).disabled = this.follows;
+        for (const id of ids('source-file', 'example', 'texts', 'text-new', 'text-drop')) $(id).disabled = this.follows;
         $('text-follows').textContent = this.follows ? 'Another tab has the text. Here it is only looked at, and follows that tab. It can be '
             + 'changed here once that tab is closed.' : '';
         $('text-follows').hidden = !this.follows;
     }
 
     // Shows the text as the tab that has it sends it.
+    /** @param {string} note */
     #followed(note) {
         const value = this.page.store.notes.get(note) ?? '';
         if (note === 'source-name') this.texts.follow();
@@ -83,6 +90,7 @@ export class Source {
     async renew() { return this.isOld ? await this.assemble() : this.tape !== null; }
 
     // Shows a text that was opened.
+    /** @param {string} text */
     #opens(text) {
         $('text').value = text;
         $('text').scrollTop = 0;
@@ -104,7 +112,7 @@ export class Source {
         this.page.store.note('text', $('text').value);
         this.#changed();
         clearTimeout(this.looking);
-        this.looking = setTimeout(() => this.#look(), QUIET);
+        this.looking = window.setTimeout(() => this.#look(), QUIET);
     }
 
     // Marks the faults of a text at which no one types for a while. The tape stays as it is.
@@ -131,7 +139,7 @@ export class Source {
         const { isOld } = this;
         if (isOld === this.wasOld) return;
         this.wasOld = isOld;
-        for (const [id, what] of [['listing', 'Listing'], ['symbols', 'Symbols']]) {
+        for (const [id, what] of /** @type {const} */ ([['listing', 'Listing'], ['symbols', 'Symbols']])) {
             $(`${id}-name`).textContent = isOld ? `${what}, old: the text was changed` : what;
             $(id).classList.toggle('old', isOld);
         }
@@ -140,6 +148,7 @@ export class Source {
     }
 
     // Tab types a tab. After Escape it goes on to the next control, as Shift-Tab goes back always.
+    /** @param {KeyboardEvent} event */
     #key(event) {
         const isTab = event.key === 'Tab' && !event.shiftKey && !event.ctrlKey && !event.altKey, mayLeave = this.mayLeave;
         this.mayLeave = event.key === 'Escape';
@@ -151,6 +160,7 @@ export class Source {
     }
 
     // Types characters, so that the browser can take them back as it does keys.
+    /** @param {string} characters */
     #type(characters) {
         if (document.execCommand?.('insertText', false, characters)) return;
         $('text').setRangeText(characters, $('text').selectionStart, $('text').selectionEnd, 'end');
@@ -168,7 +178,7 @@ export class Source {
     }
 
     #buttons() {
-        for (const id of ['tape-home', 'to-core', 'to-teletype']) $(id).disabled = this.tape === null;
+        for (const id of ids('tape-home', 'to-core', 'to-teletype')) $(id).disabled = this.tape === null;
         $('to-volume').disabled = this.tape === null || this.page.files.name === '';
     }
 
@@ -183,7 +193,7 @@ export class Source {
         this.#show(store.files.get(LISTING));
         store.note('tape', status === 0 ? { text, tape: this.tape, listing: store.files.get(LISTING) } : null);
         this.#tellFaults(status === 0 ? '' : said);
-        tell('source-status', status === 0 ? `assembled: a tape of ${this.tape.length} frames` : said.split('\n').find(it => it.startsWith('? ')) ?? said, status !== 0);
+        tell('source-status', status === 0 ? `assembled: a tape of ${this.tape?.length} frames` : said.split('\n').find(it => it.startsWith('? ')) ?? said, status !== 0);
         this.#buttons();
         this.#age();
         store.dispatchEvent(new Event('tape'));
@@ -191,6 +201,7 @@ export class Source {
     }
 
     // Splits what `--list` writes: the lines, and behind the last empty line the symbols.
+    /** @param {Uint8Array | null | undefined} listing */
     #show(listing) {
         const text = listing ? textOf(listing).replaceAll('\r', '') : '';
         const split = /\n\n((?:[A-Z][A-Z0-9]* +[0-7]{4}[ \d]*\n)+)$/.exec(text);
@@ -199,6 +210,7 @@ export class Source {
     }
 
     // Faults as the program tells them: NAME:LINE:COLUMN: CODE: WORDS.
+    /** @param {string} said @param {boolean} [takesCursor] */
     #tellFaults(said, takesCursor = true) {
         this.faulty.clear();
         const found = [...said.matchAll(/^\S+?:(\d+):(\d+): ([A-Z]{2}): (.*)$/gm)];
@@ -210,9 +222,11 @@ export class Source {
     }
 
     // Puts the cursor at a line of the text.
+    /** @param {number} line @param {boolean} [takesFocus] */
     goTo(line, takesFocus = true) { this.#go(line, 1, takesFocus); }
 
     // Puts the cursor at a place of the text.
+    /** @param {number} line @param {number} column @param {boolean} [takesFocus] */
     #go(line, column, takesFocus = true) {
         const lines = $('text').value.split('\n');
         const at = lines.slice(0, line - 1).reduce((sum, it) => sum + it.length + 1, 0) + column - 1;
@@ -222,11 +236,11 @@ export class Source {
     }
 
     async #tapeHome() {
-        if (await this.renew()) takeHome(`${this.#name}.BN`, this.tape);
+        if (await this.renew() && this.tape) takeHome(`${this.#name}.BN`, this.tape);
     }
 
     async #toCore() {
-        if (!await this.renew()) return;
+        if (!await this.renew() || !this.tape) return;
         if (!await this.page.machine.load(this.tape, `the tape of ${this.#name}`)) return;
         this.page.machine.list($('listing').textContent);
         this.page.tabs.show('machine');
@@ -241,14 +255,14 @@ export class Source {
 
     // The text and the tape become files of the volume that is open.
     async #toVolume() {
-        if (!await this.renew()) return;
+        if (!await this.renew() || !this.tape) return;
         const { files } = this.page, told = [];
         let isBad = false;
         if ($('source-name').value.trim() === '') {
             $('source-name').focus();
             return tell('source-status', 'The text has no name yet: give it one, and its files will have that.', true);
         }
-        for (const [name, bytes, form] of [[`${this.#name}.PA`, bytesOf(this.assembled), 'text'], [`${this.#name}.BN`, this.tape, 'frames']]) {
+        for (const { name, bytes, form } of [{ name: `${this.#name}.PA`, bytes: bytesOf(this.assembled), form: 'text' }, { name: `${this.#name}.BN`, bytes: this.tape, form: 'frames' }]) {
             const { status, out, said } = await files.put(name, bytes, form);
             told.push(textOf(out) + said);
             isBad ||= status !== 0;
@@ -256,17 +270,20 @@ export class Source {
         tell('source-status', told.join(''), isBad);
     }
 
+    /** @param {HTMLInputElement} input */
     async #opened(input) {
-        const [file] = input.files;
+        const [file] = input.files ?? [];
         input.value = '';
         if (file) await this.take(file.name, textOf(await bytesOfFile(file)));
     }
 
     // Opens a text of the host as a further one. Whether it is open.
+    /** @param {string} path @param {string} text */
     take(path, text) {
         return this.texts.add(path.toUpperCase().split('.')[0].replace(/[^A-Z0-9]/g, '').slice(0, 6), text.replaceAll('\r\n', '\n').replaceAll('\u001a', ''));
     }
 
+    /** @param {HTMLSelectElement} select */
     async #example(select) {
         const name = select.value;
         select.value = '';
@@ -274,6 +291,7 @@ export class Source {
     }
 
     // Opens an example. Whether it is open.
+    /** @param {string} name */
     async takeExample(name) {
         const answer = await fetch(`examples/${name}`);
         return answer.ok && await this.take(name, await answer.text());

@@ -1,31 +1,43 @@
 // The page's files and notes: in memory, and in the browser's own store (IndexedDB), so that a reload finds them. Nothing leaves the page.
 // Files, and the notes that tabs share, are sent to the other tabs of the page, which have them then as well. The text that is open is the
 // note `text`; others are notes `text NAME`.
-const SLOTS = ['files', 'notes'];
-const isShared = key => ['text', 'source-name'].includes(key) || key.startsWith('text ');
+const SLOTS = /** @type {const} */ (['files', 'notes']);
+const isShared = (/** @type {string} */ key) => ['text', 'source-name'].includes(key) || key.startsWith('text ');
 // Whether a note is a user's own work.
-const isWork = key => ['text', 'lines'].includes(key) || key.startsWith('text ');
+const isWork = (/** @type {string} */ key) => ['text', 'lines'].includes(key) || key.startsWith('text ');
 
 export class Store extends EventTarget {
+    /** @type {Map<string, Uint8Array>} */
     files = new Map();
+    /** @type {Map<string, any>} */
     notes = new Map();
+    /** @type {IDBDatabase | null} */
     #base = null;
+    /** @type {Map<string, [Slot, string]>} */
     #due = new Map();
+    /** @type {Map<string, [Slot, string]>} */
     #failed = new Map();
+    /** @type {Map<string, Kept>} */
     #home = new Map();
     #isAsked = false;
     #tabs = new BroadcastChannel('geivottu');
 
+    /** @param {import('./claims.js').Claims} claims */
+    constructor(claims) {
+        super();
+        this.claims = claims;
+    }
+
+    /** @param {import('./claims.js').Claims} claims */
     static async open(claims) {
-        const it = new Store();
-        it.claims = claims;
+        const it = new Store(claims);
         it.#tabs.onmessage = ({ data }) => it.#heard(data);
         try {
-            it.#base = await promised(opening());
+            const base = it.#base = await promised(opening());
             for (const slot of SLOTS) {
-                const all = it.#base.transaction(slot).objectStore(slot);
+                const all = base.transaction(slot).objectStore(slot);
                 const [keys, values] = await Promise.all([promised(all.getAllKeys()), promised(all.getAll())]);
-                keys.forEach((key, k) => it[slot].set(key, values[k]));
+                keys.forEach((key, k) => it.#slot(slot).set(String(key), values[k]));
             }
         } catch {
             it.#base = null; // a browser that keeps nothing, as in a private window
@@ -36,6 +48,7 @@ export class Store extends EventTarget {
     }
 
     // What another tab tells: a file or a note as it is now, or that it asks for those that this tab has.
+    /** @param {{ asks?: boolean, slot: Slot, key: string, value: any }} it */
     #heard({ asks, slot, key, value }) {
         if (asks) {
             for (const it of this.claims.names.filter(name => this.claims.has(name)))
@@ -43,17 +56,22 @@ export class Store extends EventTarget {
                 else this.#send('files', it.slice(7), this.files.get(it.slice(7)));
             return;
         }
-        value === undefined ? this[slot].delete(key) : this[slot].set(key, value);
+        value === undefined ? this[slot].delete(key) : this.#slot(slot).set(key, value);
         this.dispatchEvent(new CustomEvent(slot.slice(0, -1), { detail: key }));
     }
 
+    /** @param {Slot} slot @param {string} key @param {any} value */
     #send(slot, key, value) {
         if (!key.startsWith('.') && (slot === 'files' || isShared(key))) this.#tabs.postMessage({ slot, key, value });
     }
 
+    /** @param {Slot} slot @returns {Map<string, any>} */
+    #slot(slot) { return this[slot]; }
+
     get isKept() { return this.#base !== null; }
 
     // A file, in place of any of its name. One whose name begins with a dot is the page's own, and gone with it.
+    /** @param {string} name @param {Uint8Array} bytes */
     put(name, bytes) {
         this.#tellChange('files', name, bytes);
         this.files.set(name, bytes);
@@ -61,6 +79,7 @@ export class Store extends EventTarget {
         this.dispatchEvent(new CustomEvent('file', { detail: name }));
     }
 
+    /** @param {string} name */
     remove(name) {
         this.#tellChange('files', name, undefined);
         this.files.delete(name);
@@ -68,18 +87,21 @@ export class Store extends EventTarget {
         this.dispatchEvent(new CustomEvent('file', { detail: name }));
     }
 
+    /** @param {string} key @param {any} value */
     note(key, value) {
         this.notes.set(key, value);
         this.#keep('notes', key, value);
     }
 
     // Takes a note away.
+    /** @param {string} key */
     forget(key) {
         this.notes.delete(key);
         this.#keep('notes', key, undefined);
     }
 
     // A text that isn't open, by its name, or none in its place.
+    /** @param {string} name @param {string | undefined} text */
     setText(name, text) {
         this.#tellChange('notes', `text ${name}`, text);
         text === undefined ? this.forget(`text ${name}`) : this.note(`text ${name}`, text);
@@ -87,17 +109,20 @@ export class Store extends EventTarget {
     }
 
     // A file, or a text that isn't open, by the slot and key of a change.
+    /** @param {Slot} slot @param {string} key @param {any} value */
     set(slot, key, value) {
         if (slot === 'notes') this.setText(key.slice(5), value);
         else value === undefined ? this.remove(key) : this.put(key, value);
     }
 
     // Tells of a change that a user may want back: of a file that is kept, and of a text.
+    /** @param {Slot} slot @param {string} key @param {Kept} after */
     #tellChange(slot, key, after) {
         const before = this[slot].get(key);
         if (!key.startsWith('.')) this.dispatchEvent(new CustomEvent('change', { detail: { slot, key, before, after } }));
     }
 
+    /** @param {Slot} slot @param {string} key @param {any} value */
     #keep(slot, key, value) {
         this.#send(slot, key, value);
         if (key.startsWith('.')) return;
@@ -124,8 +149,10 @@ export class Store extends EventTarget {
             .filter(({ slot, key, value }) => isOwn(slot, key, value));
     }
 
+    /** @param {string} name */
     isUnkept(name) { return this.#failed.has(`files ${name}`) && this.files.has(name); }
 
+    /** @param {Slot} slot @param {string} key */
     tookHome(slot, key) { this.#home.set(`${slot} ${key}`, this[slot].get(key)); }
 
     #written = Promise.resolve();
@@ -136,7 +163,7 @@ export class Store extends EventTarget {
     // Writes what is due, and again what failed before: removals first, which may make room.
     async #write() {
         if (!this.#base || !this.#due.size) return;
-        const due = [...new Map([...this.#failed, ...this.#due])].sort(([, [a, b]], [, [c, d]]) => this[a].has(b) - this[c].has(d));
+        const due = [...new Map([...this.#failed, ...this.#due])].sort(([, [a, b]], [, [c, d]]) => Number(this[a].has(b)) - Number(this[c].has(d)));
         this.#due.clear();
         const isBad = await Promise.all(due.map(([, [slot, key]]) => this.#hasFailed(slot, key, this[slot].get(key))));
         due.forEach(([id, entry], k) => isBad[k] ? this.#failed.set(id, entry) : this.#failed.delete(id));
@@ -144,10 +171,11 @@ export class Store extends EventTarget {
     }
 
     // Writes one value, or removes it where there is none, apart from others. Whether that failed.
+    /** @param {Slot} slot @param {string} key @param {any} value */
     #hasFailed(slot, key, value) {
         return new Promise(go => {
             try {
-                const writing = this.#base.transaction(slot, 'readwrite'), all = writing.objectStore(slot);
+                const writing = /** @type {IDBDatabase} */ (this.#base).transaction(slot, 'readwrite'), all = writing.objectStore(slot);
                 writing.oncomplete = () => go(false);
                 writing.onerror = writing.onabort = () => go(true);
                 value === undefined ? all.delete(key) : all.put(value, key);
@@ -160,6 +188,7 @@ export class Store extends EventTarget {
 }
 
 // Whether a value is a user's own work.
+/** @param {Slot} slot @param {string} key @param {any} value */
 function isOwn(slot, key, value) { return value !== undefined && value !== '' && (slot === 'files' || isWork(key)); }
 
 function opening() {
@@ -168,6 +197,7 @@ function opening() {
     return request;
 }
 
+/** @param {IDBRequest<T>} request @template T @returns {Promise<T>} */
 function promised(request) {
     return new Promise((go, fail) => {
         request.onsuccess = () => go(request.result);

@@ -1,17 +1,20 @@
 // The Teletype pane: `teletype --live`, whose keys are struck at the paper, in a line, or by the tape reader.
-import { $, made, tell, bytesOfFile, keepInput } from './dom.js';
+import { $, bytesOfFile, ids, keepInput, made, tell } from './dom.js';
 import { canLive, textOf } from './program.js';
 import { Paper, keyOf } from './paper.js';
 
 export class Teletype {
+    /** @param {Page} page */
     constructor(page) {
         this.page = page;
+        /** @type {import('./program.js').Run | null} */
         this.run = null;
         this.isBegun = false;
+        /** @type {string | null} */
         this.own = null;
         this.paper = new Paper($('paper'), { shown: count => this.run?.show(count), kept: text => page.store.note('paper', text) });
         this.paper.restore(page.store.notes.get('paper') ?? '');
-        for (const id of ['tty-start', 'tty-switches', 'pace', 'capitals', 'reader']) keepInput(page.store, id);
+        for (const id of ids('tty-start', 'tty-switches', 'pace', 'capitals', 'reader')) keepInput(page.store, id);
         this.#paces();
         $('pace').addEventListener('change', () => this.#paces());
         $('tty-run').addEventListener('click', () => this.begin());
@@ -19,10 +22,10 @@ export class Teletype {
         $('tear').addEventListener('click', () => this.paper.tear());
         $('copy').addEventListener('click', () => this.#copy());
         $('paper').addEventListener('keydown', event => this.#key(event));
-        $('paper').addEventListener('paste', event => this.strike(event.clipboardData.getData('text')));
+        $('paper').addEventListener('paste', event => this.strike(event.clipboardData?.getData('text') ?? ''));
         $('keys').addEventListener('submit', event => this.#line(event));
         $('read').addEventListener('click', () => this.strike($('reader').value));
-        $('tape-file').addEventListener('change', event => this.#opened(event.target));
+        $('tape-file').addEventListener('change', () => this.#opened($('tape-file')));
         page.store.addEventListener('volume', () => this.#list());
         page.store.addEventListener('tape', () => this.#list());
         this.#list();
@@ -33,6 +36,7 @@ export class Teletype {
     // The tapes that there are: that of the source, one of the host, and files of the volume.
     #list() {
         const chosen = $('tape').value, { files, source } = this.page;
+        /** @type {HTMLElement[]} */
         const rows = [made('option', { value: '' }, 'choose a tape')];
         if (source?.tape) rows.push(made('option', { value: 'source' }, source.isOld ? 'the source\'s, old' : 'the source\'s'));
         if (this.own) rows.push(made('option', { value: 'own' }, this.own));
@@ -43,18 +47,21 @@ export class Teletype {
         if ($('tape').selectedIndex < 0) $('tape').value = '';
     }
 
+    /** @param {string} tape */
     choose(tape) {
         this.#list();
         $('tape').value = tape;
     }
 
+    /** @param {HTMLInputElement} input */
     async #opened(input) {
-        const [file] = input.files;
+        const [file] = input.files ?? [];
         input.value = '';
         if (file) this.take(file.name, await bytesOfFile(file));
     }
 
     // Takes a tape of the host.
+    /** @param {string} name @param {Uint8Array} tape */
     take(name, tape) {
         this.page.store.put('.tape.bin', tape);
         this.own = name;
@@ -82,6 +89,7 @@ export class Teletype {
         const words = this.#words();
         if (!canLive) words.splice(1, 1);
         let said = '';
+        /** @type {How} */
         const how = {
             heard: bytes => this.paper.print(bytes),
             said: bytes => { said += textOf(bytes); },
@@ -96,12 +104,14 @@ export class Teletype {
     }
 
     // Where nothing can wait, the keys are what the tape reader holds.
+    /** @param {string[]} words */
     async #whole(words) {
         const { status, out, said } = await this.page.programs.ask(words, $('reader').value);
         this.paper.print(out);
         this.#ended(status, said);
     }
 
+    /** @param {number | null} status @param {string} said */
     #ended(status, said) {
         this.run = null;
         this.isBegun = false;
@@ -121,11 +131,13 @@ export class Teletype {
     }
 
     // Strikes the keys of a text, in the order in which they were typed.
+    /** @param {string} text */
     strike(text) {
         const keys = $('capitals').checked ? text.toUpperCase() : text;
         this.run?.say(Uint8Array.from(keys.replaceAll('\r\n', '\n'), it => it.charCodeAt(0) & 0o377));
     }
 
+    /** @param {KeyboardEvent} event */
     #key(event) {
         const key = keyOf(event);
         if (key === null) return;
@@ -133,6 +145,7 @@ export class Teletype {
         this.strike(key);
     }
 
+    /** @param {Event} event */
     #line(event) {
         event.preventDefault();
         this.strike(`${$('line').value}\r`);
@@ -145,7 +158,7 @@ export class Teletype {
             await navigator.clipboard.writeText(text);
             tell('tty-status', `copied ${text.length} characters`);
         } catch {
-            getSelection().selectAllChildren($('paper'));
+            getSelection()?.selectAllChildren($('paper'));
             tell('tty-status', 'The paper is chosen: copy it.');
         }
     }

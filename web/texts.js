@@ -3,10 +3,11 @@ import { $, made, tell } from './dom.js';
 import { ask } from './ask.js';
 
 export class Texts extends EventTarget {
+    /** @param {Page} page */
     constructor(page) {
         super();
         this.page = page;
-        $('texts').addEventListener('change', event => this.open(event.target.value));
+        $('texts').addEventListener('change', () => this.open($('texts').value));
         $('text-new').addEventListener('click', () => this.add('', ''));
         $('text-drop').addEventListener('click', () => this.#remove());
         $('source-name').addEventListener('change', () => this.#rename());
@@ -42,6 +43,7 @@ export class Texts extends EventTarget {
         store.note(`text ${this.name || this.#free('TEXT')}`, text);
     }
 
+    /** @param {string} name @param {string} text */
     #show(name, text) {
         const { store } = this.page;
         this.name = name;
@@ -53,6 +55,7 @@ export class Texts extends EventTarget {
     }
 
     // Opens a text that waits.
+    /** @param {string} name */
     open(name) {
         const text = this.page.store.notes.get(`text ${name}`);
         if (text === undefined || name === this.name) return this.list();
@@ -61,6 +64,7 @@ export class Texts extends EventTarget {
     }
 
     // A further text, which is open from then on. Where there is one of that name with other words the user is asked. Whether it is open.
+    /** @param {string} name @param {string} text */
     async add(name, text) {
         const { store } = this.page, old = name === this.name ? store.notes.get('text') : store.notes.get(`text ${name}`);
         const isOver = name !== '' && old !== undefined && old !== text && old.trim() !== '';
@@ -78,6 +82,7 @@ export class Texts extends EventTarget {
     }
 
     // A name that no text has, like the one that is wanted, of six characters at most.
+    /** @param {string} wanted */
     #free(wanted) {
         const all = [this.name, ...this.others];
         for (let k = 2; ; k++) {

@@ -5,11 +5,15 @@ import { bytesOf } from './program.js';
 const BLOCK = 512, MOST = 50, ROOM = 96 << 20;
 
 export class Undo extends EventTarget {
+    /** @type {Step[]} */
     #past = [];
+    /** @type {Step[]} */
     #future = [];
+    /** @type {Map<string, { words: string } & Partial<Change>>} */
     #open = new Map();
     #isOwn = false;
 
+    /** @param {import('./store.js').Store} store */
     constructor(store) {
         super();
         this.store = store;
@@ -22,22 +26,26 @@ export class Undo extends EventTarget {
     get again() { return this.step(true)?.words ?? null; }
 
     // The step that would be undone, or done again, next.
+    /** @param {boolean} isAgain */
     step(isAgain) { return (isAgain ? this.#future : this.#past).at(-1); }
 
     // From now on until `end` all changes of a thing are one, which is called by these words. Whether it wasn't so already.
+    /** @param {string} id @param {string} words */
     begin(id, words) {
         if (this.#open.has(id)) return false;
         this.#open.set(id, { words });
         return true;
     }
 
+    /** @param {string} id */
     end(id) {
         const it = this.#open.get(id);
         this.#open.delete(id);
-        if (it?.slot) this.#keep(it);
+        if (it?.slot) this.#keep(/** @type {Change & { words: string }} */ (it));
     }
 
     // All changes of a thing that the work makes are one.
+    /** @param {string} id @param {string} words @param {() => T | Promise<T>} work @template T @returns {Promise<T>} */
     async group(id, words, work) {
         const isOwn = this.begin(id, words);
         try {
@@ -47,6 +55,7 @@ export class Undo extends EventTarget {
         }
     }
 
+    /** @param {Change} it */
     #changed({ slot, key, before, after }) {
         if (this.#isOwn) return;
         const it = this.#open.get(key);
@@ -55,6 +64,7 @@ export class Undo extends EventTarget {
         it.after = after;
     }
 
+    /** @param {Change & { words: string }} it */
     #keep({ slot, key, before, after, words }) {
         const step = stepOf(slot, key, before, after, words);
         if (!step) return;
@@ -67,6 +77,7 @@ export class Undo extends EventTarget {
 
     // Undoes the newest change, or does again what was undone last. Gives the step, or null where the thing was changed by another tab
     // since; `mayChange` says whether it may be changed now.
+    /** @param {boolean} isAgain @param {(step: Step) => Promise<boolean>} mayChange */
     async go(isAgain, mayChange) {
         const [from, to] = isAgain ? [this.#future, this.#past] : [this.#past, this.#future];
         const step = from.at(-1);
@@ -87,10 +98,11 @@ export class Undo extends EventTarget {
 }
 
 // A change as what is kept of it, null where nothing changed. A thing that was not there before, or isn't after, is kept whole.
+/** @param {Slot} slot @param {string} key @param {Kept} before @param {Kept} after @param {string} words @returns {Step | null} */
 function stepOf(slot, key, before, after, words) {
     const was = before === undefined ? null : bytesOf(before), is = after === undefined ? null : bytesOf(after);
     const isText = typeof (before ?? after) === 'string', step = { slot, key, words, isText };
-    if (!was || !is) return was || is ? { ...step, was, is, size: (was ?? is).length } : null;
+    if (!was || !is) return was || is ? { ...step, was, is, size: (was ?? is)?.length ?? 0 } : null;
     const parts = [], most = Math.max(was.length, is.length);
     for (let at = 0; at < most; at += BLOCK) {
         const old = was.subarray(at, at + BLOCK), fresh = is.subarray(at, at + BLOCK);
@@ -102,22 +114,25 @@ function stepOf(slot, key, before, after, words) {
 }
 
 // A value with a step undone, or done again: undefined for none. Null where it isn't what the step left.
-function laid(value, { was, is, parts, lengths, isText }, isAgain) {
+/** @param {Kept} value @param {Step} step @param {boolean} isAgain */
+function laid(value, { was = null, is = null, parts, lengths, isText }, isAgain) {
     const now = value === undefined ? null : bytesOf(value);
-    if (!parts) {
+    if (!parts || !lengths) {
         const [left, wanted] = isAgain ? [was, is] : [is, was];
         if (!(now === left || (now && left && isSame(now, left)))) return null;
         return wanted === null ? undefined : worded(wanted, isText);
     }
     const [left, wanted] = isAgain ? lengths : [lengths[1], lengths[0]];
     const sides = parts.map(({ at, old, fresh }) => isAgain ? { at, there: old, given: fresh } : { at, there: fresh, given: old });
-    if (now?.length !== left || !sides.every(({ at, there }) => isSame(there, now.subarray(at, at + there.length)))) return null;
+    if (!now || now.length !== left || !sides.every(({ at, there }) => isSame(there, now.subarray(at, at + there.length)))) return null;
     const bytes = new Uint8Array(wanted);
     bytes.set(now.subarray(0, wanted));
     for (const { at, given } of sides) bytes.set(given, at);
     return worded(bytes, isText);
 }
 
+/** @param {Uint8Array} bytes @param {boolean} isText */
 function worded(bytes, isText) { return isText ? new TextDecoder().decode(bytes) : bytes; }
 
+/** @param {Uint8Array} a @param {Uint8Array} b */
 function isSame(a, b) { return a.length === b.length && a.every((byte, k) => byte === b[k]); }

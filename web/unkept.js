@@ -3,10 +3,12 @@
 import { $, takeHome } from './dom.js';
 import { bytesOf } from './program.js';
 
+/** @type {Record<string, string>} */
 const WORDS = { text: 'the text of Source', lines: 'the text of Script' };
-const wordsOf = key => WORDS[key] ?? `the text ${key.slice(5)}`;
+const wordsOf = (/** @type {string} */ key) => WORDS[key] ?? `the text ${key.slice(5)}`;
 
 export class Unkept {
+    /** @param {Page} page */
     constructor(page) {
         this.page = page;
         page.store.addEventListener('kept', () => this.#tell());

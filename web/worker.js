@@ -4,9 +4,12 @@ import { command, Held } from './host.js';
 
 const FAULT = 'pdp8: a check failed: this is a fault of pdp8 itself; please report it, with the command and its files';
 
+/** @type {Uint8Array[]} */
 const parts = [];
 let ended = false, shown = 0, sent = 0, wake = () => {};
-let shared = null, wanted = false, promises = false;
+/** @type {{ state: Int32Array, bytes: Uint8Array } | null} */
+let shared = null;
+let wanted = false, promises = false;
 
 onmessage = ({ data }) => {
     if (data.begin) return begin(data);
@@ -17,12 +20,16 @@ onmessage = ({ data }) => {
 };
 
 // The files that were given, and which of them have changed since that was told.
+/** @extends Map<string, Held> */
 class Files extends Map {
+    /** @type {Map<string, Held>} */
     old = new Map();
 
+    /** @param {Held} file */
     changed(file) { for (const [name, it] of this) if (it === file) this.old.delete(name); }
 
     tell() {
+        /** @type {[string, Uint8Array | null][]} */
         const news = [];
         for (const [name, file] of this)
             if (this.old.get(name) !== file && !/\.pdp8-\d+$/.test(name)) {
@@ -38,32 +45,36 @@ class Files extends Map {
     }
 }
 
+/** @param {Begin} run */
 async function begin({ module, words, files, input, locked, terminal, patience, room, channel, ...how }) {
     promises = how.promises;
-    const own = new Files(files.map(([name, bytes]) => [name, new Held(bytes)]));
+    const own = new Files();
+    for (const [name, bytes] of files) own.set(name, new Held(bytes));
     own.old = new Map(own);
     parts.length = shown = sent = 0;
     ended = input !== null;
     if (input?.length) parts.push(input);
     shared = channel && { state: new Int32Array(channel, 0, 4), bytes: new Uint8Array(channel, 16) };
     wanted = false;
+    /** @param {number} most */
     const read = most => {
         own.tell();
         if (parts.length) return take(most);
         if (ended) return new Uint8Array(0);
         if (!wanted) postMessage({ wants: most });
         wanted = true;
-        return shared ? taken(most, patience) : given(most, patience);
+        return shared ? taken(shared, most, patience) : given(most, patience);
     };
+    /** @param {Uint8Array} bytes @param {number} stream */
     const write = (bytes, stream) => {
         own.tell();
         sent += bytes.length;
         postMessage({ stream, bytes });
         if (!room || sent - shown <= room) return;
-        if (shared) printed(room);
+        if (shared) printed(shared, room);
         else if (promises) return held(room);
     };
-    const host = { read, write, locked: name => locked.includes(name), terminal, promised: promises };
+    const host = { read, write, locked: (/** @type {string} */ name) => locked.includes(name), terminal, promised: promises };
     let status = null, failed = null;
     try {
         status = await command(module, own, ['pdp8', ...words], host);
@@ -74,6 +85,7 @@ async function begin({ module, words, files, input, locked, terminal, patience, 
     postMessage({ status, failed });
 }
 
+/** @param {number} most */
 function take(most) {
     const part = parts[0];
     wanted = false;
@@ -83,10 +95,11 @@ function take(most) {
 }
 
 // The next bytes, once there are any; none where there is an end, or patience, of so many milliseconds, is.
+/** @param {number} most @param {number} patience */
 async function given(most, patience) {
-    let timer;
+    let timer = 0;
     await new Promise(go => {
-        wake = () => (parts.length || ended) && go();
+        wake = () => { if (parts.length || ended) go(true); };
         if (patience) timer = setTimeout(go, patience);
     });
     clearTimeout(timer);
@@ -95,13 +108,15 @@ async function given(most, patience) {
 }
 
 // Waits until no more than so many bytes are not shown yet.
+/** @param {number} room */
 async function held(room) {
-    await new Promise(go => { wake = () => sent - shown <= room && go(); wake(); });
+    await new Promise(go => { wake = () => { if (sent - shown <= room) go(true); }; wake(); });
     wake = () => {};
 }
 
 // The same two where a call can't be left: the page puts bytes into memory that both have, and counts there what was shown.
-function taken(most, patience) {
+/** @param {{ state: Int32Array, bytes: Uint8Array }} shared @param {number} most @param {number} patience */
+function taken(shared, most, patience) {
     Atomics.wait(shared.state, 0, 0, patience || Infinity);
     const count = Atomics.load(shared.state, 1);
     if (!Atomics.load(shared.state, 0)) return new Uint8Array(0);
@@ -112,7 +127,8 @@ function taken(most, patience) {
     return count > 0 ? take(most) : new Uint8Array(0);
 }
 
-function printed(room) {
+/** @param {{ state: Int32Array }} shared @param {number} room */
+function printed(shared, room) {
     for (;;) {
         const now = Atomics.load(shared.state, 2);
         if (sent - now <= room) return;

@@ -5,14 +5,32 @@ import { existsSync, mkdtempSync, readFileSync, readdirSync, rmSync, statSync, w
 import { tmpdir } from 'node:os';
 import { extname, join, normalize } from 'node:path';
 
+/** @type {Record<string, string>} */
 const TYPES = { '.html': 'text/html', '.css': 'text/css', '.js': 'text/javascript', '.wasm': 'application/wasm' };
+// How long a test waits for what must come, in milliseconds.
+const PATIENCE = Number(process.env.PATIENCE ?? 60000);
+/** @param {number} milliseconds */
 export const pause = milliseconds => new Promise(go => setTimeout(go, milliseconds));
 
+// What is promised, or a fault where it doesn't come in time.
+/** @param {number} milliseconds @param {Promise<T>} promise @param {string} what @template T @returns {Promise<T>} */
+async function within(milliseconds, promise, what) {
+    let timer;
+    const late = new Promise((_, fail) => { timer = setTimeout(() => fail(new Error(`not within ${milliseconds} ms: ${what}`)), milliseconds); });
+    try {
+        return await Promise.race([promise, late]);
+    } finally {
+        clearTimeout(timer);
+    }
+}
+
 // A plain server of a folder, which notes what it was asked for. `headers` are given with each answer.
+/** @param {string} folder @param {Record<string, string>} [headers] */
 export function serve(folder, headers = {}) {
+    /** @type {string[]} */
     const asked = [];
     const server = createServer((request, response) => {
-        const path = normalize(decodeURIComponent(new URL(request.url, 'http://x').pathname));
+        const path = normalize(decodeURIComponent(new URL(request.url ?? '/', 'http://x').pathname));
         const file = join(folder, path === '/' ? 'index.html' : path);
         asked.push(`${request.method} ${path}`);
         if (!existsSync(file) || !statSync(file).isFile()) {
@@ -22,7 +40,7 @@ export function serve(folder, headers = {}) {
         response.writeHead(200, { 'content-type': TYPES[extname(file)] ?? 'application/octet-stream', 'cache-control': 'no-store', ...headers });
         response.end(readFileSync(file));
     });
-    return new Promise(go => server.listen(0, '127.0.0.1', () => go({ asked, url: `http://127.0.0.1:${server.address().port}/`, end: () => server.close() })));
+    return /** @type {Promise<{ asked: string[], url: string, end: () => void }>} */ (new Promise(go => server.listen(0, '127.0.0.1', () => go({ asked, url: `http://127.0.0.1:${server.address().port}/`, end: () => server.close() }))));
 }
 
 export function chromium() {
@@ -31,31 +49,50 @@ export function chromium() {
 
 export class Browser {
     #last = 0;
+    /** @type {Map<number, { go: (it: any) => void, fail: (why: Error) => void }>} */
     #waiting = new Map();
+    /** @type {string | null} */
     #session = null;
+    /** @type {string[]} */
     asked = [];
+    /** @type {string[]} */
     errors = [];
+    /** @type {string[]} */
     dialogs = [];
+    folder = '';
+    downloads = '';
+    isUser = false;
+    /** @type {string | undefined} */
+    context = undefined;
+    /** @type {Browser | undefined} */
+    browser = undefined;
     accepts = true;
+    /** @type {Map<string, Browser>} */
     tabs = new Map();
+    /** @type {Child} */
+    #process;
 
+    /** @param {Child} [child] */
+    constructor(child) { this.#process = /** @type {Child} */ (child); }
+
+    /** @param {...string} words */
     static async open(...words) {
-        const it = new Browser();
-        it.folder = mkdtempSync(join(tmpdir(), 'page-'));
-        it.process = spawn(chromium(), ['--headless=new', '--remote-debugging-pipe', '--no-sandbox', '--disable-gpu', '--no-first-run',
+        const folder = mkdtempSync(join(tmpdir(), 'page-'));
+        const it = new Browser(spawn(chromium() ?? 'chromium', ['--headless=new', '--remote-debugging-pipe', '--no-sandbox', '--disable-gpu', '--no-first-run',
             '--disable-background-networking', '--disable-component-update', '--disable-sync', '--disable-dev-shm-usage',
-            '--host-resolver-rules=MAP * ~NOTFOUND , EXCLUDE 127.0.0.1', `--user-data-dir=${it.folder}/profile`, ...words, 'about:blank'],
-        { stdio: ['ignore', 'ignore', 'ignore', 'pipe', 'pipe'] });
+            '--host-resolver-rules=MAP * ~NOTFOUND , EXCLUDE 127.0.0.1', `--user-data-dir=${folder}/profile`, ...words, 'about:blank'],
+        { stdio: ['ignore', 'ignore', 'ignore', 'pipe', 'pipe'] }));
+        it.folder = folder;
         let text = '';
-        it.process.stdio[4].setEncoding('utf8').on('data', part => {
+        it.#process.stdio[4].setEncoding('utf8').on('data', part => {
             text += part;
             const messages = text.split('\0');
-            text = messages.pop();
+            text = messages.pop() ?? '';
             messages.forEach(message => it.#take(JSON.parse(message)));
         });
         it.downloads = mkdtempSync(join(tmpdir(), 'home-'));
         const { targetInfos } = await it.call('Target.getTargets');
-        const { targetId } = targetInfos.find(({ type }) => type === 'page');
+        const { targetId } = targetInfos.find((/** @type {{ type: string }} */ { type }) => type === 'page');
         ({ sessionId: it.session } = await it.call('Target.attachToTarget', { targetId, flatten: true }));
         await it.call('Browser.setDownloadBehavior', { behavior: 'allow', downloadPath: it.downloads });
         for (const domain of ['Page', 'Runtime', 'Network', 'DOM']) await it.call(`${domain}.enable`);
@@ -75,6 +112,7 @@ export class Browser {
         return it;
     }
 
+    /** @param {{ newWindow?: boolean, browserContextId?: string }} how @param {string} downloads */
     async #tab(how, downloads) {
         const browser = this.browser ?? this;
         const { targetId } = await this.call('Target.createTarget', { url: 'about:blank', ...how });
@@ -85,13 +123,15 @@ export class Browser {
         return it;
     }
 
+    /** @param {string} id */
     set session(id) { this.#session = id; }
 
+    /** @param {any} message */
     #take(message) {
         if (message.id) {
-            const { go, fail } = this.#waiting.get(message.id);
+            const asked = this.#waiting.get(message.id);
             this.#waiting.delete(message.id);
-            return message.error ? fail(new Error(`${message.error.message} ${message.error.data ?? ''}`)) : go(message.result);
+            return message.error ? asked?.fail(new Error(`${message.error.message} ${message.error.data ?? ''}`)) : asked?.go(message.result);
         }
         const tab = this.tabs.get(message.sessionId) ?? this;
         if (message.method === 'Network.requestWillBeSent') tab.asked.push(message.params.request.url);
@@ -102,20 +142,25 @@ export class Browser {
         }
     }
 
+    /** @param {string} method @param {object} [params] @param {string | null} [session] @returns {Promise<any>} */
     call(method, params = {}, session = /^(Target|Browser)\./.test(method) ? null : this.#session) {
         const id = ++this.#last;
-        this.process.stdio[3].write(`${JSON.stringify({ id, method, params, ...(session ? { sessionId: session } : {}) })}\0`);
+        this.#process.stdio[3].write(`${JSON.stringify({ id, method, params, ...(session ? { sessionId: session } : {}) })}\0`);
         return new Promise((go, fail) => this.#waiting.set(id, { go, fail }));
     }
 
+    // What an expression is, once it is known.
+    /** @param {string} expression */
     async look(expression) {
-        const { result, exceptionDetails } = await this.call('Runtime.evaluate', { expression, awaitPromise: true, returnByValue: true, userGesture: true });
+        const answer = this.call('Runtime.evaluate', { expression, awaitPromise: true, returnByValue: true, userGesture: true });
+        const { result, exceptionDetails } = await within(2 * PATIENCE, answer, expression);
         if (exceptionDetails) throw new Error(`${expression}: ${exceptionDetails.exception?.description ?? exceptionDetails.text}`);
         return result.value;
     }
 
     // Waits until an expression holds, and gives its value.
-    async until(expression, milliseconds = Number(process.env.PATIENCE ?? 60000)) {
+    /** @param {string} expression @param {number} [milliseconds] */
+    async until(expression, milliseconds = PATIENCE) {
         const end = Date.now() + milliseconds;
         for (;;) {
             const value = await this.look(expression);
@@ -125,14 +170,17 @@ export class Browser {
         }
     }
 
+    /** @param {string} url */
     async go(url) {
         await this.call('Page.navigate', { url });
         await this.until('document.readyState === "complete" && (document.getElementById("ready") || !document.getElementById("trouble")?.hidden) !== null && !!(document.getElementById("ready") || document.getElementById("trouble")?.hidden === false)');
     }
 
+    /** @param {string} id */
     text(id) { return this.look(`document.getElementById(${JSON.stringify(id)}).textContent`); }
 
     // The middle of an element, brought into view, once it stays there from one picture to the next.
+    /** @param {string} selector */
     #middle(selector) {
         return this.until(`(async () => { const it = document.querySelector(${JSON.stringify(selector)}); if (!it) return null;
             it.scrollIntoView({ block: 'center', inline: 'center' }); const box = it.getBoundingClientRect();
@@ -143,6 +191,7 @@ export class Browser {
     }
 
     // Clicks an element, once more where the page had moved by then and the click came to another place.
+    /** @param {string} selector */
     async click(selector) {
         for (let tries = 1; tries <= 5; tries++) {
             const { x, y } = await this.#middle(selector);
@@ -156,19 +205,24 @@ export class Browser {
     }
 
     // Types into the element that has the focus.
+    /** @param {string} text */
     type(text) { return this.call('Input.insertText', { text }); }
 
+    /** @param {string} key @param {string} [code] @param {number} [modifiers] */
     async key(key, code = key, modifiers = 0) {
-        const known = { Enter: 13, Tab: 9, Backspace: 8, ArrowRight: 39, ArrowLeft: 37, Escape: 27, ' ': 32 }[key];
+        /** @type {Record<string, number>} */
+        const codes = { Enter: 13, Tab: 9, Backspace: 8, ArrowRight: 39, ArrowLeft: 37, Escape: 27, ' ': 32 }, known = codes[key];
         const windowsVirtualKeyCode = known ?? (/^[a-z0-9]$/i.test(key) ? key.toUpperCase().charCodeAt(0) : 0);
         const text = key === 'Enter' ? '\r' : key.length === 1 && !(modifiers & 2) ? key : undefined;
         await this.call('Input.dispatchKeyEvent', { type: 'keyDown', key, code, modifiers, windowsVirtualKeyCode, text });
         await this.call('Input.dispatchKeyEvent', { type: 'keyUp', key, code, modifiers, windowsVirtualKeyCode });
     }
 
+    /** @param {string} text */
     async keys(text) { for (const it of text) await this.key(it === '\n' ? 'Enter' : it); }
 
     // Puts a text in the place of an input's.
+    /** @param {string} selector @param {string} text */
     async fill(selector, text) {
         await this.click(selector);
         await this.look(`document.querySelector(${JSON.stringify(selector)}).select()`);
@@ -176,23 +230,27 @@ export class Browser {
         await this.type(text);
     }
 
+    /** @param {string} selector @param {string} value */
     choose(selector, value) {
         return this.look(`(() => { const it = document.querySelector(${JSON.stringify(selector)}); it.value = ${JSON.stringify(value)};
             it.dispatchEvent(new Event('change', { bubbles: true })); return it.value; })()`);
     }
 
+    /** @param {string} selector @param {...string} files */
     async give(selector, ...files) {
         const { result } = await this.call('Runtime.evaluate', { expression: `document.querySelector(${JSON.stringify(selector)})` });
         await this.call('DOM.setFileInputFiles', { files, objectId: result.objectId });
     }
 
-    // Drops a file of the host at the middle of an element, as by a mouse.
-    async drop(selector, file) {
-        const { x, y } = await this.#middle(selector), data = { items: [], files: [file], dragOperationsMask: 1 };
+    // Drops files of the host at the middle of an element, as by a mouse.
+    /** @param {string} selector @param {...string} files */
+    async drop(selector, ...files) {
+        const { x, y } = await this.#middle(selector), data = { items: [], files, dragOperationsMask: 1 };
         for (const type of ['dragEnter', 'dragOver', 'drop']) await this.call('Input.dispatchDragEvent', { type, x, y, data });
     }
 
     // The file that a click takes home.
+    /** @param {string} selector */
     async home(selector) {
         for (const it of readdirSync(this.downloads)) rmSync(join(this.downloads, it));
         await this.click(selector);
@@ -207,22 +265,25 @@ export class Browser {
         throw new Error(`${selector} took nothing home`);
     }
 
+    /** @param {number} width @param {number} height @param {number} [scale] */
     size(width, height, scale = 1) {
         return this.call('Emulation.setDeviceMetricsOverride', { width, height, deviceScaleFactor: scale, mobile: false });
     }
 
+    /** @param {string} value */
     scheme(value) { return this.call('Emulation.setEmulatedMedia', { features: [{ name: 'prefers-color-scheme', value }] }); }
 
+    /** @param {string} file */
     async picture(file) {
         const { data } = await this.call('Page.captureScreenshot', { format: 'png' });
         writeFileSync(file, Buffer.from(data, 'base64'));
     }
 
     async end() {
-        const ended = new Promise(go => this.process.once('exit', go));
+        const ended = new Promise(go => this.#process.once('exit', go));
         this.call('Browser.close').catch(() => {});
         await Promise.race([ended, pause(3000)]);
-        this.process.kill('SIGKILL');
+        this.#process.kill('SIGKILL');
         await ended;
         for (const it of [this.folder, this.downloads]) rmSync(it, { recursive: true, force: true, maxRetries: 5 });
     }
@@ -230,19 +291,25 @@ export class Browser {
 
 // A further tab: what it has of its own is its session, and of a further user's the profile.
 class Tab extends Browser {
+    /** @param {Browser} browser @param {string} target @param {string} session @param {string | undefined} context @param {string} downloads */
     constructor(browser, target, session, context, downloads) {
         super();
-        Object.assign(this, { browser, target, own: session, context, downloads });
+        this.main = this.browser = browser;
+        this.target = target;
+        this.own = session;
+        this.context = context;
+        this.downloads = downloads;
     }
 
-    call(method, params = {}, session = /^(Target|Browser)\./.test(method) ? null : this.own) { return this.browser.call(method, params, session); }
+    /** @param {string} method @param {object} [params] @param {string | null} [session] @returns {Promise<any>} */
+    call(method, params = {}, session = /^(Target|Browser)\./.test(method) ? null : this.own) { return this.main.call(method, params, session); }
 
     async end() {
         this.accepts = true; // a page that asks before it is left is left
         await Promise.race([this.call('Target.closeTarget', { targetId: this.target }), pause(3000)]);
         if (this.isUser) await Promise.race([this.call('Target.disposeBrowserContext', { browserContextId: this.context }), pause(3000)]);
-        for (let k = 0; k < 250 && (await this.call('Target.getTargets')).targetInfos.some(it => it.targetId === this.target); k++) await pause(20);
-        this.browser.tabs.delete(this.own);
+        for (let k = 0; k < 250 && (await this.call('Target.getTargets')).targetInfos.some((/** @type {{ targetId: string }} */ it) => it.targetId === this.target); k++) await pause(20);
+        this.main.tabs.delete(this.own);
         if (this.isUser) rmSync(this.downloads, { recursive: true, force: true, maxRetries: 5 });
     }
 }

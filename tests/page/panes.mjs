@@ -27,12 +27,14 @@ function show(it) { return Buffer.isBuffer(it) ? `${it.length} bytes ${it.subarr
 function holds(it, what) { if (!it) throw new Error(what); }
 
 // What the native program writes to standard output.
+/** @param {string[]} words @param {string | Buffer} [input] */
 function native(words, input = '') {
     const { stdout } = spawnSync(program, words, { cwd: work, input, maxBuffer: 1 << 28 });
     return stdout;
 }
 
-const nativeText = (...them) => native(...them).toString('latin1');
+/** @param {string[]} words @param {string | Buffer} [input] */
+const nativeText = (words, input = '') => native(words, input).toString('latin1');
 const status = (page, id) => page.text(`${id}-status`);
 const pane = (page, name) => page.click(`#tab-${name}`);
 const isTold = (page, id, part) => page.until(`document.getElementById('${id}').textContent.includes(${JSON.stringify(part)})`);
@@ -85,7 +87,8 @@ test('the directory is that of list', async page => {
 });
 
 test('files are taken home as text, tape and frames, as get gives them', async page => {
-    for (const [name, form, words] of [['HELLO.PA', 'a text', ['--text']], ['ALL.XY', 'frames', []], ['ADD.BN', 'a tape', ['--tape']]]) {
+    for (const { name, form, words } of [{ name: 'HELLO.PA', form: 'a text', words: ['--text'] }, { name: 'ALL.XY', form: 'frames', words: [] },
+        { name: 'ADD.BN', form: 'a tape', words: ['--tape'] }]) {
         const { bytes } = await page.home(`button[aria-label="${name} home as ${form}"]`);
         same(native(['get', 'DISK', name, ...words]), bytes, name);
     }
@@ -94,8 +97,8 @@ test('files are taken home as text, tape and frames, as get gives them', async p
 });
 
 test('a text, a listing and a source are shown', async page => {
-    for (const [name, label, wanted] of [['HELLO.PA', 'as a text', ['get', 'DISK', 'HELLO.PA', '--text']], ['ADD.BN', 'as the listing of a tape', ['tape']],
-        ['ADD.BN', 'as the source of a tape', ['source']]]) {
+    for (const { name, label, wanted } of [{ name: 'HELLO.PA', label: 'as a text', wanted: ['get', 'DISK', 'HELLO.PA', '--text'] },
+        { name: 'ADD.BN', label: 'as the listing of a tape', wanted: ['tape'] }, { name: 'ADD.BN', label: 'as the source of a tape', wanted: ['source'] }]) {
         await page.look(`document.getElementById('shown').textContent = ''`);
         await page.click(`button[aria-label="${name} ${label}"]`);
         await page.until(`document.getElementById('shown').textContent !== ''`);
@@ -329,7 +332,7 @@ test('a break is set by a click in the listing, and single steps go on from ther
 
 test('the registers are those of a script', async page => {
     const script = `STORE C.PA ${COUNT.trim().split('\n').length}\n${COUNT}ASSEMBLE C.BN<C.PA\nFINISH\nLOAD C.BN\nFINISH\nRUN 00200 1000000\nREGISTERS\n`;
-    const wanted = JSON.parse(nativeText(['run', 'DISK', '--look'], script).trim().split('\n').at(-1));
+    const wanted = JSON.parse(nativeText(['run', 'DISK', '--look'], script).trim().split('\n').at(-1) ?? '');
     const got = await page.look(`Object.fromEntries([...document.querySelectorAll('#registers div')].map(it => [it.children[0].textContent, it.children[1].textContent]))`);
     same(JSON.stringify(Object.fromEntries(Object.entries(wanted).map(([key, value]) => [key, String(value)]))), JSON.stringify(got), 'the registers');
 });
@@ -591,7 +594,7 @@ async function main() {
                 console.log(`panes: ${name}${step ? `: ${step}` : ''} (${((Date.now() - from) / 1000).toFixed(1)} s)`);
             } catch (error) {
                 failures.push(name);
-                console.log(`panes: NOT ${name}: ${error.message}`);
+                console.log(`panes: NOT ${name}: ${error instanceof Error ? error.message : error}`);
                 page.errors.splice(0);
             }
         }

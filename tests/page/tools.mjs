@@ -6,33 +6,48 @@ import { join, resolve } from 'node:path';
 import { Browser, serve } from './browser.mjs';
 
 const [program, folder] = process.argv.slice(2, 4).map(it => resolve(it));
-const only = process.argv[4] ?? '';
+const only = process.argv.slice(4);
 let work = '';
 
+/** @typedef {import('./browser.mjs').Browser} Page */
+/** @typedef {((page: Page, url: string) => Promise<unknown>) & { isAlone?: boolean }} Test */
+/** @typedef {Record<string, Test>} Tests */
+
 // A file of the host in the test's folder.
+/** @param {string} name */
 export const file = name => join(work, name);
 
 // What the native program writes to standard output.
+/** @param {string[]} words @param {string | Uint8Array} [input] */
 export const native = (words, input = '') => spawnSync(program, words, { cwd: work, input, maxBuffer: 1 << 28 }).stdout;
 
+/** @param {Page} page @param {string} id @param {string} part */
 export const isTold = (page, id, part) => page.until(`document.getElementById('${id}').textContent.includes(${JSON.stringify(part)})`);
+/** @param {Page} page @param {string} name */
 export const pane = (page, name) => page.click(`#tab-${name}`);
+/** @param {string} id */
 export const optionsOf = id => `[...document.getElementById('${id}').options].map(it => it.textContent)`;
 
+/** @param {unknown} wanted @param {any} got @param {string} what */
 export function same(wanted, got, what) {
     const equal = Buffer.isBuffer(wanted) ? wanted.equals(Buffer.from(got)) : wanted === got;
     if (!equal) throw new Error(`${what}: wanted ${show(wanted)}, got ${show(got)}`);
 }
 
+/** @param {unknown} it */
 function show(it) { return Buffer.isBuffer(it) ? `${it.length} bytes ${it.subarray(0, 40).toString('hex')}` : JSON.stringify(it); }
 
+/** @param {unknown} it @param {string} what */
 export function holds(it, what) { if (!it) throw new Error(what); }
 
 // The image of the volume that is open, and its name.
+/** @param {Page} page */
 export const image = async page => (await page.home('#take-image')).bytes;
+/** @param {Page} page */
 export const volume = page => page.look(`document.getElementById('volume').value`);
 
 // A further tab with the page.
+/** @param {Page} page @param {string} url */
 export async function further(page, url) {
     const it = await page.tab();
     await it.go(url);
@@ -40,6 +55,7 @@ export async function further(page, url) {
 }
 
 // A new volume in the page, and the same natively.
+/** @param {Page} page @param {string} name @param {number} [blocks] */
 export async function create(page, name, blocks = 90) {
     await pane(page, 'files');
     await page.fill('#new-name', name);
@@ -50,12 +66,14 @@ export async function create(page, name, blocks = 90) {
     native(['create', name, String(blocks)]);
 }
 
+/** @param {Page} page @param {string} text */
 export async function setSource(page, text) {
     await pane(page, 'source');
     await page.fill('#text', text);
 }
 
 // A text of this name, and its tape.
+/** @param {Page} page @param {string} name @param {string} text */
 export async function assemble(page, name, text) {
     await setSource(page, text);
     await page.fill('#source-name', name);
@@ -64,6 +82,7 @@ export async function assemble(page, name, text) {
 }
 
 // Puts files into the volume that is open.
+/** @param {Page} page @param {string} form @param {...string} names */
 export async function put(page, form, ...names) {
     await pane(page, 'files');
     await page.choose('#put-as', form);
@@ -71,20 +90,23 @@ export async function put(page, form, ...names) {
 }
 
 // Waits for a question of the page with these words, and answers by keys: so many times Tab, and Enter; or Escape.
+/** @param {Page} page @param {string} words @param {number} [tabs] */
 export async function answer(page, words, tabs) {
     await page.until(`document.getElementById('question').open && document.getElementById('question-words').textContent.includes(${JSON.stringify(words)})`);
-    for (let k = 0; k < tabs; k++) await page.key('Tab');
+    for (let k = 0; k < (tabs ?? 0); k++) await page.key('Tab');
     await page.key(tabs === undefined ? 'Escape' : 'Enter');
 }
 
 // Marks a test that wants a browser of its own, since a further user's store has other limits.
+/** @param {Test} body @returns {Test} */
 export const alone = body => Object.assign(body, { isAlone: true });
 
 // Runs the tests, by their names, of a file of this name, and prints 'N passed, M failed'.
+/** @param {string} title @param {Tests} tests */
 export async function run(title, tests) {
     const browser = await Browser.open();
     let passed = 0, failed = 0;
-    for (const [name, body] of Object.entries(tests).filter(([it]) => it.includes(only))) {
+    for (const [name, body] of Object.entries(tests).filter(([it]) => !only.length || only.some(part => it.includes(part)))) {
         const server = await serve(folder), page = await (body.isAlone ? Browser.open() : browser.user());
         work = mkdtempSync(join(tmpdir(), `${title}-`));
         try {
@@ -95,7 +117,7 @@ export async function run(title, tests) {
             console.log(`${title}: ${name}`);
         } catch (error) {
             failed++;
-            console.log(`${title}: NOT ${name}: ${error.message}`);
+            console.log(`${title}: NOT ${name}: ${error instanceof Error ? error.message : error}`);
         } finally {
             await page.end();
             server.end();

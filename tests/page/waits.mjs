@@ -91,7 +91,7 @@ for (const [name, body] of Object.entries(tests)) {
         passed++;
     } catch (error) {
         failed++;
-        console.log(`waits: NOT ${name}: ${error.message}`);
+        console.log(`waits: NOT ${name}: ${error instanceof Error ? error.message : error}`);
     } finally {
         await page.end();
     }
