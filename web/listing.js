@@ -1,6 +1,7 @@
 // The listing beside the text, line by line: the line of the cursor and its words are marked in both, and what a run of the tape does is
 // shown at them, by `trace` and `profile`.
-import { $, elementOf, made, tell } from './dom.js';
+import { $, elementOf, ids, made, tell } from './dom.js';
+import { helpAt, helpOf } from './help.js';
 import { canLive, textOf } from './program.js';
 
 const STEPS = 1000, MOST = 8000;
@@ -17,6 +18,7 @@ export class Listing {
         this.start = '';
         $('listing').addEventListener('click', event => this.#chosen(elementOf(event).closest('[data-line]')));
         $('text').addEventListener('click', () => this.#follow());
+        for (const id of ids('listing', 'doings')) helpAt($(id), $('listing-help'), it => helpOf(it.closest('.l')?.textContent ?? ''));
         $('text').addEventListener('keyup', () => this.#follow());
         $('trace').addEventListener('click', () => this.#trace());
         $('profile').addEventListener('click', () => this.#profile());
@@ -45,6 +47,7 @@ export class Listing {
     // Marks the words of the line that the cursor is in.
     #follow() {
         const text = $('text'), line = text.value.slice(0, text.selectionStart).split('\n').length;
+        $('listing-help').textContent = helpOf(text.value.split('\n')[line - 1]);
         this.#mark(this.source.isOld ? [] : $('listing').querySelectorAll(`[data-line="${line}"]`));
     }
 
@@ -130,7 +133,7 @@ export class Listing {
         tabs.show('machine');
         await machine.renew();
         if (!tape || !await machine.load(tape, `the tape of ${$('source-name').value || 'the source'}`)) return;
-        machine.list($('listing').textContent);
+        machine.list($('listing').textContent, $('symbols').textContent);
         await machine.runTo(Number.parseInt(this.start, 8), steps);
     }
 }

@@ -1,12 +1,13 @@
 // The Machine pane: a `run` that lives, to whose console each key of the panel gives a line, and whose replies the lamps show.
 import { $, ids, made, tell, keepInput } from './dom.js';
 import { Lines, canLive, textOf } from './program.js';
+import { helpAt, helpOf } from './help.js';
 import { Panel } from './panel.js';
 import { Paper, keyOf } from './paper.js';
 
 // What a PDP-8/I does in a millisecond, about; and how long its printer takes for a character, in milliseconds.
 const STEPS = 300, CHARACTER = 100;
-const MOST = 1000000, PICTURE = 11, CORE = 0o100000, LISTED = 6000;
+const MOST = 1000000, LOOKS = 8, PICTURE = 11, CORE = 0o100000, LISTED = 6000;
 
 /** @param {number} number @param {number} digits */
 export const octal = (number, digits) => number.toString(8).padStart(digits, '0');
@@ -25,6 +26,8 @@ export class Machine {
     printed = 0;
     listedAt = 0;
     reply = '';
+    /** @type {Map<string, string>} */
+    names = new Map();
     keeping = 0;
     isGoing = false;
     many = 20000;
@@ -43,9 +46,12 @@ export class Machine {
             load: () => this.#loadAddress(), examine: () => this.#examine(), deposit: () => this.#deposit(),
             start: () => this.start(), stop: () => this.stop(), go: () => this.go(), step: () => this.step(),
         });
-        this.paper = new Paper($('console'));
-        for (const id of ids('speed', 'printer', 'core-from')) keepInput(page.store, id);
+        this.paper = new Paper($('console'), { sound: page.sound });
+        for (const id of ids('speed', 'printer', 'core-from', 'watch')) keepInput(page.store, id);
         $('power').addEventListener('click', () => this.renew());
+        $('step-over').addEventListener('click', () => this.stepOver());
+        $('watch').addEventListener('change', () => this.#watch());
+        helpAt($('code'), $('code-help'), it => helpOf(it.closest('.l')?.textContent ?? ''));
         $('core-tape').addEventListener('change', () => this.#chosen($('core-tape')));
         $('core-from').addEventListener('change', () => this.#core());
         $('console').addEventListener('keydown', event => this.#key(event));
@@ -56,8 +62,9 @@ export class Machine {
         this.panel.switches = page.store.notes.get('switches') ?? 0;
         if (!canLive) tell('machine-status', 'This browser can\'t wait in a call of WebAssembly: the machine can\'t run here.', true);
         this.panel.enable(canLive);
+        $('step-over').disabled = !canLive;
         this.breaks = new Set(page.store.notes.get('breaks'));
-        this.list(page.store.notes.get('listing') ?? '');
+        this.list(page.store.notes.get('listing') ?? '', page.store.notes.get('names') ?? '');
     }
 
     // The living run, begun at its first use with the core that the page keeps.
@@ -139,7 +146,7 @@ export class Machine {
         if (name === '') return;
         if (name === 'source') {
             if (!await source.renew()) return tell('machine-status', `The source has no tape: ${$('source-status').textContent}`, true);
-            if (source.tape && await this.load(source.tape, 'the source\'s tape')) this.list($('listing').textContent);
+            if (source.tape && await this.load(source.tape, 'the source\'s tape')) this.list($('listing').textContent, $('symbols').textContent);
             return;
         }
         const { status, out, said } = await files.tape(name.slice(5));
@@ -155,9 +162,11 @@ export class Machine {
             ...own.map(it => made('option', { value: `file ${it}` }, it)));
     }
 
-    // Shows a listing, whose cells are buttons for breaks.
-    /** @param {string} text */
-    list(text) {
+    // Shows a listing, whose cells are buttons for breaks; `symbols` has its names with their values.
+    /** @param {string} text @param {string} [symbols] */
+    list(text, symbols = '') {
+        this.names = new Map([...symbols.matchAll(/^([A-Z][A-Z0-9]*) +([0-7]{4})/gm)].map(it => [it[1], `0${it[2]}`]));
+        this.page.store.note('names', symbols);
         this.cells.clear();
         const lines = text.split('\n'), shown = lines.slice(0, LISTED).map(it => this.#line(it));
         if (lines.length > LISTED) shown.push(made('span', { class: 'l none' }, `and ${lines.length - LISTED} further lines`));
@@ -240,11 +249,40 @@ export class Machine {
     // One step: from the address that was loaded, if one was since the machine last went, else from where it is.
     async step() {
         this.isGoing = false;
-        if (this.isLoaded) await this.#ask(`START ${octal(this.panel.address, 5)}`);
-        this.isLoaded = false;
+        await this.#startLoaded();
         await this.#slice('STEP', 1);
         tell('machine-status', this.reply);
         await this.#stopped();
+    }
+
+    // Starts at the address that was loaded, if one was since the machine last went.
+    async #startLoaded() {
+        if (this.isLoaded) await this.#ask(`START ${octal(this.panel.address, 5)}`);
+        this.isLoaded = false;
+    }
+
+    // One step, but a subroutine that a JMS calls is done as a whole: until the next instruction but for it, or the one after that, is reached.
+    async stepOver() {
+        if (this.isGoing) return;
+        await this.#startLoaded();
+        const [told] = await this.#ask('REGISTERS') ?? [];
+        if (!told) return;
+        const { if: field, pc } = this.registers = /** @type {Registers} */ (JSON.parse(told)), next = Number.parseInt(field + pc, 8);
+        const [word] = await this.#ask(`EXAMINE ${octal(next, 5)}`) ?? [''];
+        if (!/ 4\d{3}$/.test(word)) return this.step();
+        const after = [this.#next(next), this.#next(this.#next(next))].map(it => octal(it, 5)).filter(it => !this.breaks.has(it));
+        await this.#ask(...after.map(it => `BREAK ${it} ON`), 'REGISTERS');
+        await this.go();
+        await this.#ask(...after.map(it => `BREAK ${it} OFF`), 'REGISTERS');
+    }
+
+    // The words of the cells that are watched, each given by its name or its address.
+    async #watch() {
+        const asked = $('watch').value.toUpperCase().match(/[A-Z0-9]+/g) ?? [];
+        const cells = asked.map(it => ({ it, cell: this.names.get(it) ?? (/^[0-7]{1,5}$/.test(it) ? it.padStart(5, '0') : null) }));
+        const replies = await this.#ask(...cells.map(({ cell }) => cell ? `EXAMINE ${cell}` : 'REGISTERS'), 'REGISTERS');
+        if (!replies) return;
+        $('watched').replaceChildren(...cells.map(({ it, cell }, k) => made('div', {}, made('dt', {}, it), made('dd', {}, cell ? replies[k].slice(6) : 'no such name'))));
     }
 
     // Goes on until something stops the machine; what it does is shown at each picture.
@@ -284,13 +322,13 @@ export class Machine {
         let why = 'LIMIT', left = due;
         do {
             const begun = performance.now();
-            const count = Math.max(1, Math.min(left, this.registers?.busy ? 400 : this.many, MOST));
+            const count = Math.max(1, Math.min(left, this.registers?.busy ? 400 : this.many, MOST, uneven(due / LOOKS)));
             const before = this.total;
             why = await this.#slice('GO', count);
             left -= this.total - before;
             const took = performance.now() - begun;
-            if (took > 8) this.many = Math.max(1000, this.many / 2 | 0);
-            else if (took < 4 && count === this.many) this.many = Math.min(MOST, this.many * 2);
+            if (took > 4) this.many = Math.max(1000, this.many / 2 | 0);
+            else if (took < 2 && count === this.many) this.many = Math.min(MOST, this.many * 2);
         } while (this.isGoing && why === 'LIMIT' && left > 0 && performance.now() < until);
         this.#show();
         if (this.isPrinting) await this.#print();
@@ -319,6 +357,7 @@ export class Machine {
         if (registers.busy) this.isPrinting = true;
         const [, steps, why] = this.reply.split(' ');
         this.total += Number(steps);
+        this.panel.see(registers, Number(steps));
         return why;
     }
 
@@ -369,6 +408,7 @@ export class Machine {
         const cells = Array.from({ length: 64 }, (_, k) => (from & 0o70000) + ((from + k) & 0o7777));
         const replies = await this.#ask(...cells.map(it => `EXAMINE ${octal(it, 5)}`));
         if (!replies) return;
+        await this.#watch();
         const rows = Array.from({ length: 8 }, (_, k) => replies.slice(8 * k, 8 * k + 8));
         $('core').textContent = rows.map(it => `${it[0].slice(0, 5)}  ${it.map(one => one.slice(6)).join(' ')}`).join('\n');
     }
@@ -406,6 +446,10 @@ function settingOf(registers, wordAt) {
     const back = words.map((_, k) => `DEPOSIT ${at(free + k)} ${octal(wordAt(field * 0o10000 + free + k), 4)}`);
     return [...laid, `START ${at(free)}`, 'STEP 5', ...back];
 }
+
+// About so many steps, never twice the same number, so that what the lamps are seen at is no part of a program's own beat.
+/** @param {number} count */
+function uneven(count) { return Math.round(count * (0.6 + 0.8 * Math.random())); }
 
 /** @param {number} thousands */
 function rateOf(thousands) {

@@ -11,6 +11,7 @@ import { Script } from './script.js';
 import { Unkept } from './unkept.js';
 import { Undo } from './undo.js';
 import { Shelf } from './shelf.js';
+import { Sound } from './sound.js';
 
 const PANES = /** @type {const} */ (['files', 'source', 'machine', 'teletype', 'script']);
 /** @typedef {typeof PANES[number]} Pane */
@@ -78,7 +79,7 @@ async function begin() {
     }
     const claims = new Claims(), store = await Store.open(claims);
     const programs = new Programs(await load('pdp8.wasm'), store);
-    const page = /** @type {Page} */ ({ store, claims, programs, undo: new Undo(store), tell: trouble });
+    const page = /** @type {Page} */ ({ store, claims, programs, undo: new Undo(store), sound: new Sound(store), tell: trouble });
     page.tabs = new Tabs(store);
     page.files = new Files(page);
     page.machine = new Machine(page);

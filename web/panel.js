@@ -1,5 +1,7 @@
-// The front panel as a picture that works: lamps that show what `REGISTERS` told, switches, and keys that give lines.
+// The front panel as a picture that works: lamps that show what `REGISTERS` told, switches, and keys that give lines. While the machine goes a
+// lamp glows by the share of the time that it is lit.
 import { made } from './dom.js';
+import { helpAt } from './help.js';
 
 /** @type {[string, string, number][]} */
 const ROWS = [
@@ -19,6 +21,10 @@ export class Panel {
     #lamps = {};
     /** @type {Record<string, number | null>} */
     #shown = {};
+    // For how many of the steps that were seen since the last picture each lamp was lit.
+    /** @type {Record<string, number[]>} */
+    #lit = {};
+    #seen = 0;
     /** @type {Record<string, Element>} */
     #words = {};
     /** @type {Record<string, HTMLButtonElement>} */
@@ -44,18 +50,21 @@ export class Panel {
         element.append(small, this.#switches());
         const keys = made('div', { class: 'keys' });
         for (const [what, text, title] of KEYS) {
-            this.#keys[what] = made('button', { title, id: `key-${what}`, onclick: () => does[what]() }, text);
+            this.#keys[what] = made('button', { title: `${text} ${title}`, id: `key-${what}`, onclick: () => does[what]() }, text);
             keys.append(this.#keys[what]);
         }
         this.addressShown = made('span', { class: 'name', id: 'address' });
         keys.append(this.addressShown);
-        element.append(keys);
+        const help = made('p', { class: 'help', id: 'panel-help' });
+        element.append(keys, help);
+        helpAt(keys, help, it => it.closest('button')?.title ?? '');
     }
 
     /** @param {[string, string, number]} it */
     #row([name, text, bits]) {
         const lamps = Array.from({ length: bits }, () => made('span', { class: 'lamp' }));
         this.#lamps[name] = lamps;
+        this.#lit[name] = lamps.map(() => 0);
         const word = this.#words[name] = made('span', { class: 'word' });
         const row = made('div', { class: 'bits' }, ...threes(lamps));
         return made('div', { class: 'lamps', role: 'img', 'data-row': name, 'aria-label': text }, made('span', { class: 'name' }, text), row, word);
@@ -140,17 +149,41 @@ export class Panel {
         for (const name of ['go', 'step', 'load', 'deposit', 'examine']) this.#keys[name].disabled = isGoing;
     }
 
+    // Sees registers that the machine had for so many steps, of which the next picture shows how long each lamp was lit.
+    /** @param {Registers} registers @param {number} steps */
+    see(registers, steps) {
+        this.#seen += steps;
+        for (const [name, word] of Object.entries(wordsOf(registers))) {
+            const lit = this.#lit[name];
+            for (let bit = lit.length - 1, rest = word; rest; bit--, rest >>= 1) if (rest & 1) lit[bit] += steps;
+        }
+    }
+
+    // Lets each lamp glow by its share of the time, while the machine goes.
+    #glow() {
+        for (const [name, lit] of Object.entries(this.#lit)) {
+            if (name === 'run' || name === 'ma' || name === 'mb') continue;
+            this.#lamps[name].forEach((lamp, bit) => /** @type {HTMLElement} */ (lamp).style.setProperty('--glow', (lit[bit] / this.#seen).toFixed(2)));
+            lit.fill(0);
+        }
+        this.#seen = 0;
+    }
+
+    // All lamps are lit as they are, or dark.
+    #settle() {
+        for (const lamps of Object.values(this.#lamps)) for (const lamp of lamps) /** @type {HTMLElement} */ (lamp).style.removeProperty('--glow');
+        for (const lit of Object.values(this.#lit)) lit.fill(0);
+        this.#seen = 0;
+    }
+
     // Shows the registers, and the address and the word that were last examined; where these are not known, their lamps are dark.
     /** @param {Registers | null} registers @param {number | null} address @param {number | null} word @param {boolean} [isGoing] */
     show(registers, address, word, isGoing = false) {
         if (!registers) return;
-        this.#light('pc', Number.parseInt(registers.pc, 8));
-        this.#light('ac', Number.parseInt(registers.ac, 8));
-        this.#light('l', Number(registers.l));
-        this.#light('if', Number(registers.if));
-        this.#light('df', Number(registers.df));
+        for (const [name, word] of Object.entries(wordsOf(registers))) this.#light(name, word, name === 'ion' ? '' : undefined);
         this.#light('run', Number(isGoing), '');
-        this.#light('ion', Number(registers.ion), '');
+        if (isGoing && this.#seen) this.#glow();
+        else if (!isGoing) this.#settle();
         this.#light('ma', address === null ? null : address & 0o7777);
         this.#light('mb', word);
     }
@@ -167,6 +200,12 @@ export class Panel {
         row.querySelector('.bits')?.classList.toggle('dark', word === null);
         row.setAttribute('aria-label', `${row.querySelector('.name')?.textContent} ${word === null ? 'not known' : bits === 1 ? (word ? 'on' : 'off') : text}`);
     }
+}
+
+// The words of the rows that `REGISTERS` tells.
+/** @param {Registers} it */
+function wordsOf(it) {
+    return { pc: Number.parseInt(it.pc, 8), ac: Number.parseInt(it.ac, 8), l: Number(it.l), if: Number(it.if), df: Number(it.df), ion: Number(it.ion) };
 }
 
 // Lamps or switches by threes, as their octal digits are.

@@ -1,5 +1,5 @@
 // The paper of a Teletype: characters are put on it as they come, or ten a second. It is kept in sheets, so that a browser lays out only
-// the last of them anew.
+// the last of them anew. A line that a return alone began anew is printed over what it had.
 const MOST = 60000, SHEET = 2000;
 
 export class Paper {
@@ -12,13 +12,15 @@ export class Paper {
     #isAsked = false;
 
     // `shown` is told how many characters were printed, `kept` what the paper then holds.
-    /** @param {HTMLElement} element @param {{ shown?: (count: number) => void, kept?: (text: string) => void }} [how] */
+    /** @param {HTMLElement} element @param {{ shown?: (count: number) => void, kept?: (text: string) => void, sound?: import('./sound.js').Sound }} [how] */
     constructor(element, how = {}) {
         this.last = document.createTextNode('');
-        this.keeping = 0;
+        this.keeping = this.laid = 0;
         this.element = element;
         this.shown = how.shown ?? (() => {});
         this.kept = how.kept ?? (() => {});
+        this.sound = how.sound;
+        this.returned = '';
         this.length = 0;
         this.#sheet();
     }
@@ -28,6 +30,7 @@ export class Paper {
     #sheet() {
         const sheet = document.createElement('div');
         this.last = document.createTextNode('');
+        this.laid = 0;
         sheet.append(this.last);
         this.element.append(sheet);
     }
@@ -41,13 +44,14 @@ export class Paper {
 
     /** @param {string} text */
     restore(text) {
-        this.last.data = text;
+        this.#lay(text);
         this.length = text.length;
         this.element.scrollTop = this.element.scrollHeight;
     }
 
     tear() {
         this.element.replaceChildren();
+        this.returned = '';
         this.#sheet();
         this.length = 0;
         this.kept('');
@@ -89,6 +93,7 @@ export class Paper {
         }
         if (made) {
             this.#put(text);
+            if (/[!-~]/.test(text)) this.sound?.strike();
             this.shown(made);
         }
         if (!this.#waiting.length) this.#timer = 0;
@@ -101,6 +106,7 @@ export class Paper {
         if (it === 0o7) this.#ring();
         if (it === 0o12) return '\n';
         if (it === 0o11) return '\t';
+        if (it === 0o15) return '\r';
         return it < 0o40 || it === 0o177 ? '' : String.fromCharCode(it);
     }
 
@@ -108,11 +114,11 @@ export class Paper {
     #put(text) {
         const { element } = this, isAtEnd = element.scrollTop + element.clientHeight >= element.scrollHeight - 30;
         const cut = text.indexOf('\n') + 1;
-        if (this.last.length > SHEET && cut) {
-            this.last.appendData(text.slice(0, cut));
+        if (this.laid > SHEET && cut) {
+            this.#lay(text.slice(0, cut));
             this.#sheet();
-            this.last.appendData(text.slice(cut));
-        } else this.last.appendData(text);
+            this.#lay(text.slice(cut));
+        } else this.#lay(text);
         this.length += text.length;
         while (this.length > MOST && element.children.length > 1) {
             this.length -= element.children[0].textContent.length;
@@ -124,6 +130,31 @@ export class Paper {
         this.keeping = window.setTimeout(() => this.kept(this.text), 500);
     }
 
+    // Lays characters on the last sheet. A return before a line feed, or where nothing stands in the line, is nothing; what stands there is else
+    // laid under what follows.
+    /** @param {string} text */
+    #lay(text) {
+        const [first, ...over] = `${this.returned}${text}`.split(/\r+(?!\r|\n|$)/);
+        this.returned = (over.at(-1) ?? first).endsWith('\r') ? '\r' : '';
+        this.laid += text.length;
+        for (const [k, part] of [first, ...over].entries()) {
+            if (k) this.#begin();
+            this.last.appendData(part.replace(/\r+(?=\n|$)/g, ''));
+        }
+    }
+
+    // Begins the line anew: what it has is laid under it.
+    #begin() {
+        const { last } = this, at = last.data.lastIndexOf('\n') + 1, line = last.data.slice(at);
+        if (line === '') return;
+        last.deleteData(at, line.length);
+        this.last = document.createTextNode('');
+        const under = document.createElement('span');
+        under.className = 'under';
+        under.textContent = `${line}\r`;
+        last.after(under, this.last);
+    }
+
     #feed() {
         this.element.classList.remove('feeds');
         void this.element.offsetWidth;
@@ -131,6 +162,7 @@ export class Paper {
     }
 
     #ring() {
+        this.sound?.ring();
         this.element.classList.add('rings');
         setTimeout(() => this.element.classList.remove('rings'), 150);
     }

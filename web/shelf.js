@@ -46,7 +46,7 @@ export class Shelf {
         const { source, machine, tabs } = this.page;
         tabs.show('machine');
         if (!source.tape || !await machine.load(source.tape, name)) return;
-        machine.list($('listing').textContent);
+        machine.list($('listing').textContent, $('symbols').textContent);
         if (name === 'sort') return tell('machine-status', 'The words to be sorted are at 00240. Sing step makes one step; Cont runs it to its end.');
         $('speed').value = 'real';
         await machine.start();

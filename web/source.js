@@ -242,7 +242,7 @@ export class Source {
     async #toCore() {
         if (!await this.renew() || !this.tape) return;
         if (!await this.page.machine.load(this.tape, `the tape of ${this.#name}`)) return;
-        this.page.machine.list($('listing').textContent);
+        this.page.machine.list($('listing').textContent, $('symbols').textContent);
         this.page.tabs.show('machine');
     }
 

@@ -12,7 +12,7 @@ export class Teletype {
         this.isBegun = false;
         /** @type {string | null} */
         this.own = null;
-        this.paper = new Paper($('paper'), { shown: count => this.run?.show(count), kept: text => page.store.note('paper', text) });
+        this.paper = new Paper($('paper'), { shown: count => this.run?.show(count), kept: text => page.store.note('paper', text), sound: page.sound });
         this.paper.restore(page.store.notes.get('paper') ?? '');
         for (const id of ids('tty-start', 'tty-switches', 'pace', 'capitals', 'reader')) keepInput(page.store, id);
         this.#paces();

@@ -38,7 +38,7 @@ interface Page {
     tell: (text: string) => void; tabs: import('./page.js').Tabs;
     files: import('./files.js').Files; machine: import('./machine.js').Machine; teletype: import('./teletype.js').Teletype;
     source: import('./source.js').Source; script: import('./script.js').Script; texts: import('./texts.js').Texts; unkept: import('./unkept.js').Unkept;
-    shelf: import('./shelf.js').Shelf;
+    shelf: import('./shelf.js').Shelf; sound: import('./sound.js').Sound;
 }
 declare var geivottu: Page;
 

@@ -290,7 +290,7 @@ test('the tape reader loses no character', async page => {
     await page.click('#teletype summary');
     await page.look(`document.getElementById('reader').value = ${JSON.stringify(text)}`);
     await page.click('#read');
-    const wanted = text.replaceAll('\n', '');
+    const wanted = text.replaceAll('\n', '\r').replace(/\r$/, '');
     await page.until(`document.getElementById('paper').textContent.length === ${wanted.length}`);
     same(wanted, await page.text('paper'), 'the paper');
     await page.look(`document.getElementById('paper').focus()`);

@@ -1,0 +1,165 @@
+// panel.mjs PROGRAM FOLDER [PART..]: the panel and the paper as things: how lamps glow, what is printed over, what sounds, what helps, and that all
+// of it can be seen and hit. As losses.mjs otherwise.
+import { assemble, holds, isTold, pane, run, same } from './tools.mjs';
+
+// Prints AB, a return alone, C, a line feed and the bell.
+const PRINTS = '*200\nA,\tCLA\n\tTAD I P\n\tSNA\n\tHLT\n\tTLS\n\tTSF\n\tJMP .-1\n\tISZ P\n\tJMP A\nP,\t300\n*300\n301;302;215;303;212;304;215;212;207;0\n$\n';
+const BLINKS = '*200\nA,\tCLA CMA\n\tNOP\n\tCLA\n\tJMP A\n$\n';
+const CALLS = '*200\nSTART,\tJMS SUB\n\tIAC\n\tHLT\nSUB,\t0\n\tISZ COUNT\n\tJMP I SUB\nCOUNT,\t0\n$\n';
+
+/** @typedef {import('./tools.mjs').Page} Page */
+
+/** @param {Page} page @param {string} text */
+async function toCore(page, text) {
+    await assemble(page, 'IT', text);
+    await page.click('#to-core');
+    await isTold(page, 'machine-status', 'words are in core');
+}
+
+/** @param {Page} page @param {string} text */
+async function atTeletype(page, text) {
+    await assemble(page, 'IT', text);
+    await page.click('#to-teletype');
+    await page.until(`document.activeElement.id === 'tty-run'`);
+}
+
+/** @param {Page} page */
+async function runs(page) {
+    await page.click('#tty-run');
+    await isTold(page, 'tty-status', 'HALT');
+    await page.until(`geivottu.teletype.paper.returned === '' && document.getElementById('paper').textContent.includes('D\\n')`);
+}
+
+// Moves the pointer over an element.
+/** @param {Page} page @param {string} selector */
+async function point(page, selector) {
+    const { x, y } = await page.look(`(() => { const it = document.querySelector(${JSON.stringify(selector)}); it.scrollIntoView({ block: 'center' });
+        const box = it.getBoundingClientRect(); return { x: box.x + Math.min(60, box.width / 2), y: box.y + box.height / 2 }; })()`);
+    await page.call('Input.dispatchMouseEvent', { type: 'mouseMoved', x, y, button: 'none' });
+}
+
+// What of a pane is smaller than 24 pixels, and whose edge differs from what is around it by less than 3:1.
+const SMALL = `[...document.querySelectorAll('button, input, select, textarea, summary, label.button')].filter(it => it.checkVisibility() && !it.matches('.hidden'))
+    .map(it => ({ it, box: it.getBoundingClientRect() })).filter(({ box }) => box.width && (box.width < 24 || box.height < 24))
+    .map(({ it, box }) => (it.id || it.className || it.textContent) + ' ' + Math.round(box.width) + ' by ' + Math.round(box.height)).join('; ')`;
+const FAINT = `(() => {
+    const parts = it => (it.match(/[\\d.]+/g) ?? []).map(Number), isClear = it => parts(it).length === 4 && parts(it)[3] === 0;
+    const light = it => { const [r, g, b] = parts(it).map(one => one / 255).map(one => one <= 0.04045 ? one / 12.92 : ((one + 0.055) / 1.055) ** 2.4);
+        return 0.2126 * r + 0.7152 * g + 0.0722 * b; };
+    const ratio = (a, b) => { const [x, y] = [light(a), light(b)].sort((p, q) => q - p); return (x + 0.05) / (y + 0.05); };
+    const behind = it => { for (let at = it.parentElement; at; at = at.parentElement) { if (at.id === 'panel') return 'rgb(74, 51, 32)';
+        const colour = getComputedStyle(at).backgroundColor; if (!isClear(colour)) return colour; } return 'rgb(255, 255, 255)'; };
+    return [...document.querySelectorAll('button:not(:disabled), .button, input, select, textarea, pre')].filter(it => it.checkVisibility()
+        && !it.matches('.hidden, #code button, #text, #faults button, [role=tab], [type=checkbox]')).map(it => {
+        const style = getComputedStyle(it), around = behind(it);
+        return { it, most: Math.max(ratio(style.borderTopColor, around), isClear(style.backgroundColor) ? 1 : ratio(style.backgroundColor, around)) };
+    }).filter(({ most }) => most < 3).map(({ it, most }) => (it.id || it.textContent) + ' ' + most.toFixed(1)).join('; ');
+})()`;
+
+await run('panel', {
+    'lamps glow by the share of the time that they are lit': async (page, url) => {
+        await page.go(url);
+        await toCore(page, BLINKS);
+        await page.click('#key-start');
+        await page.until('geivottu.machine.isGoing');
+        const glow = await page.look(`new Promise(go => { const all = []; const next = () => {
+            all.push(Number(document.querySelector('[data-row="ac"] .lamp').style.getPropertyValue('--glow')));
+            all.length < 40 ? requestAnimationFrame(next) : go(all.reduce((sum, it) => sum + it, 0) / all.length); }; requestAnimationFrame(next); })`);
+        holds(glow > 0.3 && glow < 0.7, `a lamp that is lit half of the time glows by ${glow}`);
+        await page.click('#key-stop');
+        await isTold(page, 'machine-status', 'stopped by the key');
+        await page.until(`[...document.querySelectorAll('.lamp')].every(it => ['0', '1'].includes(getComputedStyle(it).getPropertyValue('--glow').trim()))`);
+    },
+    'a return alone prints over': async (page, url) => {
+        await page.go(url);
+        await atTeletype(page, PRINTS);
+        await runs(page);
+        const under = () => page.look(`[...document.querySelectorAll('#paper .under')].map(it => it.textContent).join('|')`);
+        same('AB\r', await under(), 'what is under');
+        same('AB\rC\nD\n', await page.text('paper'), 'the paper');
+        const apart = await page.look(`(() => { const under = document.querySelector('#paper .under'), range = document.createRange();
+            range.selectNodeContents(under.nextSibling); const [a, b] = [under.getBoundingClientRect(), range.getClientRects()[0]]; return Math.abs(a.left - b.left) + Math.abs(a.top - b.top); })()`);
+        holds(apart < 4, `what is printed over lies ${apart} pixels apart`);
+        await page.until(`geivottu.store.notes.get('paper') === 'AB\\rC\\nD\\n'`);
+        await page.look('geivottu.store.settled()');
+        await page.go(`${url}?again`);
+        same('AB\r', await under(), 'what is under after a reload');
+    },
+    'bell and clatter sound where they are switched on, and that is kept': async (page, url) => {
+        const source = `window.sounds = ''; window.AudioContext = class { currentTime = 0; sampleRate = 8000; state = 'running'; destination = {};
+            #node(name) { return { frequency: {}, playbackRate: {}, connect: it => it, start() { window.sounds += name; }, stop() {} }; }
+            createOscillator() { return this.#node('bell '); } createBufferSource() { return this.#node('clatter '); }
+            createGain() { return { gain: { setValueAtTime() {}, exponentialRampToValueAtTime() {} }, connect: it => it }; }
+            createBuffer(_, size) { return { getChannelData: () => new Float32Array(size) }; } };`;
+        await page.call('Page.addScriptToEvaluateOnNewDocument', { source });
+        await page.go(url);
+        await atTeletype(page, PRINTS);
+        await runs(page);
+        same('', await page.look('sounds'), 'what sounds at first');
+        for (const it of ['bell', 'clatter']) await page.click(`#${it}`);
+        await page.look('geivottu.store.settled()');
+        await page.go(`${url}?again`);
+        await pane(page, 'teletype');
+        await page.choose('#tape', 'source');
+        await page.click('#tear');
+        await runs(page);
+        await page.until(`sounds.includes('bell') && sounds.includes('clatter')`);
+    },
+    'a line of help says what a mnemonic and a key of the panel do': async (page, url) => {
+        await page.go(url);
+        await toCore(page, CALLS);
+        await page.look(`document.querySelector('#code [data-cell="00204"] button').focus()`);
+        await isTold(page, 'code-help', 'ISZ adds one to the cell, and skips if that gave zero');
+        await point(page, '#code [data-cell="00205"] button');
+        await isTold(page, 'code-help', 'JMP goes on at the cell. I indirect');
+        await page.look(`document.getElementById('key-step').focus()`);
+        await isTold(page, 'panel-help', 'makes one step');
+        await point(page, '#key-examine');
+        await isTold(page, 'panel-help', 'shows the word at the address');
+        await pane(page, 'source');
+        await point(page, '#listing [data-cell="00202"]');
+        await isTold(page, 'listing-help', 'HLT stops the machine');
+        await page.look(`(() => { const it = document.getElementById('text'); it.focus(); it.setSelectionRange(22, 22); it.dispatchEvent(new Event('keyup')); })()`);
+        await isTold(page, 'listing-help', 'IAC adds one to AC');
+    },
+    'a subroutine is stepped over, and cells are watched by their names': async (page, url) => {
+        await page.go(url);
+        await toCore(page, CALLS);
+        await page.fill('#watch', 'count 202 nowhere');
+        await page.key('Tab');
+        await page.until(`document.getElementById('watched').textContent === 'COUNT0000' + '2027402' + 'NOWHEREno such name'`);
+        await page.fill('#switches-shown', '0200');
+        await page.key('Tab');
+        await page.click('#key-load');
+        await page.click('#step-over');
+        await page.until(`geivottu.machine.registers.pc === '0201' && document.getElementById('watched').textContent.startsWith('COUNT0001')`);
+        await page.click('#step-over');
+        await page.until(`geivottu.machine.registers.pc === '0202' && geivottu.machine.registers.ac === '0001'`);
+        await page.click('#key-start');
+        await isTold(page, 'machine-status', 'HALT 00203');
+        await page.look('geivottu.store.settled()');
+        await page.go(`${url}?again`);
+        await page.until(`document.getElementById('watched').textContent.startsWith('COUNT')`);
+    },
+    'each control has 24 pixels, and an edge of 3:1, light and dark': async (page, url) => {
+        await page.go(url);
+        await page.click('button[data-run="disk"]');
+        await page.until(`document.querySelectorAll('#directory tbody tr').length === 8`);
+        await toCore(page, CALLS);
+        await page.look(`for (const it of document.querySelectorAll('details')) it.open = true`);
+        for (const width of [1200, 390]) {
+            await page.size(width, 900);
+            for (const name of ['files', 'source', 'machine', 'teletype', 'script']) {
+                await pane(page, name);
+                same('', await page.look(SMALL), `what is small in ${name}, ${width} wide`);
+            }
+        }
+        for (const scheme of ['light', 'dark']) {
+            await page.scheme(scheme);
+            for (const name of ['files', 'source', 'machine', 'teletype', 'script']) {
+                await pane(page, name);
+                same('', await page.look(FAINT), `what is faint in ${name}, ${scheme}`);
+            }
+        }
+    },
+});
