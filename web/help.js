@@ -2,7 +2,7 @@
 /** @type {Record<string, string>} */
 const MNEMONICS = {
     AND: 'ands the word of the cell into AC', TAD: 'adds the word of the cell to AC; a carry complements L', ISZ: 'adds one to the cell, and skips if that gave zero',
-    DCA: 'puts AC into the cell, and clears AC', JMS: 'puts the address of the next instruction into the cell, and goes on after that', JMP: 'goes on at the cell',
+    DCA: 'puts AC into the cell, and clears AC', JMS: 'puts the address of the next instruction into the cell, and goes on at the one after it', JMP: 'goes on at the cell',
     NOP: 'does nothing', IAC: 'adds one to AC; a carry complements L', RAL: 'moves L and AC one bit to the left, around', RTL: 'moves L and AC two bits to the left, around',
     RAR: 'moves L and AC one bit to the right, around', RTR: 'moves L and AC two bits to the right, around', CML: 'complements L', CMA: 'complements AC',
     CIA: 'makes AC its negative', CLL: 'clears L', STL: 'sets L', CLA: 'clears AC', GLK: 'puts L into AC', STA: 'sets AC to 7777',

@@ -180,7 +180,7 @@ export class Machine {
     #line(text) {
         const cell = /^([0-7]{5})  [0-7]{4}/.exec(text)?.[1] ?? /\/([0-7]{5}) [0-7]{4}$/.exec(text)?.[1];
         if (!cell) return made('span', { class: 'l none' }, `${text}\n`);
-        const button = made('button', { 'aria-pressed': String(this.breaks.has(cell)), 'aria-label': `break at ${cell}: ${text.replace(/\s+/g, ' ')}`,
+        const button = made('button', { 'aria-describedby': 'code-help', 'aria-pressed': String(this.breaks.has(cell)), 'aria-label': `break at ${cell}: ${text.replace(/\s+/g, ' ')}`,
             onclick: () => this.toggle(cell, button) }, text);
         const line = made('span', { class: 'l', 'data-cell': cell }, button, '\n');
         this.cells.set(cell, line);
@@ -322,13 +322,13 @@ export class Machine {
         let why = 'LIMIT', left = due;
         do {
             const begun = performance.now();
-            const count = Math.max(1, Math.min(left, this.registers?.busy ? 400 : this.many, MOST, uneven(due / LOOKS)));
+            const about = Math.min(this.registers?.busy ? 400 : this.many, due / LOOKS), count = Math.max(1, Math.min(left, MOST, uneven(about)));
             const before = this.total;
             why = await this.#slice('GO', count);
             left -= this.total - before;
             const took = performance.now() - begun;
             if (took > 4) this.many = Math.max(1000, this.many / 2 | 0);
-            else if (took < 2 && count === this.many) this.many = Math.min(MOST, this.many * 2);
+            else if (took < 2 && about === this.many) this.many = Math.min(MOST, this.many * 2);
         } while (this.isGoing && why === 'LIMIT' && left > 0 && performance.now() < until);
         this.#show();
         if (this.isPrinting) await this.#print();

@@ -42,11 +42,11 @@ async function point(page, selector) {
 const SMALL = `[...document.querySelectorAll('button, input, select, textarea, summary, label.button')].filter(it => it.checkVisibility() && !it.matches('.hidden'))
     .map(it => ({ it, box: it.getBoundingClientRect() })).filter(({ box }) => box.width && (box.width < 24 || box.height < 24))
     .map(({ it, box }) => (it.id || it.className || it.textContent) + ' ' + Math.round(box.width) + ' by ' + Math.round(box.height)).join('; ')`;
-const FAINT = `(() => {
-    const parts = it => (it.match(/[\\d.]+/g) ?? []).map(Number), isClear = it => parts(it).length === 4 && parts(it)[3] === 0;
+const RATIO = `const parts = it => (it.match(/[\\d.]+/g) ?? []).map(Number), isClear = it => parts(it).length === 4 && parts(it)[3] === 0;
     const light = it => { const [r, g, b] = parts(it).map(one => one / 255).map(one => one <= 0.04045 ? one / 12.92 : ((one + 0.055) / 1.055) ** 2.4);
         return 0.2126 * r + 0.7152 * g + 0.0722 * b; };
-    const ratio = (a, b) => { const [x, y] = [light(a), light(b)].sort((p, q) => q - p); return (x + 0.05) / (y + 0.05); };
+    const ratio = (a, b) => { const [x, y] = [light(a), light(b)].sort((p, q) => q - p); return (x + 0.05) / (y + 0.05); };`;
+const FAINT = `(() => { ${RATIO}
     const behind = it => { for (let at = it.parentElement; at; at = at.parentElement) { if (at.id === 'panel') return 'rgb(74, 51, 32)';
         const colour = getComputedStyle(at).backgroundColor; if (!isClear(colour)) return colour; } return 'rgb(255, 255, 255)'; };
     return [...document.querySelectorAll('button:not(:disabled), .button, input, select, textarea, pre')].filter(it => it.checkVisibility()
@@ -54,6 +54,13 @@ const FAINT = `(() => {
         const style = getComputedStyle(it), around = behind(it);
         return { it, most: Math.max(ratio(style.borderTopColor, around), isClear(style.backgroundColor) ? 1 : ratio(style.backgroundColor, around)) };
     }).filter(({ most }) => most < 3).map(({ it, most }) => (it.id || it.textContent) + ' ' + most.toFixed(1)).join('; ');
+})()`;
+
+// The colours of the picture of blocks that differ from the paper by less than 3:1; that of what is empty has an edge.
+const PALE = `(() => { ${RATIO}
+    const colourOf = name => { const it = document.createElement('span'); it.style.color = 'var(--' + name + ')'; document.body.append(it);
+        const colour = getComputedStyle(it).color; it.remove(); return colour; };
+    return ['directory', 'file', 'file-2', 'outside', 'fault', 'edge', 'bad', 'accent', 'quiet'].filter(it => ratio(colourOf(it), colourOf('paper')) < 3).join('; ');
 })()`;
 
 await run('panel', {
@@ -65,7 +72,7 @@ await run('panel', {
         const glow = await page.look(`new Promise(go => { const all = []; const next = () => {
             all.push(Number(document.querySelector('[data-row="ac"] .lamp').style.getPropertyValue('--glow')));
             all.length < 40 ? requestAnimationFrame(next) : go(all.reduce((sum, it) => sum + it, 0) / all.length); }; requestAnimationFrame(next); })`);
-        holds(glow > 0.3 && glow < 0.7, `a lamp that is lit half of the time glows by ${glow}`);
+        holds(glow > 0.25 && glow < 0.75, `a lamp that is lit half of the time glows by ${glow}`);
         await page.click('#key-stop');
         await isTold(page, 'machine-status', 'stopped by the key');
         await page.until(`[...document.querySelectorAll('.lamp')].every(it => ['0', '1'].includes(getComputedStyle(it).getPropertyValue('--glow').trim()))`);
@@ -156,6 +163,7 @@ await run('panel', {
         }
         for (const scheme of ['light', 'dark']) {
             await page.scheme(scheme);
+            same('', await page.look(PALE), `what is pale in the picture of blocks, ${scheme}`);
             for (const name of ['files', 'source', 'machine', 'teletype', 'script']) {
                 await pane(page, name);
                 same('', await page.look(FAINT), `what is faint in ${name}, ${scheme}`);
