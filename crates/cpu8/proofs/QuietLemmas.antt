@@ -5,7 +5,7 @@ use Rattle.tty8.specs.Teletype.{is_requesting}
 use Rattle.cpu8.specs.State.{State, next_cell, printer_done}
 use Rattle.cpu8.specs.Step.{executed, fetched, step}
 use Rattle.cpu8.specs.Go.{printing_step, after, answer, break_ahead, reason, ending, IsGo, character_of, printed_by, is_break}
-use Rattle.cpu8.specs.QuietSteps.{is_quiet, Stays, Does, DoesOrNot, Ends, EndsOrNot, IsQuietStep, AreQuiet}
+use Rattle.cpu8.specs.QuietSteps.{is_quiet, Stays, Does, Goes, IsQuietStep, AreQuiet}
 use Rattle.cpu8.specs.declared.outcomes.Stepped.{Stepped}
 use Rattle.cpu8.specs.declared.outcomes.Stepped.TheVariants.{Ran, Stopped, Interrupted, Halted, Unassigned}
 use Rattle.cpu8.specs.declared.outcomes.Why.{Why}
@@ -45,38 +45,28 @@ fields-same old new stays same = stays.buffer ∙ (same ∙ sym (stays.field sam
 pub none-quiet : (quick : Bool) (breaks : List Bool) (s : State) → AreQuiet quick breaks s 0
 none-quiet quick breaks s m below = absurd (omega (arith, below))
 
-pub after-ended : (quick : Bool) (k : ℕ) (s old new : State) → old ≡ after quick k s → is_quiet quick old ≡ true → Ends old new
+pub after-goes : (quick : Bool) (k : ℕ) (s old new : State) → old ≡ after quick k s → is_quiet quick old ≡ true → Goes old (fetched old) new
     → new ≡ after quick (k + 1) s
-after-ended quick k s old new at h ends =
-    ends.state ∙ (ap (λ p. p.0) (sym (printing_step-quiet quick old h)) ∙ (ap (λ x. (printing_step quick x).0) at ∙ sym (after-next quick k s)))
+after-goes quick k s old new at h goes =
+    goes.state ∙ (ap (λ p. p.0) (sym (printing_step-quiet quick old h)) ∙ (ap (λ x. (printing_step quick x).0) at ∙ sym (after-next quick k s)))
 
-pub quiet-ended : (quick : Bool) (breaks : List Bool) (k : ℕ) (s old new : State) → old ≡ after quick k s → is_quiet quick old ≡ true
-    → (0 < k → is_break breaks (next_cell old) ≡ false) → Ends old new → AreQuiet quick breaks s k → AreQuiet quick breaks s (k + 1)
-quiet-ended quick breaks k s old new at h ahead ends before = below_more _ _ before (record {
-  answer = ap (λ x. (printing_step quick x).1) (sym at) ∙ (ap (λ p. p.1) (printing_step-quiet quick old h) ∙ sym ends.answer);
+pub quiet-goes : (quick : Bool) (breaks : List Bool) (k : ℕ) (s old new : State) → old ≡ after quick k s → is_quiet quick old ≡ true
+    → (0 < k → is_break breaks (next_cell old) ≡ false) → Goes old (fetched old) new → AreQuiet quick breaks s k → AreQuiet quick breaks s (k + 1)
+quiet-goes quick breaks k s old new at h ahead goes before = below_more _ _ before (record {
+  answer = ap (λ x. (printing_step quick x).1) (sym at) ∙ (ap (λ p. p.1) (printing_step-quiet quick old h) ∙ sym goes.answer);
   ahead = λ more. ap (λ x. is_break breaks (next_cell x)) (sym at) ∙ ahead more;
 })
 
-ended : (old new : State) → Does old (fetched old) new → Ends old new
-ended old new does = record { state = does.state; answer = does.answer }
-
--- the same where an answer tells whether it is done
-pub ended-or-not : (old new : State) (done : Bool) → DoesOrNot old (fetched old) done new → EndsOrNot old done new
-ended-or-not old new true does = ended old new does
-ended-or-not old new false same = same
-
-pub stays-quiet-does : (quick : Bool) (old new : State) (done : Bool) → done ≡ true → is_quiet quick old ≡ true
-    → DoesOrNot old (fetched old) done new → is_quiet quick new ≡ true
-stays-quiet-does quick old new true done h does = stays-quiet quick old new h does.stays
-stays-quiet-does quick old new false done h same = absurd (true≢false (sym done))
+goes : (old new : State) (w : ℕ) → Does old w new → Goes old w new
+goes old new w does = record { state = does.state; answer = does.answer; quiet = λ quick h. stays-quiet quick old new h does.stays }
 
 pub after-quiet : (quick : Bool) (k : ℕ) (s old new : State) → old ≡ after quick k s → is_quiet quick old ≡ true → Does old (fetched old) new
     → new ≡ after quick (k + 1) s
-after-quiet quick k s old new at h does = after-ended quick k s old new at h (ended old new does)
+after-quiet quick k s old new at h does = after-goes quick k s old new at h (goes old new (fetched old) does)
 
 pub quiet-next : (quick : Bool) (breaks : List Bool) (k : ℕ) (s old new : State) → old ≡ after quick k s → is_quiet quick old ≡ true
     → (0 < k → is_break breaks (next_cell old) ≡ false) → Does old (fetched old) new → AreQuiet quick breaks s k → AreQuiet quick breaks s (k + 1)
-quiet-next quick breaks k s old new at h ahead does before = quiet-ended quick breaks k s old new at h ahead (ended old new does) before
+quiet-next quick breaks k s old new at h ahead does before = quiet-goes quick breaks k s old new at h ahead (goes old new (fetched old) does) before
 
 -- ## Quiet steps behind others
 

@@ -36,15 +36,21 @@ abbrev pub DoesOrNot : State → ℕ → Bool → State → Type 0
 DoesOrNot old w true new = Does old w new
 DoesOrNot old w false new = new ≡ old
 
--- the next instruction is done, prints nothing and goes on, and may change what decides of the quiet
-pub record Ends (old new : State) : Type 0 where
-  pub state : new ≡ (executed old (fetched old)).0
-  pub answer : Ran None ≡ (executed old (fetched old)).1
+-- an instruction of this word is done, prints nothing and goes on, and leaves a quiet machine quiet
+pub record Goes (old : State) (w : ℕ) (new : State) : Type 0 where
+  pub state : new ≡ (executed old w).0
+  pub answer : Ran None ≡ (executed old w).1
+  pub quiet : (quick : Bool) → is_quiet quick old ≡ true → is_quiet quick new ≡ true
 
 -- that, or nothing
-abbrev pub EndsOrNot : State → Bool → State → Type 0
-EndsOrNot old true new = Ends old new
-EndsOrNot old false new = new ≡ old
+abbrev pub GoesOrNot : State → ℕ → Bool → State → Type 0
+GoesOrNot old w true new = Goes old w new
+GoesOrNot old w false new = new ≡ old
+
+-- the latter where IOTs are among the steps, else the former
+abbrev pub DoneOrNot : Bool → State → ℕ → Bool → State → Type 0
+DoneOrNot true old w done new = GoesOrNot old w done new
+DoneOrNot false old w done new = DoesOrNot old w done new
 
 -- no cell of this field has a break
 abbrev pub IsUnbroken : List Bool → ℕ → Type 0

@@ -166,8 +166,10 @@ impl Machine {
         ensures state { self.new ≡ after quick result self.old }
         ensures quiet { AreQuiet quick breaks.now self.old result }
     {
-        self.processor
-            .run_with_transfers(&mut self.core, n, quick, breaks)
+        let mut processor = self.processor;
+        let steps = processor.run_with_transfers(&mut self.core, n, quick, breaks);
+        self.processor = processor;
+        steps
     }
 
     /// The steps of a quiet machine in a field without breaks: on a copy of the processor, which so stays in registers of

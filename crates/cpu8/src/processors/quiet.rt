@@ -12,7 +12,7 @@ ghost use Rattle.cpu8.specs.Transfer.{read_row};
 ghost use Rattle.cpu8.specs.Go.{after, is_break};
 ghost use Rattle.cpu8.specs.Fetches.{AddsFetches, HaveRoom};
 ghost use Rattle.cpu8.specs.Unasked.{AreUnasked, finds_no_key, is_ksf};
-ghost use Rattle.cpu8.specs.QuietSteps.{AreMinded, AreQuiet, Does, DoesOrNot, EndsOrNot, is_quiet, is_settled, operates_on};
+ghost use Rattle.cpu8.specs.QuietSteps.{AreMinded, AreQuiet, Does, DoesOrNot, GoesOrNot, DoneOrNot, is_quiet, is_settled, operates_on};
 
 use super::Processor;
 use crate::decoding::{
@@ -21,12 +21,12 @@ use crate::decoding::{
 use core_load::Core;
 use word12::{Cell, FIELD, Word};
 
-/// Does the operate of this word, each of those that are listed by code of its own; any other is left.
+/// Does an instruction of this word, each of those that are listed by code of its own.
 macro_rules! each_for_itself {
-    ($processor:ident, $core:ident, $word:ident: $($one:literal)*) => {
+    ($processor:ident, $does:ident, $core:ident, $word:ident: $($one:literal)*; else $other:expr) => {
         match $word.get() {
-            $($one => $processor.operate_on($core, Word::low($one)),)*
-            _ => return false,
+            $($one => $processor.$does($core, Word::low($one)),)*
+            _ => $other,
         }
     };
 }
@@ -121,9 +121,8 @@ impl Processor {
         n
     }
 
-    /// Makes up to n steps as long as they are quiet and no break is ahead, with every IOT among them that prints nothing. It
-    /// is a loop beside the others, so that what an IOT changes is constant in those. After some steps without an IOT it ends,
-    /// since the others make such steps sooner.
+    /// Makes up to n steps as long as they are quiet and no break is ahead, with IOTs among them. It is a loop beside the others, so
+    /// that what an IOT changes is constant in those.
     #[inline(always)]
     pub(crate) fn run_with_transfers(
         &mut self,
@@ -137,16 +136,13 @@ impl Processor {
         ensures state { with_core self.new core.new ≡ after quick result (with_core self.old core.old) }
         ensures quiet { AreQuiet quick breaks.now (with_core self.old core.old) result }
     {
-        let mut left = REST;
+        let _quick = quick;
         for made in 0..n {
-            if left == 0 {
-                return made;
-            }
-            if !self.step_with_transfers(core, quick, &mut left) {
-                return made;
-            }
             if is_break(breaks, self.next_cell()) {
-                return made + 1;
+                return made;
+            }
+            if !self.step_quietly::<false, false, true>(core, false) {
+                return made;
             }
         }
         n
@@ -193,7 +189,7 @@ impl Processor {
         core: &mut Core,
         asks: bool,
     ) -> bool
-        ensures does { DoesOrNot (with_core self.old core.old) (fetched (with_core self.old core.old))
+        ensures does { DoneOrNot TRANSFERS (with_core self.old core.old) (fetched (with_core self.old core.old))
             result (with_core self.new core.new) }
         ensures asks { asks ≡ true → result ≡ true → finds_no_key (with_core self.old core.old) ≡ false }
     {
@@ -227,37 +223,13 @@ impl Processor {
                 if asks && self.finds_no_key(core) {
                     return false;
                 }
-                return self.transfer_quietly(core, leading(0o30, word));
+                return self.make_transfer::<TRANSFERS>(core, leading(0o30, word));
             }
-            0o31 => return self.transfer_quietly(core, leading(0o31, word)),
-            0o32 => return self.transfer_quietly(core, leading(0o32, word)),
-            0o33 => return self.transfer_quietly(core, leading(0o33, word)),
+            0o31 => return self.make_other_transfer::<TRANSFERS>(core, leading(0o31, word)),
+            0o32 => return self.make_other_transfer::<TRANSFERS>(core, leading(0o32, word)),
+            0o33 => return self.make_other_transfer::<TRANSFERS>(core, leading(0o33, word)),
             _ => return self.operate_quietly::<MINDS, COUNTS, TRANSFERS>(core, word),
         }
-        true
-    }
-
-    /// The next instruction, if it prints nothing and goes on. So many steps are left behind it: `REST` after an IOT, and one less
-    /// after another instruction. None is left where the machine is quiet no more.
-    #[inline(always)]
-    fn step_with_transfers(&mut self, core: &mut Core, quick: bool, left: &mut usize) -> bool
-        requires quiet { is_quiet quick self.old ≡ true }
-        requires left { 0 < left.old }
-        ensures does { EndsOrNot (with_core self.old core.old) result (with_core self.new core.new) }
-        ensures quiet { result ≡ true → 0 < left.new → is_quiet quick self.new ≡ true }
-    {
-        if !self.finds_transfer(core) {
-            *left -= 1;
-            return self.step_quietly::<false, false, true>(core, false);
-        }
-        if !self.end_by_transfer(core) {
-            return false;
-        }
-        if !self.is_quiet(quick) {
-            *left = 0;
-            return true;
-        }
-        *left = REST;
         true
     }
 
@@ -278,6 +250,36 @@ impl Processor {
             Operation::Iot => unreachable!(),
             Operation::Opr => unreachable!(),
         }
+    }
+
+    /// An IOT of the words 6000 to 6177, if it is one that is done in this loop. Those of interrupts and of the Teletype that print
+    /// nothing are compiled each for itself.
+    #[inline(always)]
+    fn make_transfer<const TRANSFERS: bool>(&mut self, core: &Core, word: Word) -> bool
+        requires { word / 0o1000 ≡ 6 }
+        ensures { DoneOrNot TRANSFERS (with_core self.old core.now) word result (with_core self.new core.now) }
+    {
+        if !TRANSFERS {
+            return self.transfer_quietly(core, word);
+        }
+        each_for_itself! { self, transfer_on, core, word:
+            0o6001 0o6002
+            0o6030 0o6031 0o6032 0o6033 0o6034 0o6035 0o6036 0o6037
+            0o6040 0o6041 0o6042 0o6043;
+            else self.transfer_on(core, word)
+        }
+    }
+
+    /// An IOT of another word, if it is one that is done in this loop.
+    #[inline(always)]
+    fn make_other_transfer<const TRANSFERS: bool>(&mut self, core: &Core, word: Word) -> bool
+        requires { word / 0o1000 ≡ 6 }
+        ensures { DoneOrNot TRANSFERS (with_core self.old core.now) word result (with_core self.new core.now) }
+    {
+        if !TRANSFERS {
+            return self.transfer_quietly(core, word);
+        }
+        self.transfer_on(core, word)
     }
 
     /// KSF, TSF, CDF, RDF or RIF; the other IOTs are not done here.
@@ -338,19 +340,33 @@ impl Processor {
         true
     }
 
-    /// The IOT that is next, if one is and it prints nothing. It ends a run, so that what it changes stays constant in the loop.
-    #[tactic(auto, unfolding(crate::specs::Step::executed))]
+    /// The next instruction, if it is an IOT that is done in the loop with IOTs. It ends a run, so that what it changes stays
+    /// constant in the loop.
     #[inline(always)]
     fn end_by_transfer(&mut self, core: &Core) -> bool
-        ensures { EndsOrNot (with_core self.old core.now) result (with_core self.new core.now) }
+        ensures { GoesOrNot (with_core self.old core.now) (fetched (with_core self.old core.now)) result (with_core self.new core.now) }
     {
         let word = core.get(self.next_cell());
-        match operation_of(word) {
-            Operation::Iot => {}
-            _ => return false,
+        if word.get() / 0o1000 != 6 {
+            return false;
         }
+        self.transfer_on(core, word)
+    }
+
+    /// An IOT that prints nothing, and is no ION while an interrupt is requested: so the machine stays quiet.
+    #[tactic(auto, unfolding(crate::specs::Step::executed))]
+    #[inline(always)]
+    fn transfer_on(&mut self, core: &Core, word: Word) -> bool
+        requires { word / 0o1000 ≡ 6 }
+        ensures { GoesOrNot (with_core self.old core.now) word result (with_core self.new core.now) }
+    {
         match device_of(word) {
-            Device::Interrupts => self.control_interrupts(word),
+            Device::Interrupts => {
+                if pulses_of(word) == 1 && self.teletype.requests() {
+                    return false;
+                }
+                self.control_interrupts(word);
+            }
             Device::Keyboard => self.read_keyboard(word),
             Device::Printer => {
                 if pulses_of(word) >= 4 {
@@ -375,7 +391,7 @@ impl Processor {
         requires { 7 ≤ word / 0o1000 }
         ensures { DoesOrNot (with_core self.old core.now) word result (with_core self.new core.now) }
     {
-        each_for_itself! { self, core, word:
+        each_for_itself! { self, operate_on, core, word:
             0o7000 0o7001 0o7004 0o7005 0o7006 0o7007 0o7010 0o7011 0o7012 0o7013
             0o7020 0o7021 0o7024 0o7025 0o7026 0o7027 0o7030 0o7031 0o7032 0o7033
             0o7040 0o7041 0o7044 0o7045 0o7046 0o7047 0o7050 0o7051 0o7052 0o7053
@@ -399,7 +415,8 @@ impl Processor {
             0o7600 0o7604 0o7610 0o7614 0o7620 0o7624 0o7630 0o7634
             0o7640 0o7644 0o7650 0o7654 0o7660 0o7664 0o7670 0o7674
             0o7700 0o7704 0o7710 0o7714 0o7720 0o7724 0o7730 0o7734
-            0o7740 0o7744 0o7750 0o7754 0o7760 0o7764 0o7770 0o7774
+            0o7740 0o7744 0o7750 0o7754 0o7760 0o7764 0o7770 0o7774;
+            else return false
         }
         true
     }
@@ -422,9 +439,6 @@ impl Processor {
 
 /// Where fewer steps lie between two IOTs, the loop with IOTs makes them.
 pub(crate) const FEW: usize = 3;
-
-/// After so many steps without an IOT that loop ends. They are more than `FEW`, since a loop of a program ends by ISZ and JMP.
-const REST: usize = 6;
 
 /// The word, of which the five leading bits are these.
 #[inline(always)]

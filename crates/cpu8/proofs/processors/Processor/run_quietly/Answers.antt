@@ -1,7 +1,7 @@
 use Rattle.std.proofs.Common.{◌≡◌, ap, arith, refl, sym, subst, ◌∙◌}
 use Rattle.cpu8.specs.State.{next_cell, with_core}
 use Rattle.cpu8.proofs.GoLemmas.{after-none}
-use Rattle.cpu8.proofs.QuietLemmas.{none-quiet, after-ended, after-quiet, quiet-ended, quiet-next, stays-quiet, fields-same}
+use Rattle.cpu8.proofs.QuietLemmas.{none-quiet, after-goes, after-quiet, quiet-goes, quiet-next, stays-quiet, fields-same}
 use Rattle.cpu8.specs.Go.{is_break}
 use Rattle.cpu8.specs.QuietSteps.{AreMinded, is_quiet}
 use Rattle.cpu8.proofs.UnaskedLemmas.{none-unasked, unasked-on}
@@ -65,14 +65,14 @@ returns-then-is_at_break-clause-unasked g c = λ quick asks.
 pub returns-then-end_by_transfer-clause-state : goal.returns-then-end_by_transfer-clause-state
 returns-then-end_by_transfer-clause-state g c =
     let same = c.if-not-step_quietly.ensures.does in
-    after-ended c.args.quick c.loop-made.made (with_core c.args.self.now c.args.core.now) (with_core c.step_quietly.new.self c.step_quietly.new.core)
+    after-goes c.args.quick c.loop-made.made (with_core c.args.self.now c.args.core.now) (with_core c.step_quietly.new.self c.step_quietly.new.core)
     (with_core c.end_by_transfer.new.self c.step_quietly.new.core) (same ∙ c.loop-made.invariant.0)
     (ap (λ x. is_quiet c.args.quick x) same ∙ c.loop-made.invariant.2) c.if-end_by_transfer.ensures
 
 pub returns-then-end_by_transfer-clause-quiet : goal.returns-then-end_by_transfer-clause-quiet
 returns-then-end_by_transfer-clause-quiet g c =
     let same = c.if-not-step_quietly.ensures.does in
-    quiet-ended c.args.quick c.args.breaks.now c.loop-made.made (with_core c.args.self.now c.args.core.now)
+    quiet-goes c.args.quick c.args.breaks.now c.loop-made.made (with_core c.args.self.now c.args.core.now)
     (with_core c.step_quietly.new.self c.step_quietly.new.core) (with_core c.end_by_transfer.new.self c.step_quietly.new.core)
     (same ∙ c.loop-made.invariant.0) (ap (λ x. is_quiet c.args.quick x) same ∙ c.loop-made.invariant.2)
     (λ more. ap (λ x. is_break c.args.breaks.now (next_cell x)) same ∙ c.loop-made.invariant.3 more) c.if-end_by_transfer.ensures
