@@ -25,6 +25,7 @@ export class Machine {
     isPrinting = false;
     printed = 0;
     listedAt = 0;
+    watchedAt = 0;
     reply = '';
     /** @type {Map<string, string>} */
     names = new Map();
@@ -279,6 +280,8 @@ export class Machine {
     // The words of the cells that are watched, each given by its name or its address.
     async #watch() {
         const asked = $('watch').value.toUpperCase().match(/[A-Z0-9]+/g) ?? [];
+        this.watchedAt = performance.now();
+        if (!asked.length) return $('watched').replaceChildren();
         const cells = asked.map(it => ({ it, cell: this.names.get(it) ?? (/^[0-7]{1,5}$/.test(it) ? it.padStart(5, '0') : null) }));
         const replies = await this.#ask(...cells.map(({ cell }) => cell ? `EXAMINE ${cell}` : 'REGISTERS'), 'REGISTERS');
         if (!replies) return;
@@ -300,6 +303,7 @@ export class Machine {
             const before = this.total;
             why = await this.#picture(due, now + PICTURE);
             made += this.total - before;
+            if (now - this.watchedAt > 100) await this.#watch();
             if (now - told > 500) {
                 $('rate').textContent = `${rateOf(made / (now - told))} steps a second`;
                 told = now;

@@ -1,7 +1,7 @@
 // What a Model 33 sounds like: its bell, and the clatter of its characters. Each has a switch, and is off until it is switched on.
 import { $, ids, keepInput } from './dom.js';
 
-// How long a bell and a character sound, in seconds, and how many characters clatter in a second at most.
+// How long a bell and a character sound, in seconds, and how many of either sound in a second at most.
 const BELL = 0.5, STROKE = 0.03, MOST = 12;
 
 export class Sound {
@@ -10,6 +10,7 @@ export class Sound {
     /** @type {AudioBuffer | null} */
     #noise = null;
     #last = 0;
+    #rung = -Infinity;
 
     /** @param {import('./store.js').Store} store */
     constructor(store) {
@@ -36,6 +37,8 @@ export class Sound {
 
     ring() {
         if (!$('bell').checked) return;
+        if (performance.now() - this.#rung < 1000 / MOST) return;
+        this.#rung = performance.now();
         const audio = this.#context(), tone = audio.createOscillator();
         tone.frequency.value = 2300;
         this.#sound(audio, tone, 0.12, BELL);

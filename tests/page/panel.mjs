@@ -148,6 +148,17 @@ await run('panel', {
         await page.go(`${url}?again`);
         await page.until(`document.getElementById('watched').textContent.startsWith('COUNT')`);
     },
+    'what is watched shows while the machine goes': async (page, url) => {
+        await page.go(url);
+        await toCore(page, '*200\nA,\tISZ COUNT\n\tJMP A\n\tJMP A\nCOUNT,\t0\n$\n');
+        await page.fill('#watch', 'COUNT');
+        await page.key('Tab');
+        await page.until(`document.getElementById('watched').textContent === 'COUNT0000'`);
+        await page.click('#key-start');
+        await page.until(`geivottu.machine.isGoing && document.getElementById('watched').textContent !== 'COUNT0000'`);
+        await page.click('#key-stop');
+        await isTold(page, 'machine-status', 'stopped by the key');
+    },
     'each control has 24 pixels, and an edge of 3:1, light and dark': async (page, url) => {
         await page.go(url);
         await page.click('button[data-run="disk"]');

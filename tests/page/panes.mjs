@@ -538,7 +538,8 @@ async function pictures(page, server) {
     await shot('source-dark');
     await page.scheme('light');
     await pane(page, 'machine');
-    await page.look(`geivottu.shelf.run('lights')`);
+    await page.look(`void geivottu.shelf.run('lights')`);
+    await page.until('geivottu.machine.isGoing');
     await page.fill('#watch', 'SHOWN TIMES 00245');
     await page.look(`document.querySelector('#code [data-cell="00226"] button').focus()`);
     await pause(2500);
