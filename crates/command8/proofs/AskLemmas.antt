@@ -17,9 +17,9 @@ use Rattle.task8.specs.declared.tasks.Task.{Task}
 use Rattle.word12.specs.Octal.{octal_from, octal_of}
 use Rattle.word12.specs.declared.sizes.TheConstants.{MOST_BLOCKS}
 use Rattle.command8.specs.declared.table.Verb.TheVariants as verb
-use Rattle.command8.specs.Found.{digits_from, is_set, layout_of, number_in, number_of, place_of, values_of, volume_of, within}
+use Rattle.command8.specs.Found.{digits_from, is_set, layout_of, number_in, number_of, place_of, values_of, volume_of, wait_of, within}
 use Rattle.command8.specs.Refusals.{blocks_word, puts_many}
-use Rattle.command8.specs.Tasks.{AsksFor, IsAssembleOf, IsAt, IsCheckOf, IsCopyOf, IsCreateOf, IsCreateTapeOf, IsDeleteOf, IsFile, IsGetBinOf, IsGetBlocksOf, IsGetManyOf, IsGetOf, IsImage, IsImageOf, IsListLongOf, IsListOf, IsNamed, IsPlain, IsProfileOf, IsPutManyOf, IsPutOf, IsRenameOf, IsRimOf, IsRunOf, IsSourceOf, IsSqueezeOf, IsTape, IsTeletypeOf, IsTraceForm, IsTraceFormOf, IsTraceOf, IsVolume, after, get_form, put_form, rim_form, saving_of}
+use Rattle.command8.specs.Tasks.{AsksFor, IsAssembleOf, IsAt, IsCheckOf, IsCopyOf, IsCreateOf, IsCreateTapeOf, IsDeleteOf, IsFile, IsGetBinOf, IsGetBlocksOf, IsGetManyOf, IsGetOf, IsChanged, IsImageOf, IsSeen, IsListLongOf, IsListOf, IsNamed, IsPlain, IsProfileOf, IsPutManyOf, IsPutOf, IsRenameOf, IsRimOf, IsRunOf, IsSourceOf, IsSqueezeOf, IsTape, IsTeletypeOf, IsTraceForm, IsTraceFormOf, IsTraceOf, IsVolume, after, get_form, put_form, rim_form, saving_of}
 use Rattle.command8.proofs.EnteredLemmas.{Seen, a_assemble, a_check, a_copy, a_create, a_create_tape, a_delete, a_get, a_get_bin, a_get_blocks, a_get_many, a_list, a_list_long, a_profile, a_put, a_put_many, a_rename, a_rim, a_run, a_source, a_squeeze, a_tape, a_teletype, a_trace}
 use Rattle.command8.proofs.NumberLemmas.{none_some}
 use Rattle.command8.proofs.UseLemmas.{IsNoOption}
@@ -153,8 +153,15 @@ volume_told text Dectape is = absurd is
 
 -- the image that is asked for
 pub image_is : (image : Text) (layout : Option Layout) (rows : List Row) (own : ImageForm) → first_of (codes "IMAGE") rows ≡ Some image
-    → layout_of (codes "volume") (codes "dectape") rows ≡ layout → IsImage rows own → IsImageOf image layout own
-image_is image layout rows own named placed is = (some_eq own.file.bytes.items image (sym is.0 ∙ named), sym is.1 ∙ placed)
+    → layout_of (codes "volume") (codes "dectape") rows ≡ layout → IsSeen rows own → IsImageOf image layout own
+image_is image layout rows own named placed is = (some_eq own.file.bytes.items image (sym is.0 ∙ named), sym is.1 ∙ placed, is.2)
+
+-- one that may be changed, after so many seconds
+changed_is : (image : Text) (layout : Option Layout) (wait : ℕ) (rows : List Row) (own : ImageForm) → first_of (codes "IMAGE") rows ≡ Some image
+    → layout_of (codes "volume") (codes "dectape") rows ≡ layout → wait_of rows ≡ wait → IsChanged rows own
+    → (own.file.bytes.items ≡ image) × (own.layout ≡ layout) × (own.wait ≡ wait)
+changed_is image layout wait rows own named placed waits is =
+    (some_eq own.file.bytes.items image (sym is.0 ∙ named), sym is.1 ∙ placed, is.2 ∙ waits)
 
 abbrev told_list : List Row → Option Text × Option Layout × Bool
 told_list rows = (first_of (codes "IMAGE") rows, layout_of (codes "volume") (codes "dectape") rows, is_set (codes "long") rows)
@@ -178,19 +185,20 @@ asks_check images layout is_all rows is task (a_check form) asks =
     (sym asks.1.0 ∙ ap (λ p. p.0) is, sym asks.1.1 ∙ ap (λ p. p.1) is, asks.1.2 ∙ ap (λ p. p.2) is)
 
 -- the image, where it lies, when it is written, and whether refusals are faults
-abbrev told_run : List Row → Option Text × Option Layout × Saving × Bool
+abbrev told_run : List Row → Option Text × Option Layout × Saving × Bool × ℕ
 told_run rows = (
   first_of (codes "IMAGE") rows,
   layout_of (codes "volume") (codes "dectape") rows,
   saving_of rows,
   is_set (codes "strict") rows,
+  wait_of rows,
 )
 
 pub asks_run : (image : Text) (layout : Option Layout) (saving : Saving) (is_strict : Bool) (rows : List Row)
-    → told_run rows ≡ (Some image, layout, saving, is_strict) → (task : Task) → Seen verb.Run task → AsksFor verb.Run rows task
+    → told_run rows ≡ (Some image, layout, saving, is_strict, 0) → (task : Task) → Seen verb.Run task → AsksFor verb.Run rows task
     → IsRunOf image layout saving is_strict task
 asks_run image layout saving is_strict rows is task (a_run own form) asks = (
-  image_is image layout rows own (ap (λ p. p.0) is) (ap (λ p. p.1) is) asks.1,
+  changed_is image layout 0 rows own (ap (λ p. p.0) is) (ap (λ p. p.1) is) (ap (λ p. p.4) is) asks.1,
   asks.2.0 ∙ ap (λ p. p.2) is,
   asks.2.1 ∙ ap (λ p. p.3) is,
 )
@@ -211,9 +219,12 @@ pub asks_create_tape : (image : Text) (rows : List Row) → told_create rows ≡
 asks_create_tape image rows is task (a_create own count) asks = absurd (true≢false (sym (ap (λ p. p.2) is) ∙ asks.2))
 asks_create_tape image rows is task (a_create_tape own) asks = some_eq own.bytes.items image (sym asks.1 ∙ ap (λ p. p.0) is)
 
-pub asks_squeeze : (image : Text) (rows : List Row) → first_of (codes "IMAGE") rows ≡ Some image → layout_of (codes "volume") (codes "dectape") rows ≡ None
-    → (task : Task) → Seen verb.Squeeze task → AsksFor verb.Squeeze rows task → IsSqueezeOf image task
-asks_squeeze image rows named placed task (a_squeeze own) asks = image_is image None rows own named placed asks.1
+abbrev told_squeeze : List Row → Option Text × Option Layout × ℕ
+told_squeeze rows = (first_of (codes "IMAGE") rows, layout_of (codes "volume") (codes "dectape") rows, wait_of rows)
+
+pub asks_squeeze : (image : Text) (wait : ℕ) (rows : List Row) → told_squeeze rows ≡ (Some image, None, wait)
+    → (task : Task) → Seen verb.Squeeze task → AsksFor verb.Squeeze rows task → IsSqueezeOf image wait task
+asks_squeeze image wait rows is task (a_squeeze own) asks = changed_is image None wait rows own (ap (λ p. p.0) is) (ap (λ p. p.1) is) (ap (λ p. p.2) is) asks.1
 
 -- ## Files
 
@@ -299,7 +310,7 @@ asks_get_blocks image first count rows is one two how task (a_get_blocks form) a
 )
 
 -- the image, where it lies, the first file, the name that it gets, whether several are put, and whether files may be emptied
-abbrev told_put : List Row → Option Text × Option Layout × Option Text × Option Text × Bool × Bool
+abbrev told_put : List Row → Option Text × Option Layout × Option Text × Option Text × Bool × Bool × ℕ
 told_put rows = (
   first_of (codes "IMAGE") rows,
   layout_of (codes "volume") (codes "dectape") rows,
@@ -307,14 +318,15 @@ told_put rows = (
   first_of (codes "as") rows,
   puts_many rows,
   is_set (codes "empty") rows,
+  wait_of rows,
 )
 
 pub asks_put : (image file member : Text) (form : PutForm) (info : Option (List ℕ)) (rows : List Row)
-    → told_put rows ≡ (Some image, None, Some file, Some member, false, false) → put_form rows ≡ form
+    → told_put rows ≡ (Some image, None, Some file, Some member, false, false, 0) → put_form rows ≡ form
     → ((given : Option (List ℕ)) → option_map (map (octal_of 4)) (all_of (codes "info") rows) ≡ option_map (map (λ word. Some word)) given → given ≡ info)
     → (task : Task) → Seen verb.Put task → AsksFor verb.Put rows task → IsPutOf image file member form info task
 asks_put image file member form info rows is how info_is task (a_put own) asks = (
-  image_is image None rows own.image (ap (λ p. p.0) is) (ap (λ p. p.1) is) asks.2.0,
+  changed_is image None 0 rows own.image (ap (λ p. p.0) is) (ap (λ p. p.1) is) (ap (λ p. p.6) is) asks.2.0,
   some_eq own.file.bytes.items file (sym asks.2.1 ∙ ap (λ p. p.2) is),
   some_eq own.name.bytes.items member (sym asks.2.2 ∙ ap (λ p. p.3) is),
   asks.2.3 ∙ how,
@@ -341,11 +353,11 @@ told_files rows = (
   all_of (codes "info") rows,
 )
 
-pub asks_put_many : (image first : Text) (files : List Text) (rows : List Row) → told_put rows ≡ (Some image, None, Some first, None, true, false)
+pub asks_put_many : (image first : Text) (files : List Text) (rows : List Row) → told_put rows ≡ (Some image, None, Some first, None, true, false, 0)
     → told_files rows ≡ (files, false, [], None) → (task : Task) → Seen verb.Put task → AsksFor verb.Put rows task → IsPutManyOf image files task
 asks_put_many image first files rows is many task (a_put own) asks = absurd (true≢false (sym (ap (λ p. p.4) is) ∙ asks.1))
 asks_put_many image first files rows is many task (a_put_many form) asks = (
-  image_is image None rows form.image (ap (λ p. p.0) is) (ap (λ p. p.1) is) asks.2.0,
+  changed_is image None 0 rows form.image (ap (λ p. p.0) is) (ap (λ p. p.1) is) (ap (λ p. p.6) is) asks.2.0,
   sym asks.2.1 ∙ ap (λ p. p.0) many,
   asks.2.2.0 ∙ ap (λ p. p.1) many,
   sym asks.2.2.1 ∙ ap (λ p. p.2) many,
@@ -354,49 +366,51 @@ asks_put_many image first files rows is many task (a_put_many form) asks = (
       (sym (no_info (option_map (λ words. words.items) form.info) (sym (ap (λ p. option_map (map (octal_of 4)) p.3) many) ∙ asks.2.4))),
 )
 
-abbrev told_delete : List Row → Option Text × Option Layout × List Text
-told_delete rows = (first_of (codes "IMAGE") rows, layout_of (codes "volume") (codes "dectape") rows, values_of (codes "NAME") rows)
+abbrev told_delete : List Row → Option Text × Option Layout × List Text × ℕ
+told_delete rows = (first_of (codes "IMAGE") rows, layout_of (codes "volume") (codes "dectape") rows, values_of (codes "NAME") rows, wait_of rows)
 
-pub asks_delete : (image : Text) (files : List Text) (places : List ℕ) (rows : List Row) → told_delete rows ≡ (Some image, None, files)
+pub asks_delete : (image : Text) (files : List Text) (places : List ℕ) (rows : List Row) → told_delete rows ≡ (Some image, None, files, 0)
     → ((given : List ℕ) → map place_of (values_of (codes "at") rows) ≡ map (λ place. Some place) given → given ≡ places) → (task : Task)
     → Seen verb.Delete task → AsksFor verb.Delete rows task → IsDeleteOf image files places task
 asks_delete image files places rows is places_are task (a_delete form) asks = (
-  image_is image None rows form.image (ap (λ p. p.0) is) (ap (λ p. p.1) is) asks.1.0,
+  changed_is image None 0 rows form.image (ap (λ p. p.0) is) (ap (λ p. p.1) is) (ap (λ p. p.3) is) asks.1.0,
   sym asks.1.1 ∙ ap (λ p. p.2) is,
   places_are form.places.items asks.1.2,
 )
 
-abbrev told_rename : List Row → Option Text × Option Layout × Option Text
+abbrev told_rename : List Row → Option Text × Option Layout × Option Text × ℕ
 told_rename rows = (
   first_of (codes "IMAGE") rows,
   layout_of (codes "volume") (codes "dectape") rows,
   first_of (after (codes "NAME") (codes "NEW") rows) rows,
+  wait_of rows,
 )
 
-pub asks_rename : (image : Text) (IsIt : FileForm → Type 0) (new : Text) (rows : List Row) → told_rename rows ≡ (Some image, None, Some new)
+pub asks_rename : (image : Text) (IsIt : FileForm → Type 0) (new : Text) (rows : List Row) → told_rename rows ≡ (Some image, None, Some new, 0)
     → ((file : FileForm) → IsFile rows file → IsIt file) → (task : Task) → Seen verb.Rename task → AsksFor verb.Rename rows task
     → IsRenameOf image IsIt new task
 asks_rename image IsIt new rows is it task (a_rename own member other) asks = (
-  image_is image None rows own (ap (λ p. p.0) is) (ap (λ p. p.1) is) asks.1,
+  changed_is image None 0 rows own (ap (λ p. p.0) is) (ap (λ p. p.1) is) (ap (λ p. p.3) is) asks.1,
   it member asks.2,
   some_eq other.bytes.items new (sym asks.3 ∙ ap (λ p. p.2) is),
 )
 
-abbrev told_copy : List Row → Option Text × Option Layout × Option Text × Option Layout × Option Text
+abbrev told_copy : List Row → Option Text × Option Layout × Option Text × Option Layout × Option Text × ℕ
 told_copy rows = (
   first_of (codes "IMAGE") rows,
   layout_of (codes "volume") (codes "dectape") rows,
   first_of (after (codes "NAME") (codes "TO") rows) rows,
   layout_of (codes "to-volume") (codes "to-dectape") rows,
   first_of (after (codes "TO") (codes "NEW") rows) rows,
+  wait_of rows,
 )
 
 pub asks_copy : (image : Text) (IsIt : FileForm → Type 0) (to : Text) (layout : Option Layout) (new : Option Text) (rows : List Row)
-    → told_copy rows ≡ (Some image, None, Some to, layout, new) → ((file : FileForm) → IsFile rows file → IsIt file) → (task : Task)
+    → told_copy rows ≡ (Some image, None, Some to, layout, new, 0) → ((file : FileForm) → IsFile rows file → IsIt file) → (task : Task)
     → Seen verb.Copy task → AsksFor verb.Copy rows task → IsCopyOf image IsIt to layout new task
 asks_copy image IsIt to layout new rows is it task (a_copy form) asks = (
   image_is image None rows form.image (ap (λ p. p.0) is) (ap (λ p. p.1) is) asks.1.0,
   it form.file asks.1.1,
-  (some_eq form.to.file.bytes.items to (sym asks.1.2 ∙ ap (λ p. p.2) is), sym asks.1.3 ∙ ap (λ p. p.3) is),
-  sym asks.1.4 ∙ ap (λ p. p.4) is,
+  (some_eq form.to.file.bytes.items to (sym asks.1.2 ∙ ap (λ p. p.2) is), sym asks.1.3 ∙ ap (λ p. p.3) is, asks.1.4 ∙ ap (λ p. p.5) is),
+  sym asks.1.5 ∙ ap (λ p. p.4) is,
 )

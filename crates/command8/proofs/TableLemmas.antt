@@ -10,7 +10,7 @@ use Rattle.clap.specs.Lexer.{usize_max}
 use Rattle.clap.specs.Walk.{Row, Rule, Text, arg_by_id, rows_after}
 use Rattle.clap.specs.Simple.{Shape, filled, filled_from, help_rule, index_after, with_index}
 use Rattle.command8.specs.declared.table.Kind.{Kind}
-use Rattle.command8.specs.declared.table.Kind.TheVariants.{Word, Words, Size, Flag, Value, Values, Count, Cell, Cells, Octal, Octals, Volume, Block, Blocks}
+use Rattle.command8.specs.declared.table.Kind.TheVariants.{Word, Words, Size, Flag, One, Many, Count}
 use Rattle.command8.specs.Tables.{Argument, Entry, are_distinct, kind_rule, leaf_shape, most_steps, rows_for, rule_for, rules_for}
 use Rattle.command8.specs.TableSteps.{can_be_required, ids_of, is_fit, is_sound}
 use Rattle.command8.specs.Found.{values_of}
@@ -85,16 +85,9 @@ part_of c i id required (Words most) fits own = a_word (record {
 })
 part_of c i id required Size fits own = a_word (record { placed = refl; some = (refl, refl); bare = refl; own = own })
 part_of c i id required Flag fits own = a_flag (record { bare = refl; set = refl; own = own; no_letter = λ x. refl })
-part_of c i id required Value fits own = an_option (record { takes = refl; some = (refl, refl); bare = refl; own = own; no_letter = λ x. refl })
+part_of c i id required (One form) fits own = an_option (record { takes = refl; some = (refl, refl); bare = refl; own = own; no_letter = λ x. refl })
 part_of c i id required Count fits own = an_option (record { takes = refl; some = (refl, refl); bare = refl; own = own; no_letter = λ x. refl })
-part_of c i id required Cell fits own = an_option (record { takes = refl; some = (refl, refl); bare = refl; own = own; no_letter = λ x. refl })
-part_of c i id required Octal fits own = an_option (record { takes = refl; some = (refl, refl); bare = refl; own = own; no_letter = λ x. refl })
-part_of c i id required Volume fits own = an_option (record { takes = refl; some = (refl, refl); bare = refl; own = own; no_letter = λ x. refl })
-part_of c i id required Block fits own = an_option (record { takes = refl; some = (refl, refl); bare = refl; own = own; no_letter = λ x. refl })
-part_of c i id required Values fits own = an_appending (record { takes = refl; appends = refl; bare = refl; own = own; no_letter = λ x. refl })
-part_of c i id required Cells fits own = an_appending (record { takes = refl; appends = refl; bare = refl; own = own; no_letter = λ x. refl })
-part_of c i id required Octals fits own = an_appending (record { takes = refl; appends = refl; bare = refl; own = own; no_letter = λ x. refl })
-part_of c i id required Blocks fits own = an_appending (record { takes = refl; appends = refl; bare = refl; own = own; no_letter = λ x. refl })
+part_of c i id required (Many form) fits own = an_appending (record { takes = refl; appends = refl; bare = refl; own = own; no_letter = λ x. refl })
 
 all_parts : (c : List Rule) (i : ℕ) (rows : List Argument) → list_all (λ row. is_fit row.kind) rows ≡ true
     → AllOwn c (filled_from i (rules_for rows ++ help_rule ∷ [])) → AllParts c (filled_from i (rules_for rows ++ help_rule ∷ []))
@@ -143,17 +136,10 @@ row_holds s leaf i id required kind fits can own words none = (where_required re
     where_required true (Words most) fits can own =
         has_word s leaf (built_rule i id (Words most) true) own refl (rw (some_not_all most fits) refl, refl) words none
     where_required true Size fits can own = has_word s leaf (built_rule i id Size true) own refl (refl, refl) words none
-    where_required true Value fits can own = has_word s leaf (built_rule i id Value true) own refl (refl, refl) words none
+    where_required true (One form) fits can own = has_word s leaf (built_rule i id (One form) true) own refl (refl, refl) words none
     where_required true Count fits can own = has_word s leaf (built_rule i id Count true) own refl (refl, refl) words none
-    where_required true Cell fits can own = has_word s leaf (built_rule i id Cell true) own refl (refl, refl) words none
-    where_required true Octal fits can own = has_word s leaf (built_rule i id Octal true) own refl (refl, refl) words none
-    where_required true Volume fits can own = has_word s leaf (built_rule i id Volume true) own refl (refl, refl) words none
-    where_required true Block fits can own = has_word s leaf (built_rule i id Block true) own refl (refl, refl) words none
     where_required true Flag fits can own = absurd (true≢false (sym can))
-    where_required true Values fits can own = absurd (true≢false (sym can))
-    where_required true Cells fits can own = absurd (true≢false (sym can))
-    where_required true Octals fits can own = absurd (true≢false (sym can))
-    where_required true Blocks fits can own = absurd (true≢false (sym can))
+    where_required true (Many form) fits can own = absurd (true≢false (sym can))
 
     some_where : (required : Bool) → HasWhere required id (rows_after s.rules [] words) → HasSomeWhere required id (rows_after s.rules [] words)
     some_where true has = some_values id (rows_after s.rules [] words) has
@@ -170,15 +156,8 @@ row_holds s leaf i id required kind fits can own words none = (where_required re
         up_to most (find (λ x. bytes_eq x.id id) (rows_after s.rules [] words))
         (λ r is. (fit s leaf (built_rule i id (Words most) required) own (rw (some_not_all most fits) refl) words none r is).0)
     taken Flag fits own = tt
-    taken Value fits own = tt
-    taken Values fits own = tt
-    taken Cell fits own = tt
-    taken Cells fits own = tt
-    taken Octal fits own = tt
-    taken Octals fits own = tt
-    taken Volume fits own = tt
-    taken Block fits own = tt
-    taken Blocks fits own = tt
+    taken (One form) fits own = tt
+    taken (Many form) fits own = tt
     taken Size fits own = has_number s leaf (built_rule i id Size required) own refl refl 8 MOST_BLOCKS refl refl words none
     taken Count fits own = has_number s leaf (built_rule i id Count required) own refl refl 1 most_steps refl refl words none
 

@@ -1,12 +1,14 @@
 -- What is read of the values that `clap` found for the arguments of a subcommand.
-use Rattle.std.specs.Prelude.{◌≡◌, ⊤, ◌≤◌, ◌+◌, ◌-◌, ◌*◌, ◌&&◌, ◌||◌, Bool, true, false, if◌then◌else◌, ℕ, nat_le, nat_lt, codes, is_some, length, List, [], ◌∷◌, Option, None, Some, option_map, slice_get, unwrap_or}
+use Rattle.std.specs.Prelude.{◌≡◌, ⊤, ◌≤◌, ◌+◌, ◌-◌, ◌*◌, ◌&&◌, ◌||◌, Bool, true, false, if◌then◌else◌, ℕ, nat_le, nat_lt, codes, is_some, length, List, [], ◌∷◌, Option, None, Some, option_and_then, option_map, slice_get, unwrap_or}
 use Rattle.std.specs.Option.{option_map_or}
 use Rattle.std.specs.Str.{bytes_eq}
 use Rattle.std.specs.Str.Parse.{digits_value, without_leading_plus}
 use Rattle.clap.specs.Words.{Row, Text, all_of, first_of, one_of, IsUnsignedIn}
 use Rattle.command8.specs.Tables.{Argument, most_steps}
 use Rattle.command8.specs.declared.table.Kind.{Kind}
-use Rattle.command8.specs.declared.table.Kind.TheVariants.{Word, Words, Size, Flag, Value, Values, Count, Cell, Cells, Octal, Octals, Volume, Block, Blocks}
+use Rattle.command8.specs.declared.table.Kind.TheVariants.{One, Many}
+use Rattle.command8.specs.declared.table.Form.{Form}
+use Rattle.command8.specs.declared.table.Form.TheVariants.{Text as a_text, Cell, Octal, Volume, Block, Seconds}
 use Rattle.word12.specs.Octal.{octal_of}
 use Rattle.word12.specs.declared.sizes.TheConstants.{MOST_BLOCKS}
 use Rattle.disk8.specs.declared.layouts.Layout.{Layout}
@@ -53,6 +55,10 @@ number_in least most text = within least most (number_of_digits text)
 abbrev pub place_of : Text → Option ℕ
 place_of text = number_in 0 MOST_BLOCKS text
 
+-- how many seconds are waited for a held image, none where it is not said
+abbrev pub wait_of : List Row → ℕ
+wait_of values = unwrap_or (option_and_then (number_in 0 3600) (first_of (codes "wait") values)) 0
+
 -- the number that decimal digits spell, after a plus sign if there is one
 abbrev pub number_of : Text → ℕ
 number_of text = digits_value 10 (without_leading_plus text)
@@ -74,32 +80,22 @@ volume_of text = if bytes_eq text (codes "1") then First else Second
 abbrev pub layout_of : Text → Text → List Row → Option Layout
 layout_of volume dectape values = if is_set dectape values then Some Dectape else option_map volume_of (first_of volume values)
 
--- ## Values that are none of their kind
+-- ## The forms of values
 
--- what a value is tested for: nothing, so many octal digits, a block, or the number of a disk's volume
-pub data Test : Type 0 where
-  a_text : Test
-  octal_digits : ℕ → Test
-  a_block : Test
-  a_volume : Test
+abbrev pub form_of : Kind → Form
+form_of (One form) = form
+form_of (Many form) = form
+form_of kind = a_text
 
-abbrev pub test_of : Kind → Test
-test_of Cell = octal_digits 5
-test_of Cells = octal_digits 5
-test_of Octal = octal_digits 4
-test_of Octals = octal_digits 4
-test_of Volume = a_volume
-test_of Block = a_block
-test_of Blocks = a_block
-test_of kind = a_text
-
-abbrev pub passes : Test → Text → Bool
+abbrev pub passes : Form → Text → Bool
 passes a_text text = true
-passes (octal_digits count) text = is_some (octal_of count text)
-passes a_block text = is_some (place_of text)
-passes a_volume text = bytes_eq text (codes "1") || bytes_eq text (codes "2")
+passes Cell text = is_some (octal_of 5 text)
+passes Octal text = is_some (octal_of 4 text)
+passes Volume text = bytes_eq text (codes "1") || bytes_eq text (codes "2")
+passes Block text = is_some (place_of text)
+passes Seconds text = is_some (number_in 0 3600 text)
 
--- the first of the values that does not pass
-abbrev pub first_not : Test → List Text → Option Text
-first_not test [] = None
-first_not test (text ∷ texts) = if passes test text then first_not test texts else Some text
+-- the first of the values that is none of a form
+abbrev pub first_not : Form → List Text → Option Text
+first_not form [] = None
+first_not form (text ∷ texts) = if passes form text then first_not form texts else Some text

@@ -9,7 +9,8 @@ use Rattle.clap.specs.declared.builder.action.ArgAction.TheVariants.{Append}
 use Rattle.command8.specs.declared.table.ArgumentOf.{ArgumentOf}
 use Rattle.command8.specs.declared.table.EntryOf.{EntryOf}
 use Rattle.command8.specs.declared.table.Kind.{Kind}
-use Rattle.command8.specs.declared.table.Kind.TheVariants.{Word, Words, Flag, Value, Values, Cells, Octals, Block, Blocks}
+use Rattle.command8.specs.declared.table.Kind.TheVariants.{Word, Words, Flag, One, Many}
+use Rattle.command8.specs.declared.table.Form.TheVariants.{Text as a_text, Block}
 use Rattle.command8.specs.Tables.{Argument, Entry, are_distinct, rows_for}
 
 abbrev pub row_of : ArgumentOf (Bor Text) → Argument
@@ -51,10 +52,7 @@ ids_of rows = map (λ row. row.id) rows
 -- what must be given is no list of an option, and no flag
 abbrev pub can_be_required : Kind → Bool
 can_be_required Flag = false
-can_be_required Values = false
-can_be_required Cells = false
-can_be_required Octals = false
-can_be_required Blocks = false
+can_be_required (Many form) = false
 can_be_required kind = true
 
 -- each kind fits, no two arguments have one name, and none is that of help
@@ -69,22 +67,22 @@ kind_at id rows = option_map (λ row. row.kind) (find (λ row. bytes_eq row.id i
 -- one that takes a text, and one that takes several
 abbrev pub takes_text : Option Kind → Bool
 takes_text (Some Word) = true
-takes_text (Some Value) = true
+takes_text (Some (One a_text)) = true
 takes_text kind = false
 
 abbrev pub takes_texts : Option Kind → Bool
 takes_texts (Some (Words most)) = true
-takes_texts (Some Values) = true
+takes_texts (Some (Many a_text)) = true
 takes_texts kind = false
 
 -- and one that takes one at least
 abbrev pub has_text : Option Kind → Bool
 has_text (Some Word) = true
-has_text (Some Value) = true
+has_text (Some (One a_text)) = true
 has_text kind = takes_texts kind
 
 -- and one that takes a block
 abbrev pub takes_block : Option Kind → Bool
-takes_block (Some Block) = true
-takes_block (Some Blocks) = true
+takes_block (Some (One Block)) = true
+takes_block (Some (Many Block)) = true
 takes_block kind = false

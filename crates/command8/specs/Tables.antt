@@ -12,7 +12,7 @@ use Rattle.word12.specs.declared.sizes.TheConstants.{MOST_BLOCKS}
 use Rattle.clap.specs.declared.builder.action.ArgAction.{ArgAction}
 use Rattle.clap.specs.declared.builder.action.ArgAction.TheVariants.{Append, SetTrue}
 use Rattle.command8.specs.declared.table.Kind.{Kind}
-use Rattle.command8.specs.declared.table.Kind.TheVariants.{Word, Words, Size, Flag, Value, Values, Count, Cell, Cells, Octal, Octals, Volume, Block, Blocks}
+use Rattle.command8.specs.declared.table.Kind.TheVariants.{Word, Words, Size, Flag, One, Many, Count}
 use Rattle.std.specs.Borrow.{Bor}
 use Rattle.command8.specs.declared.table.ArgumentOf.{ArgumentOf}
 use Rattle.command8.specs.declared.table.EntryOf.{EntryOf}
@@ -95,10 +95,7 @@ kind_long id kind = Some id
 
 abbrev pub kind_action : Kind → Option ArgAction
 kind_action Flag = Some SetTrue
-kind_action Values = Some Append
-kind_action Cells = Some Append
-kind_action Octals = Some Append
-kind_action Blocks = Some Append
+kind_action (Many form) = Some Append
 kind_action kind = None
 
 abbrev pub kind_range : Kind → Option ValueRange

@@ -40,7 +40,7 @@ use Rattle.command8.specs.declared.faults.TaskFault.TheVariants.{Words, Memory, 
 use Rattle.command8.specs.declared.refusals.Refusal.{Refusal}
 use Rattle.command8.specs.declared.table.Verb.{Verb}
 use Rattle.command8.specs.declared.table.Verb.TheVariants as verb
-use Rattle.command8.specs.Found.{IsOctalOf, has, is_limit, is_set, layout_of, number_in, number_of, place_of, values_of}
+use Rattle.command8.specs.Found.{IsOctalOf, has, is_limit, is_set, layout_of, number_in, number_of, place_of, values_of, wait_of}
 use Rattle.command8.specs.Refusals.{blocks_word, input_count, puts_many, refusal_of, said}
 use Rattle.command8.specs.Tables.{Entry, entry_named, pdp8}
 
@@ -103,10 +103,17 @@ IsTraceForm values form = (first_of (codes "TAPE") values ≡ Some form.file.byt
 
 -- ## The files of volumes
 
--- the file of a volume, and where in it
-abbrev pub IsImage : List Row → ImageForm → Type 0
-IsImage values image = (first_of (codes "IMAGE") values ≡ Some image.file.bytes.items)
-    × (layout_of (codes "volume") (codes "dectape") values ≡ image.layout)
+-- the file of a volume, where in it, and how many seconds are waited for it
+abbrev pub IsImage : ℕ → List Row → ImageForm → Type 0
+IsImage wait values image = (first_of (codes "IMAGE") values ≡ Some image.file.bytes.items)
+    × (layout_of (codes "volume") (codes "dectape") values ≡ image.layout) × (image.wait ≡ wait)
+
+-- one that is only looked at, and one that may be changed
+abbrev pub IsSeen : List Row → ImageForm → Type 0
+IsSeen values image = IsImage 0 values image
+
+abbrev pub IsChanged : List Row → ImageForm → Type 0
+IsChanged values image = IsImage (wait_of values) values image
 
 -- the file whose first block `--at` gives, else that of the name
 abbrev pub IsFile : List Row → FileForm → Type 0
@@ -133,7 +140,7 @@ IsInfo values info = option_map (map (octal_of 4)) (all_of (codes "info") values
 
 -- files are got so
 abbrev pub IsGetManyForm : List Row → GetManyForm → Type 0
-IsGetManyForm values form = IsImage values form.image
+IsGetManyForm values form = IsSeen values form.image
     × (values_of (codes "NAME") values ≡ map (λ name. name.bytes.items) form.names.items)
     × ArePlaces values form.places.items × (form.is_all ≡ is_set (codes "all") values)
     × (first_of (codes "into") values ≡ Some form.folder.bytes.items) × AreTexts values form.texts
@@ -141,33 +148,33 @@ IsGetManyForm values form = IsImage values form.image
 
 -- blocks are got so
 abbrev pub IsBlocksForm : List Row → BlocksForm → Type 0
-IsBlocksForm values form = IsImage values form.image × (number_in 0 4094 (blocks_word 0 values) ≡ Some form.first)
+IsBlocksForm values form = IsSeen values form.image × (number_in 0 4094 (blocks_word 0 values) ≡ Some form.first)
     × (number_in 1 MOST_BLOCKS (blocks_word 1 values) ≡ Some form.count) × (form.form ≡ get_form values)
 
 -- a file is put so under a name that is given
 abbrev pub IsPutOneForm : List Row → PutOneForm → Type 0
-IsPutOneForm values form = IsImage values form.image × (first_of (codes "FILE") values ≡ Some form.file.bytes.items)
+IsPutOneForm values form = IsChanged values form.image × (first_of (codes "FILE") values ≡ Some form.file.bytes.items)
     × (first_of (codes "as") values ≡ Some form.name.bytes.items) × (form.form ≡ put_form values)
     × (form.may_empty ≡ is_set (codes "empty") values) × IsInfo values (option_map (λ words. words.items) form.info)
 
 -- files of the host are put so
 abbrev pub IsPutManyForm : List Row → PutManyForm → Type 0
-IsPutManyForm values form = IsImage values form.image
+IsPutManyForm values form = IsChanged values form.image
     × (values_of (codes "FILE") values ≡ map (λ file. file.bytes.items) form.files.items)
     × AreTexts values form.texts × (form.may_empty ≡ is_set (codes "empty") values)
     × IsInfo values (option_map (λ words. words.items) form.info)
 
 -- files are taken out so
 abbrev pub IsDeleteForm : List Row → DeleteForm → Type 0
-IsDeleteForm values form = IsImage values form.image
+IsDeleteForm values form = IsChanged values form.image
     × (values_of (codes "NAME") values ≡ map (λ name. name.bytes.items) form.names.items)
     × ArePlaces values form.places.items
 
 -- a file is copied so
 abbrev pub IsCopyForm : List Row → CopyForm → Type 0
-IsCopyForm values form = IsImage values form.image × IsFile values form.file
+IsCopyForm values form = IsSeen values form.image × IsFile values form.file
     × (first_of (after (codes "NAME") (codes "TO") values) values ≡ Some form.to.file.bytes.items)
-    × (layout_of (codes "to-volume") (codes "to-dectape") values ≡ form.to.layout)
+    × (layout_of (codes "to-volume") (codes "to-dectape") values ≡ form.to.layout) × (form.to.wait ≡ wait_of values)
     × (first_of (after (codes "TO") (codes "NEW") values) values ≡ option_map (λ name. name.bytes.items) form.new)
 
 -- volumes are checked so
@@ -186,16 +193,16 @@ abbrev pub AsksFor : Verb → List Row → Task → Type 0
 AsksFor which values Tape = which ≡ verb.Tape
 AsksFor which values (Rim form) = (which ≡ verb.Rim) × (form ≡ rim_form values)
 AsksFor which values (Source form) = (which ≡ verb.Source) × IsSourceForm values form
-AsksFor which values (Run image form) = (which ≡ verb.Run) × IsImage values image × IsRunForm values form
+AsksFor which values (Run image form) = (which ≡ verb.Run) × IsChanged values image × IsRunForm values form
 AsksFor which values (Create image blocks) = (which ≡ verb.Create) × (first_of (codes "IMAGE") values ≡ Some image.bytes.items)
     × (is_set (codes "dectape") values ≡ false) × (option_map number_of (one_of (codes "BLOCKS") values) ≡ Some blocks)
 AsksFor which values (CreateTape image) = (which ≡ verb.Create) × (first_of (codes "IMAGE") values ≡ Some image.bytes.items)
     × (is_set (codes "dectape") values ≡ true)
-AsksFor which values (task.List image) = (which ≡ verb.List) × IsImage values image × (is_set (codes "long") values ≡ false)
-AsksFor which values (ListLong image) = (which ≡ verb.List) × IsImage values image × (is_set (codes "long") values ≡ true)
-AsksFor which values (Get image file form) = (which ≡ verb.Get) × GetsOne values × IsImage values image
+AsksFor which values (task.List image) = (which ≡ verb.List) × IsSeen values image × (is_set (codes "long") values ≡ false)
+AsksFor which values (ListLong image) = (which ≡ verb.List) × IsSeen values image × (is_set (codes "long") values ≡ true)
+AsksFor which values (Get image file form) = (which ≡ verb.Get) × GetsOne values × IsSeen values image
     × IsFile values file × (form ≡ get_form values) × (is_set (codes "bin") values ≡ false)
-AsksFor which values (GetBin image file) = (which ≡ verb.Get) × GetsOne values × IsImage values image
+AsksFor which values (GetBin image file) = (which ≡ verb.Get) × GetsOne values × IsSeen values image
     × IsFile values file × (is_set (codes "bin") values ≡ true)
 AsksFor which values (GetMany form) = (which ≡ verb.Get) × (is_set (codes "blocks") values ≡ false)
     × IsGetManyForm values form
@@ -204,10 +211,10 @@ AsksFor which values (GetBlocks form) = (which ≡ verb.Get) × (is_set (codes "
 AsksFor which values (Put form) = (which ≡ verb.Put) × (puts_many values ≡ false) × IsPutOneForm values form
 AsksFor which values (PutMany form) = (which ≡ verb.Put) × (puts_many values ≡ true) × IsPutManyForm values form
 AsksFor which values (Delete form) = (which ≡ verb.Delete) × IsDeleteForm values form
-AsksFor which values (Rename image file new) = (which ≡ verb.Rename) × IsImage values image × IsFile values file
+AsksFor which values (Rename image file new) = (which ≡ verb.Rename) × IsChanged values image × IsFile values file
     × (first_of (after (codes "NAME") (codes "NEW") values) values ≡ Some new.bytes.items)
 AsksFor which values (Copy form) = (which ≡ verb.Copy) × IsCopyForm values form
-AsksFor which values (Squeeze image) = (which ≡ verb.Squeeze) × IsImage values image
+AsksFor which values (Squeeze image) = (which ≡ verb.Squeeze) × IsChanged values image
 AsksFor which values (Check form) = (which ≡ verb.Check) × IsCheckForm values form
 AsksFor which values (Assemble form) = (which ≡ verb.Assemble) × IsAssembleForm values form
 AsksFor which values (Teletype form) = (which ≡ verb.Teletype) × IsTeletypeForm values form
@@ -298,9 +305,9 @@ IsSourceOf file name starts names (Source form) = (option_map (λ file. file.byt
     × (option_map (λ names. names.bytes.items) form.names ≡ names)
 IsSourceOf file name starts names task = ⊥
 
--- a volume in this file, and where in it
+-- a volume in this file, and where in it, which is not waited for
 abbrev pub IsImageOf : Text → Option Layout → ImageForm → Type 0
-IsImageOf name layout image = (image.file.bytes.items ≡ name) × (image.layout ≡ layout)
+IsImageOf name layout image = (image.file.bytes.items ≡ name) × (image.layout ≡ layout) × (image.wait ≡ 0)
 
 -- the number of a volume of a disk
 abbrev pub IsVolume : Text → Layout → Type 0
@@ -390,9 +397,10 @@ IsCopyOf name IsIt to layout other (Copy form) = IsImageOf name None form.image 
     × IsImageOf to layout form.to × (option_map (λ name. name.bytes.items) form.new ≡ other)
 IsCopyOf name IsIt to layout other task = ⊥
 
-abbrev pub IsSqueezeOf : Text → Task → Type 0
-IsSqueezeOf name (Squeeze image) = IsImageOf name None image
-IsSqueezeOf name task = ⊥
+-- after so many seconds at most
+abbrev pub IsSqueezeOf : Text → ℕ → Task → Type 0
+IsSqueezeOf name wait (Squeeze image) = (image.file.bytes.items ≡ name) × (image.layout ≡ None) × (image.wait ≡ wait)
+IsSqueezeOf name wait task = ⊥
 
 abbrev pub IsCheckOf : List Text → Option Layout → Bool → Task → Type 0
 IsCheckOf names layout is_all (Check form) = (map (λ image. image.bytes.items) form.images.items ≡ names)

@@ -39,10 +39,8 @@ fn of_kind<'a>(alloc: Global, id: &'a str, kind: Kind, value: &'a str) -> Arg<'a
         Kind::Words(most) => Arg::new(alloc, id).num_args(1..=most),
         Kind::Size => with_size(alloc, id),
         Kind::Flag => Arg::new(alloc, id).long(id).action(ArgAction::SetTrue),
-        Kind::Value | Kind::Cell | Kind::Octal | Kind::Volume | Kind::Block => {
-            with_value(alloc, id, value)
-        }
-        Kind::Values | Kind::Cells | Kind::Octals | Kind::Blocks => with_values(alloc, id, value),
+        Kind::One(_) => with_value(alloc, id, value),
+        Kind::Many(_) => with_values(alloc, id, value),
         Kind::Count => with_count(alloc, id, value),
     }
 }

@@ -9,18 +9,19 @@ ghost use Rattle.command8.specs.TableSteps.{has_text, kind_at, takes_block, take
 ghost use Rattle.command8.specs.Tasks.{AreTexts, IsFile};
 ghost use Rattle.command8.specs.Tasks as spec;
 ghost use Rattle.command8.specs.TaskSteps.{IsAskedBy, Needs};
+ghost use Rattle.command8.specs.declared.table.Form.TheVariants as form;
 ghost use Rattle.command8.specs.declared.table.Kind.TheVariants as kind;
 ghost use Rattle.command8.specs.declared.table.Verb.TheVariants as verb;
 
 use crate::found::{
-    block_of, first_value_of, flag, has, layout_of, value_if_given, value_of, values_of,
+    block_of, first_value_of, flag, has, layout_of, value_if_given, value_of, values_of, wait_of,
 };
 use crate::judging::blocks_word;
 use crate::lists::{blocks_of, info_of};
 use crate::missing::puts_many;
 use crate::numbers::number_of;
 use crate::table::Verb;
-use crate::volumes::image_of;
+use crate::volumes::{changed_image, image_of};
 use char_pack::{GetForm, PutForm};
 use clap::ArgMatches;
 use std::alloc::{AllocError, Global};
@@ -140,7 +141,7 @@ pub fn put(alloc: Global, found: &ArgMatches<'_>) -> Result<Task, AllocError>
     requires { Needs verb.Put (rows_of (found_of found.now)) }
     ensures { IfOk result (IsAskedBy verb.Put (rows_of (found_of found.now))) }
 {
-    let image = image_of(alloc, found, Verb::Put)?;
+    let image = changed_image(alloc, found, Verb::Put)?;
     let info = info_of(alloc, found, Verb::Put)?;
     let may_empty = flag(found, Verb::Put, "empty");
     if puts_many(found) {
@@ -181,7 +182,7 @@ pub fn delete(alloc: Global, found: &ArgMatches<'_>) -> Result<Task, AllocError>
     requires { Needs verb.Delete (rows_of (found_of found.now)) }
     ensures { IfOk result (IsAskedBy verb.Delete (rows_of (found_of found.now))) }
 {
-    let image = image_of(alloc, found, Verb::Delete)?;
+    let image = changed_image(alloc, found, Verb::Delete)?;
     let names = values_of(alloc, found, Verb::Delete, "NAME")?;
     let places = blocks_of(alloc, found, Verb::Delete, "at")?;
     Ok(Task::Delete(DeleteForm {
@@ -196,7 +197,7 @@ pub fn rename(alloc: Global, found: &ArgMatches<'_>) -> Result<Task, AllocError>
     requires { Needs verb.Rename (rows_of (found_of found.now)) }
     ensures { IfOk result (IsAskedBy verb.Rename (rows_of (found_of found.now))) }
 {
-    let image = image_of(alloc, found, Verb::Rename)?;
+    let image = changed_image(alloc, found, Verb::Rename)?;
     let file = file_of(alloc, found, Verb::Rename)?;
     let new = value_of(alloc, found, Verb::Rename, after(found, "NAME", "NEW"))?;
     Ok(Task::Rename(image, file, new))
@@ -211,11 +212,15 @@ pub fn copy(alloc: Global, found: &ArgMatches<'_>) -> Result<Task, AllocError>
     let file = file_of(alloc, found, Verb::Copy)?;
     let to = value_of(alloc, found, Verb::Copy, after(found, "NAME", "TO"))?;
     let new = value_if_given(alloc, found, Verb::Copy, after(found, "TO", "NEW"))?;
-    let layout = layout_of(found, Verb::Copy, "to-volume", "to-dectape");
+    let to = ImageForm {
+        file: to,
+        layout: layout_of(found, Verb::Copy, "to-volume", "to-dectape"),
+        wait: wait_of(found, Verb::Copy),
+    };
     Ok(Task::Copy(CopyForm {
         image,
         file,
-        to: ImageForm { file: to, layout },
+        to,
         new,
     }))
 }
@@ -224,7 +229,7 @@ pub fn copy(alloc: Global, found: &ArgMatches<'_>) -> Result<Task, AllocError>
 fn file_of(alloc: Global, found: &ArgMatches<'_>, verb: Verb) -> Result<FileForm, AllocError>
     requires at { takes_block (kind_at (codes "at") (rows_for verb)) ≡ true }
     requires name { has_text (kind_at (codes "NAME") (rows_for verb)) ≡ true }
-    requires well { IsWell kind.Block (codes "at") (rows_of (found_of found.now)) }
+    requires well { IsWell form.Block (codes "at") (rows_of (found_of found.now)) }
     requires given { has (codes "at") (rows_of (found_of found.now)) ≡ false
         → Has (codes "NAME") (rows_of (found_of found.now)) }
     ensures { IfOk result (IsFile (rows_of (found_of found.now))) }

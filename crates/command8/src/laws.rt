@@ -150,7 +150,10 @@ pub fn plain_words()
         (IsCopyOf image (IsNamed file) to (Some Dectape) None) }
     ensures squeeze { (name image : List ℕ) → IsPlain image
         → IsTakenAs (name ∷ codes "squeeze" ∷ image ∷ [])
-        (IsSqueezeOf image) }
+        (IsSqueezeOf image 0) }
+    ensures squeeze_wait { (name image wait : List ℕ) (n : ℕ) → IsPlain image → number_in 0 3600 wait ≡ Some n
+        → IsTakenAs (name ∷ codes "squeeze" ∷ image ∷ codes "--wait" ∷ wait ∷ [])
+        (IsSqueezeOf image n) }
     ensures assemble { (name file : List ℕ) → IsPlain file
         → IsTakenAs (name ∷ codes "assemble" ∷ file ∷ []) (IsAssembleOf (file ∷ []) None) }
     ensures assemble_input { (name : List ℕ)
@@ -206,5 +209,6 @@ pub fn excluded_arguments()
         ∷ (codes "BLOCKS", codes "dectape") ∷ (codes "blocks", codes "at") ∷ (codes "blocks", codes "into")
         ∷ (codes "blocks", codes "all") ∷ (codes "blocks", codes "force") ∷ (codes "blocks", codes "text-of")
         ∷ (codes "blocks", codes "tape") ∷ (codes "blocks", codes "bin") ∷ (codes "tape", codes "into")
-        ∷ (codes "bin", codes "into") ∷ (codes "as", codes "text-of") ∷ (codes "look", codes "keep") ∷ [] }
+        ∷ (codes "bin", codes "into") ∷ (codes "as", codes "text-of") ∷ (codes "look", codes "keep")
+        ∷ (codes "look", codes "wait") ∷ [] }
 {}

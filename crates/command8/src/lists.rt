@@ -2,12 +2,13 @@
 ghost use Rattle.std.specs.Prelude.{◌≡◌, ◌++◌, ◌∷◌, [], codes, map, option_map, IfOk, None, OnOk, Some};
 ghost use Rattle.clap.specs.Words.{found_of, rows_of};
 ghost use Rattle.word12.specs.Octal.{octal_of};
-ghost use Rattle.command8.specs.Found.{a_block, first_not, octal_digits, place_of};
+ghost use Rattle.command8.specs.Found.{first_not, place_of};
 ghost use Rattle.command8.specs.FoundSteps.{IsWell};
 ghost use Rattle.command8.specs.Found as spec;
 ghost use Rattle.command8.specs.Tables.{rows_for};
 ghost use Rattle.command8.specs.TableSteps.{kind_at};
 ghost use Rattle.command8.specs.Tasks.{IsInfo};
+ghost use Rattle.command8.specs.declared.table.Form.TheVariants as form;
 ghost use Rattle.command8.specs.declared.table.Kind.TheVariants as kind;
 
 use crate::found::texts_in;
@@ -24,8 +25,8 @@ pub fn cells_of(
     _verb: Verb,
     id: &str,
 ) -> Result<Vec<Cell>, AllocError>
-    requires kind { kind_at id.now (rows_for _verb) ≡ Some kind.Cells }
-    requires well { IsWell kind.Cells id.now (rows_of (found_of found.now)) }
+    requires kind { kind_at id.now (rows_for _verb) ≡ Some (kind.Many form.Cell) }
+    requires well { IsWell form.Cell id.now (rows_of (found_of found.now)) }
     ensures { IfOk result (λ cells. map (octal_of 5) (spec.values_of id.now (rows_of (found_of found.now)))
         ≡ map (λ cell. Some cell) cells.items) }
 {
@@ -34,7 +35,7 @@ pub fn cells_of(
 
 /// The cells of texts, each of five octal digits.
 fn cells_in(alloc: Global, texts: &[&str]) -> Result<Vec<Cell>, AllocError>
-    requires { first_not (octal_digits 5) (map (λ text. text.now) texts.now) ≡ None }
+    requires { first_not form.Cell (map (λ text. text.now) texts.now) ≡ None }
     ensures { IfOk result (λ cells. map (octal_of 5) (map (λ text. text.now) texts.now)
         ≡ map (λ cell. Some cell) cells.items) }
 {
@@ -63,8 +64,8 @@ pub fn blocks_of(
     _verb: Verb,
     id: &str,
 ) -> Result<Vec<usize>, AllocError>
-    requires kind { kind_at id.now (rows_for _verb) ≡ Some kind.Blocks }
-    requires well { IsWell kind.Blocks id.now (rows_of (found_of found.now)) }
+    requires kind { kind_at id.now (rows_for _verb) ≡ Some (kind.Many form.Block) }
+    requires well { IsWell form.Block id.now (rows_of (found_of found.now)) }
     ensures { IfOk result (λ blocks. map place_of (spec.values_of id.now (rows_of (found_of found.now)))
         ≡ map (λ block. Some block) blocks.items) }
 {
@@ -73,7 +74,7 @@ pub fn blocks_of(
 
 /// The blocks of texts, each 0 to 4095.
 fn blocks_in(alloc: Global, texts: &[&str]) -> Result<Vec<usize>, AllocError>
-    requires { first_not a_block (map (λ text. text.now) texts.now) ≡ None }
+    requires { first_not form.Block (map (λ text. text.now) texts.now) ≡ None }
     ensures { IfOk result (λ blocks. map place_of (map (λ text. text.now) texts.now)
         ≡ map (λ block. Some block) blocks.items) }
 {
@@ -101,8 +102,8 @@ pub fn info_of(
     found: &ArgMatches<'_>,
     _verb: Verb,
 ) -> Result<Option<Vec<Word>>, AllocError>
-    requires kind { kind_at (codes "info") (rows_for _verb) ≡ Some kind.Octals }
-    requires well { IsWell kind.Octals (codes "info") (rows_of (found_of found.now)) }
+    requires kind { kind_at (codes "info") (rows_for _verb) ≡ Some (kind.Many form.Octal) }
+    requires well { IsWell form.Octal (codes "info") (rows_of (found_of found.now)) }
     ensures { IfOk result (λ info.
         IsInfo (rows_of (found_of found.now)) (option_map (λ words. words.items) info)) }
 {
@@ -117,7 +118,7 @@ pub fn info_of(
 
 /// The words of texts, each of four octal digits.
 fn words_in(alloc: Global, texts: &[&str]) -> Result<Vec<Word>, AllocError>
-    requires { first_not (octal_digits 4) (map (λ text. text.now) texts.now) ≡ None }
+    requires { first_not form.Octal (map (λ text. text.now) texts.now) ≡ None }
     ensures { IfOk result (λ words. map (octal_of 4) (map (λ text. text.now) texts.now)
         ≡ map (λ word. Some word) words.items) }
 {

@@ -7,6 +7,27 @@ ghost use Rattle.command8.specs.Tables as spec;
 
 use word12::MOST_BLOCKS;
 
+/// What a value is.
+#[derive(Clone, Copy)]
+pub enum Form {
+    Text,
+
+    /// A cell, five octal digits.
+    Cell,
+
+    /// A word, four octal digits.
+    Octal,
+
+    /// The number of a disk's volume, 1 or 2.
+    Volume,
+
+    /// A block, 0 to 4095.
+    Block,
+
+    /// A number of seconds, 0 to 3600.
+    Seconds,
+}
+
 /// What an argument takes.
 #[derive(Clone, Copy)]
 pub enum Kind {
@@ -22,35 +43,14 @@ pub enum Kind {
     /// An option that takes no value.
     Flag,
 
-    /// An option with a text.
-    Value,
+    /// An option with a value.
+    One(Form),
 
-    /// An option with a text, which may be given several times.
-    Values,
+    /// An option with a value, which may be given several times.
+    Many(Form),
 
     /// An option with a number from 1 up.
     Count,
-
-    /// An option with a cell, five octal digits.
-    Cell,
-
-    /// An option with a cell, which may be given several times.
-    Cells,
-
-    /// An option with a word, four octal digits.
-    Octal,
-
-    /// An option with a word, which may be given several times.
-    Octals,
-
-    /// An option with the number of a disk's volume, 1 or 2.
-    Volume,
-
-    /// An option with a block, 0 to 4095.
-    Block,
-
-    /// An option with a block, which may be given several times.
-    Blocks,
 }
 
 /// A subcommand.
@@ -182,6 +182,7 @@ pub const PAIRS: &[Pair] = &[
     ("bin", "into"),
     ("as", "text-of"),
     ("look", "keep"),
+    ("look", "wait"),
 ];
 
 pub const RIM: &[Argument] = rows! {
@@ -191,22 +192,22 @@ pub const RIM: &[Argument] = rows! {
 pub const SOURCE: &[Argument] = rows! {
     "TAPE" may Kind::Word, "", "The file of the tape, or of the image that holds NAME; else standard input";
     "NAME" may Kind::Word, "", "The name of the file on the volume";
-    "start" option Kind::Cells, "FAAAA", "A cell at which the program starts, field and address in octal; it may be given several times";
-    "names" option Kind::Value, "FILE", "A file of names, a line FAAAA NAME for each cell that gets one";
+    "start" option Kind::Many(Form::Cell), "FAAAA", "A cell at which the program starts, field and address in octal; it may be given several times";
+    "names" option Kind::One(Form::Text), "FILE", "A file of names, a line FAAAA NAME for each cell that gets one";
 };
 
 pub const ASSEMBLE: &[Argument] = rows! {
     "FILE" must Kind::Words(8), "", "The 1 to 8 sources, which stand together; - is standard input, once at most";
-    "output" option Kind::Value, "TAPE", "The file that gets the tape, in place of standard output";
-    "list" option Kind::Value, "LISTING", "Write a listing to the file LISTING too";
+    "output" option Kind::One(Form::Text), "TAPE", "The file that gets the tape, in place of standard output";
+    "list" option Kind::One(Form::Text), "LISTING", "Write a listing to the file LISTING too";
     "cross" flag Kind::Flag, "", "Put a table of cross references after the listing; it needs --list";
 };
 
 pub const TELETYPE: &[Argument] = rows! {
     "TAPE" must Kind::Word, "", "The file of the tape, or of the image that holds NAME";
     "NAME" may Kind::Word, "", "The name of the file on the volume";
-    "start" option Kind::Cell, "FAAAA", "The cell to start at, field and address in octal; else that of the tape's first word";
-    "switches" option Kind::Octal, "WWWW", "The word that the switches are set to, in octal; else 0000";
+    "start" option Kind::One(Form::Cell), "FAAAA", "The cell to start at, field and address in octal; else that of the tape's first word";
+    "switches" option Kind::One(Form::Octal), "WWWW", "The word that the switches are set to, in octal; else 0000";
     "steps" option Kind::Count, "N", "The most instructions that are done, 1 up; without it there is no limit";
     "raw" flag Kind::Flag, "", "Strike each byte as it is, with no change of line ends and no top bit set";
     "live" hidden Kind::Flag, "", "Take the keys as they are struck";
@@ -216,10 +217,10 @@ pub const TELETYPE: &[Argument] = rows! {
 pub const TRACE: &[Argument] = rows! {
     "TAPE" must Kind::Word, "", "The file of the tape, or of the image that holds NAME";
     "NAME" may Kind::Word, "", "The name of the file on the volume";
-    "start" option Kind::Cell, "FAAAA", "The cell to start at, field and address in octal; else that of the tape's first word";
-    "switches" option Kind::Octal, "WWWW", "The word that the switches are set to, in octal; else 0000";
+    "start" option Kind::One(Form::Cell), "FAAAA", "The cell to start at, field and address in octal; else that of the tape's first word";
+    "switches" option Kind::One(Form::Octal), "WWWW", "The word that the switches are set to, in octal; else 0000";
     "steps" option Kind::Count, "N", "The most steps that are made, 1 up";
-    "keys" option Kind::Value, "TEXT", "The keys to strike, each where the program asks for one; a line's end is CR";
+    "keys" option Kind::One(Form::Text), "TEXT", "The keys to strike, each where the program asks for one; a line's end is CR";
 };
 
 pub const RUN: &[Argument] = rows! {
@@ -227,8 +228,9 @@ pub const RUN: &[Argument] = rows! {
     "look" flag Kind::Flag, "", "Never write the image, whatever the script does";
     "keep" flag Kind::Flag, "", "Write the image after each entry that changed it, before its reply";
     "strict" flag Kind::Flag, "", "End with status 1 where a reply was a refusal";
-    "volume" option Kind::Volume, "N", "The volume of an RK05 disk, 1 or 2, where IMAGE is the file of one";
+    "volume" option Kind::One(Form::Volume), "N", "The volume of an RK05 disk, 1 or 2, where IMAGE is the file of one";
     "dectape" flag Kind::Flag, "", "IMAGE is the file of a DECtape, of 129 words a block";
+    "wait" option Kind::One(Form::Seconds), "SECONDS", "Wait so long while another program holds the image, 0 to 3600 seconds; else not at all";
 };
 
 pub const CREATE: &[Argument] = rows! {
@@ -240,23 +242,23 @@ pub const CREATE: &[Argument] = rows! {
 pub const LIST: &[Argument] = rows! {
     "IMAGE" must Kind::Word, "", "The file that holds the volume";
     "long" flag Kind::Flag, "", "Show where each file lies, and its information words, in octal";
-    "volume" option Kind::Volume, "N", "The volume of an RK05 disk, 1 or 2, where IMAGE is the file of one";
+    "volume" option Kind::One(Form::Volume), "N", "The volume of an RK05 disk, 1 or 2, where IMAGE is the file of one";
     "dectape" flag Kind::Flag, "", "IMAGE is the file of a DECtape, of 129 words a block";
 };
 
 pub const GET: &[Argument] = rows! {
     "IMAGE" must Kind::Word, "", "The file that holds the volume";
     "NAME" may Kind::Words(MOST_BLOCKS), "", "The names of the files on the volume; with --blocks FIRST and COUNT";
-    "at" option Kind::Blocks, "BLOCK", "The first block of a file, 0 to 4095, where no typed name is its own; it may be given several times";
+    "at" option Kind::Many(Form::Block), "BLOCK", "The first block of a file, 0 to 4095, where no typed name is its own; it may be given several times";
     "text" flag Kind::Flag, "", "Write its text, each line ended by LF; with --into of files whose extension says text";
     "tape" flag Kind::Flag, "", "Write the BIN tape that it begins with, also where --text is given";
     "bin" flag Kind::Flag, "", "Write the BIN tape of the core image that it is, also where others are given";
-    "into" option Kind::Value, "FOLDER", "The folder that gets the files";
+    "into" option Kind::One(Form::Text), "FOLDER", "The folder that gets the files";
     "all" flag Kind::Flag, "", "Get all files of the volume";
     "force" flag Kind::Flag, "", "Write over older files of the folder";
-    "text-of" option Kind::Values, "LIST", "Extensions of files that are texts, as PA,TX; it may be given several times";
+    "text-of" option Kind::Many(Form::Text), "LIST", "Extensions of files that are texts, as PA,TX; it may be given several times";
     "blocks" flag Kind::Flag, "", "Write blocks of the volume: COUNT from block FIRST on";
-    "volume" option Kind::Volume, "N", "The volume of an RK05 disk, 1 or 2, where IMAGE is the file of one";
+    "volume" option Kind::One(Form::Volume), "N", "The volume of an RK05 disk, 1 or 2, where IMAGE is the file of one";
     "dectape" flag Kind::Flag, "", "IMAGE is the file of a DECtape, of 129 words a block";
 };
 
@@ -264,30 +266,33 @@ pub const PUT: &[Argument] = rows! {
     "IMAGE" must Kind::Word, "", "The file that holds the volume";
     "FILE" must Kind::Words(MOST_BLOCKS), "", "The files of this system that are put; - is standard input";
     "text" flag Kind::Flag, "", "Keep as texts, each LF as CR and LF, control Z at the end, those whose extension says text; with --as the one";
-    "text-of" option Kind::Values, "LIST", "Extensions of files that are texts, as PA,TX; it may be given several times";
+    "text-of" option Kind::Many(Form::Text), "LIST", "Extensions of files that are texts, as PA,TX; it may be given several times";
     "files" flag Kind::Flag, "", "Changes nothing: FILE are files of this system";
-    "info" option Kind::Octals, "WWWW", "An information word of the file, in octal; it may be given several times";
-    "as" option Kind::Value, "NAME", "The name on the volume of the one file that is put";
+    "info" option Kind::Many(Form::Octal), "WWWW", "An information word of the file, in octal; it may be given several times";
+    "as" option Kind::One(Form::Text), "NAME", "The name on the volume of the one file that is put";
     "empty" flag Kind::Flag, "", "Let a file of no byte replace one that has words";
-    "volume" option Kind::Volume, "N", "The volume of an RK05 disk, 1 or 2, where IMAGE is the file of one";
+    "volume" option Kind::One(Form::Volume), "N", "The volume of an RK05 disk, 1 or 2, where IMAGE is the file of one";
     "dectape" flag Kind::Flag, "", "IMAGE is the file of a DECtape, of 129 words a block";
+    "wait" option Kind::One(Form::Seconds), "SECONDS", "Wait so long while another program holds the image, 0 to 3600 seconds; else not at all";
 };
 
 pub const DELETE: &[Argument] = rows! {
     "IMAGE" must Kind::Word, "", "The file that holds the volume";
     "NAME" may Kind::Words(MOST_BLOCKS), "", "The names of the files on the volume";
-    "at" option Kind::Blocks, "BLOCK", "The first block of a file, 0 to 4095; it may be given several times";
-    "volume" option Kind::Volume, "N", "The volume of an RK05 disk, 1 or 2, where IMAGE is the file of one";
+    "at" option Kind::Many(Form::Block), "BLOCK", "The first block of a file, 0 to 4095; it may be given several times";
+    "volume" option Kind::One(Form::Volume), "N", "The volume of an RK05 disk, 1 or 2, where IMAGE is the file of one";
     "dectape" flag Kind::Flag, "", "IMAGE is the file of a DECtape, of 129 words a block";
+    "wait" option Kind::One(Form::Seconds), "SECONDS", "Wait so long while another program holds the image, 0 to 3600 seconds; else not at all";
 };
 
 pub const RENAME: &[Argument] = rows! {
     "IMAGE" must Kind::Word, "", "The file that holds the volume";
     "NAME" may Kind::Word, "", "The name of the file on the volume, where --at does not give its block";
     "NEW" may Kind::Word, "", "The new name of the file";
-    "at" option Kind::Block, "BLOCK", "The first block of the file, 0 to 4095, in place of NAME";
-    "volume" option Kind::Volume, "N", "The volume of an RK05 disk, 1 or 2, where IMAGE is the file of one";
+    "at" option Kind::One(Form::Block), "BLOCK", "The first block of the file, 0 to 4095, in place of NAME";
+    "volume" option Kind::One(Form::Volume), "N", "The volume of an RK05 disk, 1 or 2, where IMAGE is the file of one";
     "dectape" flag Kind::Flag, "", "IMAGE is the file of a DECtape, of 129 words a block";
+    "wait" option Kind::One(Form::Seconds), "SECONDS", "Wait so long while another program holds the image, 0 to 3600 seconds; else not at all";
 };
 
 pub const COPY: &[Argument] = rows! {
@@ -295,23 +300,25 @@ pub const COPY: &[Argument] = rows! {
     "NAME" may Kind::Word, "", "The name of the file on the volume, where --at does not give its block";
     "TO" may Kind::Word, "", "The file that holds the volume that gets it";
     "NEW" may Kind::Word, "", "The name of the file on that volume, if it is another";
-    "at" option Kind::Block, "BLOCK", "The first block of the file, 0 to 4095, in place of NAME";
-    "to-volume" option Kind::Volume, "N", "The volume of an RK05 disk, 1 or 2, where TO is the file of one";
+    "at" option Kind::One(Form::Block), "BLOCK", "The first block of the file, 0 to 4095, in place of NAME";
+    "to-volume" option Kind::One(Form::Volume), "N", "The volume of an RK05 disk, 1 or 2, where TO is the file of one";
     "to-dectape" flag Kind::Flag, "", "TO is the file of a DECtape, of 129 words a block";
-    "volume" option Kind::Volume, "N", "The volume of an RK05 disk, 1 or 2, where IMAGE is the file of one";
+    "volume" option Kind::One(Form::Volume), "N", "The volume of an RK05 disk, 1 or 2, where IMAGE is the file of one";
     "dectape" flag Kind::Flag, "", "IMAGE is the file of a DECtape, of 129 words a block";
+    "wait" option Kind::One(Form::Seconds), "SECONDS", "Wait so long while another program holds TO, 0 to 3600 seconds; else not at all";
 };
 
 pub const SQUEEZE: &[Argument] = rows! {
     "IMAGE" must Kind::Word, "", "The file that holds the volume";
-    "volume" option Kind::Volume, "N", "The volume of an RK05 disk, 1 or 2, where IMAGE is the file of one";
+    "volume" option Kind::One(Form::Volume), "N", "The volume of an RK05 disk, 1 or 2, where IMAGE is the file of one";
     "dectape" flag Kind::Flag, "", "IMAGE is the file of a DECtape, of 129 words a block";
+    "wait" option Kind::One(Form::Seconds), "SECONDS", "Wait so long while another program holds the image, 0 to 3600 seconds; else not at all";
 };
 
 pub const CHECK: &[Argument] = rows! {
     "IMAGE" must Kind::Words(MOST_BLOCKS), "", "The files that hold the volumes";
     "all" flag Kind::Flag, "", "Show each fault of the directory, and the files that are sound";
-    "volume" option Kind::Volume, "N", "The volume of an RK05 disk, 1 or 2, where IMAGE is the file of one";
+    "volume" option Kind::One(Form::Volume), "N", "The volume of an RK05 disk, 1 or 2, where IMAGE is the file of one";
     "dectape" flag Kind::Flag, "", "IMAGE is the file of a DECtape, of 129 words a block";
 };
 

@@ -12,7 +12,7 @@ use crate::files::{copy, delete, get, put, rename};
 use crate::judging::judged;
 use crate::table::{Entry, Verb, table};
 use crate::tapes::{assemble, rim_form, source, teletype, trace_form};
-use crate::volumes::{check, create, image_of, list, run};
+use crate::volumes::{changed_image, check, create, list, run};
 use clap::ArgMatches;
 use std::alloc::{AllocError, Global};
 use task8::Task;
@@ -90,7 +90,7 @@ fn asked_by(alloc: Global, verb: Verb, found: &ArgMatches<'_>) -> Result<Task, A
         Verb::Delete => delete(alloc, found),
         Verb::Rename => rename(alloc, found),
         Verb::Copy => copy(alloc, found),
-        Verb::Squeeze => Ok(Task::Squeeze(image_of(alloc, found, Verb::Squeeze)?)),
+        Verb::Squeeze => Ok(Task::Squeeze(changed_image(alloc, found, Verb::Squeeze)?)),
         Verb::Check => check(alloc, found),
     }
 }

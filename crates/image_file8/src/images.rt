@@ -3,12 +3,13 @@
 use crate::inputs::tell_of_limit;
 use crate::printing::{print_bytes, tell};
 use disk8::{DiskFile, Layout};
-use host8::{Durability, HeldFile, HoldFault, Unwritten, hold, look, make};
+use host8::{Durability, HeldFile, HoldFault, Unwritten, hold, hold_within, look, make};
 use outcome::{Content, Ending, FileNote, Note, ending_of_read, ending_of_write};
 use report8::ProgramLine;
 use script8::readings::MOST;
 use std::fs::{File, Files};
 use std::mem;
+use std::time::Clock;
 use task8::ImageForm;
 
 /// The image in a file, which is held unless it may not be written, or is only looked at.
@@ -28,12 +29,12 @@ pub struct Image {
 }
 
 impl Image {
-    /// Holds an image file and reads it. Where another program holds it, nothing is read.
-    pub fn open<R: Files<File = File> + Eprint + AllocGlobal>(
+    /// Holds an image file and reads it. Where another program holds it for longer than is waited, nothing is read.
+    pub fn open<R: Files<File = File> + Eprint + Clock + AllocGlobal>(
         rt: &R,
         form: &ImageForm,
     ) -> Result<Image, Ending> {
-        let found = hold(rt, &form.file);
+        let found = hold_within(rt, &form.file, form.wait);
         if let Err(HoldFault::Unwritable) = &found {
             return Image::look(rt, form);
         }

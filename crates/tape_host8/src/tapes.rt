@@ -23,6 +23,7 @@ pub fn program_of<R: Files + Eprint + AllocGlobal>(
     let image = ImageForm {
         file: String::from_str(rt.alloc(), file)?,
         layout: None,
+        wait: 0,
     };
     let asked = Asked::Name(String::from_str(rt.alloc(), name)?);
     if name.ends_with(CORE_IMAGE) {

@@ -10,6 +10,9 @@ pub struct ImageForm {
 
     /// Where in it, if the file holds more than its image.
     pub layout: Option<Layout>,
+
+    /// How many seconds are waited where another program holds the file, 0 to 3600.
+    pub wait: usize,
 }
 
 /// Which file of a volume is meant.

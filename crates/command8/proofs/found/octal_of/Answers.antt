@@ -2,7 +2,7 @@ use Rattle.std.proofs.Common.{◌≡◌, ◌∙◌, ap, sym, option_map, Some, s
 use Rattle.std.specs.Prelude.{is_some}
 use Rattle.word12.specs.Octal.{octal_of}
 use Rattle.clap.specs.Words.{found_of, rows_of}
-use Rattle.command8.specs.declared.table.Kind.TheVariants.{Octal}
+use Rattle.command8.specs.declared.table.Form.TheVariants.{Octal}
 use Rattle.command8.proofs.FoundLemmas.{first_is_of}
 use Rattle.command8.proofs.found.octal_of.Goals as goal
 

@@ -1,4 +1,5 @@
 use Rattle.std.proofs.Common.{◌≡◌, ◌∙◌, ◌&&◌, codes, true, false, refl, sym, ap, [], ◌∷◌, Some, None}
+use Rattle.std.specs.Prelude.{unwrap_or}
 use Rattle.clap.proofs.ValueTestLemmas.{Accepts-accepts}
 use Rattle.clap.specs.Words.{Text}
 use Rattle.clap.specs.declared.builder.value_parser.ValueParser.TheVariants.{Unsigned}
@@ -106,7 +107,7 @@ returns-clause-run_volume c = λ name image text layout image_is is.
     let uses = a_word (codes "run") (codes "IMAGE") image ∷ a_value (codes "run") (codes "volume") text ∷ [] in
     let rows = found_by (codes "run") uses in
     entered_as (codes "run") uses (IsRunOf image (Some layout) AtEnd false) refl refl (record { pass = (no_option image image_is, record { found = refl; passes = refl; no_end = refl }, ((volume_told text layout is).0, record { read = refl; found = refl; takes_value = refl }, record { own = refl; one = refl; passes = refl }, tt)); settles = refl; defaults = refl; valid = refl }) name
-    (λ task seen asks. asks_run image (Some layout) AtEnd false rows (ap (λ l. (Some image, Some l, AtEnd, false)) (volume_told text layout is).1) task seen asks.1)
+    (λ task seen asks. asks_run image (Some layout) AtEnd false rows (ap (λ l. (Some image, Some l, AtEnd, false, 0)) (volume_told text layout is).1) task seen asks.1)
 
 pub returns-clause-run_dectape : goal.returns-clause-run_dectape
 returns-clause-run_dectape c = λ name image image_is.
@@ -329,8 +330,15 @@ pub returns-clause-squeeze : goal.returns-clause-squeeze
 returns-clause-squeeze c = λ name image image_is.
     let uses = a_word (codes "squeeze") (codes "IMAGE") image ∷ [] in
     let rows = found_by (codes "squeeze") uses in
-    entered_as (codes "squeeze") uses (IsSqueezeOf image) refl refl (record { pass = (no_option image image_is, record { found = refl; passes = refl; no_end = refl }, tt); settles = refl; defaults = refl; valid = refl }) name
-    (λ task seen asks. asks_squeeze image rows refl refl task seen asks.1)
+    entered_as (codes "squeeze") uses (IsSqueezeOf image 0) refl refl (record { pass = (no_option image image_is, record { found = refl; passes = refl; no_end = refl }, tt); settles = refl; defaults = refl; valid = refl }) name
+    (λ task seen asks. asks_squeeze image 0 rows refl task seen asks.1)
+
+pub returns-clause-squeeze_wait : goal.returns-clause-squeeze_wait
+returns-clause-squeeze_wait c = λ name image wait n image_is is.
+    let uses = a_word (codes "squeeze") (codes "IMAGE") image ∷ a_value (codes "squeeze") (codes "wait") wait ∷ [] in
+    let rows = found_by (codes "squeeze") uses in
+    entered_as (codes "squeeze") uses (IsSqueezeOf image n) refl refl (record { pass = (no_option image image_is, record { found = refl; passes = refl; no_end = refl }, (no_option wait (number_plain 0 3600 wait n is), record { read = refl; found = refl; takes_value = refl }, record { own = refl; one = refl; passes = refl }, tt)); settles = refl; defaults = refl; valid = refl }) name
+    (λ task seen asks. asks_squeeze image n rows (ap (λ o. (Some image, None, unwrap_or o 0)) is) task seen asks.1)
 
 pub returns-clause-assemble : goal.returns-clause-assemble
 returns-clause-assemble c = λ name file file_is.
