@@ -7,7 +7,7 @@ use Rattle.command8.specs.declared.table.Form.{Form}
 use Rattle.command8.specs.Tables.{Argument}
 use Rattle.command8.specs.Found.{first_not, form_of, passes, values_of}
 use Rattle.command8.specs.FoundSteps.{AllWell, IsWell}
-use Rattle.command8.specs.Refusals.{Bad, bad_or, first_bad}
+use Rattle.command8.specs.Refusals.{bad_or, first_bad}
 use Rattle.command8.proofs.WalkLemmas.{some_eq}
 
 first_at : (form : Form) (values : List Text) (text : Text) → first_not form values ≡ None → slice_get values 0 ≡ Some text → passes form text ≡ true

@@ -1,10 +1,9 @@
 -- What is read of the values that `clap` found for the arguments of a subcommand.
-use Rattle.std.specs.Prelude.{◌≡◌, ⊤, ◌≤◌, ◌+◌, ◌-◌, ◌*◌, ◌&&◌, ◌||◌, Bool, true, false, if◌then◌else◌, ℕ, nat_le, nat_lt, codes, is_some, length, List, [], ◌∷◌, Option, None, Some, option_and_then, option_map, slice_get, unwrap_or}
+use Rattle.std.specs.Prelude.{◌≡◌, ◌+◌, ◌-◌, ◌*◌, ◌&&◌, ◌||◌, Bool, true, false, if◌then◌else◌, ℕ, map, nat_eq, nat_le, nat_lt, codes, is_some, length, List, [], ◌∷◌, Option, None, Some, option_and_then, option_map, slice_get, unwrap_or}
 use Rattle.std.specs.Option.{option_map_or}
-use Rattle.std.specs.Str.{bytes_eq}
+use Rattle.std.specs.Str.{bytes_eq, str_to_ascii_uppercase}
 use Rattle.std.specs.Str.Parse.{digits_value, without_leading_plus}
-use Rattle.clap.specs.Words.{Row, Text, all_of, first_of, one_of, IsUnsignedIn}
-use Rattle.command8.specs.Tables.{Argument, most_steps}
+use Rattle.clap.specs.Words.{Row, Text, all_of, first_of}
 use Rattle.command8.specs.declared.table.Kind.{Kind}
 use Rattle.command8.specs.declared.table.Kind.TheVariants.{One, Many}
 use Rattle.command8.specs.declared.table.Form.{Form}
@@ -22,9 +21,21 @@ has id values = is_some (first_of id values)
 abbrev pub is_set : Text → List Row → Bool
 is_set id values = option_map_or (λ text. bytes_eq text (codes "true")) (first_of id values) false
 
+-- a name in capital letters
+abbrev pub capitals : Text → Text
+capitals name = str_to_ascii_uppercase name
+
+-- the name that an argument gives
+abbrev pub name_in : Text → List Row → Option Text
+name_in id values = option_map capitals (first_of id values)
+
 -- the values of an argument that has several
 abbrev pub values_of : Text → List Row → List Text
 values_of id values = unwrap_or (all_of id values) []
+
+-- and its names
+abbrev pub names_in : Text → List Row → List Text
+names_in id values = map capitals (values_of id values)
 
 -- one of them, if there are as many
 abbrev pub word_at : Text → ℕ → List Row → Option Text
@@ -51,6 +62,24 @@ within least most (Some number) = if nat_le least number && nat_le number most t
 abbrev pub number_in : ℕ → ℕ → Text → Option ℕ
 number_in least most text = within least most (number_of_digits text)
 
+-- an octal number of 1 to 5 digits, up to this one
+abbrev pub octal_to : ℕ → Text → Option ℕ
+octal_to most text = if nat_lt 0 (length text) && nat_le (length text) 5 then within 0 most (octal_of (length text) text) else None
+
+-- a word: 0 to 7777
+abbrev pub word_of : Text → Option ℕ
+word_of text = octal_to 0o7777 text
+
+-- the cell at an address of the field that a digit gives
+abbrev pub cell_at : ℕ → Text → Option ℕ
+cell_at digit address = if nat_le 0o60 digit && nat_lt digit 0o70 then option_map (λ word. 0o10000 * (digit - 0o60) + word) (word_of address) else None
+
+-- a cell: its field, a colon and its address, or one number for both, 0 to 77777
+abbrev pub cell_of : Text → Option ℕ
+cell_of [] = None
+cell_of (digit ∷ []) = octal_to 0o77777 (digit ∷ [])
+cell_of (field ∷ next ∷ rest) = if nat_eq next 0o72 then cell_at field rest else octal_to 0o77777 (field ∷ next ∷ rest)
+
 -- a block of a volume: 0 to 4095
 abbrev pub place_of : Text → Option ℕ
 place_of text = number_in 0 MOST_BLOCKS text
@@ -67,9 +96,9 @@ number_of text = digits_value 10 (without_leading_plus text)
 abbrev pub is_limit : Option ℕ → Bool
 is_limit steps = option_map_or (λ count. nat_le 1 count) steps true
 
--- an octal number of so many digits is this one, if it was given
-abbrev pub IsOctalOf : ℕ → Option Text → Option ℕ → Type 0
-IsOctalOf count given number = option_map (octal_of count) given ≡ option_map Some number
+-- what was given is read as this number, if it was given
+abbrev pub IsReadAs : (Text → Option ℕ) → Option Text → Option ℕ → Type 0
+IsReadAs read given number = option_map read given ≡ option_map Some number
 
 -- ## Where a volume lies in its file
 
@@ -89,8 +118,8 @@ form_of kind = a_text
 
 abbrev pub passes : Form → Text → Bool
 passes a_text text = true
-passes Cell text = is_some (octal_of 5 text)
-passes Octal text = is_some (octal_of 4 text)
+passes Cell text = is_some (cell_of text)
+passes Octal text = is_some (word_of text)
 passes Volume text = bytes_eq text (codes "1") || bytes_eq text (codes "2")
 passes Block text = is_some (place_of text)
 passes Seconds text = is_some (number_in 0 3600 text)

@@ -101,7 +101,19 @@ moved_missing id one both values =
     if not (has (codes "NAME") values) then (if has (codes "at") values then Some one else Some both)
     else if has (codes "at") values || has id values then None else Some one
 
+-- of a file of a volume, where it is said where the volume lies
+abbrev pub tape_missing : List Row → Option What
+tape_missing values =
+    if has (codes "NAME") values || not (has (codes "volume") values || is_set (codes "dectape") values) then None
+    else if has (codes "TAPE") values then Some what.Name else Some what.TapeAndName
+
 abbrev pub missing_of : Verb → List Row → Option What
+missing_of verb.Tape values = tape_missing values
+missing_of verb.Rim values = tape_missing values
+missing_of verb.Source values = tape_missing values
+missing_of verb.Teletype values = tape_missing values
+missing_of verb.Trace values = tape_missing values
+missing_of verb.Profile values = tape_missing values
 missing_of verb.Assemble values = if is_set (codes "cross") values && not (has (codes "list") values) then Some what.List else None
 missing_of verb.Create values = if has (codes "BLOCKS") values || is_set (codes "dectape") values then None else Some what.Blocks
 missing_of verb.Get values =
@@ -141,8 +153,8 @@ unexpected_of values =
 -- what is wrong with it
 abbrev pub why : Form → Text
 why a_text = codes "not a text"
-why Cell = codes "not five octal digits, a field and an address"
-why Octal = codes "not four octal digits"
+why Cell = codes "not a cell, 0 to 77777 in octal, or F:AAAA"
+why Octal = codes "not a word, 0 to 7777 in octal"
 why Volume = codes "not 1 or 2"
 why Block = codes "not a block, 0 to 4095"
 why Seconds = codes "not a number of seconds, 0 to 3600"

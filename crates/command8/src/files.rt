@@ -14,7 +14,8 @@ ghost use Rattle.command8.specs.declared.table.Kind.TheVariants as kind;
 ghost use Rattle.command8.specs.declared.table.Verb.TheVariants as verb;
 
 use crate::found::{
-    block_of, first_value_of, flag, has, layout_of, value_if_given, value_of, values_of, wait_of,
+    block_of, first_value_of, flag, has, layout_of, name_if_given, name_of, names_of, value_of,
+    values_of, wait_of,
 };
 use crate::judging::blocks_word;
 use crate::lists::{blocks_of, info_of};
@@ -79,7 +80,7 @@ fn get_many(alloc: Global, found: &ArgMatches<'_>) -> Result<Task, AllocError>
     ensures { IfOk result (IsAskedBy verb.Get (rows_of (found_of found.now))) }
 {
     let image = image_of(alloc, found, Verb::Get)?;
-    let names = values_of(alloc, found, Verb::Get, "NAME")?;
+    let names = names_of(alloc, found, Verb::Get, "NAME")?;
     let places = blocks_of(alloc, found, Verb::Get, "at")?;
     let folder = value_of(alloc, found, Verb::Get, "into")?;
     let texts = texts_of(alloc, found, Verb::Get)?;
@@ -128,7 +129,7 @@ fn texts_of(alloc: Global, found: &ArgMatches<'_>, verb: Verb) -> Result<TextsFo
     requires usual { kind_at (codes "text") (rows_for verb) ≡ Some kind.Flag }
     ensures { IfOk result (AreTexts (rows_of (found_of found.now))) }
 {
-    let extensions = values_of(alloc, found, verb, "text-of")?;
+    let extensions = names_of(alloc, found, verb, "text-of")?;
     let is_usual = flag(found, verb, "text");
     Ok(TextsForm {
         is_usual,
@@ -156,7 +157,7 @@ pub fn put(alloc: Global, found: &ArgMatches<'_>) -> Result<Task, AllocError>
         }));
     }
     let file = first_value_of(alloc, found, Verb::Put, "FILE")?;
-    let name = value_of(alloc, found, Verb::Put, "as")?;
+    let name = name_of(alloc, found, Verb::Put, "as")?;
     Ok(Task::Put(PutOneForm {
         image,
         file,
@@ -183,7 +184,7 @@ pub fn delete(alloc: Global, found: &ArgMatches<'_>) -> Result<Task, AllocError>
     ensures { IfOk result (IsAskedBy verb.Delete (rows_of (found_of found.now))) }
 {
     let image = changed_image(alloc, found, Verb::Delete)?;
-    let names = values_of(alloc, found, Verb::Delete, "NAME")?;
+    let names = names_of(alloc, found, Verb::Delete, "NAME")?;
     let places = blocks_of(alloc, found, Verb::Delete, "at")?;
     Ok(Task::Delete(DeleteForm {
         image,
@@ -199,7 +200,7 @@ pub fn rename(alloc: Global, found: &ArgMatches<'_>) -> Result<Task, AllocError>
 {
     let image = changed_image(alloc, found, Verb::Rename)?;
     let file = file_of(alloc, found, Verb::Rename)?;
-    let new = value_of(alloc, found, Verb::Rename, after(found, "NAME", "NEW"))?;
+    let new = name_of(alloc, found, Verb::Rename, after(found, "NAME", "NEW"))?;
     Ok(Task::Rename(image, file, new))
 }
 
@@ -211,7 +212,7 @@ pub fn copy(alloc: Global, found: &ArgMatches<'_>) -> Result<Task, AllocError>
     let image = image_of(alloc, found, Verb::Copy)?;
     let file = file_of(alloc, found, Verb::Copy)?;
     let to = value_of(alloc, found, Verb::Copy, after(found, "NAME", "TO"))?;
-    let new = value_if_given(alloc, found, Verb::Copy, after(found, "TO", "NEW"))?;
+    let new = name_if_given(alloc, found, Verb::Copy, after(found, "TO", "NEW"))?;
     let to = ImageForm {
         file: to,
         layout: layout_of(found, Verb::Copy, "to-volume", "to-dectape"),
@@ -237,7 +238,7 @@ fn file_of(alloc: Global, found: &ArgMatches<'_>, verb: Verb) -> Result<FileForm
     match block_of(found, verb, "at") {
         Some(place) => Ok(FileForm::At(place)),
         None => {
-            let name = first_value_of(alloc, found, verb, "NAME")?;
+            let name = name_of(alloc, found, verb, "NAME")?;
             Ok(FileForm::Name(name))
         }
     }

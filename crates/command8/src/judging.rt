@@ -11,12 +11,12 @@ ghost use Rattle.command8.specs.TaskSteps.{IsRefusedBy};
 use crate::TaskFault;
 use crate::found::{has, is_set, text_of, texts_in, word_at};
 use crate::missing::missing_of;
-use crate::numbers::number_in;
+use crate::numbers::{cell_in, number_in, word_in};
 use crate::refusals::Refusal;
 use crate::table::{Argument, Entry, Form, Kind, Pair, Verb, arguments_of, pairs};
 use clap::ArgMatches;
 use std::alloc::Global;
-use word12::{MOST_BLOCKS, octal_cell, octal_word};
+use word12::MOST_BLOCKS;
 
 /// Refuses the arguments where two exclude each other, one is missing, standard input is named twice, there is one too many, or a value is
 /// none of its argument's kind: the first of these in this order.
@@ -163,8 +163,8 @@ fn is_of(form: Form, text: &str) -> bool
 {
     match form {
         Form::Text => true,
-        Form::Cell => octal_cell(text.as_bytes()).is_some(),
-        Form::Octal => octal_word(text.as_bytes()).is_some(),
+        Form::Cell => cell_in(text.as_bytes()).is_some(),
+        Form::Octal => word_in(text.as_bytes()).is_some(),
         Form::Volume => text == "1" || text == "2",
         Form::Block => number_in(text.as_bytes(), 0, MOST_BLOCKS).is_some(),
         Form::Seconds => number_in(text.as_bytes(), 0, 3600).is_some(),
@@ -188,8 +188,8 @@ fn why(form: Form) -> &'static str
 {
     match form {
         Form::Text => "not a text",
-        Form::Cell => "not five octal digits, a field and an address",
-        Form::Octal => "not four octal digits",
+        Form::Cell => "not a cell, 0 to 77777 in octal, or F:AAAA",
+        Form::Octal => "not a word, 0 to 7777 in octal",
         Form::Volume => "not 1 or 2",
         Form::Block => "not a block, 0 to 4095",
         Form::Seconds => "not a number of seconds, 0 to 3600",

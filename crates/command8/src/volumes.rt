@@ -16,7 +16,7 @@ use crate::found::{flag, layout_of, size_of, value_of, values_of, wait_of};
 use crate::table::Verb;
 use clap::ArgMatches;
 use std::alloc::{AllocError, Global};
-use task8::{CheckForm, ImageForm, RunForm, Saving, Task};
+use task8::{CheckForm, CreateForm, ImageForm, RunForm, Saving, Task};
 
 /// The volume that a subcommand looks at.
 pub fn image_of(alloc: Global, found: &ArgMatches<'_>, verb: Verb) -> Result<ImageForm, AllocError>
@@ -85,12 +85,16 @@ pub fn create(alloc: Global, found: &ArgMatches<'_>) -> Result<Task, AllocError>
     requires { Needs verb.Create (rows_of (found_of found.now)) }
     ensures { IfOk result (IsAskedBy verb.Create (rows_of (found_of found.now))) }
 {
-    let image = value_of(alloc, found, Verb::Create, "IMAGE")?;
+    let form = CreateForm {
+        file: value_of(alloc, found, Verb::Create, "IMAGE")?,
+        is_new: flag(found, Verb::Create, "new"),
+        wait: wait_of(found, Verb::Create),
+    };
     if flag(found, Verb::Create, "dectape") {
-        return Ok(Task::CreateTape(image));
+        return Ok(Task::CreateTape(form));
     }
     match size_of(found, Verb::Create, "BLOCKS") {
-        Some(blocks) => Ok(Task::Create(image, blocks)),
+        Some(blocks) => Ok(Task::Create(form, blocks)),
         None => unreachable!(),
     }
 }

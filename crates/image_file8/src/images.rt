@@ -123,7 +123,45 @@ pub fn make_file<R: Files<File = File> + Eprint + AllocGlobal>(
     bytes: &[u8],
     content: Content,
 ) -> Result<(), Ending> {
-    let found = hold(rt, name);
+    make_over(rt, name, bytes, content, hold(rt, name))
+}
+
+/// Makes a file as `make_file` does, and waits so many seconds where another program holds the one of its name.
+pub fn make_file_within<R: Files<File = File> + Eprint + Clock + AllocGlobal>(
+    rt: &R,
+    name: &str,
+    bytes: &[u8],
+    content: Content,
+    seconds: usize,
+) -> Result<(), Ending> {
+    make_over(rt, name, bytes, content, hold_within(rt, name, seconds))
+}
+
+/// Makes a file that holds these bytes, where there is none of its name: else the answer is `? HOST EXISTS`.
+pub fn make_new_file<R: Files<File = File> + Eprint + AllocGlobal>(
+    rt: &R,
+    name: &str,
+    bytes: &[u8],
+    content: Content,
+) -> Result<(), Ending> {
+    match make(rt, name, bytes) {
+        Ok(durability) => {
+            let _ = tells_of_folder(rt, durability, content);
+            Ok(())
+        }
+        Err(HoldFault::Busy) => Err(Ending::Line(ProgramLine::HostExists)),
+        Err(fault) => Err(ending_of_write(content, fault)),
+    }
+}
+
+/// Makes a file that holds these bytes, where the one of its name was to be held so.
+fn make_over<R: Files<File = File> + Eprint + AllocGlobal>(
+    rt: &R,
+    name: &str,
+    bytes: &[u8],
+    content: Content,
+    found: Result<HeldFile, HoldFault>,
+) -> Result<(), Ending> {
     if let Err(HoldFault::Absent) = &found {
         let durability = make(rt, name, bytes).map_err(|fault| ending_of_write(content, fault))?;
         let _ = tells_of_folder(rt, durability, content);

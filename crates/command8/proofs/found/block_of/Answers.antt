@@ -1,4 +1,4 @@
-use Rattle.std.proofs.Common.{◌≡◌, ◌∙◌, ap, sym, option_map, Some, subst, true≢false, true}
+use Rattle.std.proofs.Common.{◌∙◌, ap, sym, option_map, true≢false}
 use Rattle.std.specs.Prelude.{is_some}
 use Rattle.command8.specs.Found.{place_of}
 use Rattle.clap.specs.Words.{found_of, rows_of}
