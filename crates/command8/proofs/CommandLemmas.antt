@@ -14,7 +14,7 @@ use Rattle.clap.specs.declared.builder.command.Command.{Command}
 use Rattle.clap.specs.declared.builder.command.Command.TheViews.{out-Command as fields_of}
 use Rattle.clap.specs.declared.builder.command.Command.TheOpen.{Command-F}
 use Rattle.std.proofs.lemmas.Bool.Decides.{nat_tests}
-use Rattle.std.proofs.Common.{◌+◌, ◌≤◌, ◌++◌, ◌∷◌, [], length, map, take, sym, suc}
+use Rattle.std.proofs.Common.{◌+◌, ◌≤◌, ◌++◌, ◌∷◌, [], length, map, take, sym}
 use Rattle.std.specs.List.{list_all, slice_index_or}
 use Rattle.std.proofs.Common.{true≢false}
 use Rattle.std.proofs.lemmas.List.Folds.{list_all-map, list_all_at}
@@ -25,9 +25,9 @@ use Rattle.command8.specs.declared.table.EntryOf.{EntryOf}
 use Rattle.std.proofs.lemmas.List.{length-append, map_more, take_all}
 use Rattle.std.proofs.lemmas.Simd.{map-map}
 use Rattle.clap.specs.Walk.{is_empty}
-use Rattle.clap.specs.Words.{Shape, Text}
-use Rattle.command8.specs.Tables.{Argument, Entry, app_of_table, app_with, rows_for, leaf_app, leaf_shape, leaf_with, rule_for, rules_for}
-use Rattle.command8.specs.TableSteps.{entry_of, row_of, is_fit, is_sound}
+use Rattle.clap.specs.Words.{Text}
+use Rattle.command8.specs.Tables.{app_of_table, app_with, lettered, rows_for, leaf_app, leaf_shape, leaf_with, rule_for, rules_for}
+use Rattle.command8.specs.TableSteps.{entry_of, fits, row_of, is_fit, is_sound}
 use Rattle.command8.specs.declared.table.Kind.TheVariants.{Words}
 use Rattle.command8.specs.CommandSteps.{IsArgument, IsCommand, with_leaf}
 
@@ -57,11 +57,12 @@ required_as old new rule flag is = changed old new (record old { required = flag
 pub hidden_as : (old new : Arg) (rule : Rule) (flag : Bool) → new ≡ record old { hide = flag } → IsArgument old rule → IsArgument new rule
 hidden_as old new rule flag is = changed old new (record old { hide = flag }) (λ r. r) rule is refl refl
 
-pub required_too : (old new : Arg) (rule : Rule) → new ≡ record old { required = true } → IsArgument old rule → IsArgument new (record rule { required = true })
-required_too old new rule is = changed old new (record old { required = true }) (λ r. record r { required = true }) rule is refl refl
+pub letter_too : (old new : Arg) (rule : Rule) (letter : ℕ) → new ≡ record old { short = Some letter } → IsArgument old rule
+    → IsArgument new (lettered (Some letter) rule)
+letter_too old new rule letter is = changed old new (record old { short = Some letter }) (λ r. record r { short = Some letter }) rule is refl refl
 
-pub hidden_too : (old new : Arg) (rule : Rule) → new ≡ record old { hide = true } → IsArgument old rule → IsArgument new rule
-hidden_too old new rule is = changed old new (record old { hide = true }) (λ r. r) rule is refl refl
+pub unlettered : (rule : Rule) → rule.short ≡ None → rule ≡ lettered None rule
+unlettered rule none = ap (λ letter. lettered letter rule) none
 
 pub long_too : (old new : Arg) (rule : Rule) (name : _) → new ≡ record old { long = Some name } → IsArgument old rule
     → IsArgument new (record rule { long = Some name.now })
@@ -106,7 +107,7 @@ unsigned_between whole given start end of low high is =
     (subst (λ (s : ℤ). NarrowsTo (Unsigned 0 18446744073709551615) (Some s) (Some end) given) low
     (subst (λ (p : ValueParser). NarrowsTo p (Some start) (Some end) given) of is))
 
-pub fits_some : (most : ℕ) → is_fit (Words most) ≡ true → 0 < most
+pub fits_some : (most : ℕ) → fits (Words most) ≡ true → 0 < most
 fits_some most fit = grind (arith, nat_tests)
 
 -- ## Commands
@@ -216,9 +217,9 @@ all_at p f xs i d here all = go (p (f (slice_index_or xs i d))) refl
     go false is = absurd (true≢false (sym all ∙ (list_all-map p f xs ∙ list_all_at (λ x. p (f x)) xs i d here is)))
 
 pub row_fits : (entry : DeclaredEntry) (rows : List (ArgumentOf (Bor Text))) → map row_of rows ≡ rows_for entry.verb → (i : ℕ) (d : ArgumentOf (Bor Text)) → i < length rows
-    → is_sound (entry_of entry) ≡ true → is_fit (slice_index_or rows i d).kind ≡ true
+    → is_sound (entry_of entry) ≡ true → is_fit (slice_index_or rows i d).kind (slice_index_or rows i d).letter ≡ true
 row_fits entry rows are i d here sound =
-    all_at (λ row. is_fit row.kind) row_of rows i d here (ap (list_all (λ row. is_fit row.kind)) are ∙ (both _ _ sound).0)
+    all_at (λ row. is_fit row.kind row.letter) row_of rows i d here (ap (list_all (λ row. is_fit row.kind row.letter)) are ∙ (both _ _ sound).0)
 
 pub entry_fits : (entries : List DeclaredEntry) (i : ℕ) (d : DeclaredEntry) → i < length entries → list_all is_sound (map entry_of entries) ≡ true
     → is_sound (entry_of (slice_index_or entries i d)) ≡ true

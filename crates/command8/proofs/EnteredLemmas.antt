@@ -1,10 +1,10 @@
 -- A subcommand of the table that is entered: what it takes the program takes, and it asks for the same.
-use Rattle.std.proofs.Common.{◌≡◌, ◌∙◌, ◌&&◌, ◌||◌, Bool, cond, codes, true, false, refl, sym, ap, ap₂, map, subst, List, [], ◌∷◌, ◌++◌, Option, Some, None}
+use Rattle.std.proofs.Common.{◌≡◌, ◌∙◌, ◌&&◌, ◌||◌, Bool, cond, codes, true, false, refl, sym, ap, ap₂, map, subst, List, [], ◌∷◌, ◌++◌, Option, Some}
 use Rattle.std.specs.Prelude.{find, unwrap_or}
 use Rattle.std.specs.Str.{bytes_eq}
 use Rattle.std.proofs.lemmas.Slice.Eq.{bytes_eq-Decides}
 use Rattle.clap.specs.Walk.{Rule, answers_to, arg_by_id, finished, nothing_held, rows_after}
-use Rattle.clap.specs.Simple.{App, Shape, built, help_shape, label_of}
+use Rattle.clap.specs.Simple.{Shape, built, help_shape, label_of}
 use Rattle.clap.specs.Words.{Row, Text, new_rule}
 use Rattle.task8.specs.declared.tasks.Task.{Task}
 use Rattle.task8.specs.declared.tasks.Task.TheVariants as task
@@ -20,8 +20,8 @@ use Rattle.command8.proofs.WalkLemmas.{some_eq}
 
 -- a task of a subcommand
 pub data Seen : Verb → Task → Type 0 where
-  a_tape : Seen verb.Tape task.Tape
-  a_rim : (form : _) → Seen verb.Rim (task.Rim form)
+  a_tape : (tape : _) → Seen verb.Tape (task.Tape tape)
+  a_rim : (tape : _) (form : _) → Seen verb.Rim (task.Rim tape form)
   a_source : (form : _) → Seen verb.Source (task.Source form)
   a_assemble : (form : _) → Seen verb.Assemble (task.Assemble form)
   a_teletype : (form : _) → Seen verb.Teletype (task.Teletype form)
@@ -45,8 +45,8 @@ pub data Seen : Verb → Task → Type 0 where
   a_check : (form : _) → Seen verb.Check (task.Check form)
 
 seen_as : (which : Verb) (rows : List Row) (task : Task) → AsksFor which rows task → Seen which task
-seen_as which rows task.Tape asks = subst (λ w. Seen w task.Tape) (sym asks) a_tape
-seen_as which rows (task.Rim form) asks = subst (λ w. Seen w (task.Rim form)) (sym asks.0) (a_rim form)
+seen_as which rows (task.Tape tape) asks = subst (λ w. Seen w (task.Tape tape)) (sym asks.0) (a_tape tape)
+seen_as which rows (task.Rim tape form) asks = subst (λ w. Seen w (task.Rim tape form)) (sym asks.0) (a_rim tape form)
 seen_as which rows (task.Source form) asks = subst (λ w. Seen w (task.Source form)) (sym asks.0) (a_source form)
 seen_as which rows (task.Assemble form) asks = subst (λ w. Seen w (task.Assemble form)) (sym asks.0) (a_assemble form)
 seen_as which rows (task.Teletype form) asks = subst (λ w. Seen w (task.Teletype form)) (sym asks.0) (a_teletype form)

@@ -7,14 +7,14 @@ use Rattle.clap.specs.Walk.{row_text}
 use Rattle.clap.specs.Words.{Row, Text, first_of, one_of}
 use Rattle.command8.specs.declared.refusals.What.{What}
 use Rattle.command8.specs.declared.refusals.What.TheVariants as what
-use Rattle.command8.specs.declared.table.Kind.TheVariants.{Word}
+use Rattle.command8.specs.declared.table.Kind.{Kind}
 use Rattle.command8.specs.declared.table.Verb.{Verb}
 use Rattle.command8.specs.declared.table.Verb.TheVariants as verb
-use Rattle.command8.specs.Found.{has, is_set, number_in, number_of, place_of, values_of}
+use Rattle.command8.specs.Found.{capitals, has, is_set, names_in, number_in, number_of, place_of, values_of}
 use Rattle.command8.specs.FoundSteps.{AllHold, Has}
 use Rattle.command8.specs.Refusals.{Bad, Said, bad_block, blocks_missing, blocks_word, both_given, first_bad, input_twice, is_alone, missing, missing_of, moved_missing, names_input_twice, names_one, names_some, or_else, refusal_of, said_of, together, unexpected, unexpected_of}
 use Rattle.command8.specs.Tables.{Entry, entry_named, rows_for}
-use Rattle.command8.specs.TableSteps.{kind_at, takes_text}
+use Rattle.command8.specs.TableSteps.{kind_at}
 use Rattle.command8.specs.TaskSteps.{IsWhole, Needs}
 use Rattle.command8.specs.Tasks.{after}
 use Rattle.command8.proofs.FoundLemmas.{all_well}
@@ -140,14 +140,15 @@ length_map f (x ∷ xs) = ap suc (length_map f xs)
 
 -- at least one file is taken out
 pub some_deleted : {X Y : Type 0} (values : List Row) (names : List X) (places : List Y) (text_of : X → Text) (read : Text → Option Y)
-    → missing_of verb.Delete values ≡ None → values_of (codes "NAME") values ≡ map text_of names
+    → missing_of verb.Delete values ≡ None → names_in (codes "NAME") values ≡ map text_of names
     → map read (values_of (codes "at") values) ≡ map (λ place. Some place) places → 1 ≤ length names + length places
 some_deleted values names places text_of read none named placed = go (has (codes "NAME") values) (has (codes "at") values) refl refl none
   where
     go : (a b : Bool) → has (codes "NAME") values ≡ a → has (codes "at") values ≡ b → (if a || b then None else Some what.Name) ≡ None
         → 1 ≤ length names + length places
     go true b a_is b_is none =
-        let count : length (values_of (codes "NAME") values) ≡ length names = ap length named ∙ length_map text_of names in
+        let count : length (values_of (codes "NAME") values) ≡ length names =
+        sym (length_map capitals (values_of (codes "NAME") values)) ∙ (ap length named ∙ length_map text_of names) in
         omega (arith, some_values (codes "NAME") values a_is, count)
     go false true a_is b_is none =
         let count : length (values_of (codes "at") values) ≡ length places =
@@ -181,11 +182,11 @@ sized_tape values none unnumbered = go (has (codes "BLOCKS") values) (is_set (co
     go false false sized none = absurd (some_what what.Blocks none)
 
 -- the argument after a file takes a text
-pub after_takes : (which : Verb) (moved own : Text) (values : List Row) → takes_text (kind_at moved (rows_for which)) ≡ true
-    → takes_text (kind_at own (rows_for which)) ≡ true → takes_text (kind_at (after moved own values) (rows_for which)) ≡ true
-after_takes which moved own values one other = go (has (codes "at") values)
+pub after_takes : (takes : Option Kind → Bool) (which : Verb) (moved own : Text) (values : List Row) → takes (kind_at moved (rows_for which)) ≡ true
+    → takes (kind_at own (rows_for which)) ≡ true → takes (kind_at (after moved own values) (rows_for which)) ≡ true
+after_takes takes which moved own values one other = go (has (codes "at") values)
   where
-    go : (at : Bool) → takes_text (kind_at (if at then moved else own) (rows_for which)) ≡ true
+    go : (at : Bool) → takes (kind_at (if at then moved else own) (rows_for which)) ≡ true
     go true = one
     go false = other
 

@@ -1,6 +1,6 @@
 -- Each subcommand of a sound table, as clap builds it: words in which it finds no fault give each argument what the table says of it.
-use Rattle.std.proofs.Common.{◌≡◌, ◌∙◌, ◌&&◌, ◌||◌, ◌≤◌, ℕ, Bool, cond, codes, true, false, not, refl, sym, ap, arith, subst, true≢false, List, [], ◌∷◌, ◌++◌, map, Option, Some, None, is_some, length}
-use Rattle.std.specs.Prelude.{⊤, ◌==◌, find, nat_lt, option_map, unwrap_or}
+use Rattle.std.proofs.Common.{◌≡◌, ◌∙◌, ◌||◌, ◌≤◌, ℕ, Bool, cond, codes, true, false, not, refl, sym, ap, arith, subst, true≢false, inl, inr, List, [], ◌∷◌, ◌++◌, map, Option, Some, None, length}
+use Rattle.std.specs.Prelude.{⊤, ◌==◌, find, option_map, unwrap_or}
 use Rattle.std.specs.List.{list_all, list_any}
 use Rattle.std.specs.Str.{bytes_eq}
 use Rattle.std.proofs.lemmas.Bool.Decides.{nat_tests}
@@ -10,14 +10,13 @@ use Rattle.clap.specs.Lexer.{usize_max}
 use Rattle.clap.specs.Walk.{Row, Rule, Text, arg_by_id, rows_after}
 use Rattle.clap.specs.Simple.{Shape, filled, filled_from, help_rule, index_after, with_index}
 use Rattle.command8.specs.declared.table.Kind.{Kind}
-use Rattle.command8.specs.declared.table.Kind.TheVariants.{Word, Words, Size, Flag, Value, Values, Count, Cell, Cells, Octal, Octals, Volume, Block, Blocks}
-use Rattle.command8.specs.Tables.{Argument, Entry, are_distinct, kind_rule, leaf_shape, most_steps, rows_for, rule_for, rules_for}
-use Rattle.command8.specs.TableSteps.{can_be_required, ids_of, is_fit, is_sound}
-use Rattle.command8.specs.Found.{values_of}
-use Rattle.command8.specs.FoundSteps.{AllHold, Has, HasSomeWhere, HasWhere, Holds, IsTaken}
-use Rattle.command8.proofs.LeafLemmas.{AllParts, Faultless, IsLeaf, IsPart, a_flag, a_help, a_word, an_appending, an_option, below, fit, has_number, has_word, one_up_to}
+use Rattle.command8.specs.declared.table.Kind.TheVariants.{Word, Words, Size, Flag, One, Many, Count}
+use Rattle.command8.specs.Tables.{Argument, Entry, are_distinct, kind_rule, leaf_shape, lettered, most_steps, rows_for, rule_for, rules_for}
+use Rattle.command8.specs.TableSteps.{can_be_required, fits, ids_of, is_fit, is_sound}
+use Rattle.command8.specs.FoundSteps.{AllHold, HasSomeWhere, HasWhere, IsTaken}
+use Rattle.command8.proofs.LeafLemmas.{AllParts, Faultless, IsLeaf, IsPart, a_flag, a_help, a_word, an_option, below, fit, has_number, has_word, one_up_to}
 use Rattle.command8.proofs.RefusalLemmas.{some_values}
-use Rattle.command8.proofs.WalkLemmas.{Fits, some_eq}
+use Rattle.command8.proofs.WalkLemmas.{Fits, TakesSome}
 use Rattle.word12.specs.declared.sizes.TheConstants.{MOST_BLOCKS}
 
 -- ## Names that stand once
@@ -68,43 +67,53 @@ ids_rules (row ∷ rows) = ap (λ (ids : List Text). row.id ∷ ids) (ids_rules 
 
 -- ## The kinds of argument
 
-abbrev built_rule : ℕ → Text → Kind → Bool → Rule
-built_rule i id kind required = with_index i (filled (record (kind_rule id kind) { required = required }))
+abbrev built_rule : ℕ → Text → Option ℕ → Kind → Bool → Rule
+built_rule i id letter kind required = with_index i (filled (lettered letter (record (kind_rule id kind) { required = required })))
 
-some_not_all : (most : ℕ) → is_fit (Words most) ≡ true → (most == usize_max) ≡ false
+some_not_all : (most : ℕ) → fits (Words most) ≡ true → (most == usize_max) ≡ false
 some_not_all most fits = grind (arith, nat_tests)
 
-part_of : (c : List Rule) (i : ℕ) (id : Text) (required : Bool) (kind : Kind) → is_fit kind ≡ true → arg_by_id c id ≡ Some (built_rule i id kind required)
-    → IsPart c (built_rule i id kind required)
-part_of c i id required Word fits own = a_word (record { placed = refl; some = (refl, refl); bare = refl; own = own })
-part_of c i id required (Words most) fits own = a_word (record {
+-- what may be required takes a value at least
+takes_some : (i : ℕ) (id : Text) (letter : Option ℕ) (required : Bool) (kind : Kind) → is_fit kind letter ≡ true → can_be_required kind ≡ true
+    → TakesSome (built_rule i id letter kind required)
+takes_some i id None required Word fits can = (refl, refl)
+takes_some i id None required (Words most) fits can = (rw (some_not_all most fits) refl, refl)
+takes_some i id None required Size fits can = (refl, refl)
+takes_some i id (Some letter) required Word fits can = absurd (true≢false (sym fits))
+takes_some i id (Some letter) required (Words most) fits can = absurd (true≢false (sym (both _ _ fits).1))
+takes_some i id (Some letter) required Size fits can = absurd (true≢false (sym fits))
+takes_some i id letter required (One form) fits can = (refl, refl)
+takes_some i id letter required Count fits can = (refl, refl)
+takes_some i id letter required Flag fits can = absurd (true≢false (sym can))
+takes_some i id letter required (Many form) fits can = absurd (true≢false (sym can))
+
+part_of : (c : List Rule) (i : ℕ) (id : Text) (letter : Option ℕ) (required : Bool) (kind : Kind) → is_fit kind letter ≡ true
+    → arg_by_id c id ≡ Some (built_rule i id letter kind required) → IsPart c (built_rule i id letter kind required)
+part_of c i id None required Word fits own = a_word (record { placed = refl; some = (refl, refl); bare = refl; own = own })
+part_of c i id None required (Words most) fits own = a_word (record {
   placed = refl;
   some = (rw (some_not_all most fits) refl, refl);
   bare = rw (some_not_all most fits) refl;
   own = own;
 })
-part_of c i id required Size fits own = a_word (record { placed = refl; some = (refl, refl); bare = refl; own = own })
-part_of c i id required Flag fits own = a_flag (record { bare = refl; set = refl; own = own; no_letter = λ x. refl })
-part_of c i id required Value fits own = an_option (record { takes = refl; some = (refl, refl); bare = refl; own = own; no_letter = λ x. refl })
-part_of c i id required Count fits own = an_option (record { takes = refl; some = (refl, refl); bare = refl; own = own; no_letter = λ x. refl })
-part_of c i id required Cell fits own = an_option (record { takes = refl; some = (refl, refl); bare = refl; own = own; no_letter = λ x. refl })
-part_of c i id required Octal fits own = an_option (record { takes = refl; some = (refl, refl); bare = refl; own = own; no_letter = λ x. refl })
-part_of c i id required Volume fits own = an_option (record { takes = refl; some = (refl, refl); bare = refl; own = own; no_letter = λ x. refl })
-part_of c i id required Block fits own = an_option (record { takes = refl; some = (refl, refl); bare = refl; own = own; no_letter = λ x. refl })
-part_of c i id required Values fits own = an_appending (record { takes = refl; appends = refl; bare = refl; own = own; no_letter = λ x. refl })
-part_of c i id required Cells fits own = an_appending (record { takes = refl; appends = refl; bare = refl; own = own; no_letter = λ x. refl })
-part_of c i id required Octals fits own = an_appending (record { takes = refl; appends = refl; bare = refl; own = own; no_letter = λ x. refl })
-part_of c i id required Blocks fits own = an_appending (record { takes = refl; appends = refl; bare = refl; own = own; no_letter = λ x. refl })
+part_of c i id None required Size fits own = a_word (record { placed = refl; some = (refl, refl); bare = refl; own = own })
+part_of c i id (Some letter) required Word fits own = absurd (true≢false (sym fits))
+part_of c i id (Some letter) required (Words most) fits own = absurd (true≢false (sym (both _ _ fits).1))
+part_of c i id (Some letter) required Size fits own = absurd (true≢false (sym fits))
+part_of c i id letter required Flag fits own = a_flag (record { bare = refl; set = refl; own = own })
+part_of c i id letter required (One form) fits own = an_option (record { takes = refl; how = inl (refl, refl); bare = refl; own = own })
+part_of c i id letter required Count fits own = an_option (record { takes = refl; how = inl (refl, refl); bare = refl; own = own })
+part_of c i id letter required (Many form) fits own = an_option (record { takes = refl; how = inr refl; bare = refl; own = own })
 
-all_parts : (c : List Rule) (i : ℕ) (rows : List Argument) → list_all (λ row. is_fit row.kind) rows ≡ true
+all_parts : (c : List Rule) (i : ℕ) (rows : List Argument) → list_all (λ row. is_fit row.kind row.letter) rows ≡ true
     → AllOwn c (filled_from i (rules_for rows ++ help_rule ∷ [])) → AllParts c (filled_from i (rules_for rows ++ help_rule ∷ []))
 all_parts c i [] fits own = (a_help refl, tt)
 all_parts c i (row ∷ rows) fits own =
     let parts = both _ _ fits in
-    (part_of c i row.id row.is_required row.kind parts.0 own.0, all_parts c (index_after i (rule_for row)) rows parts.1 own.1)
+    (part_of c i row.id row.letter row.is_required row.kind parts.0 own.0, all_parts c (index_after i (rule_for row)) rows parts.1 own.1)
 
 record IsSound (entry : Entry) : Type 0 where
-  fits : list_all (λ row. is_fit row.kind) (rows_for entry.verb) ≡ true
+  fits : list_all (λ row. is_fit row.kind row.letter) (rows_for entry.verb) ≡ true
   requires : list_all (λ row. not row.is_required || can_be_required row.kind) (rows_for entry.verb) ≡ true
   distinct : are_distinct (ids_of (rows_for entry.verb) ++ codes "help" ∷ []) ≡ true
 
@@ -128,68 +137,49 @@ entry_leaf entry sound = record {
 
 -- ## What words with no fault give
 
-row_holds : (s : Shape) → IsLeaf s → (i : ℕ) (id : Text) (required : Bool) (kind : Kind) → is_fit kind ≡ true → (not required || can_be_required kind) ≡ true
-    → arg_by_id s.rules id ≡ Some (built_rule i id kind required) → (words : List Text) → Faultless s words
+row_holds : (s : Shape) → IsLeaf s → (i : ℕ) (id : Text) (letter : Option ℕ) (required : Bool) (kind : Kind) → is_fit kind letter ≡ true
+    → (not required || can_be_required kind) ≡ true → arg_by_id s.rules id ≡ Some (built_rule i id letter kind required) → (words : List Text) → Faultless s words
     → HasWhere required id (rows_after s.rules [] words) × HasSomeWhere required id (rows_after s.rules [] words) × IsTaken kind id (rows_after s.rules [] words)
-row_holds s leaf i id required kind fits can own words none = (where_required required kind fits can own, some_where required (where_required required kind fits can own), taken kind fits own)
+row_holds s leaf i id letter required kind fits can own words none =
+    let has = where_required required can own in
+    (has, some_where required has, taken kind letter fits own)
   where
-    rows : List Row
-    rows = rows_after s.rules [] words
-
-    where_required : (required : Bool) (kind : Kind) → is_fit kind ≡ true → (not required || can_be_required kind) ≡ true
-        → arg_by_id s.rules id ≡ Some (built_rule i id kind required) → HasWhere required id (rows_after s.rules [] words)
-    where_required false kind fits can own = tt
-    where_required true Word fits can own = has_word s leaf (built_rule i id Word true) own refl (refl, refl) words none
-    where_required true (Words most) fits can own =
-        has_word s leaf (built_rule i id (Words most) true) own refl (rw (some_not_all most fits) refl, refl) words none
-    where_required true Size fits can own = has_word s leaf (built_rule i id Size true) own refl (refl, refl) words none
-    where_required true Value fits can own = has_word s leaf (built_rule i id Value true) own refl (refl, refl) words none
-    where_required true Count fits can own = has_word s leaf (built_rule i id Count true) own refl (refl, refl) words none
-    where_required true Cell fits can own = has_word s leaf (built_rule i id Cell true) own refl (refl, refl) words none
-    where_required true Octal fits can own = has_word s leaf (built_rule i id Octal true) own refl (refl, refl) words none
-    where_required true Volume fits can own = has_word s leaf (built_rule i id Volume true) own refl (refl, refl) words none
-    where_required true Block fits can own = has_word s leaf (built_rule i id Block true) own refl (refl, refl) words none
-    where_required true Flag fits can own = absurd (true≢false (sym can))
-    where_required true Values fits can own = absurd (true≢false (sym can))
-    where_required true Cells fits can own = absurd (true≢false (sym can))
-    where_required true Octals fits can own = absurd (true≢false (sym can))
-    where_required true Blocks fits can own = absurd (true≢false (sym can))
+    where_required : (required : Bool) → (not required || can_be_required kind) ≡ true → arg_by_id s.rules id ≡ Some (built_rule i id letter kind required)
+        → HasWhere required id (rows_after s.rules [] words)
+    where_required false can own = tt
+    where_required true can own = has_word s leaf (built_rule i id letter kind true) own refl (takes_some i id letter true kind fits can) words none
 
     some_where : (required : Bool) → HasWhere required id (rows_after s.rules [] words) → HasSomeWhere required id (rows_after s.rules [] words)
     some_where true has = some_values id (rows_after s.rules [] words) has
     some_where false has = tt
 
-    up_to : (most : ℕ) (o : Option Row) → ((r : Row) → o ≡ Some r → Fits (built_rule i id (Words most) required) r.values)
+    up_to : (most : ℕ) (o : Option Row) → ((r : Row) → o ≡ Some r → Fits (built_rule i id None (Words most) required) r.values)
         → length (unwrap_or (option_map (λ (r : Row). r.values) o) []) ≤ most
     up_to most None given = omega arith
     up_to most (Some r) given = (one_up_to most (length r.values) (given r refl).0).1
 
-    taken : (kind : Kind) → is_fit kind ≡ true → arg_by_id s.rules id ≡ Some (built_rule i id kind required) → IsTaken kind id (rows_after s.rules [] words)
-    taken Word fits own = tt
-    taken (Words most) fits own =
+    taken : (kind : Kind) (letter : Option ℕ) → is_fit kind letter ≡ true → arg_by_id s.rules id ≡ Some (built_rule i id letter kind required)
+        → IsTaken kind id (rows_after s.rules [] words)
+    taken Word letter fits own = tt
+    taken (Words most) None fits own =
         up_to most (find (λ x. bytes_eq x.id id) (rows_after s.rules [] words))
-        (λ r is. (fit s leaf (built_rule i id (Words most) required) own (rw (some_not_all most fits) refl) words none r is).0)
-    taken Flag fits own = tt
-    taken Value fits own = tt
-    taken Values fits own = tt
-    taken Cell fits own = tt
-    taken Cells fits own = tt
-    taken Octal fits own = tt
-    taken Octals fits own = tt
-    taken Volume fits own = tt
-    taken Block fits own = tt
-    taken Blocks fits own = tt
-    taken Size fits own = has_number s leaf (built_rule i id Size required) own refl refl 8 MOST_BLOCKS refl refl words none
-    taken Count fits own = has_number s leaf (built_rule i id Count required) own refl refl 1 most_steps refl refl words none
+        (λ r is. (fit s leaf (built_rule i id None (Words most) required) own (rw (some_not_all most fits) refl) words none r is).0)
+    taken (Words most) (Some letter) fits own = absurd (true≢false (sym (both _ _ fits).1))
+    taken Flag letter fits own = tt
+    taken (One form) letter fits own = tt
+    taken (Many form) letter fits own = tt
+    taken Size None fits own = has_number s leaf (built_rule i id None Size required) own refl refl 8 MOST_BLOCKS refl refl words none
+    taken Size (Some letter) fits own = absurd (true≢false (sym fits))
+    taken Count letter fits own = has_number s leaf (built_rule i id letter Count required) own refl refl 1 most_steps refl refl words none
 
-rows_hold : (s : Shape) → IsLeaf s → (i : ℕ) (rows : List Argument) → list_all (λ row. is_fit row.kind) rows ≡ true
+rows_hold : (s : Shape) → IsLeaf s → (i : ℕ) (rows : List Argument) → list_all (λ row. is_fit row.kind row.letter) rows ≡ true
     → list_all (λ row. not row.is_required || can_be_required row.kind) rows ≡ true → AllOwn s.rules (filled_from i (rules_for rows ++ help_rule ∷ []))
     → (words : List Text) → Faultless s words → AllHold rows (rows_after s.rules [] words)
 rows_hold s leaf i [] fits can own words none = tt
 rows_hold s leaf i (row ∷ rows) fits can own words none =
     let fit = both _ _ fits in
     let may = both _ _ can in
-    (row_holds s leaf i row.id row.is_required row.kind fit.0 may.0 own.0 words none, rows_hold s leaf (index_after i (rule_for row)) rows fit.1 may.1 own.1 words none)
+    (row_holds s leaf i row.id row.letter row.is_required row.kind fit.0 may.0 own.0 words none, rows_hold s leaf (index_after i (rule_for row)) rows fit.1 may.1 own.1 words none)
 
 -- a subcommand of a sound table, entered with no fault, has what the table says
 pub entry_holds : (entry : Entry) → is_sound entry ≡ true → (words : List Text) → Faultless (below (leaf_shape entry)) words

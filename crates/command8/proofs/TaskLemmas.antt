@@ -1,6 +1,6 @@
 -- Words in which clap finds no fault name a subcommand of the table, with what its arguments say.
-use Rattle.std.proofs.Common.{◌≡◌, ◌≢◌, Result, Ok, Err, IfErr, ◌∙◌, ◌||◌, ◌⊎◌, ℕ, Bool, cond, codes, true, false, refl, sym, ap, subst, inl, inr, true≢false, List, [], ◌∷◌, ◌++◌, map, Option, Some, None, is_some}
-use Rattle.std.specs.Prelude.{⊤, find, option_map}
+use Rattle.std.proofs.Common.{◌≡◌, ◌≢◌, Result, Ok, Err, IfErr, ◌∙◌, ◌||◌, Bool, cond, codes, true, false, refl, sym, ap, subst, inl, inr, true≢false, List, [], ◌∷◌, ◌++◌, map, Option, Some, None, is_some}
+use Rattle.std.specs.Prelude.{find, option_map}
 use Rattle.std.specs.List.{list_all}
 use Rattle.std.specs.Option.{option_map_or}
 use Rattle.std.specs.Str.{bytes_eq}
@@ -8,7 +8,7 @@ use Rattle.std.proofs.lemmas.List.{map-append}
 use Rattle.std.proofs.lemmas.Simd.{map-map}
 use Rattle.std.proofs.lemmas.Slice.Eq.{bytes_eq-Decides}
 use Rattle.clap.proofs.WalkLemmas.{both}
-use Rattle.clap.specs.Walk.{Row, Text, answers_to, nothing_held, rows_after, walk}
+use Rattle.clap.specs.Walk.{Row, Text, answers_to, nothing_held, walk}
 use Rattle.clap.specs.Simple.{App, Shape, argument_words, built, built_leaf, entered, help_shape, inherited, label_of, marked_built, names_of, rows_at, subcommand_of}
 use Rattle.clap.specs.Kinds.{HasKind, IsAmong}
 use Rattle.clap.specs.Faults.{entered_fault, fault_of, level_fault}
@@ -21,13 +21,13 @@ use Rattle.task8.specs.declared.tasks.Task.{Task}
 use Rattle.command8.specs.CommandSteps.{IsCommand}
 use Rattle.command8.specs.declared.faults.TaskFault.{TaskFault}
 use Rattle.command8.specs.declared.faults.TaskFault.TheVariants.{Words, Memory, Refused}
-use Rattle.command8.specs.Tables.{Argument, Entry, entry_named, leaf_shape, pdp8, rows_for, table}
+use Rattle.command8.specs.Tables.{Entry, leaf_shape, pdp8, rows_for, table}
 use Rattle.command8.specs.TableSteps.{is_sound}
 use Rattle.command8.specs.Tasks.{Answers, Asks, IsFaultOf, IsPastClap, Refuses}
 use Rattle.command8.specs.TaskSteps.{GivesMet, HasMet, IsWhole}
 use Rattle.command8.specs.FoundSteps.{AllHold}
-use Rattle.command8.proofs.LeafLemmas.{Faultless, above, below}
-use Rattle.command8.proofs.TableLemmas.{entry_holds, same_text}
+use Rattle.command8.proofs.LeafLemmas.{above, below}
+use Rattle.command8.proofs.TableLemmas.{entry_holds}
 use Rattle.command8.proofs.WalkLemmas.{IsNoHelp, level_stops, some_eq}
 
 -- ## The table

@@ -1,12 +1,13 @@
 -- What is read of the values that `clap` found for the arguments of a subcommand.
-use Rattle.std.specs.Prelude.{◌≡◌, ⊤, ◌≤◌, ◌+◌, ◌-◌, ◌*◌, ◌&&◌, ◌||◌, Bool, true, false, if◌then◌else◌, ℕ, nat_le, nat_lt, codes, is_some, length, List, [], ◌∷◌, Option, None, Some, option_map, slice_get, unwrap_or}
+use Rattle.std.specs.Prelude.{◌≡◌, ◌+◌, ◌-◌, ◌*◌, ◌&&◌, ◌||◌, Bool, true, false, if◌then◌else◌, ℕ, map, nat_eq, nat_le, nat_lt, codes, is_some, length, List, [], ◌∷◌, Option, None, Some, option_and_then, option_map, slice_get, unwrap_or}
 use Rattle.std.specs.Option.{option_map_or}
-use Rattle.std.specs.Str.{bytes_eq}
+use Rattle.std.specs.Str.{bytes_eq, str_to_ascii_uppercase}
 use Rattle.std.specs.Str.Parse.{digits_value, without_leading_plus}
-use Rattle.clap.specs.Words.{Row, Text, all_of, first_of, one_of, IsUnsignedIn}
-use Rattle.command8.specs.Tables.{Argument, most_steps}
+use Rattle.clap.specs.Words.{Row, Text, all_of, first_of}
 use Rattle.command8.specs.declared.table.Kind.{Kind}
-use Rattle.command8.specs.declared.table.Kind.TheVariants.{Word, Words, Size, Flag, Value, Values, Count, Cell, Cells, Octal, Octals, Volume, Block, Blocks}
+use Rattle.command8.specs.declared.table.Kind.TheVariants.{One, Many}
+use Rattle.command8.specs.declared.table.Form.{Form}
+use Rattle.command8.specs.declared.table.Form.TheVariants.{Text as a_text, Cell, Octal, Volume, Block, Seconds}
 use Rattle.word12.specs.Octal.{octal_of}
 use Rattle.word12.specs.declared.sizes.TheConstants.{MOST_BLOCKS}
 use Rattle.disk8.specs.declared.layouts.Layout.{Layout}
@@ -20,9 +21,21 @@ has id values = is_some (first_of id values)
 abbrev pub is_set : Text → List Row → Bool
 is_set id values = option_map_or (λ text. bytes_eq text (codes "true")) (first_of id values) false
 
+-- a name in capital letters
+abbrev pub capitals : Text → Text
+capitals name = str_to_ascii_uppercase name
+
+-- the name that an argument gives
+abbrev pub name_in : Text → List Row → Option Text
+name_in id values = option_map capitals (first_of id values)
+
 -- the values of an argument that has several
 abbrev pub values_of : Text → List Row → List Text
 values_of id values = unwrap_or (all_of id values) []
+
+-- and its names
+abbrev pub names_in : Text → List Row → List Text
+names_in id values = map capitals (values_of id values)
 
 -- one of them, if there are as many
 abbrev pub word_at : Text → ℕ → List Row → Option Text
@@ -49,9 +62,31 @@ within least most (Some number) = if nat_le least number && nat_le number most t
 abbrev pub number_in : ℕ → ℕ → Text → Option ℕ
 number_in least most text = within least most (number_of_digits text)
 
+-- an octal number of 1 to 5 digits, up to this one
+abbrev pub octal_to : ℕ → Text → Option ℕ
+octal_to most text = if nat_lt 0 (length text) && nat_le (length text) 5 then within 0 most (octal_of (length text) text) else None
+
+-- a word: 0 to 7777
+abbrev pub word_of : Text → Option ℕ
+word_of text = octal_to 0o7777 text
+
+-- the cell at an address of the field that a digit gives
+abbrev pub cell_at : ℕ → Text → Option ℕ
+cell_at digit address = if nat_le 0o60 digit && nat_lt digit 0o70 then option_map (λ word. 0o10000 * (digit - 0o60) + word) (word_of address) else None
+
+-- a cell: its field, a colon and its address, or one number for both, 0 to 77777
+abbrev pub cell_of : Text → Option ℕ
+cell_of [] = None
+cell_of (digit ∷ []) = octal_to 0o77777 (digit ∷ [])
+cell_of (field ∷ next ∷ rest) = if nat_eq next 0o72 then cell_at field rest else octal_to 0o77777 (field ∷ next ∷ rest)
+
 -- a block of a volume: 0 to 4095
 abbrev pub place_of : Text → Option ℕ
 place_of text = number_in 0 MOST_BLOCKS text
+
+-- how many seconds are waited for a held image, none where it is not said
+abbrev pub wait_of : List Row → ℕ
+wait_of values = unwrap_or (option_and_then (number_in 0 3600) (first_of (codes "wait") values)) 0
 
 -- the number that decimal digits spell, after a plus sign if there is one
 abbrev pub number_of : Text → ℕ
@@ -61,9 +96,9 @@ number_of text = digits_value 10 (without_leading_plus text)
 abbrev pub is_limit : Option ℕ → Bool
 is_limit steps = option_map_or (λ count. nat_le 1 count) steps true
 
--- an octal number of so many digits is this one, if it was given
-abbrev pub IsOctalOf : ℕ → Option Text → Option ℕ → Type 0
-IsOctalOf count given number = option_map (octal_of count) given ≡ option_map Some number
+-- what was given is read as this number, if it was given
+abbrev pub IsReadAs : (Text → Option ℕ) → Option Text → Option ℕ → Type 0
+IsReadAs read given number = option_map read given ≡ option_map Some number
 
 -- ## Where a volume lies in its file
 
@@ -74,32 +109,22 @@ volume_of text = if bytes_eq text (codes "1") then First else Second
 abbrev pub layout_of : Text → Text → List Row → Option Layout
 layout_of volume dectape values = if is_set dectape values then Some Dectape else option_map volume_of (first_of volume values)
 
--- ## Values that are none of their kind
+-- ## The forms of values
 
--- what a value is tested for: nothing, so many octal digits, a block, or the number of a disk's volume
-pub data Test : Type 0 where
-  a_text : Test
-  octal_digits : ℕ → Test
-  a_block : Test
-  a_volume : Test
+abbrev pub form_of : Kind → Form
+form_of (One form) = form
+form_of (Many form) = form
+form_of kind = a_text
 
-abbrev pub test_of : Kind → Test
-test_of Cell = octal_digits 5
-test_of Cells = octal_digits 5
-test_of Octal = octal_digits 4
-test_of Octals = octal_digits 4
-test_of Volume = a_volume
-test_of Block = a_block
-test_of Blocks = a_block
-test_of kind = a_text
-
-abbrev pub passes : Test → Text → Bool
+abbrev pub passes : Form → Text → Bool
 passes a_text text = true
-passes (octal_digits count) text = is_some (octal_of count text)
-passes a_block text = is_some (place_of text)
-passes a_volume text = bytes_eq text (codes "1") || bytes_eq text (codes "2")
+passes Cell text = is_some (cell_of text)
+passes Octal text = is_some (word_of text)
+passes Volume text = bytes_eq text (codes "1") || bytes_eq text (codes "2")
+passes Block text = is_some (place_of text)
+passes Seconds text = is_some (number_in 0 3600 text)
 
--- the first of the values that does not pass
-abbrev pub first_not : Test → List Text → Option Text
-first_not test [] = None
-first_not test (text ∷ texts) = if passes test text then first_not test texts else Some text
+-- the first of the values that is none of a form
+abbrev pub first_not : Form → List Text → Option Text
+first_not form [] = None
+first_not form (text ∷ texts) = if passes form text then first_not form texts else Some text

@@ -2,9 +2,10 @@
 use Rattle.std.specs.Prelude.{◌≡◌, ⊤, ◌≤◌, Bool, true, false, is_some, length, List, [], ◌∷◌, None, Some}
 use Rattle.clap.specs.Words.{Row, Text, first_of, one_of, IsUnsignedIn}
 use Rattle.word12.specs.declared.sizes.TheConstants.{MOST_BLOCKS}
+use Rattle.command8.specs.declared.table.Form.{Form}
 use Rattle.command8.specs.declared.table.Kind.{Kind}
 use Rattle.command8.specs.declared.table.Kind.TheVariants.{Words, Size, Count}
-use Rattle.command8.specs.Found.{first_not, test_of, values_of}
+use Rattle.command8.specs.Found.{first_not, form_of, values_of}
 use Rattle.command8.specs.Tables.{Argument, most_steps}
 
 -- an argument has a value
@@ -35,10 +36,10 @@ abbrev pub AllHold : List Argument → List Row → Type 0
 AllHold [] values = ⊤
 AllHold (row ∷ rows) values = Holds row values × AllHold rows values
 
--- all pass
-abbrev pub IsWell : Kind → Text → List Row → Type 0
-IsWell kind id values = first_not (test_of kind) (values_of id values) ≡ None
+-- all are of the form
+abbrev pub IsWell : Form → Text → List Row → Type 0
+IsWell form id values = first_not form (values_of id values) ≡ None
 
 abbrev pub AllWell : List Argument → List Row → Type 0
 AllWell [] values = ⊤
-AllWell (row ∷ rows) values = IsWell row.kind row.id values × AllWell rows values
+AllWell (row ∷ rows) values = IsWell (form_of row.kind) row.id values × AllWell rows values

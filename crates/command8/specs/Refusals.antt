@@ -9,11 +9,13 @@ use Rattle.command8.specs.declared.refusals.Refusal.{Refusal}
 use Rattle.command8.specs.declared.refusals.Refusal.TheVariants as refusal
 use Rattle.command8.specs.declared.refusals.What.{What}
 use Rattle.command8.specs.declared.refusals.What.TheVariants as what
+use Rattle.command8.specs.declared.table.Form.{Form}
+use Rattle.command8.specs.declared.table.Form.TheVariants.{Text as a_text, Cell, Octal, Volume, Block, Seconds}
 use Rattle.command8.specs.declared.table.Kind.{Kind}
 use Rattle.command8.specs.declared.table.Kind.TheVariants as kind
 use Rattle.command8.specs.declared.table.Verb.{Verb}
 use Rattle.command8.specs.declared.table.Verb.TheVariants as verb
-use Rattle.command8.specs.Found.{first_not, has, is_set, number_in, test_of, values_of, word_at}
+use Rattle.command8.specs.Found.{first_not, form_of, has, is_set, number_in, values_of, word_at}
 use Rattle.command8.specs.Tables.{Argument, pairs, rows_for}
 
 -- what is said of a refusal
@@ -99,7 +101,19 @@ moved_missing id one both values =
     if not (has (codes "NAME") values) then (if has (codes "at") values then Some one else Some both)
     else if has (codes "at") values || has id values then None else Some one
 
+-- of a file of a volume, where it is said where the volume lies
+abbrev pub tape_missing : List Row → Option What
+tape_missing values =
+    if has (codes "NAME") values || not (has (codes "volume") values || is_set (codes "dectape") values) then None
+    else if has (codes "TAPE") values then Some what.Name else Some what.TapeAndName
+
 abbrev pub missing_of : Verb → List Row → Option What
+missing_of verb.Tape values = tape_missing values
+missing_of verb.Rim values = tape_missing values
+missing_of verb.Source values = tape_missing values
+missing_of verb.Teletype values = tape_missing values
+missing_of verb.Trace values = tape_missing values
+missing_of verb.Profile values = tape_missing values
 missing_of verb.Assemble values = if is_set (codes "cross") values && not (has (codes "list") values) then Some what.List else None
 missing_of verb.Create values = if has (codes "BLOCKS") values || is_set (codes "dectape") values then None else Some what.Blocks
 missing_of verb.Get values =
@@ -137,15 +151,13 @@ unexpected_of values =
 -- ## Values that are none
 
 -- what is wrong with it
-abbrev pub why : Kind → Text
-why kind.Cell = codes "not five octal digits, a field and an address"
-why kind.Cells = codes "not five octal digits, a field and an address"
-why kind.Octal = codes "not four octal digits"
-why kind.Octals = codes "not four octal digits"
-why kind.Volume = codes "not 1 or 2"
-why kind.Block = codes "not a block, 0 to 4095"
-why kind.Blocks = codes "not a block, 0 to 4095"
-why other = codes "not a value of it"
+abbrev pub why : Form → Text
+why a_text = codes "not a text"
+why Cell = codes "not a cell, 0 to 77777 in octal, or F:AAAA"
+why Octal = codes "not a word, 0 to 7777 in octal"
+why Volume = codes "not 1 or 2"
+why Block = codes "not a block, 0 to 4095"
+why Seconds = codes "not a number of seconds, 0 to 3600"
 
 -- the argument, what is wrong with the value, and the value
 abbrev pub Bad : Type 0
@@ -153,12 +165,12 @@ Bad = Text × Text × Text
 
 abbrev pub bad_or : Argument → Option Text → Option Bad → Option Bad
 bad_or row None rest = rest
-bad_or row (Some text) rest = Some (row.shown, why row.kind, text)
+bad_or row (Some text) rest = Some (row.shown, why (form_of row.kind), text)
 
 -- the first value that is none of its argument's kind
 abbrev pub first_bad : List Argument → List Row → Option Bad
 first_bad [] values = None
-first_bad (row ∷ rows) values = bad_or row (first_not (test_of row.kind) (values_of row.id values)) (first_bad rows values)
+first_bad (row ∷ rows) values = bad_or row (first_not (form_of row.kind) (values_of row.id values)) (first_bad rows values)
 
 -- the first block and their number, where blocks are got
 abbrev pub gets_blocks : Verb → List Row → Bool

@@ -1,6 +1,7 @@
 -- The command line that the table describes, as `clap` reads it: one definition, computed from the table.
-use Rattle.std.specs.Prelude.{find, option_map, ◌≡◌, ◌&&◌, ◌||◌, Bool, true, false, ℕ, nat_lt, codes, List, [], ◌∷◌, ◌++◌, map, length, not, Option, Some, None}
+use Rattle.std.specs.Prelude.{find, ◌&&◌, Bool, true, ℕ, codes, List, [], ◌∷◌, ◌++◌, map, not, Option, Some, None}
 use Rattle.std.specs.List.{list_any}
+use Rattle.std.specs.Option.{option_map_or}
 use Rattle.std.specs.Str.{bytes_eq}
 use Rattle.clap.specs.Walk.{is_empty}
 use Rattle.clap.specs.Simple.{new_shape}
@@ -12,11 +13,10 @@ use Rattle.word12.specs.declared.sizes.TheConstants.{MOST_BLOCKS}
 use Rattle.clap.specs.declared.builder.action.ArgAction.{ArgAction}
 use Rattle.clap.specs.declared.builder.action.ArgAction.TheVariants.{Append, SetTrue}
 use Rattle.command8.specs.declared.table.Kind.{Kind}
-use Rattle.command8.specs.declared.table.Kind.TheVariants.{Word, Words, Size, Flag, Value, Values, Count, Cell, Cells, Octal, Octals, Volume, Block, Blocks}
-use Rattle.std.specs.Borrow.{Bor}
+use Rattle.command8.specs.declared.table.Kind.TheVariants.{Word, Words, Size, Flag, Many, Count}
 use Rattle.command8.specs.declared.table.ArgumentOf.{ArgumentOf}
 use Rattle.command8.specs.declared.table.EntryOf.{EntryOf}
-use Rattle.command8.specs.declared.table.TheConstants.{COMMANDS, PAIRS, RIM, SOURCE, ASSEMBLE, TELETYPE, TRACE, RUN, CREATE, LIST, GET, PUT, DELETE, RENAME, COPY, SQUEEZE, CHECK}
+use Rattle.command8.specs.declared.table.TheConstants.{COMMANDS, PAIRS, TAPE, RIM, SOURCE, ASSEMBLE, TELETYPE, TRACE, RUN, CREATE, LIST, GET, PUT, DELETE, RENAME, COPY, SQUEEZE, CHECK}
 use Rattle.command8.specs.declared.table.Verb.{Verb}
 use Rattle.command8.specs.declared.table.Verb.TheVariants as verb
 
@@ -40,6 +40,7 @@ Said A = record { now : A }
 abbrev pub declared_row : ArgumentOf (Said Text) → Argument
 declared_row row = record {
   id = row.id.now;
+  letter = row.letter;
   kind = row.kind;
   is_required = row.is_required;
   is_hidden = row.is_hidden;
@@ -57,7 +58,7 @@ declared_entry entry = record {
 
 -- the arguments of a subcommand
 abbrev pub rows_for : Verb → List Argument
-rows_for verb.Tape = []
+rows_for verb.Tape = map declared_row TAPE.now
 rows_for verb.Rim = map declared_row RIM.now
 rows_for verb.Source = map declared_row SOURCE.now
 rows_for verb.Assemble = map declared_row ASSEMBLE.now
@@ -95,10 +96,7 @@ kind_long id kind = Some id
 
 abbrev pub kind_action : Kind → Option ArgAction
 kind_action Flag = Some SetTrue
-kind_action Values = Some Append
-kind_action Cells = Some Append
-kind_action Octals = Some Append
-kind_action Blocks = Some Append
+kind_action (Many form) = Some Append
 kind_action kind = None
 
 abbrev pub kind_range : Kind → Option ValueRange
@@ -126,9 +124,13 @@ kind_rule id kind = record (new_rule id) {
   parser = kind_parser kind;
 }
 
+-- an option with its letter, if it has one
+abbrev pub lettered : Option ℕ → Rule → Rule
+lettered letter rule = record rule { short = letter }
+
 -- what `clap` reads of an argument of the table
 abbrev pub rule_for : Argument → Rule
-rule_for row = record (kind_rule row.id row.kind) { required = row.is_required }
+rule_for row = lettered row.letter (record (kind_rule row.id row.kind) { required = row.is_required })
 
 -- ## The command
 
@@ -171,3 +173,28 @@ are_distinct (id ∷ ids) = not (list_any (λ other. bytes_eq other id) ids) && 
 -- the subcommand of this name
 abbrev pub entry_named : Text → Option Entry
 entry_named name = find (λ entry. bytes_eq name entry.word) table
+
+-- ## The letters of options
+
+abbrev with_letter : Argument → List (Text × Text) → List (Text × Text)
+with_letter row rest = option_map_or (λ letter. (letter ∷ [], row.id) ∷ rest) row.letter rest
+
+abbrev letters_in : List Argument → List (Text × Text)
+letters_in [] = []
+letters_in (row ∷ rows) = with_letter row (letters_in rows)
+
+-- the letters of a subcommand's options, each with its option
+abbrev pub letters_of : Entry → List (Text × Text)
+letters_of entry = letters_in (rows_for entry.verb)
+
+-- no letter stands twice, and none is that of help
+abbrev pub are_apart : List (Text × Text) → Bool
+are_apart letters = are_distinct (map (λ pair. pair.0) letters ++ codes "h" ∷ [])
+
+-- the letter is the usual one: `-o` of `--output`, and so on; in `list` `-l` is `--long`
+abbrev usual : List (Text × Text)
+usual = (codes "o", codes "output") ∷ (codes "l", codes "list") ∷ (codes "l", codes "long") ∷ (codes "t", codes "text") ∷ (codes "a", codes "all")
+    ∷ (codes "f", codes "force") ∷ (codes "v", codes "volume") ∷ []
+
+abbrev pub is_usual : Text × Text → Bool
+is_usual pair = list_any (λ other. bytes_eq other.0 pair.0 && bytes_eq other.1 pair.1) usual

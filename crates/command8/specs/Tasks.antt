@@ -8,13 +8,13 @@ use Rattle.char_pack.specs.declared.forms.GetForm.{GetForm}
 use Rattle.char_pack.specs.declared.forms.GetForm.TheVariants as get_as
 use Rattle.char_pack.specs.declared.forms.PutForm.{PutForm}
 use Rattle.char_pack.specs.declared.forms.PutForm.TheVariants as put_as
-use Rattle.word12.specs.Octal.{octal_of}
 use Rattle.word12.specs.declared.sizes.TheConstants.{MOST_BLOCKS}
 use Rattle.disk8.specs.declared.layouts.Layout.{Layout}
 use Rattle.disk8.specs.declared.layouts.Layout.TheVariants.{First, Second, Dectape}
 use Rattle.task8.specs.declared.forms.BlocksForm.{BlocksForm}
 use Rattle.task8.specs.declared.forms.CheckForm.{CheckForm}
 use Rattle.task8.specs.declared.forms.CopyForm.{CopyForm}
+use Rattle.task8.specs.declared.forms.CreateForm.{CreateForm}
 use Rattle.task8.specs.declared.forms.DeleteForm.{DeleteForm}
 use Rattle.task8.specs.declared.forms.FileForm.{FileForm}
 use Rattle.task8.specs.declared.forms.FileForm.TheVariants.{Name, At}
@@ -22,6 +22,8 @@ use Rattle.task8.specs.declared.forms.GetManyForm.{GetManyForm}
 use Rattle.task8.specs.declared.forms.ImageForm.{ImageForm}
 use Rattle.task8.specs.declared.forms.PutManyForm.{PutManyForm}
 use Rattle.task8.specs.declared.forms.PutOneForm.{PutOneForm}
+use Rattle.task8.specs.declared.forms.TapeForm.{TapeForm}
+use Rattle.task8.specs.declared.forms.TapeForm.TheVariants.{File, Member}
 use Rattle.task8.specs.declared.forms.TextsForm.{TextsForm}
 use Rattle.task8.specs.declared.tasks.AssembleForm.{AssembleForm}
 use Rattle.task8.specs.declared.tasks.TeletypeForm.{TeletypeForm}
@@ -40,7 +42,7 @@ use Rattle.command8.specs.declared.faults.TaskFault.TheVariants.{Words, Memory, 
 use Rattle.command8.specs.declared.refusals.Refusal.{Refusal}
 use Rattle.command8.specs.declared.table.Verb.{Verb}
 use Rattle.command8.specs.declared.table.Verb.TheVariants as verb
-use Rattle.command8.specs.Found.{IsOctalOf, has, is_limit, is_set, layout_of, number_in, number_of, place_of, values_of}
+use Rattle.command8.specs.Found.{IsReadAs, cell_of, has, is_limit, is_set, layout_of, name_in, names_in, number_in, number_of, place_of, values_of, wait_of, word_of}
 use Rattle.command8.specs.Refusals.{blocks_word, input_count, puts_many, refusal_of, said}
 use Rattle.command8.specs.Tables.{Entry, entry_named, pdp8}
 
@@ -76,41 +78,57 @@ IsAssembleForm values form =
     × (first_of (codes "list") values ≡ option_map (λ file. file.bytes.items) form.list)
     × (form.is_cross ≡ is_set (codes "cross") values)
 
+-- a tape: a file of the host, or the file of a volume where one is named
+abbrev pub IsTape : List Row → TapeForm → Type 0
+IsTape values (File file) = (has (codes "NAME") values ≡ false) × (first_of (codes "TAPE") values ≡ Some file.bytes.items)
+IsTape values (Member image name) = (first_of (codes "TAPE") values ≡ Some image.file.bytes.items)
+    × (layout_of (codes "volume") (codes "dectape") values ≡ image.layout) × (image.wait ≡ 0)
+    × (name_in (codes "NAME") values ≡ Some name.bytes.items)
+
+-- and where none is named, that of standard input
+abbrev pub IsTapeOrInput : List Row → Option TapeForm → Type 0
+IsTapeOrInput values None = has (codes "TAPE") values ≡ false
+IsTapeOrInput values (Some tape) = IsTape values tape
+
 -- the source of a tape is written so
 abbrev pub IsSourceForm : List Row → SourceForm → Type 0
-IsSourceForm values form = (first_of (codes "TAPE") values ≡ option_map (λ file. file.bytes.items) form.file)
-    × (first_of (codes "NAME") values ≡ option_map (λ name. name.bytes.items) form.name)
-    × (map (octal_of 5) (values_of (codes "start") values) ≡ map (λ start. Some start) form.starts.items)
+IsSourceForm values form = IsTapeOrInput values form.tape
+    × (map cell_of (values_of (codes "start") values) ≡ map (λ start. Some start) form.starts.items)
     × (first_of (codes "names") values ≡ option_map (λ names. names.bytes.items) form.names)
 
 -- the Teletype is run so
 abbrev pub IsTeletypeForm : List Row → TeletypeForm → Type 0
-IsTeletypeForm values form = (first_of (codes "TAPE") values ≡ Some form.file.bytes.items)
-    × (first_of (codes "NAME") values ≡ option_map (λ name. name.bytes.items) form.name)
-    × IsOctalOf 5 (first_of (codes "start") values) form.start
-    × IsOctalOf 4 (first_of (codes "switches") values) form.switches
+IsTeletypeForm values form = IsTape values form.tape
+    × IsReadAs cell_of (first_of (codes "start") values) form.start
+    × IsReadAs word_of (first_of (codes "switches") values) form.switches
     × (option_map number_of (one_of (codes "steps") values) ≡ form.steps)
     × (form.is_raw ≡ is_set (codes "raw") values) × (form.is_live ≡ is_set (codes "live") values)
 
 -- a tape is traced or profiled so
 abbrev pub IsTraceForm : List Row → TraceForm → Type 0
-IsTraceForm values form = (first_of (codes "TAPE") values ≡ Some form.file.bytes.items)
-    × (first_of (codes "NAME") values ≡ option_map (λ name. name.bytes.items) form.name)
-    × IsOctalOf 5 (first_of (codes "start") values) form.start
-    × IsOctalOf 4 (first_of (codes "switches") values) form.switches
+IsTraceForm values form = IsTape values form.tape
+    × IsReadAs cell_of (first_of (codes "start") values) form.start
+    × IsReadAs word_of (first_of (codes "switches") values) form.switches
     × (option_map number_of (one_of (codes "steps") values) ≡ form.steps)
     × (first_of (codes "keys") values ≡ option_map (λ keys. keys.bytes.items) form.keys)
 
 -- ## The files of volumes
 
--- the file of a volume, and where in it
-abbrev pub IsImage : List Row → ImageForm → Type 0
-IsImage values image = (first_of (codes "IMAGE") values ≡ Some image.file.bytes.items)
-    × (layout_of (codes "volume") (codes "dectape") values ≡ image.layout)
+-- the file of a volume, where in it, and how many seconds are waited for it
+abbrev pub IsImage : ℕ → List Row → ImageForm → Type 0
+IsImage wait values image = (first_of (codes "IMAGE") values ≡ Some image.file.bytes.items)
+    × (layout_of (codes "volume") (codes "dectape") values ≡ image.layout) × (image.wait ≡ wait)
+
+-- one that is only looked at, and one that may be changed
+abbrev pub IsSeen : List Row → ImageForm → Type 0
+IsSeen values image = IsImage 0 values image
+
+abbrev pub IsChanged : List Row → ImageForm → Type 0
+IsChanged values image = IsImage (wait_of values) values image
 
 -- the file whose first block `--at` gives, else that of the name
 abbrev pub IsFile : List Row → FileForm → Type 0
-IsFile values (Name name) = (has (codes "at") values ≡ false) × (first_of (codes "NAME") values ≡ Some name.bytes.items)
+IsFile values (Name name) = (has (codes "at") values ≡ false) × (name_in (codes "NAME") values ≡ Some name.bytes.items)
 IsFile values (At place) = option_map place_of (first_of (codes "at") values) ≡ Some (Some place)
 
 -- the files whose first blocks `--at` gives
@@ -124,56 +142,61 @@ after moved own values = if has (codes "at") values then moved else own
 -- which files are texts
 abbrev pub AreTexts : List Row → TextsForm → Type 0
 AreTexts values texts = (texts.is_usual ≡ is_set (codes "text") values)
-    × (values_of (codes "text-of") values ≡ map (λ text. text.bytes.items) texts.extensions.items)
+    × (names_in (codes "text-of") values ≡ map (λ text. text.bytes.items) texts.extensions.items)
 
 -- the information words, if any is given
 abbrev pub IsInfo : List Row → Option (List ℕ) → Type 0
-IsInfo values info = option_map (map (octal_of 4)) (all_of (codes "info") values)
+IsInfo values info = option_map (map word_of) (all_of (codes "info") values)
     ≡ option_map (map (λ word. Some word)) info
 
 -- files are got so
 abbrev pub IsGetManyForm : List Row → GetManyForm → Type 0
-IsGetManyForm values form = IsImage values form.image
-    × (values_of (codes "NAME") values ≡ map (λ name. name.bytes.items) form.names.items)
+IsGetManyForm values form = IsSeen values form.image
+    × (names_in (codes "NAME") values ≡ map (λ name. name.bytes.items) form.names.items)
     × ArePlaces values form.places.items × (form.is_all ≡ is_set (codes "all") values)
     × (first_of (codes "into") values ≡ Some form.folder.bytes.items) × AreTexts values form.texts
     × (form.is_forced ≡ is_set (codes "force") values)
 
 -- blocks are got so
 abbrev pub IsBlocksForm : List Row → BlocksForm → Type 0
-IsBlocksForm values form = IsImage values form.image × (number_in 0 4094 (blocks_word 0 values) ≡ Some form.first)
+IsBlocksForm values form = IsSeen values form.image × (number_in 0 4094 (blocks_word 0 values) ≡ Some form.first)
     × (number_in 1 MOST_BLOCKS (blocks_word 1 values) ≡ Some form.count) × (form.form ≡ get_form values)
 
 -- a file is put so under a name that is given
 abbrev pub IsPutOneForm : List Row → PutOneForm → Type 0
-IsPutOneForm values form = IsImage values form.image × (first_of (codes "FILE") values ≡ Some form.file.bytes.items)
-    × (first_of (codes "as") values ≡ Some form.name.bytes.items) × (form.form ≡ put_form values)
+IsPutOneForm values form = IsChanged values form.image × (first_of (codes "FILE") values ≡ Some form.file.bytes.items)
+    × (name_in (codes "as") values ≡ Some form.name.bytes.items) × (form.form ≡ put_form values)
     × (form.may_empty ≡ is_set (codes "empty") values) × IsInfo values (option_map (λ words. words.items) form.info)
 
 -- files of the host are put so
 abbrev pub IsPutManyForm : List Row → PutManyForm → Type 0
-IsPutManyForm values form = IsImage values form.image
+IsPutManyForm values form = IsChanged values form.image
     × (values_of (codes "FILE") values ≡ map (λ file. file.bytes.items) form.files.items)
     × AreTexts values form.texts × (form.may_empty ≡ is_set (codes "empty") values)
     × IsInfo values (option_map (λ words. words.items) form.info)
 
 -- files are taken out so
 abbrev pub IsDeleteForm : List Row → DeleteForm → Type 0
-IsDeleteForm values form = IsImage values form.image
-    × (values_of (codes "NAME") values ≡ map (λ name. name.bytes.items) form.names.items)
+IsDeleteForm values form = IsChanged values form.image
+    × (names_in (codes "NAME") values ≡ map (λ name. name.bytes.items) form.names.items)
     × ArePlaces values form.places.items
 
 -- a file is copied so
 abbrev pub IsCopyForm : List Row → CopyForm → Type 0
-IsCopyForm values form = IsImage values form.image × IsFile values form.file
+IsCopyForm values form = IsSeen values form.image × IsFile values form.file
     × (first_of (after (codes "NAME") (codes "TO") values) values ≡ Some form.to.file.bytes.items)
-    × (layout_of (codes "to-volume") (codes "to-dectape") values ≡ form.to.layout)
-    × (first_of (after (codes "TO") (codes "NEW") values) values ≡ option_map (λ name. name.bytes.items) form.new)
+    × (layout_of (codes "to-volume") (codes "to-dectape") values ≡ form.to.layout) × (form.to.wait ≡ wait_of values)
+    × (name_in (after (codes "TO") (codes "NEW") values) values ≡ option_map (λ name. name.bytes.items) form.new)
 
 -- volumes are checked so
 abbrev pub IsCheckForm : List Row → CheckForm → Type 0
 IsCheckForm values form = (values_of (codes "IMAGE") values ≡ map (λ image. image.bytes.items) form.images.items)
     × (layout_of (codes "volume") (codes "dectape") values ≡ form.layout) × (form.is_all ≡ is_set (codes "all") values)
+
+-- a new volume is written so
+abbrev pub IsCreateForm : List Row → CreateForm → Type 0
+IsCreateForm values form = (first_of (codes "IMAGE") values ≡ Some form.file.bytes.items)
+    × (form.is_new ≡ is_set (codes "new") values) × (form.wait ≡ wait_of values)
 
 -- ## The task
 
@@ -183,19 +206,19 @@ GetsOne values = (is_set (codes "blocks") values ≡ false) × (has (codes "into
 
 -- the subcommand, with the values that were found for it, asks for the task
 abbrev pub AsksFor : Verb → List Row → Task → Type 0
-AsksFor which values Tape = which ≡ verb.Tape
-AsksFor which values (Rim form) = (which ≡ verb.Rim) × (form ≡ rim_form values)
+AsksFor which values (Tape tape) = (which ≡ verb.Tape) × IsTapeOrInput values tape
+AsksFor which values (Rim tape form) = (which ≡ verb.Rim) × IsTapeOrInput values tape × (form ≡ rim_form values)
 AsksFor which values (Source form) = (which ≡ verb.Source) × IsSourceForm values form
-AsksFor which values (Run image form) = (which ≡ verb.Run) × IsImage values image × IsRunForm values form
-AsksFor which values (Create image blocks) = (which ≡ verb.Create) × (first_of (codes "IMAGE") values ≡ Some image.bytes.items)
+AsksFor which values (Run image form) = (which ≡ verb.Run) × IsChanged values image × IsRunForm values form
+AsksFor which values (Create form blocks) = (which ≡ verb.Create) × IsCreateForm values form
     × (is_set (codes "dectape") values ≡ false) × (option_map number_of (one_of (codes "BLOCKS") values) ≡ Some blocks)
-AsksFor which values (CreateTape image) = (which ≡ verb.Create) × (first_of (codes "IMAGE") values ≡ Some image.bytes.items)
+AsksFor which values (CreateTape form) = (which ≡ verb.Create) × IsCreateForm values form
     × (is_set (codes "dectape") values ≡ true)
-AsksFor which values (task.List image) = (which ≡ verb.List) × IsImage values image × (is_set (codes "long") values ≡ false)
-AsksFor which values (ListLong image) = (which ≡ verb.List) × IsImage values image × (is_set (codes "long") values ≡ true)
-AsksFor which values (Get image file form) = (which ≡ verb.Get) × GetsOne values × IsImage values image
+AsksFor which values (task.List image) = (which ≡ verb.List) × IsSeen values image × (is_set (codes "long") values ≡ false)
+AsksFor which values (ListLong image) = (which ≡ verb.List) × IsSeen values image × (is_set (codes "long") values ≡ true)
+AsksFor which values (Get image file form) = (which ≡ verb.Get) × GetsOne values × IsSeen values image
     × IsFile values file × (form ≡ get_form values) × (is_set (codes "bin") values ≡ false)
-AsksFor which values (GetBin image file) = (which ≡ verb.Get) × GetsOne values × IsImage values image
+AsksFor which values (GetBin image file) = (which ≡ verb.Get) × GetsOne values × IsSeen values image
     × IsFile values file × (is_set (codes "bin") values ≡ true)
 AsksFor which values (GetMany form) = (which ≡ verb.Get) × (is_set (codes "blocks") values ≡ false)
     × IsGetManyForm values form
@@ -204,10 +227,10 @@ AsksFor which values (GetBlocks form) = (which ≡ verb.Get) × (is_set (codes "
 AsksFor which values (Put form) = (which ≡ verb.Put) × (puts_many values ≡ false) × IsPutOneForm values form
 AsksFor which values (PutMany form) = (which ≡ verb.Put) × (puts_many values ≡ true) × IsPutManyForm values form
 AsksFor which values (Delete form) = (which ≡ verb.Delete) × IsDeleteForm values form
-AsksFor which values (Rename image file new) = (which ≡ verb.Rename) × IsImage values image × IsFile values file
-    × (first_of (after (codes "NAME") (codes "NEW") values) values ≡ Some new.bytes.items)
+AsksFor which values (Rename image file new) = (which ≡ verb.Rename) × IsChanged values image × IsFile values file
+    × (name_in (after (codes "NAME") (codes "NEW") values) values ≡ Some new.bytes.items)
 AsksFor which values (Copy form) = (which ≡ verb.Copy) × IsCopyForm values form
-AsksFor which values (Squeeze image) = (which ≡ verb.Squeeze) × IsImage values image
+AsksFor which values (Squeeze image) = (which ≡ verb.Squeeze) × IsChanged values image
 AsksFor which values (Check form) = (which ≡ verb.Check) × IsCheckForm values form
 AsksFor which values (Assemble form) = (which ≡ verb.Assemble) × IsAssembleForm values form
 AsksFor which values (Teletype form) = (which ≡ verb.Teletype) × IsTeletypeForm values form
@@ -236,7 +259,7 @@ Refuses (Some met) line refusal = RefusesOf (entry_named met.0) met.1 line refus
 -- to 4095 volumes are checked; there are 1 to 8 sources, one of them at most standard input, and a listing where there are cross
 -- references; a limit of instructions is 1 up
 abbrev pub HasFitBlocks : Task → Type 0
-HasFitBlocks (Create image blocks) = (8 ≤ blocks) × (blocks ≤ MOST_BLOCKS)
+HasFitBlocks (Create form blocks) = (8 ≤ blocks) × (blocks ≤ MOST_BLOCKS)
 HasFitBlocks (GetBlocks form) = (form.first ≤ 4094) × (1 ≤ form.count) × (form.count ≤ MOST_BLOCKS)
 HasFitBlocks (PutMany form) = 1 ≤ length form.files.items
 HasFitBlocks (Delete form) = 1 ≤ length form.names.items + length form.places.items
@@ -283,24 +306,37 @@ abbrev pub IsPlain : Text → Type 0
 IsPlain [] = ⊤
 IsPlain (byte ∷ rest) = byte ≢ 45
 
-abbrev pub IsTape : Task → Type 0
-IsTape Tape = ⊤
-IsTape task = ⊥
-
-abbrev pub IsRimOf : RimForm → Task → Type 0
-IsRimOf kind (Rim form) = form ≡ kind
-IsRimOf kind task = ⊥
-
--- of this file, or of standard input, and what it holds of a volume, from these cells, with the names of this file
-abbrev pub IsSourceOf : Option Text → Option Text → List ℕ → Option Text → Task → Type 0
-IsSourceOf file name starts names (Source form) = (option_map (λ file. file.bytes.items) form.file ≡ file)
-    × (option_map (λ name. name.bytes.items) form.name ≡ name) × (form.starts.items ≡ starts)
-    × (option_map (λ names. names.bytes.items) form.names ≡ names)
-IsSourceOf file name starts names task = ⊥
-
--- a volume in this file, and where in it
+-- a volume in this file, and where in it, which is not waited for
 abbrev pub IsImageOf : Text → Option Layout → ImageForm → Type 0
-IsImageOf name layout image = (image.file.bytes.items ≡ name) × (image.layout ≡ layout)
+IsImageOf name layout image = (image.file.bytes.items ≡ name) × (image.layout ≡ layout) × (image.wait ≡ 0)
+
+-- a tape in this file, or in the file of this name on the volume in it
+abbrev pub IsTapeAt : Text → Option Text → TapeForm → Type 0
+IsTapeAt file None (File own) = own.bytes.items ≡ file
+IsTapeAt file None (Member image name) = ⊥
+IsTapeAt file (Some member) (File own) = ⊥
+IsTapeAt file (Some member) (Member image name) = IsImageOf file None image × (name.bytes.items ≡ member)
+
+-- and one of standard input where there is no file
+abbrev pub IsTapeIn : Option Text → Option Text → Option TapeForm → Type 0
+IsTapeIn None member None = ⊤
+IsTapeIn None member (Some tape) = ⊥
+IsTapeIn (Some file) member None = ⊥
+IsTapeIn (Some file) member (Some tape) = IsTapeAt file member tape
+
+abbrev pub IsTapeOf : Option Text → Option Text → Task → Type 0
+IsTapeOf file member (Tape tape) = IsTapeIn file member tape
+IsTapeOf file member task = ⊥
+
+abbrev pub IsRimOf : Option Text → Option Text → RimForm → Task → Type 0
+IsRimOf file member kind (Rim tape form) = IsTapeIn file member tape × (form ≡ kind)
+IsRimOf file member kind task = ⊥
+
+-- of this tape, from these cells, with the names of this file
+abbrev pub IsSourceOf : Option Text → Option Text → List ℕ → Option Text → Task → Type 0
+IsSourceOf file member starts names (Source form) = IsTapeIn file member form.tape × (form.starts.items ≡ starts)
+    × (option_map (λ names. names.bytes.items) form.names ≡ names)
+IsSourceOf file member starts names task = ⊥
 
 -- the number of a volume of a disk
 abbrev pub IsVolume : Text → Layout → Type 0
@@ -323,13 +359,17 @@ IsRunOf name layout saving is_strict (Run image form) = IsImageOf name layout im
     × (form.is_strict ≡ is_strict)
 IsRunOf name layout saving is_strict task = ⊥
 
+-- a new volume in this file
+abbrev pub IsNewOf : Text → Bool → ℕ → CreateForm → Type 0
+IsNewOf name is_new wait form = (form.file.bytes.items ≡ name) × (form.is_new ≡ is_new) × (form.wait ≡ wait)
+
 abbrev pub IsCreateOf : Text → ℕ → Task → Type 0
-IsCreateOf name count (Create image blocks) = (image.bytes.items ≡ name) × (blocks ≡ count)
+IsCreateOf name count (Create form blocks) = IsNewOf name false 0 form × (blocks ≡ count)
 IsCreateOf name count task = ⊥
 
-abbrev pub IsCreateTapeOf : Text → Task → Type 0
-IsCreateTapeOf name (CreateTape image) = image.bytes.items ≡ name
-IsCreateTapeOf name task = ⊥
+abbrev pub IsCreateTapeOf : Text → Bool → Task → Type 0
+IsCreateTapeOf name is_new (CreateTape form) = IsNewOf name is_new 0 form
+IsCreateTapeOf name is_new task = ⊥
 
 abbrev pub IsListOf : Text → Option Layout → Task → Type 0
 IsListOf name layout (task.List image) = IsImageOf name layout image
@@ -390,9 +430,10 @@ IsCopyOf name IsIt to layout other (Copy form) = IsImageOf name None form.image 
     × IsImageOf to layout form.to × (option_map (λ name. name.bytes.items) form.new ≡ other)
 IsCopyOf name IsIt to layout other task = ⊥
 
-abbrev pub IsSqueezeOf : Text → Task → Type 0
-IsSqueezeOf name (Squeeze image) = IsImageOf name None image
-IsSqueezeOf name task = ⊥
+-- after so many seconds at most
+abbrev pub IsSqueezeOf : Text → ℕ → Task → Type 0
+IsSqueezeOf name wait (Squeeze image) = (image.file.bytes.items ≡ name) × (image.layout ≡ None) × (image.wait ≡ wait)
+IsSqueezeOf name wait task = ⊥
 
 abbrev pub IsCheckOf : List Text → Option Layout → Bool → Task → Type 0
 IsCheckOf names layout is_all (Check form) = (map (λ image. image.bytes.items) form.images.items ≡ names)
@@ -407,15 +448,13 @@ IsAssembleOf names output task = ⊥
 
 -- this file, and what it holds of a volume, from this cell, and nothing else
 abbrev pub IsTeletypeOf : Text → Option Text → Option ℕ → Task → Type 0
-IsTeletypeOf file name start (Teletype form) = (form.file.bytes.items ≡ file)
-    × (option_map (λ name. name.bytes.items) form.name ≡ name) × (form.start ≡ start) × (form.switches ≡ None)
+IsTeletypeOf file name start (Teletype form) = IsTapeAt file name form.tape × (form.start ≡ start) × (form.switches ≡ None)
     × (form.steps ≡ None) × (form.is_raw ≡ false) × (form.is_live ≡ false)
 IsTeletypeOf file name start task = ⊥
 
 -- this file, and what it holds of a volume, with these keys, and nothing else
 abbrev pub IsTraceFormOf : Text → Option Text → Option Text → TraceForm → Type 0
-IsTraceFormOf file name keys form = (form.file.bytes.items ≡ file)
-    × (option_map (λ name. name.bytes.items) form.name ≡ name) × (form.start ≡ None) × (form.switches ≡ None)
+IsTraceFormOf file name keys form = IsTapeAt file name form.tape × (form.start ≡ None) × (form.switches ≡ None)
     × (form.steps ≡ None) × (option_map (λ keys. keys.bytes.items) form.keys ≡ keys)
 
 abbrev pub IsTraceOf : Text → Option Text → Option Text → Task → Type 0

@@ -1,15 +1,15 @@
 //! What `clap` makes of the table: one loop over the arguments of a subcommand, one over the subcommands.
-ghost use Rattle.std.specs.Prelude.{◌≡◌, ◌<◌, true, codes, map, IfOk};
+ghost use Rattle.std.specs.Prelude.{◌≡◌, ◌<◌, true, codes, map, IfOk, None};
 ghost use Rattle.std.specs.List.{list_all};
 ghost use Rattle.clap.specs.Words.{new_app, new_rule};
 ghost use Rattle.command8.specs.CommandSteps.{IsArgument, IsCommand, IsDraft};
-ghost use Rattle.command8.specs.Tables.{bare_app, kind_rule, leaf_app, pdp8, rule_for};
-ghost use Rattle.command8.specs.TableSteps.{entry_of, is_fit, is_sound, row_of, option_rule, options_rule};
+ghost use Rattle.command8.specs.Tables.{bare_app, kind_rule, leaf_app, lettered, pdp8, rule_for};
+ghost use Rattle.command8.specs.TableSteps.{entry_of, fits, is_fit, is_sound, row_of, option_rule, options_rule};
 ghost use Rattle.command8.specs.Tables as spec;
 ghost use Rattle.command8.specs.declared.table.Kind.TheVariants as kind;
 
 use crate::table::{Argument, Entry, Kind, arguments_of, table};
-use crate::texts::{about_of, examples_of, long_about_of};
+use crate::texts::{HELP, about_of, examples_of, long_about_of};
 use clap::{Arg, ArgAction, Command};
 use std::alloc::{AllocError, Global};
 use word12::MOST_BLOCKS;
@@ -19,19 +19,29 @@ pub type Draft<'a> = Result<Command<'a>, AllocError>;
 
 /// An argument as `clap` has it.
 fn argument_of<'a>(alloc: Global, row: &'a Argument) -> Arg<'a>
-    requires { is_fit row.now.kind ≡ true }
+    requires { is_fit row.now.kind row.now.letter ≡ true }
     ensures { IsArgument result (rule_for (row_of row.now)) }
 {
-    let argument = of_kind(alloc, row.id, row.kind, row.value);
-    argument
+    let argument = of_kind(alloc, row.id, row.kind, row.value)
         .help(row.help)
         .required(row.is_required)
-        .hide(row.is_hidden)
+        .hide(row.is_hidden);
+    with_letter(argument, row.letter)
+}
+
+/// An option with its letter, if it has one.
+fn with_letter<'a>(argument: Arg<'a>, letter: Option<char>) -> Arg<'a>
+    ensures { (rule : _) → IsArgument argument.entry rule → rule.short ≡ None → IsArgument result (lettered letter rule) }
+{
+    match letter {
+        Some(letter) => argument.short(letter),
+        None => argument,
+    }
 }
 
 /// An argument of a kind.
 fn of_kind<'a>(alloc: Global, id: &'a str, kind: Kind, value: &'a str) -> Arg<'a>
-    requires { is_fit kind ≡ true }
+    requires { fits kind ≡ true }
     ensures { IsArgument result (kind_rule id.entry.now kind) }
 {
     match kind {
@@ -39,10 +49,8 @@ fn of_kind<'a>(alloc: Global, id: &'a str, kind: Kind, value: &'a str) -> Arg<'a
         Kind::Words(most) => Arg::new(alloc, id).num_args(1..=most),
         Kind::Size => with_size(alloc, id),
         Kind::Flag => Arg::new(alloc, id).long(id).action(ArgAction::SetTrue),
-        Kind::Value | Kind::Cell | Kind::Octal | Kind::Volume | Kind::Block => {
-            with_value(alloc, id, value)
-        }
-        Kind::Values | Kind::Cells | Kind::Octals | Kind::Blocks => with_values(alloc, id, value),
+        Kind::One(_) => with_value(alloc, id, value),
+        Kind::Many(_) => with_values(alloc, id, value),
         Kind::Count => with_count(alloc, id, value),
     }
 }
@@ -140,9 +148,7 @@ fn with_texts<'a>(command: Command<'a>) -> Command<'a>
 {
     command
         .about("A PDP-8 programming system on OS/8 volumes")
-        .after_help(
-            "The exit status is 0, or 1 after a fault, or 2 for a command line that is refused.",
-        )
+        .override_help(HELP)
 }
 
 /// The program's command with its version, which wants a subcommand.

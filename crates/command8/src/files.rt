@@ -9,18 +9,20 @@ ghost use Rattle.command8.specs.TableSteps.{has_text, kind_at, takes_block, take
 ghost use Rattle.command8.specs.Tasks.{AreTexts, IsFile};
 ghost use Rattle.command8.specs.Tasks as spec;
 ghost use Rattle.command8.specs.TaskSteps.{IsAskedBy, Needs};
+ghost use Rattle.command8.specs.declared.table.Form.TheVariants as form;
 ghost use Rattle.command8.specs.declared.table.Kind.TheVariants as kind;
 ghost use Rattle.command8.specs.declared.table.Verb.TheVariants as verb;
 
 use crate::found::{
-    block_of, first_value_of, flag, has, layout_of, value_if_given, value_of, values_of,
+    block_of, first_value_of, flag, has, layout_of, name_if_given, name_of, names_of, value_of,
+    values_of, wait_of,
 };
 use crate::judging::blocks_word;
 use crate::lists::{blocks_of, info_of};
 use crate::missing::puts_many;
 use crate::numbers::number_of;
 use crate::table::Verb;
-use crate::volumes::image_of;
+use crate::volumes::{changed_image, image_of};
 use char_pack::{GetForm, PutForm};
 use clap::ArgMatches;
 use std::alloc::{AllocError, Global};
@@ -78,7 +80,7 @@ fn get_many(alloc: Global, found: &ArgMatches<'_>) -> Result<Task, AllocError>
     ensures { IfOk result (IsAskedBy verb.Get (rows_of (found_of found.now))) }
 {
     let image = image_of(alloc, found, Verb::Get)?;
-    let names = values_of(alloc, found, Verb::Get, "NAME")?;
+    let names = names_of(alloc, found, Verb::Get, "NAME")?;
     let places = blocks_of(alloc, found, Verb::Get, "at")?;
     let folder = value_of(alloc, found, Verb::Get, "into")?;
     let texts = texts_of(alloc, found, Verb::Get)?;
@@ -127,7 +129,7 @@ fn texts_of(alloc: Global, found: &ArgMatches<'_>, verb: Verb) -> Result<TextsFo
     requires usual { kind_at (codes "text") (rows_for verb) ≡ Some kind.Flag }
     ensures { IfOk result (AreTexts (rows_of (found_of found.now))) }
 {
-    let extensions = values_of(alloc, found, verb, "text-of")?;
+    let extensions = names_of(alloc, found, verb, "text-of")?;
     let is_usual = flag(found, verb, "text");
     Ok(TextsForm {
         is_usual,
@@ -140,7 +142,7 @@ pub fn put(alloc: Global, found: &ArgMatches<'_>) -> Result<Task, AllocError>
     requires { Needs verb.Put (rows_of (found_of found.now)) }
     ensures { IfOk result (IsAskedBy verb.Put (rows_of (found_of found.now))) }
 {
-    let image = image_of(alloc, found, Verb::Put)?;
+    let image = changed_image(alloc, found, Verb::Put)?;
     let info = info_of(alloc, found, Verb::Put)?;
     let may_empty = flag(found, Verb::Put, "empty");
     if puts_many(found) {
@@ -155,7 +157,7 @@ pub fn put(alloc: Global, found: &ArgMatches<'_>) -> Result<Task, AllocError>
         }));
     }
     let file = first_value_of(alloc, found, Verb::Put, "FILE")?;
-    let name = value_of(alloc, found, Verb::Put, "as")?;
+    let name = name_of(alloc, found, Verb::Put, "as")?;
     Ok(Task::Put(PutOneForm {
         image,
         file,
@@ -181,8 +183,8 @@ pub fn delete(alloc: Global, found: &ArgMatches<'_>) -> Result<Task, AllocError>
     requires { Needs verb.Delete (rows_of (found_of found.now)) }
     ensures { IfOk result (IsAskedBy verb.Delete (rows_of (found_of found.now))) }
 {
-    let image = image_of(alloc, found, Verb::Delete)?;
-    let names = values_of(alloc, found, Verb::Delete, "NAME")?;
+    let image = changed_image(alloc, found, Verb::Delete)?;
+    let names = names_of(alloc, found, Verb::Delete, "NAME")?;
     let places = blocks_of(alloc, found, Verb::Delete, "at")?;
     Ok(Task::Delete(DeleteForm {
         image,
@@ -196,9 +198,9 @@ pub fn rename(alloc: Global, found: &ArgMatches<'_>) -> Result<Task, AllocError>
     requires { Needs verb.Rename (rows_of (found_of found.now)) }
     ensures { IfOk result (IsAskedBy verb.Rename (rows_of (found_of found.now))) }
 {
-    let image = image_of(alloc, found, Verb::Rename)?;
+    let image = changed_image(alloc, found, Verb::Rename)?;
     let file = file_of(alloc, found, Verb::Rename)?;
-    let new = value_of(alloc, found, Verb::Rename, after(found, "NAME", "NEW"))?;
+    let new = name_of(alloc, found, Verb::Rename, after(found, "NAME", "NEW"))?;
     Ok(Task::Rename(image, file, new))
 }
 
@@ -210,12 +212,16 @@ pub fn copy(alloc: Global, found: &ArgMatches<'_>) -> Result<Task, AllocError>
     let image = image_of(alloc, found, Verb::Copy)?;
     let file = file_of(alloc, found, Verb::Copy)?;
     let to = value_of(alloc, found, Verb::Copy, after(found, "NAME", "TO"))?;
-    let new = value_if_given(alloc, found, Verb::Copy, after(found, "TO", "NEW"))?;
-    let layout = layout_of(found, Verb::Copy, "to-volume", "to-dectape");
+    let new = name_if_given(alloc, found, Verb::Copy, after(found, "TO", "NEW"))?;
+    let to = ImageForm {
+        file: to,
+        layout: layout_of(found, Verb::Copy, "to-volume", "to-dectape"),
+        wait: wait_of(found, Verb::Copy),
+    };
     Ok(Task::Copy(CopyForm {
         image,
         file,
-        to: ImageForm { file: to, layout },
+        to,
         new,
     }))
 }
@@ -224,7 +230,7 @@ pub fn copy(alloc: Global, found: &ArgMatches<'_>) -> Result<Task, AllocError>
 fn file_of(alloc: Global, found: &ArgMatches<'_>, verb: Verb) -> Result<FileForm, AllocError>
     requires at { takes_block (kind_at (codes "at") (rows_for verb)) ≡ true }
     requires name { has_text (kind_at (codes "NAME") (rows_for verb)) ≡ true }
-    requires well { IsWell kind.Block (codes "at") (rows_of (found_of found.now)) }
+    requires well { IsWell form.Block (codes "at") (rows_of (found_of found.now)) }
     requires given { has (codes "at") (rows_of (found_of found.now)) ≡ false
         → Has (codes "NAME") (rows_of (found_of found.now)) }
     ensures { IfOk result (IsFile (rows_of (found_of found.now))) }
@@ -232,7 +238,7 @@ fn file_of(alloc: Global, found: &ArgMatches<'_>, verb: Verb) -> Result<FileForm
     match block_of(found, verb, "at") {
         Some(place) => Ok(FileForm::At(place)),
         None => {
-            let name = first_value_of(alloc, found, verb, "NAME")?;
+            let name = name_of(alloc, found, verb, "NAME")?;
             Ok(FileForm::Name(name))
         }
     }

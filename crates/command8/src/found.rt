@@ -1,20 +1,21 @@
 //! What `clap` found for an argument, by the kind of argument. A reader asks for the kind that the subcommand's table gives the argument.
-ghost use Rattle.std.specs.Prelude.{◌≡◌, ◌≤◌, [], true, map, option_map, slice_get, unwrap_or, IfOk, IfSome, Some};
+ghost use Rattle.std.specs.Prelude.{◌≡◌, ◌≤◌, [], codes, true, map, option_map, slice_get, unwrap_or, IfOk, IfSome, Some};
 ghost use Rattle.clap.specs.Words.{first_of, found_of, one_of, rows_of};
 ghost use Rattle.word12.specs.declared.sizes.TheConstants.{MOST_BLOCKS};
-ghost use Rattle.command8.specs.Found.{IsOctalOf, is_limit, number_of, place_of};
+ghost use Rattle.command8.specs.Found.{IsReadAs, is_limit, number_of, place_of};
 ghost use Rattle.command8.specs.FoundSteps.{Has, IsTaken, IsWell};
 ghost use Rattle.command8.specs.Tables.{rows_for};
 ghost use Rattle.command8.specs.TableSteps.{has_text, kind_at, takes_block, takes_text, takes_texts};
+ghost use Rattle.command8.specs.declared.table.Form.TheVariants as form;
 ghost use Rattle.command8.specs.declared.table.Kind.TheVariants as kind;
 ghost use Rattle.command8.specs.Found as spec;
 
-use crate::numbers::number_in;
+use crate::numbers::{cell_in, number_in, word_in};
 use crate::table::Verb;
 use clap::ArgMatches;
 use disk8::Layout;
 use std::alloc::{AllocError, Global};
-use word12::{Cell, MOST_BLOCKS, Word, octal_cell, octal_word};
+use word12::{Cell, MOST_BLOCKS, Word};
 
 /// The value of an argument, if it was given.
 pub fn text_of<'a>(found: &ArgMatches<'a>, id: &str) -> Option<&'a str>
@@ -121,6 +122,70 @@ pub fn value_if_given(
     }
 }
 
+/// The name that an argument gives which was given, in capital letters.
+pub fn name_of(
+    alloc: Global,
+    found: &ArgMatches<'_>,
+    _verb: Verb,
+    id: &str,
+) -> Result<String, AllocError>
+    requires kind { has_text (kind_at id.now (rows_for _verb)) ≡ true }
+    requires given { Has id.now (rows_of (found_of found.now)) }
+    ensures { IfOk result (λ text. spec.name_in id.now (rows_of (found_of found.now)) ≡ Some text.bytes.items) }
+{
+    match text_of(found, id) {
+        Some(text) => text.to_ascii_uppercase(alloc),
+        None => unreachable!(),
+    }
+}
+
+/// The name that an argument gives, in capital letters, if it was given.
+pub fn name_if_given(
+    alloc: Global,
+    found: &ArgMatches<'_>,
+    _verb: Verb,
+    id: &str,
+) -> Result<Option<String>, AllocError>
+    requires { takes_text (kind_at id.now (rows_for _verb)) ≡ true }
+    ensures { IfOk result (λ given. spec.name_in id.now (rows_of (found_of found.now))
+        ≡ option_map (λ text. text.bytes.items) given) }
+{
+    match text_of(found, id) {
+        Some(text) => {
+            let text = text.to_ascii_uppercase(alloc)?;
+            Ok(Some(text))
+        }
+        None => Ok(None),
+    }
+}
+
+/// The names that an argument gives which may have several, in capital letters.
+pub fn names_of(
+    alloc: Global,
+    found: &ArgMatches<'_>,
+    _verb: Verb,
+    id: &str,
+) -> Result<Vec<String>, AllocError>
+    requires { takes_texts (kind_at id.now (rows_for _verb)) ≡ true }
+    ensures { IfOk result (λ names. map (λ text. text.bytes.items) names.items
+        ≡ spec.names_in id.now (rows_of (found_of found.now))) }
+{
+    raised(alloc, texts_in(found, id))
+}
+
+/// Copies of texts in capital letters.
+fn raised(alloc: Global, words: &[&str]) -> Result<Vec<String>, AllocError>
+    ensures { IfOk result (λ texts. map (λ text. text.bytes.items) texts.items
+        ≡ map spec.capitals (map (λ word. word.now) words.now)) }
+{
+    let mut texts = Vec::new(alloc);
+    for word in words {
+        let text = word.to_ascii_uppercase(alloc)?;
+        texts.push(text)?;
+    }
+    Ok(texts)
+}
+
 /// Copies of the texts of an argument that may have several.
 pub fn values_of(
     alloc: Global,
@@ -187,12 +252,12 @@ pub fn size_of(found: &ArgMatches<'_>, _verb: Verb, id: &str) -> Option<usize>
 
 /// The cell of an option, if it was given.
 pub fn cell_of(found: &ArgMatches<'_>, _verb: Verb, id: &str) -> Option<Cell>
-    requires kind { kind_at id.now (rows_for _verb) ≡ Some kind.Cell }
-    requires well { IsWell kind.Cell id.now (rows_of (found_of found.now)) }
-    ensures { IsOctalOf 5 (first_of id.now (rows_of (found_of found.now))) result }
+    requires kind { kind_at id.now (rows_for _verb) ≡ Some (kind.One form.Cell) }
+    requires well { IsWell form.Cell id.now (rows_of (found_of found.now)) }
+    ensures { IsReadAs spec.cell_of (first_of id.now (rows_of (found_of found.now))) result }
 {
     match text_of(found, id) {
-        Some(text) => match octal_cell(text.as_bytes()) {
+        Some(text) => match cell_in(text.as_bytes()) {
             Some(cell) => Some(cell),
             None => unreachable!(),
         },
@@ -202,12 +267,12 @@ pub fn cell_of(found: &ArgMatches<'_>, _verb: Verb, id: &str) -> Option<Cell>
 
 /// The word of an option, if it was given.
 pub fn octal_of(found: &ArgMatches<'_>, _verb: Verb, id: &str) -> Option<Word>
-    requires kind { kind_at id.now (rows_for _verb) ≡ Some kind.Octal }
-    requires well { IsWell kind.Octal id.now (rows_of (found_of found.now)) }
-    ensures { IsOctalOf 4 (first_of id.now (rows_of (found_of found.now))) result }
+    requires kind { kind_at id.now (rows_for _verb) ≡ Some (kind.One form.Octal) }
+    requires well { IsWell form.Octal id.now (rows_of (found_of found.now)) }
+    ensures { IsReadAs spec.word_of (first_of id.now (rows_of (found_of found.now))) result }
 {
     match text_of(found, id) {
-        Some(text) => match octal_word(text.as_bytes()) {
+        Some(text) => match word_in(text.as_bytes()) {
             Some(word) => Some(word),
             None => unreachable!(),
         },
@@ -218,7 +283,7 @@ pub fn octal_of(found: &ArgMatches<'_>, _verb: Verb, id: &str) -> Option<Word>
 /// The block of an option, the first, if it was given.
 pub fn block_of(found: &ArgMatches<'_>, _verb: Verb, id: &str) -> Option<usize>
     requires kind { takes_block (kind_at id.now (rows_for _verb)) ≡ true }
-    requires well { IsWell kind.Block id.now (rows_of (found_of found.now)) }
+    requires well { IsWell form.Block id.now (rows_of (found_of found.now)) }
     ensures { option_map place_of (first_of id.now (rows_of (found_of found.now)))
         ≡ option_map (λ place. Some place) result }
 {
@@ -231,9 +296,21 @@ pub fn block_of(found: &ArgMatches<'_>, _verb: Verb, id: &str) -> Option<usize>
     }
 }
 
+/// How many seconds are waited for a held image, none where it is not said.
+pub fn wait_of(found: &ArgMatches<'_>, _verb: Verb) -> usize
+    requires { kind_at (codes "wait") (rows_for _verb) ≡ Some (kind.One form.Seconds) }
+    ensures value { result ≡ spec.wait_of (rows_of (found_of found.now)) }
+    ensures range { result ≤ 3600 }
+{
+    match text_of(found, "wait") {
+        Some(text) => number_in(text.as_bytes(), 0, 3600).unwrap_or(0),
+        None => 0,
+    }
+}
+
 /// Where a volume lies in its file, as two options say.
 pub fn layout_of(found: &ArgMatches<'_>, _verb: Verb, volume: &str, dectape: &str) -> Option<Layout>
-    requires volume { kind_at volume.now (rows_for _verb) ≡ Some kind.Volume }
+    requires volume { kind_at volume.now (rows_for _verb) ≡ Some (kind.One form.Volume) }
     requires dectape { kind_at dectape.now (rows_for _verb) ≡ Some kind.Flag }
     ensures { result ≡ spec.layout_of volume.now dectape.now (rows_of (found_of found.now)) }
 {

@@ -1,7 +1,7 @@
 //! What is wrong with the arguments of a subcommand, as `clap` takes them.
 ghost use Rattle.std.specs.Prelude.{◌≡◌, ◌≤◌, length, map, option_map, IfErr, IfOk, None};
 ghost use Rattle.clap.specs.Words.{found_of, rows_of};
-ghost use Rattle.command8.specs.Found.{first_not, passes, test_of};
+ghost use Rattle.command8.specs.Found.{first_not, form_of, passes};
 ghost use Rattle.command8.specs.Refusals.{refusal_of};
 ghost use Rattle.command8.specs.Refusals as spec;
 ghost use Rattle.command8.specs.Tables.{rows_for};
@@ -11,12 +11,12 @@ ghost use Rattle.command8.specs.TaskSteps.{IsRefusedBy};
 use crate::TaskFault;
 use crate::found::{has, is_set, text_of, texts_in, word_at};
 use crate::missing::missing_of;
-use crate::numbers::number_in;
+use crate::numbers::{cell_in, number_in, word_in};
 use crate::refusals::Refusal;
-use crate::table::{Argument, Entry, Kind, Pair, Verb, arguments_of, pairs};
+use crate::table::{Argument, Entry, Form, Kind, Pair, Verb, arguments_of, pairs};
 use clap::ArgMatches;
 use std::alloc::Global;
-use word12::{MOST_BLOCKS, octal_cell, octal_word};
+use word12::MOST_BLOCKS;
 
 /// Refuses the arguments where two exclude each other, one is missing, standard input is named twice, there is one too many, or a value is
 /// none of its argument's kind: the first of these in this order.
@@ -115,19 +115,8 @@ fn is_given(found: &ArgMatches<'_>, id: &str, kind: Kind) -> bool
 {
     match kind {
         Kind::Flag => is_set(found, id),
-        Kind::Word
-        | Kind::Words(_)
-        | Kind::Size
-        | Kind::Value
-        | Kind::Values
-        | Kind::Count
-        | Kind::Cell
-        | Kind::Cells
-        | Kind::Octal
-        | Kind::Octals
-        | Kind::Volume
-        | Kind::Block
-        | Kind::Blocks => has(found, id),
+        Kind::Word | Kind::Words(_) | Kind::Size | Kind::One(_) | Kind::Many(_) | Kind::Count =>
+            has(found, id),
     }
 }
 
@@ -148,60 +137,62 @@ fn first_bad<'a>(found: &ArgMatches<'a>, rows: &'static [Argument]) -> Option<Ba
         ≡ spec.first_bad (map row_of rows.now) (rows_of (found_of found.now)) }
 {
     for row in rows {
-        if let Some(text) = first_of(texts_in(found, row.id), row.kind) {
-            return Some((row.shown, why(row.kind), text));
+        let form = form_of(row.kind);
+        if let Some(text) = first_of(texts_in(found, row.id), form) {
+            return Some((row.shown, why(form), text));
         }
     }
     None
 }
 
-/// The first of texts that is none of a kind.
-fn first_of<'a>(texts: &[&'a str], kind: Kind) -> Option<&'a str>
-    ensures { option_map (λ text. text.now) result ≡ first_not (test_of kind) (map (λ text. text.now) texts.now) }
+/// The first of texts that is none of a form.
+fn first_of<'a>(texts: &[&'a str], form: Form) -> Option<&'a str>
+    ensures { option_map (λ text. text.now) result ≡ first_not form (map (λ text. text.now) texts.now) }
 {
     for text in texts {
-        if !is_of(kind, text) {
+        if !is_of(form, text) {
             return Some(*text);
         }
     }
     None
 }
 
-/// Whether a text is of a kind.
-fn is_of(kind: Kind, text: &str) -> bool
-    ensures { result ≡ passes (test_of kind) text.now }
+/// Whether a text is of a form.
+fn is_of(form: Form, text: &str) -> bool
+    ensures { result ≡ passes form text.now }
 {
-    match kind {
-        Kind::Cell | Kind::Cells => octal_cell(text.as_bytes()).is_some(),
-        Kind::Octal | Kind::Octals => octal_word(text.as_bytes()).is_some(),
-        Kind::Block | Kind::Blocks => number_in(text.as_bytes(), 0, MOST_BLOCKS).is_some(),
-        Kind::Volume => text == "1" || text == "2",
-        Kind::Word
-        | Kind::Words(_)
-        | Kind::Size
-        | Kind::Flag
-        | Kind::Value
-        | Kind::Values
-        | Kind::Count => true,
+    match form {
+        Form::Text => true,
+        Form::Cell => cell_in(text.as_bytes()).is_some(),
+        Form::Octal => word_in(text.as_bytes()).is_some(),
+        Form::Volume => text == "1" || text == "2",
+        Form::Block => number_in(text.as_bytes(), 0, MOST_BLOCKS).is_some(),
+        Form::Seconds => number_in(text.as_bytes(), 0, 3600).is_some(),
     }
 }
 
-/// What is wrong with a value that is none of a kind.
-fn why(kind: Kind) -> &'static str
-    ensures { result.now ≡ spec.why kind }
+/// The form of an argument's values.
+fn form_of(kind: Kind) -> Form
+    ensures { result ≡ form_of kind }
 {
     match kind {
-        Kind::Cell | Kind::Cells => "not five octal digits, a field and an address",
-        Kind::Octal | Kind::Octals => "not four octal digits",
-        Kind::Block | Kind::Blocks => "not a block, 0 to 4095",
-        Kind::Volume => "not 1 or 2",
-        Kind::Word
-        | Kind::Words(_)
-        | Kind::Size
-        | Kind::Flag
-        | Kind::Value
-        | Kind::Values
-        | Kind::Count => "not a value of it",
+        Kind::One(form) => form,
+        Kind::Many(form) => form,
+        Kind::Word | Kind::Words(_) | Kind::Size | Kind::Flag | Kind::Count => Form::Text,
+    }
+}
+
+/// What is wrong with a value that is none of a form.
+fn why(form: Form) -> &'static str
+    ensures { result.now ≡ spec.why form }
+{
+    match form {
+        Form::Text => "not a text",
+        Form::Cell => "not a cell, 0 to 77777 in octal, or F:AAAA",
+        Form::Octal => "not a word, 0 to 7777 in octal",
+        Form::Volume => "not 1 or 2",
+        Form::Block => "not a block, 0 to 4095",
+        Form::Seconds => "not a number of seconds, 0 to 3600",
     }
 }
 

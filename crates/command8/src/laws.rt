@@ -1,5 +1,6 @@
 //! What plain command lines ask for.
-ghost use Rattle.std.specs.Prelude.{◌≡◌, ◌∷◌, [], ℕ, List, codes, false, map, true, None, Some};
+ghost use Rattle.std.specs.Prelude.{◌≡◌, ◌∷◌, [], ℕ, List, codes, false, map, option_map, true, None, Some};
+ghost use Rattle.std.specs.List.{list_all};
 ghost use Rattle.clap.specs.Words.{IsUnsignedIn};
 ghost use Rattle.task8.specs.declared.tasks.RimForm.TheVariants.{Lines, Bin};
 ghost use Rattle.task8.specs.declared.tasks.Saving.TheVariants.{AtEnd, Never, Always};
@@ -7,25 +8,27 @@ ghost use Rattle.char_pack.specs.declared.forms.GetForm.TheVariants as get_as;
 ghost use Rattle.char_pack.specs.declared.forms.PutForm.TheVariants as put_as;
 ghost use Rattle.disk8.specs.declared.layouts.Layout.{Layout};
 ghost use Rattle.disk8.specs.declared.layouts.Layout.TheVariants.{Dectape};
-ghost use Rattle.word12.specs.Octal.{octal_of};
 ghost use Rattle.word12.specs.declared.sizes.TheConstants.{MOST_BLOCKS};
-ghost use Rattle.command8.specs.Found.{number_in, number_of, place_of};
-ghost use Rattle.command8.specs.Tables.{are_distinct, pairs, table};
+ghost use Rattle.command8.specs.Found.{capitals, cell_of, number_in, number_of, place_of, word_of};
+ghost use Rattle.command8.specs.Tables.{are_apart, are_distinct, entry_named, is_usual, letters_of, pairs, table};
 ghost use Rattle.command8.specs.Tasks.{IsAssembleOf, IsAt, IsCheckOf, IsCopyOf, IsCreateOf, IsCreateTapeOf, IsDeleteOf, IsGetBinOf};
 ghost use Rattle.command8.specs.Tasks.{IsGetBlocksOf, IsGetManyOf, IsGetOf, IsListLongOf, IsListOf, IsNamed, IsPlain, IsProfileOf};
-ghost use Rattle.command8.specs.Tasks.{IsPutManyOf, IsPutOf, IsRenameOf, IsRimOf, IsRunOf, IsSourceOf, IsSqueezeOf, IsTakenAs, IsTape};
+ghost use Rattle.command8.specs.Tasks.{IsPutManyOf, IsPutOf, IsRenameOf, IsRimOf, IsRunOf, IsSourceOf, IsSqueezeOf, IsTakenAs, IsTapeOf};
 ghost use Rattle.command8.specs.Tasks.{IsTeletypeOf, IsTraceOf, IsVolume};
 
 /// A law: plain command lines are taken, and ask for what they say; a run that is both to look and to keep asks for no task (this
 /// project's profile). A word that names a file or gives a number is plain where it begins with no hyphen.
 pub fn plain_words()
-    ensures tape { (name : List ℕ) → IsTakenAs (name ∷ codes "tape" ∷ []) IsTape }
-    ensures rim { (name : List ℕ) → IsTakenAs (name ∷ codes "rim" ∷ []) (IsRimOf Lines) }
-    ensures rim_bin { (name : List ℕ) → IsTakenAs (name ∷ codes "rim" ∷ codes "--bin" ∷ []) (IsRimOf Bin) }
+    ensures tape { (name : List ℕ) → IsTakenAs (name ∷ codes "tape" ∷ []) (IsTapeOf None None) }
+    ensures tape_file { (name image file : List ℕ) → IsPlain image → IsPlain file
+        → IsTakenAs (name ∷ codes "tape" ∷ image ∷ file ∷ []) (IsTapeOf (Some image) (Some (capitals file))) }
+    ensures rim { (name : List ℕ) → IsTakenAs (name ∷ codes "rim" ∷ []) (IsRimOf None None Lines) }
+    ensures rim_bin { (name tape : List ℕ) → IsPlain tape
+        → IsTakenAs (name ∷ codes "rim" ∷ tape ∷ codes "--bin" ∷ []) (IsRimOf (Some tape) None Bin) }
     ensures source { (name : List ℕ) → IsTakenAs (name ∷ codes "source" ∷ []) (IsSourceOf None None [] None) }
     ensures source_file { (name tape : List ℕ) → IsPlain tape
         → IsTakenAs (name ∷ codes "source" ∷ tape ∷ []) (IsSourceOf (Some tape) None [] None) }
-    ensures source_start { (name start : List ℕ) (cell : ℕ) → octal_of 5 start ≡ Some cell
+    ensures source_start { (name start : List ℕ) (cell : ℕ) → cell_of start ≡ Some cell
         → IsTakenAs (name ∷ codes "source" ∷ codes "--start" ∷ start ∷ [])
         (IsSourceOf None None (cell ∷ []) None) }
     ensures source_names { (name file : List ℕ) → IsPlain file
@@ -58,7 +61,10 @@ pub fn plain_words()
         (IsCreateOf image (number_of blocks)) }
     ensures create_tape { (name image : List ℕ) → IsPlain image
         → IsTakenAs (name ∷ codes "create" ∷ image ∷ codes "--dectape" ∷ [])
-        (IsCreateTapeOf image) }
+        (IsCreateTapeOf image false) }
+    ensures create_new { (name image : List ℕ) → IsPlain image
+        → IsTakenAs (name ∷ codes "create" ∷ image ∷ codes "--dectape" ∷ codes "--new" ∷ [])
+        (IsCreateTapeOf image true) }
     ensures list { (name image : List ℕ) → IsPlain image
         → IsTakenAs (name ∷ codes "list" ∷ image ∷ [])
         (IsListOf image None) }
@@ -73,22 +79,22 @@ pub fn plain_words()
         (IsListOf image (Some Dectape)) }
     ensures get { (name image file : List ℕ) → IsPlain image → IsPlain file
         → IsTakenAs (name ∷ codes "get" ∷ image ∷ file ∷ [])
-        (IsGetOf image (IsNamed file) get_as.Frames) }
+        (IsGetOf image (IsNamed (capitals file)) get_as.Frames) }
     ensures get_text { (name image file : List ℕ) → IsPlain image → IsPlain file
         → IsTakenAs (name ∷ codes "get" ∷ image ∷ file ∷ codes "--text" ∷ [])
-        (IsGetOf image (IsNamed file) get_as.Text) }
+        (IsGetOf image (IsNamed (capitals file)) get_as.Text) }
     ensures get_tape { (name image file : List ℕ) → IsPlain image → IsPlain file
         → IsTakenAs (name ∷ codes "get" ∷ image ∷ file ∷ codes "--tape" ∷ [])
-        (IsGetOf image (IsNamed file) get_as.Tape) }
+        (IsGetOf image (IsNamed (capitals file)) get_as.Tape) }
     ensures get_bin { (name image file : List ℕ) → IsPlain image → IsPlain file
         → IsTakenAs (name ∷ codes "get" ∷ image ∷ file ∷ codes "--bin" ∷ [])
-        (IsGetBinOf image file) }
+        (IsGetBinOf image (capitals file)) }
     ensures get_at { (name image place : List ℕ) (n : ℕ) → IsPlain image → place_of place ≡ Some n
         → IsTakenAs (name ∷ codes "get" ∷ image ∷ codes "--at" ∷ place ∷ [])
         (IsGetOf image (IsAt n) get_as.Frames) }
     ensures get_into { (name image file folder : List ℕ) → IsPlain image → IsPlain file → IsPlain folder
         → IsTakenAs (name ∷ codes "get" ∷ image ∷ file ∷ codes "--into" ∷ folder ∷ [])
-        (IsGetManyOf image (file ∷ []) false folder) }
+        (IsGetManyOf image (capitals file ∷ []) false folder) }
     ensures get_all { (name image folder : List ℕ) → IsPlain image → IsPlain folder
         → IsTakenAs (name ∷ codes "get" ∷ image ∷ codes "--all" ∷ codes "--into" ∷ folder ∷ [])
         (IsGetManyOf image [] true folder) }
@@ -101,17 +107,17 @@ pub fn plain_words()
         (IsPutManyOf image (file ∷ [])) }
     ensures put_as { (name image file member : List ℕ) → IsPlain image → IsPlain file → IsPlain member
         → IsTakenAs (name ∷ codes "put" ∷ image ∷ file ∷ codes "--as" ∷ member ∷ [])
-        (IsPutOf image file member put_as.Frames None) }
+        (IsPutOf image file (capitals member) put_as.Frames None) }
     ensures put_input { (name image member : List ℕ) → IsPlain image → IsPlain member
         → IsTakenAs (name ∷ codes "put" ∷ image ∷ codes "-" ∷ codes "--as" ∷ member ∷ [])
-        (IsPutOf image (codes "-") member put_as.Frames None) }
+        (IsPutOf image (codes "-") (capitals member) put_as.Frames None) }
     ensures put_text { (name image file member : List ℕ) → IsPlain image → IsPlain file → IsPlain member
         → IsTakenAs (name ∷ codes "put" ∷ image ∷ file ∷ codes "--as" ∷ member ∷ codes "--text" ∷ [])
-        (IsPutOf image file member put_as.Text None) }
+        (IsPutOf image file (capitals member) put_as.Text None) }
     ensures put_info { (name image file member info : List ℕ) (n : ℕ) → IsPlain image → IsPlain file
-        → IsPlain member → octal_of 4 info ≡ Some n
+        → IsPlain member → word_of info ≡ Some n
         → IsTakenAs (name ∷ codes "put" ∷ image ∷ file ∷ codes "--as" ∷ member ∷ codes "--info" ∷ info ∷ [])
-        (IsPutOf image file member put_as.Frames (Some (n ∷ []))) }
+        (IsPutOf image file (capitals member) put_as.Frames (Some (n ∷ []))) }
     ensures put_two { (name image file other : List ℕ) → IsPlain image → IsPlain file → IsPlain other
         → IsTakenAs (name ∷ codes "put" ∷ image ∷ file ∷ other ∷ [])
         (IsPutManyOf image (file ∷ other ∷ [])) }
@@ -120,37 +126,40 @@ pub fn plain_words()
         (IsPutManyOf image (file ∷ [])) }
     ensures delete { (name image file : List ℕ) → IsPlain image → IsPlain file
         → IsTakenAs (name ∷ codes "delete" ∷ image ∷ file ∷ [])
-        (IsDeleteOf image (file ∷ []) []) }
+        (IsDeleteOf image (capitals file ∷ []) []) }
     ensures delete_two { (name image file other : List ℕ) → IsPlain image → IsPlain file → IsPlain other
         → IsTakenAs (name ∷ codes "delete" ∷ image ∷ file ∷ other ∷ [])
-        (IsDeleteOf image (file ∷ other ∷ []) []) }
+        (IsDeleteOf image (capitals file ∷ capitals other ∷ []) []) }
     ensures delete_at { (name image place : List ℕ) (n : ℕ) → IsPlain image → place_of place ≡ Some n
         → IsTakenAs (name ∷ codes "delete" ∷ image ∷ codes "--at" ∷ place ∷ [])
         (IsDeleteOf image [] (n ∷ [])) }
     ensures rename { (name image file new : List ℕ) → IsPlain image → IsPlain file → IsPlain new
         → IsTakenAs (name ∷ codes "rename" ∷ image ∷ file ∷ new ∷ [])
-        (IsRenameOf image (IsNamed file) new) }
+        (IsRenameOf image (IsNamed (capitals file)) (capitals new)) }
     ensures rename_at { (name image place new : List ℕ) (n : ℕ) → IsPlain image → IsPlain new
         → place_of place ≡ Some n
         → IsTakenAs (name ∷ codes "rename" ∷ image ∷ codes "--at" ∷ place ∷ new ∷ [])
-        (IsRenameOf image (IsAt n) new) }
+        (IsRenameOf image (IsAt n) (capitals new)) }
     ensures copy { (name image file to : List ℕ) → IsPlain image → IsPlain file → IsPlain to
         → IsTakenAs (name ∷ codes "copy" ∷ image ∷ file ∷ to ∷ [])
-        (IsCopyOf image (IsNamed file) to None None) }
+        (IsCopyOf image (IsNamed (capitals file)) to None None) }
     ensures copy_as { (name image file to new : List ℕ) → IsPlain image → IsPlain file → IsPlain to
         → IsPlain new
         → IsTakenAs (name ∷ codes "copy" ∷ image ∷ file ∷ to ∷ new ∷ [])
-        (IsCopyOf image (IsNamed file) to None (Some new)) }
+        (IsCopyOf image (IsNamed (capitals file)) to None (Some (capitals new))) }
     ensures copy_at { (name image place to : List ℕ) (n : ℕ) → IsPlain image → IsPlain to
         → place_of place ≡ Some n
         → IsTakenAs (name ∷ codes "copy" ∷ image ∷ codes "--at" ∷ place ∷ to ∷ [])
         (IsCopyOf image (IsAt n) to None None) }
     ensures copy_dectape { (name image file to : List ℕ) → IsPlain image → IsPlain file → IsPlain to
         → IsTakenAs (name ∷ codes "copy" ∷ image ∷ file ∷ to ∷ codes "--to-dectape" ∷ [])
-        (IsCopyOf image (IsNamed file) to (Some Dectape) None) }
+        (IsCopyOf image (IsNamed (capitals file)) to (Some Dectape) None) }
     ensures squeeze { (name image : List ℕ) → IsPlain image
         → IsTakenAs (name ∷ codes "squeeze" ∷ image ∷ [])
-        (IsSqueezeOf image) }
+        (IsSqueezeOf image 0) }
+    ensures squeeze_wait { (name image wait : List ℕ) (n : ℕ) → IsPlain image → number_in 0 3600 wait ≡ Some n
+        → IsTakenAs (name ∷ codes "squeeze" ∷ image ∷ codes "--wait" ∷ wait ∷ [])
+        (IsSqueezeOf image n) }
     ensures assemble { (name file : List ℕ) → IsPlain file
         → IsTakenAs (name ∷ codes "assemble" ∷ file ∷ []) (IsAssembleOf (file ∷ []) None) }
     ensures assemble_input { (name : List ℕ)
@@ -163,22 +172,22 @@ pub fn plain_words()
     ensures teletype { (name tape : List ℕ) → IsPlain tape
         → IsTakenAs (name ∷ codes "teletype" ∷ tape ∷ []) (IsTeletypeOf tape None None) }
     ensures teletype_file { (name image file : List ℕ) → IsPlain image → IsPlain file
-        → IsTakenAs (name ∷ codes "teletype" ∷ image ∷ file ∷ []) (IsTeletypeOf image (Some file) None) }
+        → IsTakenAs (name ∷ codes "teletype" ∷ image ∷ file ∷ []) (IsTeletypeOf image (Some (capitals file)) None) }
     ensures teletype_start { (name tape start : List ℕ) (cell : ℕ) → IsPlain tape
-        → octal_of 5 start ≡ Some cell
+        → cell_of start ≡ Some cell
         → IsTakenAs (name ∷ codes "teletype" ∷ tape ∷ codes "--start" ∷ start ∷ [])
         (IsTeletypeOf tape None (Some cell)) }
     ensures trace { (name tape : List ℕ) → IsPlain tape
         → IsTakenAs (name ∷ codes "trace" ∷ tape ∷ []) (IsTraceOf tape None None) }
     ensures trace_file { (name image file : List ℕ) → IsPlain image → IsPlain file
-        → IsTakenAs (name ∷ codes "trace" ∷ image ∷ file ∷ []) (IsTraceOf image (Some file) None) }
+        → IsTakenAs (name ∷ codes "trace" ∷ image ∷ file ∷ []) (IsTraceOf image (Some (capitals file)) None) }
     ensures trace_keys { (name tape keys : List ℕ) → IsPlain tape → IsPlain keys
         → IsTakenAs (name ∷ codes "trace" ∷ tape ∷ codes "--keys" ∷ keys ∷ [])
         (IsTraceOf tape None (Some keys)) }
     ensures profile { (name tape : List ℕ) → IsPlain tape
         → IsTakenAs (name ∷ codes "profile" ∷ tape ∷ []) (IsProfileOf tape None None) }
     ensures profile_file { (name image file : List ℕ) → IsPlain image → IsPlain file
-        → IsTakenAs (name ∷ codes "profile" ∷ image ∷ file ∷ []) (IsProfileOf image (Some file) None) }
+        → IsTakenAs (name ∷ codes "profile" ∷ image ∷ file ∷ []) (IsProfileOf image (Some (capitals file)) None) }
     ensures profile_keys { (name tape keys : List ℕ) → IsPlain tape → IsPlain keys
         → IsTakenAs (name ∷ codes "profile" ∷ tape ∷ codes "--keys" ∷ keys ∷ [])
         (IsProfileOf tape None (Some keys)) }
@@ -199,6 +208,18 @@ pub fn plain_words()
         (IsCheckOf (image ∷ []) (Some Dectape) false) }
 {}
 
+/// A law: the letters of options are the usual ones, no subcommand has one twice, and these subcommands have these.
+pub fn letters()
+    ensures distinct { list_all (λ entry. are_apart (letters_of entry)) table ≡ true }
+    ensures usual { list_all (λ entry. list_all is_usual (letters_of entry)) table ≡ true }
+    ensures assemble { option_map letters_of (entry_named (codes "assemble"))
+        ≡ Some ((codes "o", codes "output") ∷ (codes "l", codes "list") ∷ []) }
+    ensures list { option_map letters_of (entry_named (codes "list"))
+        ≡ Some ((codes "l", codes "long") ∷ (codes "v", codes "volume") ∷ []) }
+    ensures get { option_map letters_of (entry_named (codes "get"))
+        ≡ Some ((codes "t", codes "text") ∷ (codes "a", codes "all") ∷ (codes "f", codes "force") ∷ (codes "v", codes "volume") ∷ []) }
+{}
+
 /// A law: no two subcommands share a name, and these arguments exclude each other.
 pub fn excluded_arguments()
     ensures words { are_distinct (map (λ entry. entry.word) table) ≡ true }
@@ -206,5 +227,6 @@ pub fn excluded_arguments()
         ∷ (codes "BLOCKS", codes "dectape") ∷ (codes "blocks", codes "at") ∷ (codes "blocks", codes "into")
         ∷ (codes "blocks", codes "all") ∷ (codes "blocks", codes "force") ∷ (codes "blocks", codes "text-of")
         ∷ (codes "blocks", codes "tape") ∷ (codes "blocks", codes "bin") ∷ (codes "tape", codes "into")
-        ∷ (codes "bin", codes "into") ∷ (codes "as", codes "text-of") ∷ (codes "look", codes "keep") ∷ [] }
+        ∷ (codes "bin", codes "into") ∷ (codes "as", codes "text-of") ∷ (codes "look", codes "keep")
+        ∷ (codes "look", codes "wait") ∷ (codes "new", codes "wait") ∷ [] }
 {}

@@ -1,21 +1,21 @@
 //! What `clap` found for an option that is given several times, where each value is a number.
 ghost use Rattle.std.specs.Prelude.{◌≡◌, ◌++◌, ◌∷◌, [], codes, map, option_map, IfOk, None, OnOk, Some};
 ghost use Rattle.clap.specs.Words.{found_of, rows_of};
-ghost use Rattle.word12.specs.Octal.{octal_of};
-ghost use Rattle.command8.specs.Found.{a_block, first_not, octal_digits, place_of};
+ghost use Rattle.command8.specs.Found.{cell_of, first_not, place_of, word_of};
 ghost use Rattle.command8.specs.FoundSteps.{IsWell};
 ghost use Rattle.command8.specs.Found as spec;
 ghost use Rattle.command8.specs.Tables.{rows_for};
 ghost use Rattle.command8.specs.TableSteps.{kind_at};
 ghost use Rattle.command8.specs.Tasks.{IsInfo};
+ghost use Rattle.command8.specs.declared.table.Form.TheVariants as form;
 ghost use Rattle.command8.specs.declared.table.Kind.TheVariants as kind;
 
 use crate::found::texts_in;
-use crate::numbers::number_in;
+use crate::numbers::{cell_in, number_in, word_in};
 use crate::table::Verb;
 use clap::ArgMatches;
 use std::alloc::{AllocError, Global};
-use word12::{Cell, MOST_BLOCKS, Word, octal_cell, octal_word};
+use word12::{Cell, MOST_BLOCKS, Word};
 
 /// The cells of an option.
 pub fn cells_of(
@@ -24,23 +24,23 @@ pub fn cells_of(
     _verb: Verb,
     id: &str,
 ) -> Result<Vec<Cell>, AllocError>
-    requires kind { kind_at id.now (rows_for _verb) ≡ Some kind.Cells }
-    requires well { IsWell kind.Cells id.now (rows_of (found_of found.now)) }
-    ensures { IfOk result (λ cells. map (octal_of 5) (spec.values_of id.now (rows_of (found_of found.now)))
+    requires kind { kind_at id.now (rows_for _verb) ≡ Some (kind.Many form.Cell) }
+    requires well { IsWell form.Cell id.now (rows_of (found_of found.now)) }
+    ensures { IfOk result (λ cells. map cell_of (spec.values_of id.now (rows_of (found_of found.now)))
         ≡ map (λ cell. Some cell) cells.items) }
 {
     cells_in(alloc, texts_in(found, id))
 }
 
-/// The cells of texts, each of five octal digits.
+/// The cells of texts, each a cell.
 fn cells_in(alloc: Global, texts: &[&str]) -> Result<Vec<Cell>, AllocError>
-    requires { first_not (octal_digits 5) (map (λ text. text.now) texts.now) ≡ None }
-    ensures { IfOk result (λ cells. map (octal_of 5) (map (λ text. text.now) texts.now)
+    requires { first_not form.Cell (map (λ text. text.now) texts.now) ≡ None }
+    ensures { IfOk result (λ cells. map cell_of (map (λ text. text.now) texts.now)
         ≡ map (λ cell. Some cell) cells.items) }
 {
     let mut cells = Vec::new(alloc);
     for text in texts {
-        let Some(cell) = octal_cell(text.as_bytes()) else {
+        let Some(cell) = cell_in(text.as_bytes()) else {
             unreachable!()
         };
         put_cell(&mut cells, cell)?;
@@ -63,8 +63,8 @@ pub fn blocks_of(
     _verb: Verb,
     id: &str,
 ) -> Result<Vec<usize>, AllocError>
-    requires kind { kind_at id.now (rows_for _verb) ≡ Some kind.Blocks }
-    requires well { IsWell kind.Blocks id.now (rows_of (found_of found.now)) }
+    requires kind { kind_at id.now (rows_for _verb) ≡ Some (kind.Many form.Block) }
+    requires well { IsWell form.Block id.now (rows_of (found_of found.now)) }
     ensures { IfOk result (λ blocks. map place_of (spec.values_of id.now (rows_of (found_of found.now)))
         ≡ map (λ block. Some block) blocks.items) }
 {
@@ -73,7 +73,7 @@ pub fn blocks_of(
 
 /// The blocks of texts, each 0 to 4095.
 fn blocks_in(alloc: Global, texts: &[&str]) -> Result<Vec<usize>, AllocError>
-    requires { first_not a_block (map (λ text. text.now) texts.now) ≡ None }
+    requires { first_not form.Block (map (λ text. text.now) texts.now) ≡ None }
     ensures { IfOk result (λ blocks. map place_of (map (λ text. text.now) texts.now)
         ≡ map (λ block. Some block) blocks.items) }
 {
@@ -101,8 +101,8 @@ pub fn info_of(
     found: &ArgMatches<'_>,
     _verb: Verb,
 ) -> Result<Option<Vec<Word>>, AllocError>
-    requires kind { kind_at (codes "info") (rows_for _verb) ≡ Some kind.Octals }
-    requires well { IsWell kind.Octals (codes "info") (rows_of (found_of found.now)) }
+    requires kind { kind_at (codes "info") (rows_for _verb) ≡ Some (kind.Many form.Octal) }
+    requires well { IsWell form.Octal (codes "info") (rows_of (found_of found.now)) }
     ensures { IfOk result (λ info.
         IsInfo (rows_of (found_of found.now)) (option_map (λ words. words.items) info)) }
 {
@@ -115,15 +115,15 @@ pub fn info_of(
     }
 }
 
-/// The words of texts, each of four octal digits.
+/// The words of texts, each a word.
 fn words_in(alloc: Global, texts: &[&str]) -> Result<Vec<Word>, AllocError>
-    requires { first_not (octal_digits 4) (map (λ text. text.now) texts.now) ≡ None }
-    ensures { IfOk result (λ words. map (octal_of 4) (map (λ text. text.now) texts.now)
+    requires { first_not form.Octal (map (λ text. text.now) texts.now) ≡ None }
+    ensures { IfOk result (λ words. map word_of (map (λ text. text.now) texts.now)
         ≡ map (λ word. Some word) words.items) }
 {
     let mut words = Vec::new(alloc);
     for text in texts {
-        let Some(word) = octal_word(text.as_bytes()) else {
+        let Some(word) = word_in(text.as_bytes()) else {
             unreachable!()
         };
         put_word(&mut words, word)?;

@@ -22,17 +22,27 @@ pub fn missing_of(found: &ArgMatches<'_>, which: Verb) -> Option<What>
         Verb::Delete => delete_missing(found),
         Verb::Rename => moved_missing(found, "NEW", What::New, What::NameAndNew),
         Verb::Copy => moved_missing(found, "TO", What::To, What::NameAndTo),
-        Verb::Tape
-        | Verb::Rim
-        | Verb::Source
-        | Verb::Teletype
-        | Verb::Trace
-        | Verb::Profile
-        | Verb::Run
-        | Verb::List
-        | Verb::Squeeze
-        | Verb::Check => None,
+        Verb::Tape => tape_missing(found),
+        Verb::Rim => tape_missing(found),
+        Verb::Source => tape_missing(found),
+        Verb::Teletype => tape_missing(found),
+        Verb::Trace => tape_missing(found),
+        Verb::Profile => tape_missing(found),
+        Verb::Run | Verb::List | Verb::Squeeze | Verb::Check => None,
     }
+}
+
+/// What is missing of a file of a volume, where it is said where the volume lies.
+fn tape_missing(found: &ArgMatches<'_>) -> Option<What>
+    ensures { result ≡ spec.tape_missing (rows_of (found_of found.now)) }
+{
+    if has(found, "NAME") || !(has(found, "volume") || is_set(found, "dectape")) {
+        return None;
+    }
+    if has(found, "TAPE") {
+        return Some(What::Name);
+    }
+    Some(What::TapeAndName)
 }
 
 /// What is missing where sources are assembled: a listing for its cross references.

@@ -1,7 +1,9 @@
-//! Decimal numbers of few digits.
+//! Decimal and octal numbers of few digits.
 ghost use Rattle.std.specs.Prelude.{◌≡◌, ◌≤◌, true, is_some, IfSome, Some, length};
 ghost use Rattle.command8.specs.Found.{digits_from, number_of_digits};
 ghost use Rattle.command8.specs.Found as spec;
+
+use word12::{Cell, Word, octal};
 
 /// A decimal number of 1 to 4 digits, if it is within these limits.
 pub fn number_in(digits: &[u8], least: usize, most: usize) -> Option<usize>
@@ -48,5 +50,55 @@ pub fn number_of(digits: &[u8], least: usize, most: usize) -> usize
     match number_in(digits, least, most) {
         Some(number) => number,
         None => unreachable!(),
+    }
+}
+
+/// A cell: an octal number up to 77777, or its field, a colon and its address.
+pub fn cell_in(text: &[u8]) -> Option<Cell>
+    ensures { result ≡ spec.cell_of text.now }
+{
+    match text {
+        [field, b':', address @ ..] => cell_at(*field, address),
+        _ => match octal_to(text, 0o77777) {
+            Some(number) => Some(Cell::of(number)),
+            None => None,
+        },
+    }
+}
+
+/// The cell at an address of the field that a digit gives.
+fn cell_at(digit: u8, address: &[u8]) -> Option<Cell>
+    ensures { result ≡ spec.cell_at digit address.now }
+{
+    match digit {
+        b'0'..=b'7' => match word_in(address) {
+            Some(word) => Some(Cell::at(digit - b'0', word)),
+            None => None,
+        },
+        _ => None,
+    }
+}
+
+/// A word: an octal number up to 7777.
+pub fn word_in(text: &[u8]) -> Option<Word>
+    ensures { result ≡ spec.word_of text.now }
+{
+    match octal_to(text, 0o7777) {
+        Some(number) => Word::new(number as u16),
+        None => None,
+    }
+}
+
+/// An octal number of 1 to 5 digits, up to this one.
+fn octal_to(digits: &[u8], most: u32) -> Option<u32>
+    ensures value { result ≡ spec.octal_to most digits.now }
+    ensures range { IfSome result (λ number. number ≤ most) }
+{
+    if digits.is_empty() || digits.len() > 5 {
+        return None;
+    }
+    match octal(digits, digits.len()) {
+        Some(number) if number <= most => Some(number),
+        _ => None,
     }
 }

@@ -6,6 +6,8 @@ use thiserror::Error;
 pub enum What {
     #[error("<NAME>")]
     Name,
+    #[error("<TAPE>\n  <NAME>")]
+    TapeAndName,
     #[error("<NAME>\n  <NEW>")]
     NameAndNew,
     #[error("<NEW>")]

@@ -7,6 +7,27 @@ ghost use Rattle.command8.specs.Tables as spec;
 
 use word12::MOST_BLOCKS;
 
+/// What a value is.
+#[derive(Clone, Copy)]
+pub enum Form {
+    Text,
+
+    /// A cell: an octal number up to 77777, or F:AAAA.
+    Cell,
+
+    /// A word: an octal number up to 7777.
+    Octal,
+
+    /// The number of a disk's volume, 1 or 2.
+    Volume,
+
+    /// A block, 0 to 4095.
+    Block,
+
+    /// A number of seconds, 0 to 3600.
+    Seconds,
+}
+
 /// What an argument takes.
 #[derive(Clone, Copy)]
 pub enum Kind {
@@ -22,35 +43,14 @@ pub enum Kind {
     /// An option that takes no value.
     Flag,
 
-    /// An option with a text.
-    Value,
+    /// An option with a value.
+    One(Form),
 
-    /// An option with a text, which may be given several times.
-    Values,
+    /// An option with a value, which may be given several times.
+    Many(Form),
 
     /// An option with a number from 1 up.
     Count,
-
-    /// An option with a cell, five octal digits.
-    Cell,
-
-    /// An option with a cell, which may be given several times.
-    Cells,
-
-    /// An option with a word, four octal digits.
-    Octal,
-
-    /// An option with a word, which may be given several times.
-    Octals,
-
-    /// An option with the number of a disk's volume, 1 or 2.
-    Volume,
-
-    /// An option with a block, 0 to 4095.
-    Block,
-
-    /// An option with a block, which may be given several times.
-    Blocks,
 }
 
 /// A subcommand.
@@ -79,6 +79,9 @@ pub enum Verb {
 pub struct ArgumentOf<T> {
     /// Its name, which is also that of its option.
     pub id: T,
+
+    /// The letter of its option, if it has one.
+    pub letter: Option<char>,
 
     pub kind: Kind,
     pub is_required: bool,
@@ -116,25 +119,27 @@ pub type Entry = EntryOf<&'static str>;
 pub type Pair = (&'static str, &'static str);
 
 /// The rows of a subcommand: an argument that must be given, one that may, an option with no value, one that help leaves out, and one with a
-/// value.
+/// value. A letter after the name is that of the option.
 macro_rules! rows {
-    (@row $id:literal must $kind:expr, $value:literal, $help:literal) => {
-        ArgumentOf { id: $id, kind: $kind, is_required: true, is_hidden: false, value: $value, shown: concat!("<", $id, ">"), help: $help }
+    (@letter) => { None };
+    (@letter $letter:literal) => { Some($letter) };
+    (@row $id:literal [$($letter:literal)?] must $kind:expr, $value:literal, $help:literal) => {
+        ArgumentOf { id: $id, letter: None, kind: $kind, is_required: true, is_hidden: false, value: $value, shown: concat!("<", $id, ">"), help: $help }
     };
-    (@row $id:literal may $kind:expr, $value:literal, $help:literal) => {
-        ArgumentOf { id: $id, kind: $kind, is_required: false, is_hidden: false, value: $value, shown: concat!("[", $id, "]"), help: $help }
+    (@row $id:literal [$($letter:literal)?] may $kind:expr, $value:literal, $help:literal) => {
+        ArgumentOf { id: $id, letter: None, kind: $kind, is_required: false, is_hidden: false, value: $value, shown: concat!("[", $id, "]"), help: $help }
     };
-    (@row $id:literal flag $kind:expr, $value:literal, $help:literal) => {
-        ArgumentOf { id: $id, kind: $kind, is_required: false, is_hidden: false, value: $value, shown: concat!("--", $id), help: $help }
+    (@row $id:literal [$($letter:literal)?] flag $kind:expr, $value:literal, $help:literal) => {
+        ArgumentOf { id: $id, letter: rows!(@letter $($letter)?), kind: $kind, is_required: false, is_hidden: false, value: $value, shown: concat!("--", $id), help: $help }
     };
-    (@row $id:literal hidden $kind:expr, $value:literal, $help:literal) => {
-        ArgumentOf { id: $id, kind: $kind, is_required: false, is_hidden: true, value: $value, shown: concat!("--", $id), help: $help }
+    (@row $id:literal [$($letter:literal)?] hidden $kind:expr, $value:literal, $help:literal) => {
+        ArgumentOf { id: $id, letter: rows!(@letter $($letter)?), kind: $kind, is_required: false, is_hidden: true, value: $value, shown: concat!("--", $id), help: $help }
     };
-    (@row $id:literal option $kind:expr, $value:literal, $help:literal) => {
-        ArgumentOf { id: $id, kind: $kind, is_required: false, is_hidden: false, value: $value, shown: concat!("--", $id, " <", $value, ">"), help: $help }
+    (@row $id:literal [$($letter:literal)?] option $kind:expr, $value:literal, $help:literal) => {
+        ArgumentOf { id: $id, letter: rows!(@letter $($letter)?), kind: $kind, is_required: false, is_hidden: false, value: $value, shown: concat!("--", $id, " <", $value, ">"), help: $help }
     };
-    ($($id:literal $form:ident $kind:expr, $value:literal, $help:literal;)*) => {
-        &[$(rows!(@row $id $form $kind, $value, $help)),*]
+    ($($id:literal $($letter:literal)? $form:ident $kind:expr, $value:literal, $help:literal;)*) => {
+        &[$(rows!(@row $id [$($letter)?] $form $kind, $value, $help)),*]
     };
 }
 
@@ -147,8 +152,8 @@ macro_rules! entries {
 
 /// The subcommands.
 pub const COMMANDS: &[Entry] = entries! {
-    Verb::Tape, "tape", "Usage: pdp8 tape";
-    Verb::Rim, "rim", "Usage: pdp8 rim [OPTIONS]";
+    Verb::Tape, "tape", "Usage: pdp8 tape [OPTIONS] [TAPE] [NAME]";
+    Verb::Rim, "rim", "Usage: pdp8 rim [OPTIONS] [TAPE] [NAME]";
     Verb::Source, "source", "Usage: pdp8 source [OPTIONS] [TAPE] [NAME]";
     Verb::Assemble, "assemble", "Usage: pdp8 assemble [OPTIONS] <FILE>...";
     Verb::Teletype, "teletype", "Usage: pdp8 teletype [OPTIONS] <TAPE> [NAME]";
@@ -182,44 +187,63 @@ pub const PAIRS: &[Pair] = &[
     ("bin", "into"),
     ("as", "text-of"),
     ("look", "keep"),
+    ("look", "wait"),
+    ("new", "wait"),
 ];
 
+pub const TAPE: &[Argument] = rows! {
+    "TAPE" may Kind::Word, "", "The file of the tape, or of the image that holds NAME; else standard input";
+    "NAME" may Kind::Word, "", "The name of the file on the volume";
+    "volume" 'v' option Kind::One(Form::Volume), "N", "The volume of an RK05 disk, 1 or 2, where TAPE is the file of one";
+    "dectape" flag Kind::Flag, "", "TAPE is the file of a DECtape, of 129 words a block";
+};
+
 pub const RIM: &[Argument] = rows! {
+    "TAPE" may Kind::Word, "", "The file of the tape, or of the image that holds NAME; else standard input";
+    "NAME" may Kind::Word, "", "The name of the file on the volume";
     "bin" flag Kind::Flag, "", "Write the BIN tape of its words";
+    "volume" 'v' option Kind::One(Form::Volume), "N", "The volume of an RK05 disk, 1 or 2, where TAPE is the file of one";
+    "dectape" flag Kind::Flag, "", "TAPE is the file of a DECtape, of 129 words a block";
 };
 
 pub const SOURCE: &[Argument] = rows! {
     "TAPE" may Kind::Word, "", "The file of the tape, or of the image that holds NAME; else standard input";
     "NAME" may Kind::Word, "", "The name of the file on the volume";
-    "start" option Kind::Cells, "FAAAA", "A cell at which the program starts, field and address in octal; it may be given several times";
-    "names" option Kind::Value, "FILE", "A file of names, a line FAAAA NAME for each cell that gets one";
+    "start" option Kind::Many(Form::Cell), "FAAAA", "A cell at which the program starts, in octal, as 10200 or 1:0200; it may be given several times";
+    "names" option Kind::One(Form::Text), "FILE", "A file of names, a line FAAAA NAME for each cell that gets one";
+    "volume" 'v' option Kind::One(Form::Volume), "N", "The volume of an RK05 disk, 1 or 2, where TAPE is the file of one";
+    "dectape" flag Kind::Flag, "", "TAPE is the file of a DECtape, of 129 words a block";
 };
 
 pub const ASSEMBLE: &[Argument] = rows! {
     "FILE" must Kind::Words(8), "", "The 1 to 8 sources, which stand together; - is standard input, once at most";
-    "output" option Kind::Value, "TAPE", "The file that gets the tape, in place of standard output";
-    "list" option Kind::Value, "LISTING", "Write a listing to the file LISTING too";
+    "output" 'o' option Kind::One(Form::Text), "TAPE", "The file that gets the tape, in place of standard output";
+    "list" 'l' option Kind::One(Form::Text), "LISTING", "Write a listing to the file LISTING too";
     "cross" flag Kind::Flag, "", "Put a table of cross references after the listing; it needs --list";
 };
 
 pub const TELETYPE: &[Argument] = rows! {
     "TAPE" must Kind::Word, "", "The file of the tape, or of the image that holds NAME";
     "NAME" may Kind::Word, "", "The name of the file on the volume";
-    "start" option Kind::Cell, "FAAAA", "The cell to start at, field and address in octal; else that of the tape's first word";
-    "switches" option Kind::Octal, "WWWW", "The word that the switches are set to, in octal; else 0000";
+    "start" option Kind::One(Form::Cell), "FAAAA", "The cell to start at, in octal, as 10200 or 1:0200; else that of the tape's first word";
+    "switches" option Kind::One(Form::Octal), "WWWW", "The word that the switches are set to, in octal; else 0000";
     "steps" option Kind::Count, "N", "The most instructions that are done, 1 up; without it there is no limit";
     "raw" flag Kind::Flag, "", "Strike each byte as it is, with no change of line ends and no top bit set";
     "live" hidden Kind::Flag, "", "Take the keys as they are struck";
+    "volume" 'v' option Kind::One(Form::Volume), "N", "The volume of an RK05 disk, 1 or 2, where TAPE is the file of one";
+    "dectape" flag Kind::Flag, "", "TAPE is the file of a DECtape, of 129 words a block";
 };
 
 /// The arguments of `trace` and of `profile`.
 pub const TRACE: &[Argument] = rows! {
     "TAPE" must Kind::Word, "", "The file of the tape, or of the image that holds NAME";
     "NAME" may Kind::Word, "", "The name of the file on the volume";
-    "start" option Kind::Cell, "FAAAA", "The cell to start at, field and address in octal; else that of the tape's first word";
-    "switches" option Kind::Octal, "WWWW", "The word that the switches are set to, in octal; else 0000";
+    "start" option Kind::One(Form::Cell), "FAAAA", "The cell to start at, in octal, as 10200 or 1:0200; else that of the tape's first word";
+    "switches" option Kind::One(Form::Octal), "WWWW", "The word that the switches are set to, in octal; else 0000";
     "steps" option Kind::Count, "N", "The most steps that are made, 1 up";
-    "keys" option Kind::Value, "TEXT", "The keys to strike, each where the program asks for one; a line's end is CR";
+    "keys" option Kind::One(Form::Text), "TEXT", "The keys to strike, each where the program asks for one; a line's end is CR";
+    "volume" 'v' option Kind::One(Form::Volume), "N", "The volume of an RK05 disk, 1 or 2, where TAPE is the file of one";
+    "dectape" flag Kind::Flag, "", "TAPE is the file of a DECtape, of 129 words a block";
 };
 
 pub const RUN: &[Argument] = rows! {
@@ -227,67 +251,73 @@ pub const RUN: &[Argument] = rows! {
     "look" flag Kind::Flag, "", "Never write the image, whatever the script does";
     "keep" flag Kind::Flag, "", "Write the image after each entry that changed it, before its reply";
     "strict" flag Kind::Flag, "", "End with status 1 where a reply was a refusal";
-    "volume" option Kind::Volume, "N", "The volume of an RK05 disk, 1 or 2, where IMAGE is the file of one";
+    "volume" 'v' option Kind::One(Form::Volume), "N", "The volume of an RK05 disk, 1 or 2, where IMAGE is the file of one";
     "dectape" flag Kind::Flag, "", "IMAGE is the file of a DECtape, of 129 words a block";
+    "wait" option Kind::One(Form::Seconds), "SECONDS", "Wait so long while another program holds the image, 0 to 3600 seconds; else not at all";
 };
 
 pub const CREATE: &[Argument] = rows! {
     "IMAGE" must Kind::Word, "", "The file that holds the volume";
     "BLOCKS" may Kind::Size, "", "The number of blocks, 8 to 4095";
     "dectape" flag Kind::Flag, "", "Write the file of a DECtape";
+    "new" flag Kind::Flag, "", "Refuse where there is a file of that name";
+    "wait" option Kind::One(Form::Seconds), "SECONDS", "Wait so long while another program holds the file, 0 to 3600 seconds; else not at all";
 };
 
 pub const LIST: &[Argument] = rows! {
     "IMAGE" must Kind::Word, "", "The file that holds the volume";
-    "long" flag Kind::Flag, "", "Show where each file lies, and its information words, in octal";
-    "volume" option Kind::Volume, "N", "The volume of an RK05 disk, 1 or 2, where IMAGE is the file of one";
+    "long" 'l' flag Kind::Flag, "", "Show where each file lies, and its information words, in octal";
+    "volume" 'v' option Kind::One(Form::Volume), "N", "The volume of an RK05 disk, 1 or 2, where IMAGE is the file of one";
     "dectape" flag Kind::Flag, "", "IMAGE is the file of a DECtape, of 129 words a block";
 };
 
 pub const GET: &[Argument] = rows! {
     "IMAGE" must Kind::Word, "", "The file that holds the volume";
     "NAME" may Kind::Words(MOST_BLOCKS), "", "The names of the files on the volume; with --blocks FIRST and COUNT";
-    "at" option Kind::Blocks, "BLOCK", "The first block of a file, 0 to 4095, where no typed name is its own; it may be given several times";
-    "text" flag Kind::Flag, "", "Write its text, each line ended by LF; with --into of files whose extension says text";
+    "at" option Kind::Many(Form::Block), "BLOCK", "The first block of a file, 0 to 4095, where no typed name is its own; it may be given several times";
+    "text" 't' flag Kind::Flag, "", "Write its text, each line ended by LF; with --into of files whose extension says text";
     "tape" flag Kind::Flag, "", "Write the BIN tape that it begins with, also where --text is given";
     "bin" flag Kind::Flag, "", "Write the BIN tape of the core image that it is, also where others are given";
-    "into" option Kind::Value, "FOLDER", "The folder that gets the files";
-    "all" flag Kind::Flag, "", "Get all files of the volume";
-    "force" flag Kind::Flag, "", "Write over older files of the folder";
-    "text-of" option Kind::Values, "LIST", "Extensions of files that are texts, as PA,TX; it may be given several times";
+    "into" option Kind::One(Form::Text), "FOLDER", "The folder that gets the files";
+    "all" 'a' flag Kind::Flag, "", "Get all files of the volume";
+    "force" 'f' flag Kind::Flag, "", "Write over older files of the folder";
+    "text-of" option Kind::Many(Form::Text), "LIST", "Extensions of files that are texts, as PA,TX; it may be given several times";
     "blocks" flag Kind::Flag, "", "Write blocks of the volume: COUNT from block FIRST on";
-    "volume" option Kind::Volume, "N", "The volume of an RK05 disk, 1 or 2, where IMAGE is the file of one";
+    "volume" 'v' option Kind::One(Form::Volume), "N", "The volume of an RK05 disk, 1 or 2, where IMAGE is the file of one";
     "dectape" flag Kind::Flag, "", "IMAGE is the file of a DECtape, of 129 words a block";
 };
 
 pub const PUT: &[Argument] = rows! {
     "IMAGE" must Kind::Word, "", "The file that holds the volume";
     "FILE" must Kind::Words(MOST_BLOCKS), "", "The files of this system that are put; - is standard input";
-    "text" flag Kind::Flag, "", "Keep as texts, each LF as CR and LF, control Z at the end, those whose extension says text; with --as the one";
-    "text-of" option Kind::Values, "LIST", "Extensions of files that are texts, as PA,TX; it may be given several times";
+    "text" 't' flag Kind::Flag, "", "Keep as texts, each LF as CR and LF, control Z at the end, those whose extension says text; with --as the one";
+    "text-of" option Kind::Many(Form::Text), "LIST", "Extensions of files that are texts, as PA,TX; it may be given several times";
     "files" flag Kind::Flag, "", "Changes nothing: FILE are files of this system";
-    "info" option Kind::Octals, "WWWW", "An information word of the file, in octal; it may be given several times";
-    "as" option Kind::Value, "NAME", "The name on the volume of the one file that is put";
+    "info" option Kind::Many(Form::Octal), "WWWW", "An information word of the file, in octal; it may be given several times";
+    "as" option Kind::One(Form::Text), "NAME", "The name on the volume of the one file that is put";
     "empty" flag Kind::Flag, "", "Let a file of no byte replace one that has words";
-    "volume" option Kind::Volume, "N", "The volume of an RK05 disk, 1 or 2, where IMAGE is the file of one";
+    "volume" 'v' option Kind::One(Form::Volume), "N", "The volume of an RK05 disk, 1 or 2, where IMAGE is the file of one";
     "dectape" flag Kind::Flag, "", "IMAGE is the file of a DECtape, of 129 words a block";
+    "wait" option Kind::One(Form::Seconds), "SECONDS", "Wait so long while another program holds the image, 0 to 3600 seconds; else not at all";
 };
 
 pub const DELETE: &[Argument] = rows! {
     "IMAGE" must Kind::Word, "", "The file that holds the volume";
     "NAME" may Kind::Words(MOST_BLOCKS), "", "The names of the files on the volume";
-    "at" option Kind::Blocks, "BLOCK", "The first block of a file, 0 to 4095; it may be given several times";
-    "volume" option Kind::Volume, "N", "The volume of an RK05 disk, 1 or 2, where IMAGE is the file of one";
+    "at" option Kind::Many(Form::Block), "BLOCK", "The first block of a file, 0 to 4095; it may be given several times";
+    "volume" 'v' option Kind::One(Form::Volume), "N", "The volume of an RK05 disk, 1 or 2, where IMAGE is the file of one";
     "dectape" flag Kind::Flag, "", "IMAGE is the file of a DECtape, of 129 words a block";
+    "wait" option Kind::One(Form::Seconds), "SECONDS", "Wait so long while another program holds the image, 0 to 3600 seconds; else not at all";
 };
 
 pub const RENAME: &[Argument] = rows! {
     "IMAGE" must Kind::Word, "", "The file that holds the volume";
     "NAME" may Kind::Word, "", "The name of the file on the volume, where --at does not give its block";
     "NEW" may Kind::Word, "", "The new name of the file";
-    "at" option Kind::Block, "BLOCK", "The first block of the file, 0 to 4095, in place of NAME";
-    "volume" option Kind::Volume, "N", "The volume of an RK05 disk, 1 or 2, where IMAGE is the file of one";
+    "at" option Kind::One(Form::Block), "BLOCK", "The first block of the file, 0 to 4095, in place of NAME";
+    "volume" 'v' option Kind::One(Form::Volume), "N", "The volume of an RK05 disk, 1 or 2, where IMAGE is the file of one";
     "dectape" flag Kind::Flag, "", "IMAGE is the file of a DECtape, of 129 words a block";
+    "wait" option Kind::One(Form::Seconds), "SECONDS", "Wait so long while another program holds the image, 0 to 3600 seconds; else not at all";
 };
 
 pub const COPY: &[Argument] = rows! {
@@ -295,23 +325,25 @@ pub const COPY: &[Argument] = rows! {
     "NAME" may Kind::Word, "", "The name of the file on the volume, where --at does not give its block";
     "TO" may Kind::Word, "", "The file that holds the volume that gets it";
     "NEW" may Kind::Word, "", "The name of the file on that volume, if it is another";
-    "at" option Kind::Block, "BLOCK", "The first block of the file, 0 to 4095, in place of NAME";
-    "to-volume" option Kind::Volume, "N", "The volume of an RK05 disk, 1 or 2, where TO is the file of one";
+    "at" option Kind::One(Form::Block), "BLOCK", "The first block of the file, 0 to 4095, in place of NAME";
+    "to-volume" option Kind::One(Form::Volume), "N", "The volume of an RK05 disk, 1 or 2, where TO is the file of one";
     "to-dectape" flag Kind::Flag, "", "TO is the file of a DECtape, of 129 words a block";
-    "volume" option Kind::Volume, "N", "The volume of an RK05 disk, 1 or 2, where IMAGE is the file of one";
+    "volume" 'v' option Kind::One(Form::Volume), "N", "The volume of an RK05 disk, 1 or 2, where IMAGE is the file of one";
     "dectape" flag Kind::Flag, "", "IMAGE is the file of a DECtape, of 129 words a block";
+    "wait" option Kind::One(Form::Seconds), "SECONDS", "Wait so long while another program holds TO, 0 to 3600 seconds; else not at all";
 };
 
 pub const SQUEEZE: &[Argument] = rows! {
     "IMAGE" must Kind::Word, "", "The file that holds the volume";
-    "volume" option Kind::Volume, "N", "The volume of an RK05 disk, 1 or 2, where IMAGE is the file of one";
+    "volume" 'v' option Kind::One(Form::Volume), "N", "The volume of an RK05 disk, 1 or 2, where IMAGE is the file of one";
     "dectape" flag Kind::Flag, "", "IMAGE is the file of a DECtape, of 129 words a block";
+    "wait" option Kind::One(Form::Seconds), "SECONDS", "Wait so long while another program holds the image, 0 to 3600 seconds; else not at all";
 };
 
 pub const CHECK: &[Argument] = rows! {
     "IMAGE" must Kind::Words(MOST_BLOCKS), "", "The files that hold the volumes";
-    "all" flag Kind::Flag, "", "Show each fault of the directory, and the files that are sound";
-    "volume" option Kind::Volume, "N", "The volume of an RK05 disk, 1 or 2, where IMAGE is the file of one";
+    "all" 'a' flag Kind::Flag, "", "Show each fault of the directory, and the files that are sound";
+    "volume" 'v' option Kind::One(Form::Volume), "N", "The volume of an RK05 disk, 1 or 2, where IMAGE is the file of one";
     "dectape" flag Kind::Flag, "", "IMAGE is the file of a DECtape, of 129 words a block";
 };
 
@@ -320,7 +352,7 @@ pub fn arguments_of(verb: Verb) -> &'static [Argument]
     ensures { map row_of result.now ≡ rows_for verb }
 {
     match verb {
-        Verb::Tape => &[],
+        Verb::Tape => TAPE,
         Verb::Rim => RIM,
         Verb::Source => SOURCE,
         Verb::Assemble => ASSEMBLE,

@@ -1,21 +1,47 @@
 //! What is asked of tapes and of sources.
-ghost use Rattle.std.specs.Prelude.{◌≡◌, true, IfOk};
+ghost use Rattle.std.specs.Prelude.{◌≡◌, codes, true, IfOk, Some};
 ghost use Rattle.clap.specs.Words.{found_of, rows_of};
-ghost use Rattle.command8.specs.Tasks.{IsTraceForm};
+ghost use Rattle.command8.specs.Tasks.{IsTape, IsTapeOrInput, IsTraceForm};
 ghost use Rattle.command8.specs.Found.{is_limit};
+ghost use Rattle.command8.specs.FoundSteps.{Has};
+ghost use Rattle.command8.specs.Tables.{rows_for};
+ghost use Rattle.command8.specs.TableSteps.{has_text, kind_at, takes_text};
+ghost use Rattle.command8.specs.declared.table.Form.TheVariants as form;
+ghost use Rattle.command8.specs.declared.table.Kind.TheVariants as kind;
 ghost use Rattle.command8.specs.Tasks as spec;
 ghost use Rattle.command8.specs.TaskSteps.{IsAskedBy, Needs};
 ghost use Rattle.command8.specs.declared.table.Verb.TheVariants as verb;
 
-use crate::found::{cell_of, count_of, flag, octal_of, value_if_given, value_of, values_of};
+use crate::found::{
+    cell_of, count_of, flag, has, layout_of, name_of, octal_of, value_if_given, value_of, values_of,
+};
 use crate::lists::cells_of;
 use crate::table::Verb;
 use clap::ArgMatches;
 use std::alloc::{AllocError, Global};
-use task8::{AssembleForm, RimForm, SourceForm, Task, TeletypeForm, TraceForm};
+use task8::{
+    AssembleForm, ImageForm, RimForm, SourceForm, TapeForm, Task, TeletypeForm, TraceForm,
+};
+
+/// What is to be listed.
+pub fn tape(alloc: Global, found: &ArgMatches<'_>) -> Result<Task, AllocError>
+    requires { Needs verb.Tape (rows_of (found_of found.now)) }
+    ensures { IfOk result (IsAskedBy verb.Tape (rows_of (found_of found.now))) }
+{
+    Ok(Task::Tape(tape_if_given(alloc, found, Verb::Tape)?))
+}
 
 /// What is to be written of a RIM tape.
-pub fn rim_form(found: &ArgMatches<'_>) -> RimForm
+pub fn rim(alloc: Global, found: &ArgMatches<'_>) -> Result<Task, AllocError>
+    requires { Needs verb.Rim (rows_of (found_of found.now)) }
+    ensures { IfOk result (IsAskedBy verb.Rim (rows_of (found_of found.now))) }
+{
+    let tape = tape_if_given(alloc, found, Verb::Rim)?;
+    Ok(Task::Rim(tape, rim_form(found)))
+}
+
+/// In which form a RIM tape is to be written.
+fn rim_form(found: &ArgMatches<'_>) -> RimForm
     ensures { result ≡ spec.rim_form (rows_of (found_of found.now)) }
 {
     if flag(found, Verb::Rim, "bin") {
@@ -24,14 +50,54 @@ pub fn rim_form(found: &ArgMatches<'_>) -> RimForm
     RimForm::Lines
 }
 
+/// The tape that is named, if one is.
+fn tape_if_given(
+    alloc: Global,
+    found: &ArgMatches<'_>,
+    verb: Verb,
+) -> Result<Option<TapeForm>, AllocError>
+    requires tape { takes_text (kind_at (codes "TAPE") (rows_for verb)) ≡ true }
+    requires name { has_text (kind_at (codes "NAME") (rows_for verb)) ≡ true }
+    requires volume { kind_at (codes "volume") (rows_for verb) ≡ Some (kind.One form.Volume) }
+    requires dectape { kind_at (codes "dectape") (rows_for verb) ≡ Some kind.Flag }
+    ensures { IfOk result (IsTapeOrInput (rows_of (found_of found.now))) }
+{
+    if has(found, "TAPE") {
+        let tape = tape_of(alloc, found, verb)?;
+        return Ok(Some(tape));
+    }
+    Ok(None)
+}
+
+/// The tape that is named.
+fn tape_of(alloc: Global, found: &ArgMatches<'_>, verb: Verb) -> Result<TapeForm, AllocError>
+    requires tape { takes_text (kind_at (codes "TAPE") (rows_for verb)) ≡ true }
+    requires name { has_text (kind_at (codes "NAME") (rows_for verb)) ≡ true }
+    requires volume { kind_at (codes "volume") (rows_for verb) ≡ Some (kind.One form.Volume) }
+    requires dectape { kind_at (codes "dectape") (rows_for verb) ≡ Some kind.Flag }
+    requires given { Has (codes "TAPE") (rows_of (found_of found.now)) }
+    ensures { IfOk result (IsTape (rows_of (found_of found.now))) }
+{
+    let file = value_of(alloc, found, verb, "TAPE")?;
+    if has(found, "NAME") {
+        let name = name_of(alloc, found, verb, "NAME")?;
+        let image = ImageForm {
+            file,
+            layout: layout_of(found, verb, "volume", "dectape"),
+            wait: 0,
+        };
+        return Ok(TapeForm::Member(image, name));
+    }
+    Ok(TapeForm::File(file))
+}
+
 /// The source that is to be written.
 pub fn source(alloc: Global, found: &ArgMatches<'_>) -> Result<Task, AllocError>
     requires { Needs verb.Source (rows_of (found_of found.now)) }
     ensures { IfOk result (IsAskedBy verb.Source (rows_of (found_of found.now))) }
 {
     Ok(Task::Source(SourceForm {
-        file: value_if_given(alloc, found, Verb::Source, "TAPE")?,
-        name: value_if_given(alloc, found, Verb::Source, "NAME")?,
+        tape: tape_if_given(alloc, found, Verb::Source)?,
         starts: cells_of(alloc, found, Verb::Source, "start")?,
         names: value_if_given(alloc, found, Verb::Source, "names")?,
     }))
@@ -58,11 +124,8 @@ pub fn teletype(alloc: Global, found: &ArgMatches<'_>) -> Result<Task, AllocErro
     requires { Needs verb.Teletype (rows_of (found_of found.now)) }
     ensures { IfOk result (IsAskedBy verb.Teletype (rows_of (found_of found.now))) }
 {
-    let file = value_of(alloc, found, Verb::Teletype, "TAPE")?;
-    let name = value_if_given(alloc, found, Verb::Teletype, "NAME")?;
     Ok(Task::Teletype(TeletypeForm {
-        file,
-        name,
+        tape: tape_of(alloc, found, Verb::Teletype)?,
         start: cell_of(found, Verb::Teletype, "start"),
         switches: octal_of(found, Verb::Teletype, "switches"),
         steps: count_of(found, Verb::Teletype, "steps"),
@@ -77,12 +140,10 @@ pub fn trace_form(alloc: Global, found: &ArgMatches<'_>) -> Result<TraceForm, Al
     ensures form { IfOk result (IsTraceForm (rows_of (found_of found.now))) }
     ensures limit { IfOk result (λ form. is_limit form.steps ≡ true) }
 {
-    let file = value_of(alloc, found, Verb::Trace, "TAPE")?;
-    let name = value_if_given(alloc, found, Verb::Trace, "NAME")?;
+    let tape = tape_of(alloc, found, Verb::Trace)?;
     let keys = value_if_given(alloc, found, Verb::Trace, "keys")?;
     Ok(TraceForm {
-        file,
-        name,
+        tape,
         start: cell_of(found, Verb::Trace, "start"),
         switches: octal_of(found, Verb::Trace, "switches"),
         steps: count_of(found, Verb::Trace, "steps"),

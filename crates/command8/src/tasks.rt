@@ -11,8 +11,8 @@ use crate::build::command_line;
 use crate::files::{copy, delete, get, put, rename};
 use crate::judging::judged;
 use crate::table::{Entry, Verb, table};
-use crate::tapes::{assemble, rim_form, source, teletype, trace_form};
-use crate::volumes::{check, create, image_of, list, run};
+use crate::tapes::{assemble, rim, source, tape, teletype, trace_form};
+use crate::volumes::{changed_image, check, create, list, run};
 use clap::ArgMatches;
 use std::alloc::{AllocError, Global};
 use task8::Task;
@@ -75,8 +75,8 @@ fn asked_by(alloc: Global, verb: Verb, found: &ArgMatches<'_>) -> Result<Task, A
     ensures { IfOk result (IsAskedBy verb (rows_of (found_of found.now))) }
 {
     match verb {
-        Verb::Tape => Ok(Task::Tape),
-        Verb::Rim => Ok(Task::Rim(rim_form(found))),
+        Verb::Tape => tape(alloc, found),
+        Verb::Rim => rim(alloc, found),
         Verb::Source => source(alloc, found),
         Verb::Assemble => assemble(alloc, found),
         Verb::Teletype => teletype(alloc, found),
@@ -90,7 +90,7 @@ fn asked_by(alloc: Global, verb: Verb, found: &ArgMatches<'_>) -> Result<Task, A
         Verb::Delete => delete(alloc, found),
         Verb::Rename => rename(alloc, found),
         Verb::Copy => copy(alloc, found),
-        Verb::Squeeze => Ok(Task::Squeeze(image_of(alloc, found, Verb::Squeeze)?)),
+        Verb::Squeeze => Ok(Task::Squeeze(changed_image(alloc, found, Verb::Squeeze)?)),
         Verb::Check => check(alloc, found),
     }
 }

@@ -1,6 +1,48 @@
 //! What help says of the subcommands.
 use crate::table::Verb;
 
+/// The program's own help: its subcommands by what they work on, each with its text for short help.
+pub const HELP: &str = "\
+A PDP-8 programming system on OS/8 volumes
+
+Usage: pdp8 <COMMAND> [ARGUMENTS]
+
+Tapes and sources:
+  tape      List the words of a BIN paper tape
+  rim       List the words of a RIM paper tape
+  source    Write the PAL III source of a BIN paper tape
+  assemble  Assemble PAL III sources to a BIN paper tape
+
+Machine:
+  teletype  Run a BIN paper tape with the terminal as the Teletype
+  trace     Run a BIN paper tape, and print a line for each step
+  profile   Run a BIN paper tape, and count how often each cell is fetched
+
+Volumes:
+  run       Run a script on a volume
+  create    Write an empty volume
+  list      List the files of a volume
+  get       Write files of a volume to standard output or to a folder
+  put       Make files of this system, or standard input, files of a volume
+  delete    Take files out of a volume
+  rename    Give a file of a volume another name
+  copy      Copy a file from volume to volume
+
+Whole archives:
+  squeeze   Move the files of a volume together
+  check     Show what a volume's directory says
+
+Help:
+  help      Print this message, or the help of a command
+
+Options:
+  -h, --help     Print help
+  -V, --version  Print version
+
+The help of a command, as pdp8 help get, has its arguments and two examples. The exit status is 0,
+or 1 after a fault, or 2 for a command line that is refused.
+";
+
 /// The forms of a script's lines, one a line after the first, each with what it does (docs/SCRIPT.md).
 pub const SCRIPT_LINES: &str = "\
 Lines of a script:
@@ -28,8 +70,8 @@ Lines of a script:
 /// Its text for the list of the subcommands and for short help.
 pub fn about_of(verb: Verb) -> &'static str {
     match verb {
-        Verb::Tape => "List the memory words of a BIN paper tape",
-        Verb::Rim => "List the memory words of a RIM paper tape",
+        Verb::Tape => "List the words of a BIN paper tape",
+        Verb::Rim => "List the words of a RIM paper tape",
         Verb::Source => "Write the PAL III source of a BIN paper tape",
         Verb::Assemble => "Assemble PAL III sources to a BIN paper tape",
         Verb::Teletype => "Run a BIN paper tape with the terminal as the Teletype",
@@ -52,10 +94,10 @@ pub fn about_of(verb: Verb) -> &'static str {
 pub fn long_about_of(verb: Verb) -> &'static str {
     match verb {
         Verb::Tape => {
-            "Reads a BIN paper tape from standard input, and prints a line F AAAA WWWW for each memory{n}word that it loads: field, address and word, in octal, by rising address."
+            "Prints a line F AAAA WWWW for each memory word that a BIN paper tape loads: field, address and word,{n}in octal, by rising address. The tape is the file TAPE, or the file NAME of the OS/8 volume in the{n}image TAPE, or else standard input. TAPE may be a disk or a DECtape, as --volume and --dectape say."
         }
         Verb::Rim => {
-            "Reads a RIM paper tape from standard input, and prints a line F AAAA WWWW for each memory{n}word that it loads: field, address and word, in octal, by rising address. With --bin it writes{n}the BIN paper tape of the same words instead, and the line of a fault goes to standard error."
+            "Prints a line F AAAA WWWW for each memory word that a RIM paper tape loads: field, address and word,{n}in octal, by rising address. The tape is the file TAPE, or the file NAME of the OS/8 volume in the{n}image TAPE, or else standard input. With --bin it writes the BIN paper tape of the same words{n}instead, and the line of a fault goes to standard error."
         }
         Verb::Source => {
             "Reads a BIN paper tape from standard input, from the file TAPE, or from what the file NAME of the OS/8{n}volume in the image TAPE holds, and prints a PAL III source that assembles to the words that it{n}loads, one line a word, with the cell and the word in octal after it. With --start the words that{n}a program reaches from there are shown as instructions, and all others as numbers. The line of a{n}fault goes to standard error."
@@ -82,7 +124,7 @@ pub fn long_about_of(verb: Verb) -> &'static str {
             "Prints a line NAME n for each file of the OS/8 volume in the file IMAGE, in name order, with its{n}length in blocks, and a line FREE n for the blocks of no file. With --long the files are in the{n}order of the directory, each with its first block and its information words after it. IMAGE may be{n}the file of a disk of two volumes or of a DECtape, as --volume and --dectape say. The image is not{n}written."
         }
         Verb::Get => {
-            "Writes the file NAME of the OS/8 volume in the file IMAGE to standard output: its words, three bytes{n}for each two. With --into the files NAME, or with --all all files, go to files of their names{n}in FOLDER; a pattern, as '*.PA', stands for each name that it fits. With --blocks the arguments after{n}IMAGE are the number of a block and how many are written, whatever the directory says. The line of a{n}fault goes to standard error. The image is not written."
+            "Writes the file NAME of the OS/8 volume in the file IMAGE to standard output: its words, three bytes{n}for two. With --into the files NAME, or with --all all files, go to files of their names{n}in FOLDER; a pattern, as '*.PA', stands for each name that it fits. With --blocks the arguments after{n}IMAGE are the number of a block and how many are written, whatever the directory says. The line of a{n}fault goes to standard error. The image is not written."
         }
         Verb::Put => {
             "Puts the files FILE of this system, each under its own name, all or none, on the OS/8 volume in the{n}file IMAGE, in place of older ones, and prints STORED, the name and the number of blocks for each.{n}With --as one FILE gets another name; - is standard input, and needs --as. A file keeps the{n}information words of the one that it replaces, where --info gives none. An empty FILE replaces no{n}file unless --empty is given. After a fault the image is as it was."
@@ -109,45 +151,46 @@ pub fn long_about_of(verb: Verb) -> &'static str {
 pub fn examples_of(verb: Verb) -> &'static str {
     match verb {
         Verb::Tape => {
-            "Examples:\n  pdp8 tape < examples/add-one.bin\n  pdp8 assemble add.pa | pdp8 tape"
+            "Examples:\n  pdp8 tape examples/add-one.bin\n  pdp8 assemble add.pa | pdp8 tape"
         }
         Verb::Rim => {
-            "Examples:\n  pdp8 rim < loader.rim\n  pdp8 rim --bin < loader.rim > loader.bin"
+            "Examples:\n  pdp8 rim loader.rim\n  pdp8 rim --bin < loader.rim > loader.bin"
         }
         Verb::Source => {
-            "Examples:\n  pdp8 source examples/add-one.bin\n  pdp8 source disk.rk05 ADD.BN --start 00200"
+            "Examples:\n  pdp8 source examples/add-one.bin\n  pdp8 source disk.rk05 add.bn -v 2 --start 200"
         }
         Verb::Assemble => {
-            "Examples:\n  pdp8 assemble add.pa --output add.bin\n  pdp8 assemble main.pa tables.pa --list main.ls --cross > main.bin"
+            "Examples:\n  pdp8 assemble add.pa -o add.bin\n  pdp8 assemble main.pa tables.pa -l main.ls --cross > main.bin"
         }
         Verb::Teletype => {
-            "Examples:\n  pdp8 teletype hello.bin\n  pdp8 teletype disk.rk05 HELLO.BN --start 00200 --switches 0017"
+            "Examples:\n  pdp8 teletype hello.bin\n  pdp8 teletype disk.rk05 hello.bn --start 200 --switches 17"
         }
         Verb::Trace => {
             "Examples:\n  pdp8 trace hello.bin --steps 20\n  pdp8 trace echo.bin --keys 'HELLO'"
         }
         Verb::Profile => {
-            "Examples:\n  pdp8 profile hello.bin\n  pdp8 profile disk.rk05 HELLO.BN --steps 50000"
+            "Examples:\n  pdp8 profile hello.bin\n  pdp8 profile disk.rk05 hello.bn --steps 50000"
         }
         Verb::Run => SCRIPT_LINES,
-        Verb::Create => "Examples:\n  pdp8 create disk.img 256\n  pdp8 create tape.dt8 --dectape",
-        Verb::List => "Examples:\n  pdp8 list disk.img\n  pdp8 list disk.rk05 --volume 2 --long",
+        Verb::Create =>
+            "Examples:\n  pdp8 create disk.img 256\n  pdp8 create tape.dt8 --dectape --new",
+        Verb::List => "Examples:\n  pdp8 list disk.img\n  pdp8 list disk.rk05 -l -v 2",
         Verb::Get => {
-            "Examples:\n  pdp8 get disk.img NOTES.TX --text\n  pdp8 get disk.img '*.PA' --into sources --text"
+            "Examples:\n  pdp8 get disk.img notes.tx -t\n  pdp8 get disk.img '*.pa' -t --into sources"
         }
         Verb::Put => {
-            "Examples:\n  pdp8 put disk.img ADD.PA NOTES.TX --text\n  pdp8 assemble add.pa | pdp8 put disk.img - --as ADD.BN"
+            "Examples:\n  pdp8 put disk.img add.pa notes.tx -t --wait 10\n  pdp8 assemble add.pa | pdp8 put disk.img - --as add.bn"
         }
         Verb::Delete => {
-            "Examples:\n  pdp8 delete disk.img OLD.TX\n  pdp8 delete disk.img --at 70 --at 83"
+            "Examples:\n  pdp8 delete disk.img old.tx\n  pdp8 delete disk.img --at 70 --at 83"
         }
         Verb::Rename => {
-            "Examples:\n  pdp8 rename disk.img OLD.PA NEW.PA\n  pdp8 rename disk.img --at 70 NEW.PA"
+            "Examples:\n  pdp8 rename disk.img old.pa new.pa\n  pdp8 rename disk.img --at 70 new.pa"
         }
         Verb::Copy => {
-            "Examples:\n  pdp8 copy disk.img ADD.PA other.img\n  pdp8 copy disk.img ADD.PA tape.dt8 SUM.PA --to-dectape"
+            "Examples:\n  pdp8 copy disk.img add.pa other.img\n  pdp8 copy disk.img add.pa tape.dt8 sum.pa --to-dectape"
         }
-        Verb::Squeeze => "Examples:\n  pdp8 squeeze disk.img\n  pdp8 squeeze disk.rk05 --volume 1",
-        Verb::Check => "Examples:\n  pdp8 check disk.img\n  pdp8 check --all *.img",
+        Verb::Squeeze => "Examples:\n  pdp8 squeeze disk.img\n  pdp8 squeeze disk.rk05 -v 1",
+        Verb::Check => "Examples:\n  pdp8 check disk.img\n  pdp8 check -a *.img",
     }
 }

@@ -1,32 +1,57 @@
 //! What is asked of volumes as a whole.
 ghost use Rattle.std.specs.Prelude.{◌≡◌, codes, true, IfOk, Some};
 ghost use Rattle.clap.specs.Words.{found_of, rows_of};
+ghost use Rattle.command8.specs.Found.{wait_of};
 ghost use Rattle.command8.specs.FoundSteps.{Has};
 ghost use Rattle.command8.specs.Tables.{rows_for};
 ghost use Rattle.command8.specs.TableSteps.{kind_at, takes_text};
 ghost use Rattle.command8.specs.Tasks.{IsImage};
 ghost use Rattle.command8.specs.Tasks as spec;
 ghost use Rattle.command8.specs.TaskSteps.{IsAskedBy, Needs};
+ghost use Rattle.command8.specs.declared.table.Form.TheVariants as form;
 ghost use Rattle.command8.specs.declared.table.Kind.TheVariants as kind;
 ghost use Rattle.command8.specs.declared.table.Verb.TheVariants as verb;
 
-use crate::found::{flag, layout_of, size_of, value_of, values_of};
+use crate::found::{flag, layout_of, size_of, value_of, values_of, wait_of};
 use crate::table::Verb;
 use clap::ArgMatches;
 use std::alloc::{AllocError, Global};
-use task8::{CheckForm, ImageForm, RunForm, Saving, Task};
+use task8::{CheckForm, CreateForm, ImageForm, RunForm, Saving, Task};
 
-/// The volume that a subcommand works on.
+/// The volume that a subcommand looks at.
 pub fn image_of(alloc: Global, found: &ArgMatches<'_>, verb: Verb) -> Result<ImageForm, AllocError>
     requires image { takes_text (kind_at (codes "IMAGE") (rows_for verb)) ≡ true }
-    requires volume { kind_at (codes "volume") (rows_for verb) ≡ Some kind.Volume }
+    requires volume { kind_at (codes "volume") (rows_for verb) ≡ Some (kind.One form.Volume) }
     requires dectape { kind_at (codes "dectape") (rows_for verb) ≡ Some kind.Flag }
     requires given { Has (codes "IMAGE") (rows_of (found_of found.now)) }
-    ensures { IfOk result (IsImage (rows_of (found_of found.now))) }
+    ensures { IfOk result (IsImage 0 (rows_of (found_of found.now))) }
 {
     let file = value_of(alloc, found, verb, "IMAGE")?;
     let layout = layout_of(found, verb, "volume", "dectape");
-    Ok(ImageForm { file, layout })
+    Ok(ImageForm {
+        file,
+        layout,
+        wait: 0,
+    })
+}
+
+/// The volume that a subcommand changes.
+pub fn changed_image(
+    alloc: Global,
+    found: &ArgMatches<'_>,
+    verb: Verb,
+) -> Result<ImageForm, AllocError>
+    requires image { takes_text (kind_at (codes "IMAGE") (rows_for verb)) ≡ true }
+    requires volume { kind_at (codes "volume") (rows_for verb) ≡ Some (kind.One form.Volume) }
+    requires dectape { kind_at (codes "dectape") (rows_for verb) ≡ Some kind.Flag }
+    requires wait { kind_at (codes "wait") (rows_for verb) ≡ Some (kind.One form.Seconds) }
+    requires given { Has (codes "IMAGE") (rows_of (found_of found.now)) }
+    ensures { IfOk result (IsImage (wait_of (rows_of (found_of found.now))) (rows_of (found_of found.now))) }
+{
+    let file = value_of(alloc, found, verb, "IMAGE")?;
+    let layout = layout_of(found, verb, "volume", "dectape");
+    let wait = wait_of(found, verb);
+    Ok(ImageForm { file, layout, wait })
 }
 
 /// The run of a script.
@@ -34,7 +59,7 @@ pub fn run(alloc: Global, found: &ArgMatches<'_>) -> Result<Task, AllocError>
     requires { Needs verb.Run (rows_of (found_of found.now)) }
     ensures { IfOk result (IsAskedBy verb.Run (rows_of (found_of found.now))) }
 {
-    let image = image_of(alloc, found, Verb::Run)?;
+    let image = changed_image(alloc, found, Verb::Run)?;
     let form = RunForm {
         saving: saving(found),
         is_strict: flag(found, Verb::Run, "strict"),
@@ -60,12 +85,16 @@ pub fn create(alloc: Global, found: &ArgMatches<'_>) -> Result<Task, AllocError>
     requires { Needs verb.Create (rows_of (found_of found.now)) }
     ensures { IfOk result (IsAskedBy verb.Create (rows_of (found_of found.now))) }
 {
-    let image = value_of(alloc, found, Verb::Create, "IMAGE")?;
+    let form = CreateForm {
+        file: value_of(alloc, found, Verb::Create, "IMAGE")?,
+        is_new: flag(found, Verb::Create, "new"),
+        wait: wait_of(found, Verb::Create),
+    };
     if flag(found, Verb::Create, "dectape") {
-        return Ok(Task::CreateTape(image));
+        return Ok(Task::CreateTape(form));
     }
     match size_of(found, Verb::Create, "BLOCKS") {
-        Some(blocks) => Ok(Task::Create(image, blocks)),
+        Some(blocks) => Ok(Task::Create(form, blocks)),
         None => unreachable!(),
     }
 }

@@ -9,10 +9,15 @@ use crate::{HoldFault, Unwritten};
 use std::fs::{self, File, Files, Metadata, OpenOptions};
 use std::io::{self, ErrorKind, Seek, SeekFrom, Write};
 use std::os::unix::fs::{FileTypeExt, MetadataExt, chown};
+use std::thread;
+use std::time::{Clock, Duration};
 use word12::{BLOCK, FIRST_FILE_BLOCK};
 
 /// How often a file is locked anew whose name led elsewhere meanwhile.
 const TRIES: u16 = 1000;
+
+/// How many times a second a held file is asked for again.
+const ASKED: usize = 20;
 
 /// A file whose lock is held, from before it is read until this value is gone.
 #[derive(Drop)]
@@ -21,6 +26,21 @@ pub struct HeldFile {
     path: String,
     besides: Besides,
     has_lock: bool,
+}
+
+/// Holds a file as `hold` does, and asks again for so many seconds where another program holds it.
+pub fn hold_within<R: Files<File = File> + Clock + AllocGlobal>(
+    rt: &R,
+    name: &str,
+    seconds: usize,
+) -> Result<HeldFile, HoldFault> {
+    for _ in 0..seconds.saturating_mul(ASKED) {
+        match hold(rt, name) {
+            Err(HoldFault::Busy) => thread::sleep(rt, Duration::from_millis(50)),
+            answer => return answer,
+        }
+    }
+    hold(rt, name)
 }
 
 /// Holds a file that is there, through links: `Busy` where another program holds it, `Absent` where there is none, and `Unwritable`

@@ -13,7 +13,7 @@ mod new_files;
 
 pub use faults::{HoldFault, LayFault, Unwritten};
 pub use folders::Durability;
-pub use held::{HeldFile, hold};
+pub use held::{HeldFile, hold, hold_within};
 pub use laid::{lay, make_folder};
 pub use looking::look;
 pub use new_files::make;

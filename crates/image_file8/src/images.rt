@@ -3,12 +3,13 @@
 use crate::inputs::tell_of_limit;
 use crate::printing::{print_bytes, tell};
 use disk8::{DiskFile, Layout};
-use host8::{Durability, HeldFile, HoldFault, Unwritten, hold, look, make};
+use host8::{Durability, HeldFile, HoldFault, Unwritten, hold, hold_within, look, make};
 use outcome::{Content, Ending, FileNote, Note, ending_of_read, ending_of_write};
 use report8::ProgramLine;
 use script8::readings::MOST;
 use std::fs::{File, Files};
 use std::mem;
+use std::time::Clock;
 use task8::ImageForm;
 
 /// The image in a file, which is held unless it may not be written, or is only looked at.
@@ -28,12 +29,12 @@ pub struct Image {
 }
 
 impl Image {
-    /// Holds an image file and reads it. Where another program holds it, nothing is read.
-    pub fn open<R: Files<File = File> + Eprint + AllocGlobal>(
+    /// Holds an image file and reads it. Where another program holds it for longer than is waited, nothing is read.
+    pub fn open<R: Files<File = File> + Eprint + Clock + AllocGlobal>(
         rt: &R,
         form: &ImageForm,
     ) -> Result<Image, Ending> {
-        let found = hold(rt, &form.file);
+        let found = hold_within(rt, &form.file, form.wait);
         if let Err(HoldFault::Unwritable) = &found {
             return Image::look(rt, form);
         }
@@ -122,7 +123,45 @@ pub fn make_file<R: Files<File = File> + Eprint + AllocGlobal>(
     bytes: &[u8],
     content: Content,
 ) -> Result<(), Ending> {
-    let found = hold(rt, name);
+    make_over(rt, name, bytes, content, hold(rt, name))
+}
+
+/// Makes a file as `make_file` does, and waits so many seconds where another program holds the one of its name.
+pub fn make_file_within<R: Files<File = File> + Eprint + Clock + AllocGlobal>(
+    rt: &R,
+    name: &str,
+    bytes: &[u8],
+    content: Content,
+    seconds: usize,
+) -> Result<(), Ending> {
+    make_over(rt, name, bytes, content, hold_within(rt, name, seconds))
+}
+
+/// Makes a file that holds these bytes, where there is none of its name: else the answer is `? HOST EXISTS`.
+pub fn make_new_file<R: Files<File = File> + Eprint + AllocGlobal>(
+    rt: &R,
+    name: &str,
+    bytes: &[u8],
+    content: Content,
+) -> Result<(), Ending> {
+    match make(rt, name, bytes) {
+        Ok(durability) => {
+            let _ = tells_of_folder(rt, durability, content);
+            Ok(())
+        }
+        Err(HoldFault::Busy) => Err(Ending::Line(ProgramLine::HostExists)),
+        Err(fault) => Err(ending_of_write(content, fault)),
+    }
+}
+
+/// Makes a file that holds these bytes, where the one of its name was to be held so.
+fn make_over<R: Files<File = File> + Eprint + AllocGlobal>(
+    rt: &R,
+    name: &str,
+    bytes: &[u8],
+    content: Content,
+    found: Result<HeldFile, HoldFault>,
+) -> Result<(), Ending> {
     if let Err(HoldFault::Absent) = &found {
         let durability = make(rt, name, bytes).map_err(|fault| ending_of_write(content, fault))?;
         let _ = tells_of_folder(rt, durability, content);

@@ -12,10 +12,11 @@ use report8::{ProgramLine, put_program};
 use script8::{LineReply, Reply, SessionFault, put_reply};
 use std::alloc::{AllocError, Global};
 use std::fs::{File, Files};
+use std::time::Clock;
 use task8::{CopyForm, DeleteForm, FileForm, ImageForm};
 
 /// Takes files out of the volume in an image file, all or none.
-pub fn delete_files<R: Files<File = File> + Print + Eprint + AllocGlobal>(
+pub fn delete_files<R: Files<File = File> + Print + Eprint + Clock + AllocGlobal>(
     rt: &R,
     form: DeleteForm,
 ) -> Result<(), Ending> {
@@ -77,7 +78,7 @@ fn deleted_lines<R: AllocGlobal>(rt: &R, names: &[Name]) -> Result<Vec<u8>, Endi
 }
 
 /// Gives a file of the volume in an image file another name.
-pub fn rename_file<R: Files<File = File> + Print + Eprint + AllocGlobal>(
+pub fn rename_file<R: Files<File = File> + Print + Eprint + Clock + AllocGlobal>(
     rt: &R,
     image: &ImageForm,
     file: FileForm,
@@ -95,7 +96,7 @@ pub fn rename_file<R: Files<File = File> + Print + Eprint + AllocGlobal>(
 }
 
 /// Moves the files of the volume in an image file together.
-pub fn squeeze_files<R: Files<File = File> + Print + Eprint + AllocGlobal>(
+pub fn squeeze_files<R: Files<File = File> + Print + Eprint + Clock + AllocGlobal>(
     rt: &R,
     image: &ImageForm,
 ) -> Result<(), Ending> {
@@ -117,7 +118,7 @@ fn save_and_tell<R: Files<File = File> + Print + Eprint + AllocGlobal>(
 }
 
 /// Copies a file of the volume in an image file to the volume in another.
-pub fn copy_file<R: Files<File = File> + Print + Eprint + AllocGlobal>(
+pub fn copy_file<R: Files<File = File> + Print + Eprint + Clock + AllocGlobal>(
     rt: &R,
     form: CopyForm,
 ) -> Result<(), Ending> {

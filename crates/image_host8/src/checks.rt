@@ -55,7 +55,11 @@ fn check_each<R: Files<File = File> + Print + Eprint + Clock + AllocGlobal>(
     let count = images.len();
     let mut refused: usize = 0;
     for (done, file) in images.into_iter().enumerate() {
-        let image = ImageForm { file, layout };
+        let image = ImageForm {
+            file,
+            layout,
+            wait: 0,
+        };
         progress.tell(done);
         let bytes = image_bytes(rt, &image);
         if count == 1 {

@@ -16,13 +16,14 @@ use std::alloc::AllocError;
 use std::collections::BTreeSet;
 use std::fs::{File, Files};
 use std::io::Input;
+use std::time::Clock;
 use task8::{PutManyForm, PutOneForm, TextsForm};
 
 /// The name of standard input where a file's may stand.
 const STANDARD: &str = "-";
 
 /// Makes a file of the host, or standard input, a file of the volume in an image file, with a name that is given, and tells of it.
-pub fn put_file<R: Files<File = File> + Input + Print + Eprint + AllocGlobal>(
+pub fn put_file<R: Files<File = File> + Input + Print + Eprint + Clock + AllocGlobal>(
     rt: &R,
     form: &PutOneForm,
 ) -> Result<(), Ending> {
@@ -86,7 +87,7 @@ fn refuse_emptying<R: Eprint>(
 }
 
 /// Makes files of the host files of the volume in an image file, all or none, and tells of each.
-pub fn put_files<R: Files<File = File> + Print + Eprint + AllocGlobal>(
+pub fn put_files<R: Files<File = File> + Print + Eprint + Clock + AllocGlobal>(
     rt: &R,
     form: &PutManyForm,
 ) -> Result<(), Ending> {

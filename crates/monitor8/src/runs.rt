@@ -8,12 +8,13 @@ use script8::{LineReply, Reply, SessionFault};
 use session8::{Session, Watcher};
 use std::fs::{File, Files};
 use std::io::{BufWriter, Input, IsTerminal};
+use std::time::Clock;
 use task8::{ImageForm, RunForm, Saving};
 use volume_image::MemoryVolume;
 
 /// Runs the script on standard input over the volume of an image file, and writes the image back when it is to be, if it changed. The
 /// memory for that is taken before the script.
-pub fn run_image<R: Files<File = File> + Input + Print + Eprint + AllocGlobal>(
+pub fn run_image<R: Files<File = File> + Input + Print + Eprint + Clock + AllocGlobal>(
     rt: &R,
     named: &ImageForm,
     form: RunForm,

@@ -13,7 +13,7 @@ use Rattle.outcome.specs.declared.notes.NameNote.TheVariants as named
 
 -- notes that are always the same
 abbrev pub plain_text : PlainNote → List ℕ
-plain_text plain.NoText = codes "error: a word of the command line is not UTF-8 text\n"
+plain_text plain.NoText = codes "error: an argument is not UTF-8 text\n"
 plain_text plain.Dectape = codes "note: 380292 bytes are a DECtape with 129 words a block: --dectape takes it so\n"
 plain_text plain.Disk = codes "note: the file may be an RK05 disk of two volumes: --volume 1 or --volume 2 takes one of them\n"
 plain_text plain.ShortDisk = codes "note: the file ends before the blocks that its directory covers: if the end of an RK05 disk was never written, --volume 1 takes it as zeros\n"

@@ -12,7 +12,7 @@ rim_is_data Lines = false
 
 -- Whether what a task puts on standard output is data, so that no refusal is printed there.
 abbrev pub gives_data : Task → Bool
-gives_data (task.Rim form) = rim_is_data form
+gives_data (task.Rim tape form) = rim_is_data form
 gives_data (task.Source form) = true
 gives_data (task.Assemble form) = true
 gives_data (task.Teletype form) = true
@@ -21,10 +21,10 @@ gives_data (task.Profile form) = true
 gives_data (task.Get image file form) = true
 gives_data (task.GetBin image file) = true
 gives_data (task.GetBlocks form) = true
-gives_data task.Tape = false
+gives_data (task.Tape tape) = false
 gives_data (task.Run image form) = false
-gives_data (task.Create image blocks) = false
-gives_data (task.CreateTape image) = false
+gives_data (task.Create form blocks) = false
+gives_data (task.CreateTape form) = false
 gives_data (task.List image) = false
 gives_data (task.ListLong image) = false
 gives_data (task.GetMany form) = false

@@ -126,7 +126,7 @@ fn plain_text(note: PlainNote) -> &'static str
     ensures { result.now ≡ spec.plain_text note }
 {
     match note {
-        PlainNote::NoText => "error: a word of the command line is not UTF-8 text\n",
+        PlainNote::NoText => "error: an argument is not UTF-8 text\n",
         PlainNote::Dectape =>
             "note: 380292 bytes are a DECtape with 129 words a block: --dectape takes it so\n",
         PlainNote::Disk =>

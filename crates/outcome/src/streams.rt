@@ -9,7 +9,7 @@ pub fn gives_data(task: &Task) -> bool
     ensures { result ≡ gives_data task.now }
 {
     match task {
-        Task::Rim(RimForm::Bin)
+        Task::Rim(_, RimForm::Bin)
         | Task::Source(_)
         | Task::Assemble(_)
         | Task::Teletype(_)
@@ -18,8 +18,8 @@ pub fn gives_data(task: &Task) -> bool
         | Task::Get(..)
         | Task::GetBin(..)
         | Task::GetBlocks(_) => true,
-        Task::Tape
-        | Task::Rim(RimForm::Lines)
+        Task::Tape(_)
+        | Task::Rim(_, RimForm::Lines)
         | Task::Run(..)
         | Task::Create(..)
         | Task::CreateTape(_)

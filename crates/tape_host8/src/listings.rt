@@ -1,16 +1,27 @@
-//! Tapes on standard input, whose words are listed.
+//! Tapes whose words are listed.
 
+use crate::tapes::{frames_of, program_of};
 use image_file8::{CountedInput, Output, input_bytes, tell};
 use outcome::{Ending, Note, PlainNote};
 use report8::{put_tape_text, rim_text};
 use rim_tape::RimFault;
 use script8::SessionFault;
+use std::fs::{File, Files};
 use std::io::Input;
-use task8::RimForm;
+use task8::{RimForm, TapeForm};
 
-/// Lists the tape on standard input.
-pub fn list_tape<R: Input + Print + Eprint + AllocGlobal>(rt: &R) -> Result<(), Ending> {
-    let frames = input_bytes(rt)?;
+/// Lists a tape; where none is named that of standard input.
+pub fn list_tape<R: Files<File = File> + Input + Print + Eprint + AllocGlobal>(
+    rt: &R,
+    tape: &Option<TapeForm>,
+) -> Result<(), Ending> {
+    let frames = match tape {
+        None => input_bytes(rt)?,
+        Some(tape) => {
+            let (frames, _start) = program_of(rt, tape)?;
+            frames
+        }
+    };
     let mut output = Output::new(rt);
     let Err(fault) = put_tape_text(rt.alloc(), &frames, &mut output) else {
         return Ok(());
@@ -21,8 +32,25 @@ pub fn list_tape<R: Input + Print + Eprint + AllocGlobal>(rt: &R) -> Result<(), 
     Err(output.ending_of(fault.into()))
 }
 
+/// Writes the words of a RIM tape; where none is named that of standard input.
+pub fn write_rim<R: Files<File = File> + Input + Print + Eprint + AllocGlobal>(
+    rt: &R,
+    tape: &Option<TapeForm>,
+    form: RimForm,
+) -> Result<(), Ending> {
+    let Some(tape) = tape else {
+        return write_input_rim(rt, form);
+    };
+    let frames = frames_of(rt, tape)?;
+    let mut output = Output::new(rt);
+    match rim_text(rt.alloc(), &mut frames.as_slice(), &mut output, form) {
+        Ok(()) => Ok(()),
+        Err(fault) => Err(output.ending_of(fault.into())),
+    }
+}
+
 /// Writes the words of the RIM tape on standard input.
-pub fn write_rim<R: Input + Print + Eprint + AllocGlobal>(
+fn write_input_rim<R: Input + Print + Eprint + AllocGlobal>(
     rt: &R,
     form: RimForm,
 ) -> Result<(), Ending> {

@@ -29,14 +29,14 @@ fn put_source_of<R: Files + Input + Print + Eprint + AllocGlobal>(
         Some(file) => Some(bytes_of(rt, file)?),
         None => None,
     };
-    let Some(file) = &form.file else {
+    let Some(tape) = &form.tape else {
         let mut input = CountedInput::new(rt.reader());
         let written = source_text(rt.alloc(), &mut input, &form.starts, &names, output);
         input.tell_of_limit(rt);
         written?;
         return Ok(());
     };
-    let (frames, start) = program_of(rt, file, &form.name)?;
+    let (frames, start) = program_of(rt, tape)?;
     match start {
         Some(start) if form.starts.is_empty() => {
             put_source(rt.alloc(), &frames, &[start], &names, output)?;

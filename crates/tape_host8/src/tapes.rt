@@ -5,7 +5,7 @@ use archive8::{Asked, GetForm};
 use image_file8::{bytes_of, bytes_of_file, core_of_file};
 use outcome::Ending;
 use std::fs::Files;
-use task8::ImageForm;
+use task8::TapeForm;
 use word12::Cell;
 
 /// How the name of a core image ends.
@@ -14,20 +14,31 @@ const CORE_IMAGE: &str = ".SV";
 /// The BIN tape of a program, and the cell where it starts, if that is told.
 pub fn program_of<R: Files + Eprint + AllocGlobal>(
     rt: &R,
-    file: &str,
-    name: &Option<String>,
+    tape: &TapeForm,
 ) -> Result<(Vec<u8>, Option<Cell>), Ending> {
-    let Some(name) = name else {
-        return Ok((bytes_of(rt, file)?, None));
-    };
-    let image = ImageForm {
-        file: String::from_str(rt.alloc(), file)?,
-        layout: None,
-    };
-    let asked = Asked::Name(String::from_str(rt.alloc(), name)?);
-    if name.ends_with(CORE_IMAGE) {
-        let (frames, start) = core_of_file(rt, &image, &asked)?;
-        return Ok((frames, Some(start)));
+    match tape {
+        TapeForm::File(file) => Ok((bytes_of(rt, file)?, None)),
+        TapeForm::Member(image, name) => {
+            let asked = Asked::Name(String::from_str(rt.alloc(), name)?);
+            if name.ends_with(CORE_IMAGE) {
+                let (frames, start) = core_of_file(rt, image, &asked)?;
+                return Ok((frames, Some(start)));
+            }
+            Ok((bytes_of_file(rt, image, &asked, GetForm::Tape)?, None))
+        }
     }
-    Ok((bytes_of_file(rt, &image, &asked, GetForm::Tape)?, None))
+}
+
+/// The frames of a tape as they are.
+pub fn frames_of<R: Files + Eprint + AllocGlobal>(
+    rt: &R,
+    tape: &TapeForm,
+) -> Result<Vec<u8>, Ending> {
+    match tape {
+        TapeForm::File(file) => bytes_of(rt, file),
+        TapeForm::Member(image, name) => {
+            let asked = Asked::Name(String::from_str(rt.alloc(), name)?);
+            bytes_of_file(rt, image, &asked, GetForm::Frames)
+        }
+    }
 }

@@ -18,7 +18,7 @@ pub fn run_teletype<R: Files + Input + Print + Eprint + AllocGlobal>(
     rt: &R,
     form: &TeletypeForm,
 ) -> Result<(), Ending> {
-    let (frames, start) = program_of(rt, &form.file, &form.name)?;
+    let (frames, start) = program_of(rt, &form.tape)?;
     let mut machine = machine_of(rt, &frames, form.start.or(start), form.switches)?;
     let struck = if form.is_raw { Form::Raw } else { Form::Text };
     let keys = if form.is_live {

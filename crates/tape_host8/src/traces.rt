@@ -74,7 +74,7 @@ fn end_of<R: AllocGlobal>(
 
 /// Loads the program, and starts the machine.
 fn start_of<R: Files + Eprint + AllocGlobal>(rt: &R, form: &TraceForm) -> Result<Start, Ending> {
-    let (frames, start) = program_of(rt, &form.file, &form.name)?;
+    let (frames, start) = program_of(rt, &form.tape)?;
     let machine = machine_of(rt, &frames, form.start.or(start), form.switches)?;
     let text: &[u8] = match &form.keys {
         Some(keys) => keys.as_bytes(),

@@ -10,6 +10,31 @@ pub struct ImageForm {
 
     /// Where in it, if the file holds more than its image.
     pub layout: Option<Layout>,
+
+    /// How many seconds are waited where another program holds the file, 0 to 3600.
+    pub wait: usize,
+}
+
+/// Where a paper tape, or a program that may stand for one, is.
+#[derive(Drop)]
+pub enum TapeForm {
+    /// In this file of the host.
+    File(String),
+
+    /// In the file of this name on a volume.
+    Member(ImageForm, String),
+}
+
+/// Where a new volume is written to.
+#[derive(Drop)]
+pub struct CreateForm {
+    pub file: String,
+
+    /// Whether a file that is there is left alone, and the command refused.
+    pub is_new: bool,
+
+    /// How many seconds are waited where another program holds the file, 0 to 3600.
+    pub wait: usize,
 }
 
 /// Which file of a volume is meant.

@@ -5,8 +5,8 @@ mod forms;
 mod tasks;
 
 pub use forms::{
-    BlocksForm, CheckForm, CopyForm, DeleteForm, FileForm, GetManyForm, ImageForm, PutManyForm,
-    PutOneForm, TextsForm,
+    BlocksForm, CheckForm, CopyForm, CreateForm, DeleteForm, FileForm, GetManyForm, ImageForm,
+    PutManyForm, PutOneForm, TapeForm, TextsForm,
 };
 pub use tasks::{
     AssembleForm, RimForm, RunForm, Saving, SourceForm, Task, TeletypeForm, TraceForm,

@@ -1,7 +1,7 @@
 //! The tasks, and the forms of those that run scripts, sources and tapes.
 use crate::forms::{
-    BlocksForm, CheckForm, CopyForm, DeleteForm, FileForm, GetManyForm, ImageForm, PutManyForm,
-    PutOneForm,
+    BlocksForm, CheckForm, CopyForm, CreateForm, DeleteForm, FileForm, GetManyForm, ImageForm,
+    PutManyForm, PutOneForm, TapeForm,
 };
 use char_pack::GetForm;
 use word12::{Cell, Word};
@@ -57,11 +57,8 @@ pub struct AssembleForm {
 /// What a source is written of (PAL III manual, and this project's reading of a program's flow).
 #[derive(Drop)]
 pub struct SourceForm {
-    /// The file of the host, of a BIN tape, or of the image of a volume where a file of it is named; else it is standard input.
-    pub file: Option<String>,
-
-    /// The name of the file on the volume, if one is named.
-    pub name: Option<String>,
+    /// The BIN tape; else it is on standard input.
+    pub tape: Option<TapeForm>,
 
     /// The cells at which the program starts, if any is given; else each word is taken for an instruction.
     pub starts: Vec<Cell>,
@@ -73,11 +70,8 @@ pub struct SourceForm {
 /// How the processor runs with the Teletype that the terminal is (this project's profile).
 #[derive(Drop)]
 pub struct TeletypeForm {
-    /// The file of the host: of a BIN tape, or of the image of a volume where a file of it is named.
-    pub file: String,
-
-    /// The name of the file on the volume, if one is named.
-    pub name: Option<String>,
+    /// The program's tape or core image.
+    pub tape: TapeForm,
 
     /// The cell at which the processor starts, if one is given.
     pub start: Option<Cell>,
@@ -95,11 +89,8 @@ pub struct TeletypeForm {
 /// How the processor runs while its steps are told or counted (this project's profile).
 #[derive(Drop)]
 pub struct TraceForm {
-    /// The file of the host: of a BIN tape, or of the image of a volume where a file of it is named.
-    pub file: String,
-
-    /// The name of the file on the volume, if one is named.
-    pub name: Option<String>,
+    /// The program's tape or core image.
+    pub tape: TapeForm,
 
     /// The cell at which the processor starts, if one is given.
     pub start: Option<Cell>,
@@ -117,11 +108,11 @@ pub struct TraceForm {
 /// What a command line asks of the program.
 #[derive(Drop)]
 pub enum Task {
-    /// List the BIN tape on standard input.
-    Tape,
+    /// List a BIN tape; where none is named that of standard input.
+    Tape(Option<TapeForm>),
 
-    /// Write what the RIM tape on standard input loads.
-    Rim(RimForm),
+    /// Write what a RIM tape loads; where none is named that of standard input.
+    Rim(Option<TapeForm>, RimForm),
 
     /// Write the PAL III source of a BIN tape.
     Source(SourceForm),
@@ -129,11 +120,11 @@ pub enum Task {
     /// Run the script on standard input, on this volume.
     Run(ImageForm, RunForm),
 
-    /// Write an empty volume of so many blocks, 8 to 4095, to the file of this name.
-    Create(String, usize),
+    /// Write an empty volume of so many blocks, 8 to 4095, to a file.
+    Create(CreateForm, usize),
 
-    /// Write a DECtape with an empty volume to the file of this name.
-    CreateTape(String),
+    /// Write a DECtape with an empty volume to a file.
+    CreateTape(CreateForm),
 
     /// List the files of this volume.
     List(ImageForm),

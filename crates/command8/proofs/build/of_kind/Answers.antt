@@ -4,9 +4,8 @@ use Rattle.clap.specs.declared.builder.arg.Arg.{Arg}
 use Rattle.clap.specs.declared.builder.action.ArgAction.TheVariants.{SetTrue}
 use Rattle.command8.specs.CommandSteps.{IsArgument}
 use Rattle.command8.specs.Tables.{kind_rule}
-use Rattle.command8.specs.TableSteps.{is_fit}
+use Rattle.command8.specs.TableSteps.{fits}
 use Rattle.command8.specs.declared.table.Kind.{Kind}
-use Rattle.command8.specs.declared.table.Kind.TheVariants.{Words}
 use Rattle.command8.proofs.CommandLemmas.{action_too, fits_some, fresh, long_too, one_to, range_too}
 use Rattle.command8.proofs.build.of_kind.Goals as goal
 
@@ -20,7 +19,7 @@ returns-in-Word c =
 pub returns-in-Words : goal.returns-in-Words
 returns-in-Words c =
     let new = fresh c.new-in-Words.result c.args.id.now c.new-in-Words.ensures.rule c.new-in-Words.ensures.optional.1 in
-    let some : 0 < c.in-Words.most = fits_some c.in-Words.most (subst (λ k. is_fit k ≡ true) c.in-Words.is c.requires) in
+    let some : 0 < c.in-Words.most = fits_some c.in-Words.most (subst (λ k. fits k ≡ true) c.in-Words.is c.requires) in
     of_it c.num_args.result c.args.id.now c.args.kind _ c.in-Words.is
     (range_too c.new-in-Words.result c.num_args.result (new_rule c.args.id.now) (record { start_inclusive = 1; end_inclusive = c.in-Words.most }) c.num_args.ensures.0
     (one_to c.num_args.result.num_vals _ _ c.in-Words.most c.num_args.ensures.1 c.new-in-Words-2.ensures.start c.new-in-Words-2.ensures.end some) new)

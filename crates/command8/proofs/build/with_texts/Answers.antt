@@ -4,4 +4,4 @@ use Rattle.command8.proofs.build.with_texts.Goals as goal
 
 pub returns : goal.returns
 returns c = λ app is.
-    text_too c.about.result c.after_help.result app _ c.after_help.ensures refl refl (text_too c.args.command c.about.result app _ c.about.ensures refl refl is)
+    text_too c.about.result c.override_help.result app _ c.override_help.ensures refl refl (text_too c.args.command c.about.result app _ c.about.ensures refl refl is)

@@ -14,14 +14,14 @@ file_of-requires-clause-given c = λ free. moved_named (codes "TO") what.To what
 pub value_of-requires-clause-kind : goal.value_of-requires-clause-kind
 value_of-requires-clause-kind c =
     subst (λ (id : Text). takes_text (kind_at id (rows_for verb.Copy)) ≡ true) (sym c.after.ensures)
-    (after_takes verb.Copy (codes "NAME") (codes "TO") (rows_of (found_of c.args.found.now)) refl refl)
+    (after_takes takes_text verb.Copy (codes "NAME") (codes "TO") (rows_of (found_of c.args.found.now)) refl refl)
 
 pub value_of-requires-clause-given : goal.value_of-requires-clause-given
 value_of-requires-clause-given c =
     let rows = rows_of (found_of c.args.found.now) in
     subst (λ (id : Text). Has id rows) (sym c.after.ensures) (moved_after (codes "TO") what.To what.NameAndTo rows c.requires.2)
 
-pub value_if_given-requires : goal.value_if_given-requires
-value_if_given-requires c =
+pub name_if_given-requires : goal.name_if_given-requires
+name_if_given-requires c =
     subst (λ (id : Text). takes_text (kind_at id (rows_for verb.Copy)) ≡ true) (sym c.after-2.ensures)
-    (after_takes verb.Copy (codes "TO") (codes "NEW") (rows_of (found_of c.args.found.now)) refl refl)
+    (after_takes takes_text verb.Copy (codes "TO") (codes "NEW") (rows_of (found_of c.args.found.now)) refl refl)

@@ -4,19 +4,19 @@ use Rattle.command8.specs.declared.refusals.What.TheVariants as what
 use Rattle.command8.specs.declared.table.Verb.TheVariants as verb
 use Rattle.command8.specs.FoundSteps.{Has}
 use Rattle.command8.specs.Tables.{rows_for}
-use Rattle.command8.specs.TableSteps.{kind_at, takes_text}
+use Rattle.command8.specs.TableSteps.{kind_at, has_text}
 use Rattle.command8.proofs.RefusalLemmas.{after_takes, moved_after, moved_named}
 use Rattle.command8.proofs.files.rename.Goals as goal
 
 pub file_of-requires-clause-given : goal.file_of-requires-clause-given
 file_of-requires-clause-given c = λ free. moved_named (codes "NEW") what.New what.NameAndNew (rows_of (found_of c.args.found.now)) c.requires.2
 
-pub value_of-requires-clause-kind : goal.value_of-requires-clause-kind
-value_of-requires-clause-kind c =
-    subst (λ (id : Text). takes_text (kind_at id (rows_for verb.Rename)) ≡ true) (sym c.after.ensures)
-    (after_takes verb.Rename (codes "NAME") (codes "NEW") (rows_of (found_of c.args.found.now)) refl refl)
+pub name_of-requires-clause-kind : goal.name_of-requires-clause-kind
+name_of-requires-clause-kind c =
+    subst (λ (id : Text). has_text (kind_at id (rows_for verb.Rename)) ≡ true) (sym c.after.ensures)
+    (after_takes has_text verb.Rename (codes "NAME") (codes "NEW") (rows_of (found_of c.args.found.now)) refl refl)
 
-pub value_of-requires-clause-given : goal.value_of-requires-clause-given
-value_of-requires-clause-given c =
+pub name_of-requires-clause-given : goal.name_of-requires-clause-given
+name_of-requires-clause-given c =
     let rows = rows_of (found_of c.args.found.now) in
     subst (λ (id : Text). Has id rows) (sym c.after.ensures) (moved_after (codes "NEW") what.New what.NameAndNew rows c.requires.2)

@@ -1,8 +1,8 @@
-use Rattle.std.proofs.Common.{◌≡◌, ◌∙◌, ap, sym, option_map, Some, subst, true≢false, true}
+use Rattle.std.proofs.Common.{◌∙◌, ap, sym, option_map, true≢false}
 use Rattle.std.specs.Prelude.{is_some}
 use Rattle.command8.specs.Found.{place_of}
 use Rattle.clap.specs.Words.{found_of, rows_of}
-use Rattle.command8.specs.declared.table.Kind.TheVariants.{Block}
+use Rattle.command8.specs.declared.table.Form.TheVariants.{Block}
 use Rattle.command8.proofs.FoundLemmas.{first_is_of}
 use Rattle.command8.proofs.found.block_of.Goals as goal
 

@@ -1,8 +1,8 @@
-use Rattle.std.proofs.Common.{◌≡◌, ◌∙◌, ap, sym, option_map, Some, subst, true≢false, true}
+use Rattle.std.proofs.Common.{◌∙◌, ap, sym, option_map, Some, true≢false}
 use Rattle.std.specs.Prelude.{is_some}
-use Rattle.word12.specs.Octal.{octal_of}
+use Rattle.command8.specs.Found.{cell_of}
 use Rattle.clap.specs.Words.{found_of, rows_of}
-use Rattle.command8.specs.declared.table.Kind.TheVariants.{Cell}
+use Rattle.command8.specs.declared.table.Form.TheVariants.{Cell}
 use Rattle.command8.proofs.FoundLemmas.{first_is_of}
 use Rattle.command8.proofs.found.cell_of.Goals as goal
 
@@ -10,13 +10,13 @@ pub unreachable-requires : goal.unreachable-requires
 unreachable-requires c =
     let given = ap (option_map (λ text. text.now)) (sym c.in-Some.is) ∙ c.text_of.ensures in
     let well = first_is_of Cell c.args.id.now (rows_of (found_of c.args.found.now)) c.in-Some.text.now c.requires.well (sym given) in
-    true≢false (sym well ∙ ap is_some (ap (octal_of 5) (sym c.as_bytes.ensures.value) ∙ (sym c.octal_cell.ensures ∙ c.in-None-octal_cell.is)))
+    true≢false (sym well ∙ ap is_some (ap cell_of (sym c.as_bytes.ensures.value) ∙ (sym c.cell_in.ensures ∙ c.in-None-cell_in.is)))
 
 pub returns-in-None : goal.returns-in-None
 returns-in-None c =
-    ap (option_map (octal_of 5)) (sym (ap (option_map (λ text. text.now)) (sym c.in-None.is) ∙ c.text_of.ensures))
+    ap (option_map cell_of) (sym (ap (option_map (λ text. text.now)) (sym c.in-None.is) ∙ c.text_of.ensures))
 
-pub returns-in-Some-octal_cell : goal.returns-in-Some-octal_cell
-returns-in-Some-octal_cell c =
+pub returns-in-Some-cell_in : goal.returns-in-Some-cell_in
+returns-in-Some-cell_in c =
     let given = ap (option_map (λ text. text.now)) (sym c.in-Some.is) ∙ c.text_of.ensures in
-    ap (option_map (octal_of 5)) (sym given) ∙ ap Some (ap (octal_of 5) (sym c.as_bytes.ensures.value) ∙ (sym c.octal_cell.ensures ∙ c.in-Some-octal_cell.is))
+    ap (option_map cell_of) (sym given) ∙ ap Some (ap cell_of (sym c.as_bytes.ensures.value) ∙ (sym c.cell_in.ensures ∙ c.in-Some-cell_in.is))

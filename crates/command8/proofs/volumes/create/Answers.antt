@@ -6,4 +6,4 @@ use Rattle.command8.proofs.volumes.create.Goals as goal
 pub unreachable-requires : goal.unreachable-requires
 unreachable-requires c =
     let sized = sized_tape (rows_of (found_of c.args.found.now)) c.requires.2 (c.size_of.ensures.number ∙ c.in-None.is) in
-    true≢false (sym sized ∙ (sym c.flag.ensures ∙ c.if-flag.false))
+    true≢false (sym sized ∙ (sym c.flag-2.ensures ∙ c.if-flag.false))
