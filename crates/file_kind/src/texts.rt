@@ -4,8 +4,8 @@ ghost use Rattle.file_kind.specs.Texts as spec;
 
 use char_pack::CONTROL_Z;
 
-/// Whether frames are a text: up to the first control Z, or the end, each has a character that may stand in one, with the top bit or
-/// without, and one at least is graphic (OS/8 Software Support Manual; which characters may stand there is this project's profile).
+/// Whether frames are a text: up to the first control Z, or to zeros at the end, each has a character that may stand in one, with the top bit
+/// or without, and one at least is graphic (OS/8 Software Support Manual; which characters may stand there is this project's profile).
 pub fn is_text(frames: &[u8]) -> bool
     ensures { result ≡ spec.is_text frames.now }
 {
@@ -22,7 +22,24 @@ fn all_stand(frames: &[u8]) -> bool
         if character == CONTROL_Z {
             return true;
         }
+        if *frame == 0 {
+            return all_zero(others);
+        }
         if !may_stand(character) {
+            return false;
+        }
+        rest = others;
+    }
+    true
+}
+
+/// Whether frames are all 0.
+fn all_zero(frames: &[u8]) -> bool
+    ensures { result ≡ spec.all_zero frames.now }
+{
+    let mut rest = frames;
+    while let [frame, others @ ..] = rest {
+        if *frame != 0 {
             return false;
         }
         rest = others;
@@ -48,11 +65,11 @@ fn has_graphic(frames: &[u8]) -> bool
     false
 }
 
-/// Whether a character may stand in a text: it is graphic or a blank, or BEL, TAB, LF, VT, FF, CR, a rubout, or 0, which means nothing.
+/// Whether a character may stand in a text: it is graphic or a blank, or BEL, TAB, LF, VT, FF, CR or a rubout.
 fn may_stand(character: u8) -> bool
     ensures { result ≡ spec.may_stand character }
 {
-    matches!(character, 0 | 0o07 | 0o11..=0o15 | 0o40..=0o177)
+    matches!(character, 0o07 | 0o11..=0o15 | 0o40..=0o177)
 }
 
 /// Whether a character is seen.
