@@ -1,0 +1,7 @@
+//! The lines that show the words of a block: eight words a line in octal, with characters beside them.
+#![tactic(auto)]
+
+mod dumping;
+mod rows;
+
+pub use dumping::{DumpForm, put_block};

@@ -1,0 +1,25 @@
+-- What holds of dates, their words and their spelling.
+use Rattle.std.specs.Prelude.{◌≡◌, ℕ, ◌+◌, ◌-◌, ◌%◌, ◌<◌, ◌≤◌, true, Some}
+use Rattle.os8_dates.specs.declared.dates.Date.{Date}
+use Rattle.os8_dates.specs.declared.years.TheConstants.{FIRST_YEAR, LAST_YEAR, LEAST_LAST}
+use Rattle.os8_dates.specs.Dates.{date_in, is_day, word_of, year_in}
+use Rattle.os8_dates.specs.Spelling.{parsed_date, spelled_date}
+
+-- a word that means a date is the word of that date
+abbrev pub WordsComeBack : Type 0
+WordsComeBack = (last word : ℕ) (date : Date) → LEAST_LAST ≤ last → word < 0o10000 → date_in last word ≡ Some date → word_of date ≡ Some word
+
+-- a date is what its word means among eight years that have its own
+abbrev pub DatesComeBack : Type 0
+DatesComeBack =
+    (last word : ℕ) (date : Date) → LEAST_LAST ≤ last → last < date.year + 8 → date.year ≤ last → word_of date ≡ Some word
+    → date_in last word ≡ Some date
+
+-- of eight years just one has the bits of a word, and its date has that year
+abbrev pub OneYearOfEight : Type 0
+OneYearOfEight =
+    (last word year : ℕ) → LEAST_LAST ≤ last → last < year + 8 → year ≤ last → (year - FIRST_YEAR) % 8 ≡ word % 8 → FIRST_YEAR ≤ year → year_in last word ≡ year
+
+-- what is spelled is parsed as the date
+abbrev pub SpelledIsParsed : Type 0
+SpelledIsParsed = (date : Date) → is_day date ≡ true → date.year ≤ LAST_YEAR → parsed_date (spelled_date date) ≡ Some date

@@ -1,0 +1,20 @@
+//! Laws of dates. Each function does nothing: its contract is the law.
+ghost use Rattle.std.specs.Prelude.{◌≡◌};
+ghost use Rattle.os8_dates.specs.Laws.{DatesComeBack, OneYearOfEight, SpelledIsParsed, WordsComeBack};
+
+/// A word that is a date is the word of that date, whichever eight years are meant; and a date is what its word means among eight years
+/// that have its own.
+pub fn words_and_dates()
+    ensures words { WordsComeBack }
+    ensures dates { DatesComeBack }
+{}
+
+/// Of the eight years up to the last one just one has the bits of a word, and that is the year of its date.
+pub fn one_year_of_eight()
+    ensures { OneYearOfEight }
+{}
+
+/// What is spelled is parsed as the date.
+pub fn spelled_dates()
+    ensures { SpelledIsParsed }
+{}
