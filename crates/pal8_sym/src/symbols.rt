@@ -1,4 +1,5 @@
 ghost use Rattle.std.specs.Prelude.{◌≡◌, ℕ, ◌<◌, IfSome, OnOk};
+ghost use Rattle.pal_sym.specs.Values.{symbol_value};
 ghost use Rattle.pal8_sym.specs.Permanent.{permanent};
 ghost use Rattle.pal8_sym.specs.Symbols.{DefinesTag, DefinesValue, Gives, IsSetAgain, MakesRoom, value_in, value_of};
 
@@ -85,5 +86,14 @@ impl Symbols {
             Some(word) => Some(word),
             None => soft_value(name),
         }
+    }
+
+    /// The value that a name keeps, if it has one: what it was defined as, or else its permanent value if it isn't soft. A soft name that
+    /// wasn't defined keeps none, since a later definition may give it another (PAL8, in this project's profile).
+    pub fn kept(&self, name: Name) -> Option<Word>
+        ensures value { result ≡ symbol_value self.now name }
+        ensures range { IfSome result (λ word. word < 0o10000) }
+    {
+        self.table.value(SymbolName::numbered(name.number()))
     }
 }

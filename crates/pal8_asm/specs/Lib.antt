@@ -1,0 +1,4 @@
+pub mod Places
+pub mod Sources
+pub mod Tapes
+pub mod Steps

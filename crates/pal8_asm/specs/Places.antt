@@ -1,0 +1,173 @@
+-- What a statement does to places and names, by those before it (PAL8, in this project's profile). No place and no name rests on a literal
+-- or a link.
+use Rattle.std.specs.Prelude.{ℕ, ◌+◌, ◌*◌, ◌/◌, nat_eq, nat_lt, Bool, true, false, ◌||◌, if◌then◌else◌, Option, Some, None, Result, Ok, Err, List, [], ◌∷◌}
+use Rattle.std.specs.Ordering.{nat_cmp}
+use Rattle.std.specs.FinMap.{find}
+use Rattle.pal_sym.specs.Values.{if_none}
+use Rattle.pal8_lex.specs.Kinds.{is_comma}
+use Rattle.pal8_lex.specs.declared.tokens.Token.{Token}
+use Rattle.pal8_lex.specs.declared.judging.Radix.TheVariants as radix
+use Rattle.pal8_sym.specs.Permanent.{soft_names}
+use Rattle.pal8_grammar.specs.Bodies.{free_name}
+use Rattle.pal8_grammar.specs.declared.bodies.Body.{Body}
+use Rattle.pal8_grammar.specs.declared.bodies.Body.TheVariants as body
+use Rattle.pal8_grammar.specs.declared.steps.Step.{Step}
+use Rattle.pal8_values.specs.Sums.{Known, early_value}
+use Rattle.pal8_values.specs.declared.faults.ValueFault.{ValueFault}
+use Rattle.pal8_values.specs.declared.faults.ValueFault.TheVariants as value
+use Rattle.pal8_asm.specs.declared.faults.Code.{Code}
+use Rattle.pal8_asm.specs.declared.faults.Code.TheVariants as code
+use Rattle.pal8_asm.specs.declared.places.Position.{Position}
+use Rattle.pal8_asm.specs.declared.places.TheConstants.{FIRST_PLACE}
+
+-- What statements leave: what names keep, which are the defined ones and the permanent ones that aren't soft; which of these `=` can't change;
+-- and where the next statement stands.
+pub record Standing : Type 0 where
+  pub kept : Known
+  pub fixed : ℕ → Bool
+  pub position : Position
+
+-- what a name stands for: what it keeps, else its soft value
+abbrev pub stands : Known → Known
+stands kept name = if_none (kept name) (find nat_cmp name soft_names)
+
+-- ## Names
+
+-- a name keeps this value from here on
+abbrev pub with_name : ℕ → ℕ → Known → Known
+with_name name v kept n = if nat_eq name n then Some v else kept n
+
+abbrev pub with_fixed : ℕ → (ℕ → Bool) → ℕ → Bool
+with_fixed name fixed n = if nat_eq name n then true else fixed n
+
+-- a name keeps another value than this one
+abbrev pub keeps_other : ℕ → Option ℕ → Bool
+keeps_other v None = false
+keeps_other v (Some known) = if nat_eq known v then false else true
+
+-- a tag stands for the place, which must not be past 7777, and its name for nothing else
+abbrev pub with_tag_by : ℕ → ℕ → Standing → Bool → Bool → Result Standing Code
+with_tag_by tag location s true is_other = Err code.PF
+with_tag_by tag location s false true = Err code.DT
+with_tag_by tag location s false false = Ok record {
+  kept = with_name tag location s.kept;
+  fixed = with_fixed tag s.fixed;
+  position = s.position;
+}
+
+abbrev pub with_tag : Option ℕ → Standing → Result Standing Code
+with_tag None s = Ok s
+with_tag (Some tag) s = with_tag_by tag s.position.location s (nat_lt 0o7777 s.position.location) (keeps_other s.position.location (s.kept tag))
+
+abbrev pub with_tag_if : Option ℕ → Result Standing Code → Result Standing Code
+with_tag_if tag (Err fault) = Err fault
+with_tag_if tag (Ok s) = with_tag tag s
+
+-- the tags in front, from the left
+abbrev pub with_tags : List Token → Result Standing Code → Result Standing Code
+with_tags [] s = s
+with_tags (t ∷ []) s = s
+with_tags (t ∷ next ∷ others) s = if is_comma next.kind then with_tags others (with_tag_if (free_name t.kind) s) else s
+
+-- `=` gives a name a value. One that is fixed must keep that value already.
+abbrev pub with_definition_by : ℕ → ℕ → Standing → Bool → Bool → Result Standing Code
+with_definition_by name v s false is_other = Ok record { kept = with_name name v s.kept; fixed = s.fixed; position = s.position }
+with_definition_by name v s true false = Ok record { kept = with_name name v s.kept; fixed = s.fixed; position = s.position }
+with_definition_by name v s true true = Err code.RD
+
+abbrev pub with_definition : ℕ → ℕ → Standing → Result Standing Code
+with_definition name v s = with_definition_by name v s (s.fixed name) (keeps_other v (s.kept name))
+
+-- ## Places
+
+abbrev pub at_location : ℕ → Position → Position
+at_location location p = record { radix = p.radix; location = location; field = p.field }
+
+-- so many words more; the last one must not be past 7777
+abbrev pub with_size : ℕ → Position → Result Position Code
+with_size n p =
+    if nat_eq n 0 then Ok p
+    else (if nat_lt 0o10000 (p.location + n) then Err code.PF else Ok (at_location (p.location + n) p))
+
+abbrev pub with_field : ℕ → Position → Result Position Code
+with_field n p =
+    if nat_lt 7 n then Err code.FD else Ok record { radix = p.radix; location = FIRST_PLACE; field = n }
+
+abbrev pub with_page : ℕ → Position → Result Position Code
+with_page n p = if nat_lt 0o37 n then Err code.PG else Ok (at_location (0o200 * n) p)
+
+-- the first place of a page that isn't before this one
+abbrev pub next_page : ℕ → ℕ
+next_page location = (location + 0o177) / 0o200 * 0o200
+
+-- two characters a word, and 00 after the last one
+abbrev pub text_size : ℕ → ℕ
+text_size length = length / 2 + 1
+
+-- ## Bodies
+
+-- (no value asks for memory, or a pool)
+abbrev pub code_of : ValueFault → Code
+code_of value.UA = code.UA
+code_of value.PF = code.PF
+code_of value.DZ = code.DZ
+code_of value.IR = code.IR
+code_of value.II = code.II
+code_of value.PE = code.PE
+code_of value.ZE = code.ZE
+code_of value.Memory = code.UA
+
+abbrev pub coded : Result ℕ ValueFault → Result ℕ Code
+coded (Err fault) = Err (code_of fault)
+coded (Ok v) = Ok v
+
+abbrev pub moved : Standing → Result Position Code → Result Standing Code
+moved s (Err fault) = Err fault
+moved s (Ok position) = Ok record { kept = s.kept; fixed = s.fixed; position = position }
+
+-- a body with a value
+abbrev pub with_valued : Body → Standing → ℕ → Result Standing Code
+with_valued body.Nothing s v = Ok s
+with_valued body.Origin s v = moved s (Ok (at_location v s.position))
+with_valued (body.Define name) s v = with_definition name v s
+with_valued body.Decimal s v = Ok s
+with_valued body.Octal s v = Ok s
+with_valued body.Field s v = moved s (with_field v s.position)
+with_valued body.NextPage s v = Ok s
+with_valued body.Page s v = moved s (with_page v s.position)
+with_valued body.Zeros s v = moved s (with_size v s.position)
+with_valued body.Text s v = Ok s
+with_valued body.Listing s v = Ok s
+with_valued body.Word s v = Ok s
+
+abbrev pub with_value_of : Body → Standing → Result ℕ Code → Result Standing Code
+with_value_of body s (Err fault) = Err fault
+with_value_of body s (Ok v) = with_valued body s v
+
+-- a value by the names before, of which a statement's own tags are some
+abbrev pub value_at : Standing → List Step → Result ℕ Code
+value_at s steps = coded (early_value (stands s.kept) s.position.location steps)
+
+-- what a body does, with the steps of its value and the length of its string
+abbrev pub with_body : Body → List Step → ℕ → Standing → Result Standing Code
+with_body body.Nothing steps length s = Ok s
+with_body body.Origin steps length s = with_value_of body.Origin s (value_at s steps)
+with_body (body.Define name) steps length s = with_value_of (body.Define name) s (value_at s steps)
+with_body body.Decimal steps length s =
+    moved s (Ok record { radix = radix.Decimal; location = s.position.location; field = s.position.field })
+with_body body.Octal steps length s = moved s (Ok record { radix = radix.Octal; location = s.position.location; field = s.position.field })
+with_body body.Field steps length s = with_value_of body.Field s (value_at s steps)
+with_body body.NextPage steps length s = moved s (Ok (at_location (next_page s.position.location) s.position))
+with_body body.Page steps length s = with_value_of body.Page s (value_at s steps)
+with_body body.Zeros steps length s = with_value_of body.Zeros s (value_at s steps)
+with_body body.Text steps length s = moved s (with_size (text_size length) s.position)
+with_body body.Listing steps length s = Ok s
+with_body body.Word steps length s = moved s (with_size 1 s.position)
+
+abbrev pub with_body_if : Body → List Step → ℕ → Result Standing Code → Result Standing Code
+with_body_if body steps length (Err fault) = Err fault
+with_body_if body steps length (Ok s) = with_body body steps length s
+
+-- what a statement does: its tags from the left, then its body; or its first fault
+abbrev pub with_statement : List Token → Body → List Step → ℕ → Standing → Result Standing Code
+with_statement tokens body steps length s = with_body_if body steps length (with_tags tokens (Ok s))

@@ -1,0 +1,89 @@
+-- The words of a source with their cells, and what its pools hold (PAL8, in this project's profile).
+use Rattle.std.specs.Prelude.{ℕ, ◌+◌, ◌*◌, ◌/◌, ◌%◌, nat_eq, nat_lt, Bool, true, false, ◌&&◌, ◌||◌, if◌then◌else◌, Option, Some, None, Result, Ok, Err, List, [], ◌∷◌, ◌++◌}
+use Rattle.word12.specs.declared.sizes.TheConstants.{FIELD, PAGE}
+use Rattle.pal8_pools.specs.Asks.{Ask, cell_in}
+use Rattle.pal8_pools.specs.Pooled.{is_cell_of}
+use Rattle.pal8_values.specs.Sums.{Known}
+use Rattle.pal8_values.specs.Words.{Asked, word_value}
+use Rattle.pal8_values.specs.declared.faults.ValueFault.{ValueFault}
+use Rattle.pal8_asm.specs.Places.{code_of, stands}
+use Rattle.pal8_asm.specs.Sources.{Entry, Fault, Left, Passed, Source, at_line, left_of, source_of}
+use Rattle.pal8_asm.specs.declared.faults.Code.{Code}
+use Rattle.pal8_asm.specs.declared.faults.Code.TheVariants as code
+
+-- What entries make: their words with their cells, in the order of the source; what they asked, the newest first; and the first fault of a word
+-- on a pool's cell.
+pub record Made : Type 0 where
+  pub words : List (ℕ × ℕ)
+  pub asks : List Ask
+  pub clash : Option Fault
+
+abbrev pub cell_of : Entry → ℕ
+cell_of e = FIELD * e.spot.field + e.spot.location
+
+-- a cell of a page zero
+abbrev pub is_on_zero : ℕ → Bool
+is_on_zero c = nat_lt (c % FIELD) PAGE
+
+-- one of these words lies on a pool's cell, here on a page zero or else on another page
+abbrev pub has_clash : Bool → List Ask → List (ℕ × ℕ) → Bool
+has_clash zero asks [] = false
+has_clash true asks (word ∷ others) = (is_on_zero word.0 && is_cell_of asks asks word.0) || has_clash true asks others
+has_clash false asks (word ∷ others) = is_cell_of asks asks word.0 || has_clash false asks others
+
+abbrev pub clash_by : ℕ → Bool → Bool → Option Fault
+clash_by line true clash = Some (at_line line code.ZE)
+clash_by line false true = Some (at_line line code.PE)
+clash_by line false false = None
+
+-- a word's cell is a pool's, of words up to this one and asks up to it
+abbrev pub clash_of : ℕ → List Ask → List (ℕ × ℕ) → Option Fault
+clash_of line asks words = clash_by line (has_clash true asks words) (has_clash false asks words)
+
+abbrev pub first_of : Option Fault → Option Fault → Option Fault
+first_of None later = later
+first_of (Some fault) later = Some fault
+
+abbrev pub with_word : Entry → Made → Asked → Result Made Fault
+with_word e made (Err fault) = Err (at_line e.line (code_of fault))
+with_word e made (Ok (word, asks)) = Ok record {
+  words = made.words ++ (cell_of e, word) ∷ [];
+  asks = asks;
+  clash = first_of made.clash (clash_of e.line asks (made.words ++ (cell_of e, word) ∷ []));
+}
+
+abbrev pub with_entry : Known → Entry → Result Made Fault → Result Made Fault
+with_entry last e (Err fault) = Err fault
+with_entry last e (Ok made) = with_word e made (word_value last e.spot e.steps made.asks)
+
+-- what entries make, the newest first, by what names stand for at last; or the first fault of a word
+abbrev pub made_of : Known → List Entry → Result Made Fault
+made_of last [] = Ok record { words = []; asks = []; clash = None }
+made_of last (e ∷ older) = with_entry last e (made_of last older)
+
+-- the line of the last statement, which is that of the `$`
+abbrev pub last_line : Source → ℕ
+last_line [] = 1
+last_line (s ∷ older) = s.line
+
+abbrev pub has_words : List (ℕ × ℕ) → Bool
+has_words [] = false
+has_words (word ∷ others) = true
+
+abbrev pub judged_by : List ℕ → Made → Option Fault → Bool → Result Made Fault
+judged_by text made (Some fault) has = Err fault
+judged_by text made None true = Ok made
+judged_by text made None false = Err (at_line (last_line (source_of text)) code.NW)
+
+-- no word lies on a pool's cell, and there is a word
+abbrev pub judged : List ℕ → Result Made Fault → Result Made Fault
+judged text (Err fault) = Err fault
+judged text (Ok made) = judged_by text made made.clash (has_words made.words)
+
+abbrev pub made_by : List ℕ → Passed → Result Made Fault
+made_by text (Err fault) = Err fault
+made_by text (Ok left) = judged text (made_of (stands left.standing.kept) left.entries)
+
+-- what a text makes, or its first fault: of places and names; of its end; of words; of words on pools' cells; that there is no word
+abbrev pub assembled : List ℕ → Result Made Fault
+assembled text = made_by text (left_of text)

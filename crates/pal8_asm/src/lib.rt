@@ -1,0 +1,10 @@
+//! The assembler of PAL8, the assembler of OS/8 (in this project's profile of it), so far what each statement does to places and names.
+#![tactic(auto)]
+
+mod faults;
+mod places;
+mod tags;
+
+pub use faults::{Code, Stop};
+pub use places::{FIRST_PLACE, Position, first_position};
+pub use tags::pass_statement;

@@ -1,0 +1,202 @@
+ghost use Rattle.std.specs.Prelude.{◌≡◌, ◌<◌, ◌≤◌, IfOk, Ok, Some};
+ghost use Rattle.pal8_sym.specs.Symbols.{value_of};
+ghost use Rattle.pal8_values.specs.Sums.{early_value};
+ghost use Rattle.pal8_lex.specs.Kinds.{is_comma};
+ghost use Rattle.pal8_grammar.specs.Bodies.{free_name};
+ghost use Rattle.pal8_asm.specs.Places.{coded, with_body, with_definition, with_statement, with_tag, with_tags, with_value_of, with_valued};
+ghost use Rattle.pal8_asm.specs.Steps.{Defines, Passes, Values, standing};
+
+use crate::places::{Position, at_location, next_page, with_field, with_page, with_size};
+use crate::{Code, Stop};
+use pal_sym::SymFault;
+use pal8_grammar::{Body, Step, free_name};
+use pal8_lex::{Kind, Name, Radix, Token};
+use pal8_sym::Symbols;
+use pal8_values::{ValueFault, early_value};
+use word12::Word;
+
+/// Defines a tag at a place.
+fn define_tag(symbols: &mut Symbols, name: Name, position: Position) -> Result<(), Stop>
+    ensures { Defines (with_tag (Some name) (standing symbols.old position)) position result symbols.new }
+{
+    let Some(place) = Word::new(position.location) else {
+        return Err(Stop::At(Code::PF));
+    };
+    match symbols.define_tag(name, place) {
+        Ok(()) => Ok(()),
+        Err(SymFault::Memory) => Err(Stop::Memory),
+        Err(SymFault::DT | SymFault::RD) => Err(Stop::At(Code::DT)),
+    }
+}
+
+/// Gives a name a value.
+fn define(
+    symbols: &mut Symbols,
+    name: Name,
+    value: Word,
+    position: Position,
+) -> Result<Position, Stop>
+    ensures passes { Passes (with_definition name value (standing symbols.old position)) result symbols.new }
+    ensures same { IfOk result (λ p. p ≡ position) }
+{
+    match symbols.define_value(name, value) {
+        Ok(()) => Ok(position),
+        Err(SymFault::Memory) => Err(Stop::Memory),
+        Err(SymFault::DT | SymFault::RD) => Err(Stop::At(Code::RD)),
+    }
+}
+
+/// Defines the tag that a token is.
+fn define_token(symbols: &mut Symbols, kind: Kind, position: Position) -> Result<(), Stop>
+    ensures { Defines (with_tag (free_name kind) (standing symbols.old position)) position result symbols.new }
+{
+    match free_name(kind) {
+        Some(name) => define_tag(symbols, name, position),
+        None => Ok(()),
+    }
+}
+
+fn is_comma(kind: Kind) -> bool
+    ensures { result ≡ is_comma kind }
+{
+    matches!(kind, Kind::Comma)
+}
+
+/// Defines the tags in front of a statement, from the left.
+fn define_tags(symbols: &mut Symbols, tokens: &[Token], position: Position) -> Result<(), Stop>
+    ensures { Defines (with_tags tokens.now (Ok (standing symbols.old position))) position result symbols.new }
+{
+    let mut rest = tokens;
+    while let [tag, next, others @ ..] = rest {
+        if !is_comma(next.kind) {
+            return Ok(());
+        }
+        match define_token(symbols, tag.kind, position) {
+            Ok(()) => {}
+            Err(stop) => return Err(stop),
+        }
+        rest = others;
+    }
+    Ok(())
+}
+
+/// The value of steps by the names so far.
+fn value_at(symbols: &Symbols, location: u16, steps: &[Step]) -> Result<Word, Stop>
+    ensures { Values (coded (early_value (value_of symbols.now) location steps.now)) result }
+{
+    match early_value(symbols, location, steps) {
+        Ok(value) => Ok(value),
+        Err(ValueFault::UA) => Err(Stop::At(Code::UA)),
+        Err(ValueFault::PF) => Err(Stop::At(Code::PF)),
+        Err(ValueFault::DZ) => Err(Stop::At(Code::DZ)),
+        Err(ValueFault::IR) => Err(Stop::At(Code::IR)),
+        Err(ValueFault::II) => Err(Stop::At(Code::II)),
+        Err(ValueFault::PE) => Err(Stop::At(Code::PE)),
+        Err(ValueFault::ZE) => Err(Stop::At(Code::ZE)),
+        Err(ValueFault::Memory) => Err(Stop::Memory),
+    }
+}
+
+/// Passes a body with its value.
+fn pass_valued(
+    symbols: &mut Symbols,
+    body: Body,
+    value: Word,
+    position: Position,
+) -> Result<Position, Stop>
+    requires place { position.location ≤ 0o10000 }
+    requires field { position.field < 8 }
+    ensures passes { Passes (with_valued body (standing symbols.old position) value) result symbols.new }
+    ensures range { IfOk result (λ p. (p.location ≤ 0o10000) × (p.field < 8)) }
+{
+    match body {
+        Body::Origin => Ok(at_location(value.get(), position)),
+        Body::Define(name) => define(symbols, name, value, position),
+        Body::Field => with_field(value, position),
+        Body::Page => with_page(value, position),
+        Body::Zeros => with_size(usize::from(value.get()), position),
+        Body::Nothing | Body::Decimal | Body::Octal | Body::NextPage => Ok(position),
+        Body::Text | Body::Listing | Body::Word => Ok(position),
+    }
+}
+
+/// Passes a body whose value is to be found.
+fn pass_value(
+    symbols: &mut Symbols,
+    body: Body,
+    steps: &[Step],
+    position: Position,
+) -> Result<Position, Stop>
+    requires place { position.location ≤ 0o10000 }
+    requires field { position.field < 8 }
+    ensures passes { Passes (with_value_of body (standing symbols.old position)
+        (coded (early_value (value_of symbols.old) position.location steps.now))) result symbols.new }
+    ensures range { IfOk result (λ p. (p.location ≤ 0o10000) × (p.field < 8)) }
+{
+    let again = position;
+    match value_at(symbols, position.location, steps) {
+        Ok(value) => pass_valued(symbols, body, value, again),
+        Err(stop) => Err(stop),
+    }
+}
+
+/// Passes a body.
+#[tactic(auto, unfolding(pal8_sym::specs::Symbols::value_of))]
+fn pass_body(
+    symbols: &mut Symbols,
+    body: Body,
+    steps: &[Step],
+    length: usize,
+    position: Position,
+) -> Result<Position, Stop>
+    requires place { position.location ≤ 0o10000 }
+    requires field { position.field < 8 }
+    ensures passes { Passes (with_body body steps.now length (standing symbols.old position)) result symbols.new }
+    ensures range { IfOk result (λ p. (p.location ≤ 0o10000) × (p.field < 8)) }
+{
+    let again = body;
+    match body {
+        Body::Origin => pass_value(symbols, Body::Origin, steps, position),
+        Body::Define(_) => pass_value(symbols, again, steps, position),
+        Body::Field => pass_value(symbols, Body::Field, steps, position),
+        Body::Page => pass_value(symbols, Body::Page, steps, position),
+        Body::Zeros => pass_value(symbols, Body::Zeros, steps, position),
+        Body::Decimal => Ok(Position {
+            radix: Radix::Decimal,
+            ..position
+        }),
+        Body::Octal => Ok(Position {
+            radix: Radix::Octal,
+            ..position
+        }),
+        Body::NextPage => Ok(at_location(next_page(position.location), position)),
+        Body::Text => with_size(length / 2 + 1, position),
+        Body::Word => with_size(1, position),
+        Body::Nothing | Body::Listing => Ok(position),
+    }
+}
+
+/// Takes a statement, whose tokens begin with its tags: they are defined from the left, then its body, with the steps of its value and the
+/// length of its string, defines a name or sets the position of the next statement. The position answered is that one.
+///
+/// Its fault is the first of these: of each tag PF and DT; of a value that a place or a name rests on UA, PF, DZ and IR; then FD, PG or
+/// RD; last PF, where a word is past 7777. A name that memory ran out for isn't defined, and those before it are (PAL8, in this
+/// project's profile).
+pub fn pass_statement(
+    symbols: &mut Symbols,
+    tokens: &[Token],
+    body: Body,
+    steps: &[Step],
+    length: usize,
+    position: Position,
+) -> Result<Position, Stop>
+    requires place { position.location ≤ 0o10000 }
+    requires field { position.field < 8 }
+    ensures passes { Passes (with_statement tokens.now body steps.now length (standing symbols.old position)) result symbols.new }
+    ensures range { IfOk result (λ p. (p.location ≤ 0o10000) × (p.field < 8)) }
+{
+    match define_tags(symbols, tokens, position) {
+        Ok(()) => pass_body(symbols, body, steps, length, position),
+        Err(stop) => Err(stop),
+    }
+}

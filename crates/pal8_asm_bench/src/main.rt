@@ -1,0 +1,56 @@
+//! Assembles a PAL8 source on standard input, to hold its parts to the plain model: it prints each cell that has a word, as field, address and
+//! word in octal, or the code of the first fault with its line.
+#![tactic(auto)]
+
+mod sources;
+mod words;
+
+use sources::{Fault, Source};
+use std::alloc::Global;
+use std::io::Read;
+use std::process::ExitCode;
+use words::{Core, NO_WORD, make_words};
+
+/// Assembles a text.
+fn assemble(alloc: Global, text: &[u8]) -> Result<Core, Fault> {
+    let mut source = Source::new(alloc);
+    let last_line = source.read(alloc, text)?;
+    make_words(alloc, &source, last_line)
+}
+
+/// Prints the cells that have words.
+fn print_core(rt: &mut HostRuntime, words: &[u16]) -> bool {
+    let mut cell = 0;
+    for word in words {
+        if *word != NO_WORD {
+            let printed = println!(rt; "{} {:04o} {:04o}", cell / 0o10000, cell % 0o10000, *word);
+            if printed.is_err() {
+                return false;
+            }
+        }
+        cell = (cell + 1) % 0o100000;
+    }
+    true
+}
+
+fn main(rt: HostRuntime) -> ExitCode {
+    let mut rt = rt;
+    let mut text = Vec::new(rt.alloc());
+    if rt.reader().read_to_end(&mut text).is_err() {
+        return ExitCode::FAILURE;
+    }
+    match assemble(rt.alloc(), &text) {
+        Ok(core) => {
+            if print_core(&mut rt, &core.words) {
+                ExitCode::SUCCESS
+            } else {
+                ExitCode::FAILURE
+            }
+        }
+        Err(Fault::At(code, line)) => match println!(rt; "? 5 {:?} {}", code, line) {
+            Ok(()) => ExitCode::SUCCESS,
+            Err(_) => ExitCode::FAILURE,
+        },
+        Err(Fault::Memory) => ExitCode::FAILURE,
+    }
+}

@@ -1,0 +1,211 @@
+-- What a statement says (PAL8, in this project's profile).
+use Rattle.std.specs.Prelude.{ℕ, ◌*◌, nat_eq, Bool, true, false, ◌&&◌, ◌||◌, not, if◌then◌else◌, is_some, Option, Some, None, Result, Ok, Err, take, drop, List, [], ◌∷◌, codes}
+use Rattle.word12.specs.Sixbit.{name_number}
+use Rattle.pal8_lex.specs.Kinds.{is_comma}
+use Rattle.pal8_lex.specs.Judging.{has_bad, has_bad_number, tag_count}
+use Rattle.pal8_lex.specs.declared.tokens.Token.{Token}
+use Rattle.pal8_lex.specs.declared.tokens.Kind.{Kind}
+use Rattle.pal8_lex.specs.declared.tokens.Kind.TheVariants.{Name, Number, Character, Here, Operator, Equals, Comma, Star, Opening, Closing, String, Bad}
+use Rattle.pal8_lex.specs.declared.rules.End.{End}
+use Rattle.pal8_lex.specs.declared.rules.End.TheVariants as end
+use Rattle.pal8_lex.specs.declared.judging.Radix.{Radix}
+use Rattle.pal8_sym.specs.Permanent.{is_reserved}
+use Rattle.pal8_grammar.specs.Values.{sign_of, steps_of}
+use Rattle.pal8_grammar.specs.declared.steps.Step.{Step}
+use Rattle.pal8_grammar.specs.declared.stands.Stand.TheVariants as stand
+use Rattle.pal8_grammar.specs.declared.bodies.Body.{Body}
+use Rattle.pal8_grammar.specs.declared.bodies.Body.TheVariants as body
+use Rattle.pal8_grammar.specs.declared.bodies.Form.{Form}
+use Rattle.pal8_grammar.specs.declared.bodies.Form.TheVariants as form
+use Rattle.pal8_grammar.specs.declared.faults.GrammarFault.{GrammarFault}
+use Rattle.pal8_grammar.specs.declared.faults.GrammarFault.TheVariants.{IC, NU, SY}
+
+-- ## Tokens
+
+abbrev pub name_of : Kind → Option ℕ
+name_of (Name name) = Some name
+name_of (Number n) = None
+name_of (Character c) = None
+name_of Here = None
+name_of (Operator op) = None
+name_of Equals = None
+name_of Comma = None
+name_of Star = None
+name_of (Opening pool) = None
+name_of (Closing pool) = None
+name_of String = None
+name_of Bad = None
+
+abbrev pub if_free : Option ℕ → Option ℕ
+if_free None = None
+if_free (Some name) = if is_reserved name then None else Some name
+
+-- the name that a token is, if it isn't reserved
+abbrev pub free_name : Kind → Option ℕ
+free_name kind = if_free (name_of kind)
+
+abbrev pub is_star : Kind → Bool
+is_star (Name name) = false
+is_star (Number n) = false
+is_star (Character c) = false
+is_star Here = false
+is_star (Operator op) = false
+is_star Equals = false
+is_star Comma = false
+is_star Star = true
+is_star (Opening pool) = false
+is_star (Closing pool) = false
+is_star String = false
+is_star Bad = false
+
+abbrev pub is_equals : Kind → Bool
+is_equals (Name name) = false
+is_equals (Number n) = false
+is_equals (Character c) = false
+is_equals Here = false
+is_equals (Operator op) = false
+is_equals Equals = true
+is_equals Comma = false
+is_equals Star = false
+is_equals (Opening pool) = false
+is_equals (Closing pool) = false
+is_equals String = false
+is_equals Bad = false
+
+abbrev pub is_string : Kind → Bool
+is_string (Name name) = false
+is_string (Number n) = false
+is_string (Character c) = false
+is_string Here = false
+is_string (Operator op) = false
+is_string Equals = false
+is_string Comma = false
+is_string Star = false
+is_string (Opening pool) = false
+is_string (Closing pool) = false
+is_string String = true
+is_string Bad = false
+
+-- ## Forms
+
+-- What a reserved name begins: a form that stands alone, one with an expression, or either; a text. The others begin nothing yet.
+abbrev pub form_by : ℕ → Form
+form_by name =
+    if nat_eq name (name_number (codes "DECIMA")) then form.Alone body.Decimal
+    else (if nat_eq name (name_number (codes "OCTAL")) then form.Alone body.Octal
+    else (if nat_eq name (name_number (codes "EJECT")) then form.Alone body.Listing
+    else (if nat_eq name (name_number (codes "XLIST")) then form.Alone body.Listing
+    else (if nat_eq name (name_number (codes "FIELD")) then form.Valued body.Field
+    else (if nat_eq name (name_number (codes "ZBLOCK")) then form.Valued body.Zeros
+    else (if nat_eq name (name_number (codes "PAGE")) then form.Page
+    else (if nat_eq name (name_number (codes "TEXT")) then form.Text
+    else form.Later)))))))
+
+-- ## Bodies: what they say, with the steps of their value
+
+abbrev pub Phrase : Type 0
+Phrase = Body × List Step
+
+abbrev pub phrase : Body → Option (List Step) → Option Phrase
+phrase body None = None
+phrase body (Some steps) = Some (body, steps)
+
+abbrev pub expression_steps : Radix → List Token → Option (List Step)
+expression_steps radix tokens = steps_of record { radix = radix; has_literals = false } stand.Expression tokens
+
+-- a blank and an expression, or one that begins with `+` or `-`
+abbrev pub argument_steps : Radix → List Token → Option (List Step)
+argument_steps radix [] = None
+argument_steps radix (t ∷ others) = if t.is_spaced || is_some (sign_of t.kind) then expression_steps radix (t ∷ others) else None
+
+abbrev pub alone : Body → List Token → Option Phrase
+alone body [] = Some (body, [])
+alone body (t ∷ others) = None
+
+abbrev pub page_phrase : Radix → List Token → Option Phrase
+page_phrase radix [] = Some (body.NextPage, [])
+page_phrase radix (t ∷ others) = phrase body.Page (argument_steps radix (t ∷ others))
+
+abbrev pub text_phrase : List Token → Option Phrase
+text_phrase [] = None
+text_phrase (t ∷ []) = if is_string t.kind then Some (body.Text, []) else None
+text_phrase (t ∷ u ∷ others) = None
+
+-- what a form says with these tokens after its name
+abbrev pub form_phrase : Radix → Form → List Token → Option Phrase
+form_phrase radix (form.Alone body) rest = alone body rest
+form_phrase radix (form.Valued body) rest = phrase body (argument_steps radix rest)
+form_phrase radix form.Page rest = page_phrase radix rest
+form_phrase radix form.Text rest = text_phrase rest
+form_phrase radix form.Later rest = None
+
+-- a value in a word, with literals
+abbrev pub word_phrase : Radix → List Token → Option Phrase
+word_phrase radix tokens = phrase body.Word (steps_of record { radix = radix; has_literals = true } stand.Value tokens)
+
+-- `=` has a value without literals after it
+abbrev pub definition_phrase : Radix → ℕ → List Token → Option Phrase
+definition_phrase radix name rest = phrase (body.Define name) (steps_of record { radix = radix; has_literals = false } stand.Value rest)
+
+-- a body that begins with a name that isn't reserved
+abbrev pub named_phrase : Radix → ℕ → Token → List Token → Option Phrase
+named_phrase radix name t [] = word_phrase radix (t ∷ [])
+named_phrase radix name t (u ∷ others) =
+    if is_equals u.kind then definition_phrase radix name others else word_phrase radix (t ∷ u ∷ others)
+
+abbrev pub phrase_by : Radix → Option ℕ → Token → List Token → Option Phrase
+phrase_by radix None t rest = word_phrase radix (t ∷ rest)
+phrase_by radix (Some name) t rest = if is_reserved name then form_phrase radix (form_by name) rest else named_phrase radix name t rest
+
+-- what a body says
+abbrev pub body_phrase : Radix → List Token → Option Phrase
+body_phrase radix [] = Some (body.Nothing, [])
+body_phrase radix (t ∷ rest) =
+    if is_star t.kind then phrase body.Origin (expression_steps radix rest) else phrase_by radix (name_of t.kind) t rest
+
+-- ## Statements
+
+-- the tags are names that aren't reserved
+abbrev pub has_free_tags : List Token → Bool
+has_free_tags [] = true
+has_free_tags (t ∷ []) = true
+has_free_tags (t ∷ next ∷ others) = if is_comma next.kind then is_some (free_name t.kind) && has_free_tags others else true
+
+-- the tags, each with its `,`
+abbrev pub tags_in : List Token → List Token
+tags_in tokens = take (2 * tag_count tokens) tokens
+
+abbrev pub body_in : List Token → List Token
+body_in tokens = drop (2 * tag_count tokens) tokens
+
+abbrev pub is_file_name : Option ℕ → Bool
+is_file_name None = false
+is_file_name (Some name) = nat_eq name (name_number (codes "FILENA")) || nat_eq name (name_number (codes "DEVICE"))
+
+-- FILENAME or DEVICE begins
+abbrev pub names_file : List Token → Bool
+names_file [] = false
+names_file (t ∷ others) = is_file_name (name_of t.kind)
+
+-- what is judged as a number after FILENAME and DEVICE, and elsewhere
+abbrev pub judged_in : List Token → List Token
+judged_in tokens = if names_file (body_in tokens) then tags_in tokens else tokens
+
+abbrev pub opens : End → Bool
+opens end.Semicolon = false
+opens end.Line = false
+opens end.Open = true
+opens end.Close = false
+opens end.Dollar = false
+
+abbrev pub phrase_or_fault : Option Phrase → Result Phrase GrammarFault
+phrase_or_fault None = Err SY
+phrase_or_fault (Some it) = Ok it
+
+-- What a statement says by the radix before it, or its fault. Here no body is a condition, so `<` ends none.
+abbrev pub said_by : Radix → List Token → Bool → End → Result Phrase GrammarFault
+said_by radix tokens is_cut end =
+    if has_bad tokens then Err IC
+    else (if has_bad_number radix (judged_in tokens) then Err NU
+    else (if is_cut || opens end || not (has_free_tags tokens) then Err SY
+    else phrase_or_fault (body_phrase radix (body_in tokens))))

@@ -1,0 +1,47 @@
+-- What the small steps of reading come to, for private clauses.
+use Rattle.std.specs.Prelude.{◌≡◌, Bool, true, false, Option, Some, None, Result, Ok, Err, List, [], ◌∷◌}
+use Rattle.std.specs.declared.alloc.AllocError.{AllocError}
+use Rattle.pal8_grammar.specs.Values.{Reading, behind_literal}
+use Rattle.pal8_grammar.specs.Bodies.{Phrase}
+use Rattle.pal8_grammar.specs.declared.bodies.Body.{Body}
+use Rattle.pal8_grammar.specs.declared.steps.Step.{Step}
+use Rattle.pal8_grammar.specs.declared.stands.Outer.{Outer}
+use Rattle.pal8_grammar.specs.declared.faults.GrammarFault.{GrammarFault}
+use Rattle.pal8_grammar.specs.declared.faults.GrammarFault.TheVariants.{IC, NU, SY, Memory}
+
+-- the innermost of literals is taken off, if one is open
+abbrev pub Pops : List Outer → Option Outer → List Outer → Type 0
+Pops literals None new = (literals ≡ []) × (new ≡ [])
+Pops literals (Some outer) new = literals ≡ outer ∷ new
+
+-- the innermost literal was closed, if one was open
+abbrev pub Closes : Reading → Result (Option Outer) AllocError → Reading → Type 0
+Closes old (Ok None) new = (old.literals ≡ []) × (new ≡ old)
+Closes old (Ok (Some outer)) new = (old.literals ≡ outer ∷ new.literals) × (new ≡ behind_literal outer new.literals old.steps)
+Closes old (Err refused) new = Unit {0}
+
+-- a token was taken, or doesn't stand there
+abbrev pub Takes : Option Reading → Result Bool AllocError → Reading → Type 0
+Takes next (Ok true) new = next ≡ Some new
+Takes next (Ok false) new = next ≡ None
+Takes next (Err refused) new = Unit {0}
+
+-- the steps of a value were read, or it is none
+abbrev pub Reads : Option (List Step) → Result Bool AllocError → Reading → Type 0
+Reads steps (Ok true) new = steps ≡ Some new.steps
+Reads steps (Ok false) new = steps ≡ None
+Reads steps (Err refused) new = Unit {0}
+
+-- a body was read, with its steps, or it is none
+abbrev pub ReadsBody : Option Phrase → Result (Option Body) AllocError → Reading → Type 0
+ReadsBody phrase (Ok (Some body)) new = phrase ≡ Some (body, new.steps)
+ReadsBody phrase (Ok None) new = phrase ≡ None
+ReadsBody phrase (Err refused) new = Unit {0}
+
+-- what a statement says was read, with its steps, or its fault; or memory ran out
+abbrev pub Says : Result Phrase GrammarFault → Result Body GrammarFault → Reading → Type 0
+Says said (Ok body) new = said ≡ Ok (body, new.steps)
+Says said (Err IC) new = said ≡ Err IC
+Says said (Err NU) new = said ≡ Err NU
+Says said (Err SY) new = said ≡ Err SY
+Says said (Err Memory) new = Unit {0}

@@ -1,0 +1,339 @@
+ghost use Rattle.std.specs.Prelude.{◌≡◌, [], ◌∷◌, Ok};
+ghost use Rattle.pal8_lex.specs.Judging.{tag_count};
+ghost use Rattle.pal8_grammar.specs.Bodies.{alone, argument_steps, body_in, body_phrase, definition_phrase, expression_steps, form_by, form_phrase, has_free_tags, judged_in, named_phrase, names_file, opens, page_phrase, phrase, phrase_by, said_by, text_phrase, word_phrase};
+ghost use Rattle.pal8_grammar.specs.Steps.{Reads, ReadsBody, Says};
+ghost use Rattle.pal8_grammar.specs.declared.bodies.Body.{Body};
+
+use crate::kinds::{free_name, is_equals, is_star, is_string, name_of, sign_of};
+use crate::{GrammarFault, Reader, Rules, Stand};
+use pal8_lex::{End, Kind, Name, Radix, Token, has_bad, has_bad_number, tag_count};
+use pal8_sym::is_reserved;
+use std::alloc::AllocError;
+
+/// What a body says. Its value reads as steps.
+#[derive(Clone, Copy)]
+pub enum Body {
+    Nothing,
+    /// `*` and an expression.
+    Origin,
+    /// A name, `=` and a value.
+    Define(Name),
+    Decimal,
+    Octal,
+    /// `FIELD` and an expression.
+    Field,
+    /// `PAGE` alone.
+    NextPage,
+    /// `PAGE` and an expression.
+    Page,
+    /// `ZBLOCK` and an expression.
+    Zeros,
+    /// `TEXT` and a string.
+    Text,
+    /// `EJECT` or `XLIST`.
+    Listing,
+    /// A value.
+    Word,
+}
+
+/// What a reserved name begins.
+#[derive(Clone, Copy)]
+pub enum Form {
+    /// A body that stands alone.
+    Alone(Body),
+    /// A body with an expression.
+    Valued(Body),
+    /// `PAGE`, alone or with an expression.
+    Page,
+    Text,
+    /// Nothing that is known yet.
+    Later,
+}
+
+/// The number of a name of up to six characters, of which missing ones are written as 0.
+macro_rules! name {
+    ($a:literal $b:literal $c:literal $d:literal $e:literal $f:literal) => {
+        0o10000000000 * ($a as u64 % 0o100)
+            + 0o100000000 * ($b as u64 % 0o100)
+            + 0o1000000 * ($c as u64 % 0o100)
+            + 0o10000 * ($d as u64 % 0o100)
+            + 0o100 * ($e as u64 % 0o100)
+            + ($f as u64 % 0o100)
+    };
+}
+
+const DECIMAL: u64 = name!(b'D' b'E' b'C' b'I' b'M' b'A');
+
+const OCTAL: u64 = name!(b'O' b'C' b'T' b'A' b'L' 0);
+
+const EJECT: u64 = name!(b'E' b'J' b'E' b'C' b'T' 0);
+
+const XLIST: u64 = name!(b'X' b'L' b'I' b'S' b'T' 0);
+
+const FIELD: u64 = name!(b'F' b'I' b'E' b'L' b'D' 0);
+
+const ZBLOCK: u64 = name!(b'Z' b'B' b'L' b'O' b'C' b'K');
+
+const PAGE: u64 = name!(b'P' b'A' b'G' b'E' 0 0);
+
+const TEXT: u64 = name!(b'T' b'E' b'X' b'T' 0 0);
+
+const FILENAME: u64 = name!(b'F' b'I' b'L' b'E' b'N' b'A');
+
+const DEVICE: u64 = name!(b'D' b'E' b'V' b'I' b'C' b'E');
+
+/// What a reserved name begins.
+fn form_by(name: Name) -> Form
+    ensures { result ≡ form_by name }
+{
+    match name.number() {
+        DECIMAL => Form::Alone(Body::Decimal),
+        OCTAL => Form::Alone(Body::Octal),
+        EJECT => Form::Alone(Body::Listing),
+        XLIST => Form::Alone(Body::Listing),
+        FIELD => Form::Valued(Body::Field),
+        ZBLOCK => Form::Valued(Body::Zeros),
+        PAGE => Form::Page,
+        TEXT => Form::Text,
+        _ => Form::Later,
+    }
+}
+
+/// Whether FILENAME or DEVICE begins a body.
+fn names_file(tokens: &[Token]) -> bool
+    ensures { result ≡ names_file tokens.now }
+{
+    match tokens.first() {
+        Some(token) => match name_of(token.kind) {
+            Some(name) => name.number() == FILENAME || name.number() == DEVICE,
+            None => false,
+        },
+        None => false,
+    }
+}
+
+/// Whether the tags are names that aren't reserved.
+fn has_free_tags(tokens: &[Token]) -> bool
+    ensures { result ≡ has_free_tags tokens.now }
+{
+    let mut rest = tokens;
+    while let [tag, next, others @ ..] = rest {
+        if !matches!(next.kind, Kind::Comma) {
+            return true;
+        }
+        if free_name(tag.kind).is_none() {
+            return false;
+        }
+        rest = others;
+    }
+    true
+}
+
+/// Whether a `<` ends a statement.
+fn opens(end: End) -> bool
+    ensures { result ≡ opens end }
+{
+    matches!(end, End::Open)
+}
+
+impl Reader {
+    /// Reads what a statement says by the radix before it: its body, after tags that are names and aren't reserved. Its value's steps are then
+    /// shown. Here no body is a condition.
+    ///
+    /// The fault is the first of IC, NU and SY that applies, or that memory ran out (PAL8, in this project's profile).
+    pub fn read_statement(
+        &mut self,
+        tokens: &[Token],
+        is_cut: bool,
+        end: End,
+        radix: Radix,
+    ) -> Result<Body, GrammarFault>
+        ensures { Says (said_by radix tokens.now is_cut end) result self.new }
+    {
+        if has_bad(tokens) {
+            return Err(GrammarFault::IC);
+        }
+        let (tags, rest) = tokens.split_at(2 * tag_count(tokens));
+        let judged = if names_file(rest) { tags } else { tokens };
+        if has_bad_number(judged, radix) {
+            return Err(GrammarFault::NU);
+        }
+        if is_cut || opens(end) || !has_free_tags(tokens) {
+            return Err(GrammarFault::SY);
+        }
+        match self.read_body(radix, rest)? {
+            Some(body) => Ok(body),
+            None => Err(GrammarFault::SY),
+        }
+    }
+
+    /// Reads a body.
+    fn read_body(&mut self, radix: Radix, tokens: &[Token]) -> Result<Option<Body>, AllocError>
+        ensures { ReadsBody (body_phrase radix tokens.now) result self.new }
+    {
+        match tokens {
+            [] => Ok(self.read_alone(Body::Nothing, tokens)),
+            [first, rest @ ..] => {
+                if is_star(first.kind) {
+                    return self.read_expression(radix, Body::Origin, rest);
+                }
+                match name_of(first.kind) {
+                    Some(name) => {
+                        if is_reserved(name) {
+                            self.read_form(radix, form_by(name), rest)
+                        } else {
+                            self.read_named(radix, name, tokens, rest)
+                        }
+                    }
+                    None => self.read_word(radix, tokens),
+                }
+            }
+        }
+    }
+
+    /// Reads a body that begins with a name that isn't reserved.
+    fn read_named(
+        &mut self,
+        radix: Radix,
+        name: Name,
+        tokens: &[Token],
+        rest: &[Token],
+    ) -> Result<Option<Body>, AllocError>
+        ensures { (first : Token) → tokens.now ≡ first ∷ rest.now
+            → ReadsBody (named_phrase radix name first rest.now) result self.new }
+    {
+        match rest {
+            [] => self.read_word(radix, tokens),
+            [second, others @ ..] => {
+                if is_equals(second.kind) {
+                    self.read_definition(radix, name, others)
+                } else {
+                    self.read_word(radix, tokens)
+                }
+            }
+        }
+    }
+
+    /// Reads what stands after a reserved name.
+    fn read_form(
+        &mut self,
+        radix: Radix,
+        form: Form,
+        rest: &[Token],
+    ) -> Result<Option<Body>, AllocError>
+        ensures { ReadsBody (form_phrase radix form rest.now) result self.new }
+    {
+        match form {
+            Form::Alone(body) => Ok(self.read_alone(body, rest)),
+            Form::Valued(body) => self.read_argument(radix, body, rest),
+            Form::Page => {
+                if rest.is_empty() {
+                    return Ok(self.read_alone(Body::NextPage, rest));
+                }
+                self.read_argument(radix, Body::Page, rest)
+            }
+            Form::Text => Ok(self.read_text(rest)),
+            Form::Later => Ok(None),
+        }
+    }
+
+    /// Reads nothing more.
+    fn read_alone(&mut self, body: Body, rest: &[Token]) -> Option<Body>
+        ensures { ReadsBody (alone body rest.now) (Ok result) self.new }
+    {
+        self.clear(Stand::Value);
+        if rest.is_empty() { Some(body) } else { None }
+    }
+
+    /// Reads the string of a text.
+    fn read_text(&mut self, rest: &[Token]) -> Option<Body>
+        ensures { ReadsBody (text_phrase rest.now) (Ok result) self.new }
+    {
+        self.clear(Stand::Value);
+        match rest {
+            [string] => {
+                if is_string(string.kind) {
+                    Some(Body::Text)
+                } else {
+                    None
+                }
+            }
+            _ => None,
+        }
+    }
+
+    /// Reads an expression after a blank, or one that begins with a sign.
+    fn read_argument(
+        &mut self,
+        radix: Radix,
+        body: Body,
+        rest: &[Token],
+    ) -> Result<Option<Body>, AllocError>
+        ensures { ReadsBody (phrase body (argument_steps radix rest.now)) result self.new }
+    {
+        match rest {
+            [] => Ok(None),
+            [first, ..] => {
+                if first.is_spaced || sign_of(first.kind).is_some() {
+                    self.read_expression(radix, body, rest)
+                } else {
+                    Ok(None)
+                }
+            }
+        }
+    }
+
+    /// Reads an expression.
+    fn read_expression(
+        &mut self,
+        radix: Radix,
+        body: Body,
+        tokens: &[Token],
+    ) -> Result<Option<Body>, AllocError>
+        ensures { ReadsBody (phrase body (expression_steps radix tokens.now)) result self.new }
+    {
+        let rules = Rules {
+            radix,
+            has_literals: false,
+        };
+        let is_one = self.read(rules, Stand::Expression, tokens)?;
+        if is_one { Ok(Some(body)) } else { Ok(None) }
+    }
+
+    /// Reads the value that a name is given.
+    fn read_definition(
+        &mut self,
+        radix: Radix,
+        name: Name,
+        tokens: &[Token],
+    ) -> Result<Option<Body>, AllocError>
+        ensures { ReadsBody (definition_phrase radix name tokens.now) result self.new }
+    {
+        let rules = Rules {
+            radix,
+            has_literals: false,
+        };
+        let is_one = self.read(rules, Stand::Value, tokens)?;
+        if is_one {
+            Ok(Some(Body::Define(name)))
+        } else {
+            Ok(None)
+        }
+    }
+
+    /// Reads the value of a word.
+    fn read_word(&mut self, radix: Radix, tokens: &[Token]) -> Result<Option<Body>, AllocError>
+        ensures { ReadsBody (word_phrase radix tokens.now) result self.new }
+    {
+        let rules = Rules {
+            radix,
+            has_literals: true,
+        };
+        let is_one = self.read(rules, Stand::Value, tokens)?;
+        if is_one {
+            Ok(Some(Body::Word))
+        } else {
+            Ok(None)
+        }
+    }
+}

@@ -1,0 +1,234 @@
+ghost use Rattle.std.specs.Prelude.{◌≡◌, ◌<◌, IfSome};
+ghost use Rattle.pal8_grammar.specs.Values.{if_first, is_closing, is_first_sign, is_same, modifier_by, modifier_of, name_step, number_in, number_step, opening_of, operation_of, operator_of, sign_of, term_of, word_in};
+ghost use Rattle.pal8_grammar.specs.Bodies.{free_name, is_equals, is_star, is_string, name_of};
+ghost use Rattle.pal_lex.specs.Language as pal3;
+
+use crate::Step;
+use pal8_lex::{Kind, Name, Number, Operator, Pool, Radix};
+use pal8_sym::is_reserved;
+use word12::Word;
+
+/// The number of a name of up to six characters, of which missing ones are written as 0.
+macro_rules! name {
+    ($a:literal $b:literal $c:literal) => {
+        0o10000000000 * ($a as u64 % 0o100)
+            + 0o100000000 * ($b as u64 % 0o100)
+            + 0o1000000 * ($c as u64 % 0o100)
+    };
+}
+
+const AND: u64 = name!(b'A' b'N' b'D');
+
+const TAD: u64 = name!(b'T' b'A' b'D');
+
+const ISZ: u64 = name!(b'I' b'S' b'Z');
+
+const DCA: u64 = name!(b'D' b'C' b'A');
+
+const JMS: u64 = name!(b'J' b'M' b'S');
+
+const JMP: u64 = name!(b'J' b'M' b'P');
+
+const INDIRECT: u64 = name!(b'I' 0 0);
+
+const ZERO: u64 = name!(b'Z' 0 0);
+
+/// The word of an operation of this name (Small Computer Handbook).
+fn operation_word(name: Name) -> Option<Word>
+    ensures value { result ≡ word_in (pal3.operation_of name) }
+    ensures range { IfSome result (λ word. word < 0o10000) }
+{
+    match name.number() {
+        AND => Some(Word::low(0)),
+        TAD => Some(Word::low(0o1000)),
+        ISZ => Some(Word::low(0o2000)),
+        DCA => Some(Word::low(0o3000)),
+        JMS => Some(Word::low(0o4000)),
+        JMP => Some(Word::low(0o5000)),
+        _ => None,
+    }
+}
+
+/// The word of an operation that a token names.
+pub fn operation_of(kind: Kind) -> Option<Word>
+    ensures value { result ≡ operation_of kind }
+    ensures range { IfSome result (λ word. word < 0o10000) }
+{
+    match kind {
+        Kind::Name(name) => operation_word(name),
+        Kind::Number(_) | Kind::Character(_) | Kind::Here | Kind::Operator(_) => None,
+        Kind::Equals | Kind::Comma | Kind::Star | Kind::Opening(_) => None,
+        Kind::Closing(_) | Kind::String | Kind::Bad => None,
+    }
+}
+
+/// Whether a name is `I`, or else `Z`, if it is one of these.
+fn modifier_by(name: Name) -> Option<bool>
+    ensures { result ≡ modifier_by name }
+{
+    match name.number() {
+        INDIRECT => Some(true),
+        ZERO => Some(false),
+        _ => None,
+    }
+}
+
+/// Whether a token is `I`, or else `Z`, if it is one of these.
+pub fn modifier_of(kind: Kind) -> Option<bool>
+    ensures { result ≡ modifier_of kind }
+{
+    match kind {
+        Kind::Name(name) => modifier_by(name),
+        Kind::Number(_) | Kind::Character(_) | Kind::Here | Kind::Operator(_) => None,
+        Kind::Equals | Kind::Comma | Kind::Star | Kind::Opening(_) => None,
+        Kind::Closing(_) | Kind::String | Kind::Bad => None,
+    }
+}
+
+/// The operator that a token is.
+#[inline]
+pub fn operator_of(kind: Kind) -> Option<Operator>
+    ensures { result ≡ operator_of kind }
+{
+    match kind {
+        Kind::Operator(operator) => Some(operator),
+        Kind::Name(_) | Kind::Number(_) | Kind::Character(_) | Kind::Here => None,
+        Kind::Equals | Kind::Comma | Kind::Star | Kind::Opening(_) => None,
+        Kind::Closing(_) | Kind::String | Kind::Bad => None,
+    }
+}
+
+fn is_first_sign(operator: Operator) -> bool
+    ensures { result ≡ is_first_sign operator }
+{
+    matches!(operator, Operator::Plus | Operator::Minus)
+}
+
+/// The sign that a token is, with which an expression may begin.
+pub fn sign_of(kind: Kind) -> Option<Operator>
+    ensures { result ≡ sign_of kind }
+{
+    match operator_of(kind) {
+        Some(operator) => {
+            let again = operator;
+            if is_first_sign(operator) {
+                Some(again)
+            } else {
+                None
+            }
+        }
+        None => None,
+    }
+}
+
+/// The opening that a token is.
+pub fn opening_of(kind: Kind) -> Option<Pool>
+    ensures { result ≡ opening_of kind }
+{
+    match kind {
+        Kind::Opening(pool) => Some(pool),
+        Kind::Name(_) | Kind::Number(_) | Kind::Character(_) | Kind::Here => None,
+        Kind::Equals | Kind::Comma | Kind::Star | Kind::Operator(_) => None,
+        Kind::Closing(_) | Kind::String | Kind::Bad => None,
+    }
+}
+
+fn is_same(pool: Pool, other: Pool) -> bool
+    ensures { result ≡ is_same pool other }
+{
+    match pool {
+        Pool::Own => matches!(other, Pool::Own),
+        Pool::Zero => matches!(other, Pool::Zero),
+    }
+}
+
+/// Whether a token closes a literal of this pool.
+pub fn is_closing(pool: Pool, kind: Kind) -> bool
+    ensures { result ≡ is_closing pool kind }
+{
+    match kind {
+        Kind::Closing(other) => is_same(pool, other),
+        Kind::Name(_) | Kind::Number(_) | Kind::Character(_) | Kind::Here => false,
+        Kind::Equals | Kind::Comma | Kind::Star | Kind::Operator(_) => false,
+        Kind::Opening(_) | Kind::String | Kind::Bad => false,
+    }
+}
+
+/// The step that a number is by a radix, if it is one.
+fn number_step(radix: Radix, number: Number) -> Option<Step>
+    ensures { result ≡ number_step (number_in radix number) }
+{
+    let word = match radix {
+        Radix::Octal => number.octal_word(),
+        Radix::Decimal => number.decimal_word(),
+    };
+    match word {
+        Some(word) => Some(Step::Number(word)),
+        None => None,
+    }
+}
+
+/// The step that a name is as a term, if it isn't reserved.
+fn name_step(name: Name) -> Option<Step>
+    ensures { result ≡ name_step name }
+{
+    if is_reserved(name) {
+        None
+    } else {
+        Some(Step::Name(name))
+    }
+}
+
+/// The step that a term is, if it is no literal.
+pub fn term_of(radix: Radix, kind: Kind) -> Option<Step>
+    ensures { result ≡ term_of radix kind }
+{
+    match kind {
+        Kind::Name(name) => name_step(name),
+        Kind::Number(number) => number_step(radix, number),
+        Kind::Character(byte) => Some(Step::Number(Word::low(u16::from(byte)))),
+        Kind::Here => Some(Step::Here),
+        Kind::Operator(_) | Kind::Equals | Kind::Comma | Kind::Star => None,
+        Kind::Opening(_) | Kind::Closing(_) | Kind::String | Kind::Bad => None,
+    }
+}
+
+/// The name that a token is.
+pub fn name_of(kind: Kind) -> Option<Name>
+    ensures { result ≡ name_of kind }
+{
+    match kind {
+        Kind::Name(name) => Some(name),
+        Kind::Number(_) | Kind::Character(_) | Kind::Here | Kind::Operator(_) => None,
+        Kind::Equals | Kind::Comma | Kind::Star | Kind::Opening(_) => None,
+        Kind::Closing(_) | Kind::String | Kind::Bad => None,
+    }
+}
+
+/// The name that a token is, if it isn't reserved (PAL8, in this project's profile).
+pub fn free_name(kind: Kind) -> Option<Name>
+    ensures { result ≡ free_name kind }
+{
+    match name_of(kind) {
+        Some(name) => { if is_reserved(name) { None } else { Some(name) } }
+        None => None,
+    }
+}
+
+pub fn is_star(kind: Kind) -> bool
+    ensures { result ≡ is_star kind }
+{
+    matches!(kind, Kind::Star)
+}
+
+pub fn is_equals(kind: Kind) -> bool
+    ensures { result ≡ is_equals kind }
+{
+    matches!(kind, Kind::Equals)
+}
+
+pub fn is_string(kind: Kind) -> bool
+    ensures { result ≡ is_string kind }
+{
+    matches!(kind, Kind::String)
+}

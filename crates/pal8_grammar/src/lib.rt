@@ -1,0 +1,19 @@
+//! The grammar of PAL8, the assembler of OS/8 (in this project's profile of it): what a statement says, by its tokens and the radix before it.
+//!
+//! Its value, if it has one, reads as steps, in the order in which they come to a value. Brackets nest to any depth, and no call recurs.
+#![tactic(auto)]
+
+mod bodies;
+mod faults;
+mod kinds;
+mod literals;
+mod readers;
+mod stands;
+mod steps;
+
+pub use bodies::{Body, Form};
+pub use faults::GrammarFault;
+pub use kinds::free_name;
+pub use readers::Reader;
+pub use stands::{Outer, Rules, Stand};
+pub use steps::Step;

@@ -1,0 +1,26 @@
+use pal8_lex::{Name, Operator, Pool};
+use word12::Word;
+
+/// A step of a value. A value is the sum of its terms, each joined by the sign before it, and a reference is an operation with such a sum as
+/// its address.
+#[derive(Clone, Copy)]
+pub enum Step {
+    /// A memory reference begins, with the word of its operation.
+    Operation(Word),
+    /// The operation is a term, and no reference begins.
+    Alone,
+    /// `I`
+    Indirect,
+    /// A term that is a name.
+    Name(Name),
+    /// A term that is a number or a character.
+    Number(Word),
+    /// `.`, a term.
+    Here,
+    /// The sign before the next term.
+    Sign(Operator),
+    /// A literal begins, and the steps of its own value.
+    Open(Pool),
+    /// The innermost literal ends, and is a term.
+    Close,
+}

@@ -1,0 +1,16 @@
+use Rattle.std.proofs.Common.{List, length}
+use Rattle.pal8_sym.specs.Symbols.{value_of}
+use Rattle.pal8_pools.specs.Asks.{Ask}
+use Rattle.pal8_pools.specs.Pooled.{Holds}
+use Rattle.pal8_values.specs.Words.{word_value}
+use Rattle.pal8_values.proofs.WordLemmas.{IsOnTheWay}
+use Rattle.pal8_values.proofs.words.word_value.Given as goal
+
+-- the steps that are left come to what all of them come to
+abbrev pub invariant-loop-rest : goal.invariant-loop-rest
+invariant-loop-rest l =
+    (asks : List Ask) → Holds l.fn.pools asks asks
+    → IsOnTheWay (value_of l.fn.symbols) l.fn.spot (word_value (value_of l.fn.symbols) l.fn.spot l.fn.steps asks) l.rest l.sum l.frames l.pools
+
+abbrev pub decreases-loop-rest : goal.decreases-loop-rest
+decreases-loop-rest l = length l.rest

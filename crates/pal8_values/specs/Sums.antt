@@ -1,0 +1,112 @@
+-- The value of terms, from left to right (PAL8, in this project's profile).
+use Rattle.std.specs.Prelude.{ℕ, ◌+◌, ◌-◌, ◌*◌, ◌/◌, ◌%◌, nat_eq, nat_lt, bit_and, bit_or, Bool, true, false, if◌then◌else◌, Option, Some, None, Result, Ok, Err, List, [], ◌∷◌}
+use Rattle.word12.specs.declared.sizes.TheConstants.{PAGE}
+use Rattle.pal8_lex.specs.declared.tokens.Operator.{Operator}
+use Rattle.pal8_lex.specs.declared.tokens.Operator.TheVariants.{Plus, Minus, Or, And, Times, Divide}
+use Rattle.pal8_grammar.specs.declared.steps.Step.{Step}
+use Rattle.pal8_grammar.specs.declared.steps.Step.TheVariants as step
+use Rattle.pal8_values.specs.declared.sums.Sum.{Sum}
+use Rattle.pal8_values.specs.declared.faults.ValueFault.{ValueFault}
+use Rattle.pal8_values.specs.declared.faults.ValueFault.TheVariants.{UA, PF, DZ, IR}
+
+-- what names stand for
+abbrev pub Known : Type 0
+Known = ℕ → Option ℕ
+
+-- Each operator gives twelve bits: sum, difference and product modulo 0o10000, inclusive or, and, and the quotient without remainder.
+abbrev pub joined : Operator → ℕ → ℕ → ℕ
+joined Plus a b = (a + b) % 0o10000
+joined Minus a b = (a + 0o10000 - b) % 0o10000
+joined Or a b = bit_or a b
+joined And a b = bit_and a b
+joined Times a b = a * b % 0o10000
+joined Divide a b = a / b
+
+-- there is no quotient by 0
+abbrev pub is_undivided : Operator → ℕ → Bool
+is_undivided Plus b = false
+is_undivided Minus b = false
+is_undivided Or b = false
+is_undivided And b = false
+is_undivided Times b = false
+is_undivided Divide b = nat_eq b 0
+
+-- no term yet: the first one is added to 0
+abbrev pub empty : Sum
+empty = record { is_reference = false; operation = 0; is_indirect = false; total = 0; sign = Plus }
+
+-- one term more, joined by the sign before it
+abbrev pub with_value : ℕ → Sum → Result Sum ValueFault
+with_value v s =
+    if is_undivided s.sign v then Err DZ
+    else Ok record s { total = joined s.sign s.total v }
+
+abbrev pub with_known : Option ℕ → Sum → Result Sum ValueFault
+with_known None s = Err UA
+with_known (Some v) s = with_value v s
+
+-- `.` is the place, if that isn't past 7777
+abbrev pub with_place : ℕ → Sum → Result Sum ValueFault
+with_place location s = if nat_lt location 0o10000 then with_value location s else Err PF
+
+-- an operation that no reference begins with is a first term
+abbrev pub alone_by : Bool → Sum → Sum
+alone_by false s = s
+alone_by true s = record { is_reference = false; operation = 0; is_indirect = false; total = s.operation; sign = s.sign }
+
+-- a step that neither opens nor closes a literal
+abbrev pub with_plain : Known → ℕ → Step → Sum → Result Sum ValueFault
+with_plain known location (step.Operation word) s = Ok record { is_reference = true; operation = word; is_indirect = false; total = s.total; sign = s.sign }
+with_plain known location step.Alone s = Ok (alone_by s.is_reference s)
+with_plain known location step.Indirect s = Ok record s { is_indirect = true }
+with_plain known location (step.Name name) s = with_known (known name) s
+with_plain known location (step.Number word) s = with_value word s
+with_plain known location step.Here s = with_place location s
+with_plain known location (step.Sign op) s = Ok record s { sign = op }
+with_plain known location (step.Open pool) s = Ok s
+with_plain known location step.Close s = Ok s
+
+-- ## Memory references
+
+-- What stands in a memory reference for an address: below 0200 its offset on page zero; on the page of the place its offset with 0200. No
+-- other address is reached.
+abbrev pub offset_of : ℕ → ℕ → Option ℕ
+offset_of location address =
+    if nat_lt address PAGE then Some address
+    else (if nat_eq (address / PAGE) (location / PAGE) then Some (address % PAGE + 0o200) else None)
+
+-- `I` is 0400
+abbrev pub indirect_bit : Bool → ℕ
+indirect_bit false = 0
+indirect_bit true = 0o400
+
+abbrev pub reference_word : ℕ → Bool → ℕ → ℕ
+reference_word operation is_indirect offset = bit_or (bit_or operation (indirect_bit is_indirect)) offset
+
+-- ## Values without literals, as definitions and places have them
+
+abbrev pub direct_by : ℕ → Bool → Option ℕ → Result ℕ ValueFault
+direct_by operation is_indirect None = Err IR
+direct_by operation is_indirect (Some offset) = Ok (reference_word operation is_indirect offset)
+
+abbrev pub direct : ℕ → Bool → Sum → Result ℕ ValueFault
+direct location false s = Ok s.total
+direct location true s = direct_by s.operation s.is_indirect (offset_of location s.total)
+
+-- what terms come to: a reference there makes no link
+abbrev pub direct_value : ℕ → Result Sum ValueFault → Result ℕ ValueFault
+direct_value location (Err fault) = Err fault
+direct_value location (Ok s) = direct location s.is_reference s
+
+abbrev pub with_plain_if : Known → ℕ → Step → Result Sum ValueFault → Result Sum ValueFault
+with_plain_if known location step (Err fault) = Err fault
+with_plain_if known location step (Ok s) = with_plain known location step s
+
+-- steps more, up to the first fault
+abbrev pub with_plains : Known → ℕ → List Step → Result Sum ValueFault → Result Sum ValueFault
+with_plains known location [] s = s
+with_plains known location (step ∷ others) s = with_plains known location others (with_plain_if known location step s)
+
+-- the value of steps at a place, or its first fault from the left
+abbrev pub early_value : Known → ℕ → List Step → Result ℕ ValueFault
+early_value known location steps = direct_value location (with_plains known location steps (Ok empty))

@@ -1,0 +1,218 @@
+ghost use Rattle.std.specs.Prelude.{◌≡◌, ◌<◌, IfSome, false};
+ghost use Rattle.pal8_sym.specs.Symbols.{value_of};
+ghost use Rattle.pal8_values.specs.Sums.{alone_by, direct, direct_by, early_value, empty, indirect_bit, is_undivided, joined, offset_of, reference_word, with_known, with_place, with_plain, with_value};
+ghost use Rattle.pal8_values.specs.Steps.{Answers};
+
+use crate::ValueFault;
+use pal8_grammar::Step;
+use pal8_lex::{Name, Operator};
+use pal8_sym::Symbols;
+use word12::{PAGE, Word};
+
+/// The bit of a memory reference that stands for its own page.
+const OWN_PAGE: u16 = 0o200;
+
+/// Where a word stands: a field (0 to 7) and a place in it (0 to 0o10000, which is past 7777).
+#[derive(Clone, Copy)]
+pub struct Spot {
+    pub field: u8,
+    pub location: u16,
+}
+
+/// What terms have come to: the address of a memory reference, or an expression.
+#[derive(Clone, Copy)]
+pub struct Sum {
+    pub is_reference: bool,
+    /// The word of the reference's operation, else 0.
+    pub operation: Word,
+    pub is_indirect: bool,
+    pub total: Word,
+    /// The sign before the next term.
+    pub sign: Operator,
+}
+
+/// No term yet.
+pub fn empty() -> Sum
+    ensures { result ≡ empty }
+{
+    Sum {
+        is_reference: false,
+        operation: Word::ZERO,
+        is_indirect: false,
+        total: Word::ZERO,
+        sign: Operator::Plus,
+    }
+}
+
+/// Whether a sign has no meaning before a value.
+fn is_undivided(sign: Operator, value: Word) -> bool
+    ensures { result ≡ is_undivided sign value }
+{
+    match sign {
+        Operator::Divide => value.get() == 0,
+        Operator::Plus | Operator::Minus | Operator::Or | Operator::And | Operator::Times => false,
+    }
+}
+
+/// The product modulo 0o10000.
+fn product(before: Word, value: Word) -> Word
+    ensures value { result ≡ joined Operator.Times before value }
+    ensures range { result < 0o10000 }
+{
+    let product = u32::from(before.get()) * u32::from(value.get());
+    Word::low((product % 0o10000) as u16)
+}
+
+/// Two values joined. A quotient by 0 is no value.
+fn joined(sign: Operator, before: Word, value: Word) -> Word
+    requires { is_undivided sign value ≡ false }
+    ensures value { result ≡ joined sign before value }
+    ensures range { result < 0o10000 }
+{
+    match sign {
+        Operator::Plus => before.plus(value),
+        Operator::Minus => before.minus(value),
+        Operator::Or => before.or(value),
+        Operator::And => before.and(value),
+        Operator::Times => product(before, value),
+        Operator::Divide => Word::low(before.get() / value.get()),
+    }
+}
+
+/// One term more.
+pub fn with_value(value: Word, sum: Sum) -> Result<Sum, ValueFault>
+    ensures { Answers (with_value value sum) result }
+{
+    let before = sum;
+    let again = sum;
+    if is_undivided(sum.sign, value) {
+        return Err(ValueFault::DZ);
+    }
+    Ok(Sum {
+        total: joined(before.sign, before.total, value),
+        ..again
+    })
+}
+
+/// A name more.
+fn with_name(symbols: &Symbols, name: Name, sum: Sum) -> Result<Sum, ValueFault>
+    ensures { Answers (with_known (value_of symbols.now name) sum) result }
+{
+    match symbols.value(name) {
+        Some(value) => with_value(value, sum),
+        None => Err(ValueFault::UA),
+    }
+}
+
+/// The place more.
+fn with_place(location: u16, sum: Sum) -> Result<Sum, ValueFault>
+    ensures { Answers (with_place location sum) result }
+{
+    match Word::new(location) {
+        Some(place) => with_value(place, sum),
+        None => Err(ValueFault::PF),
+    }
+}
+
+/// The operation is a term.
+fn alone(sum: Sum) -> Sum
+    ensures { result ≡ alone_by sum.is_reference sum }
+{
+    if sum.is_reference {
+        Sum {
+            total: sum.operation,
+            sign: sum.sign,
+            ..empty()
+        }
+    } else {
+        sum
+    }
+}
+
+/// Takes a step that neither opens nor closes a literal.
+pub fn with_plain(symbols: &Symbols, location: u16, step: Step, sum: Sum) -> Result<Sum, ValueFault>
+    ensures { Answers (with_plain (value_of symbols.now) location step sum) result }
+{
+    match step {
+        Step::Operation(word) => Ok(Sum {
+            is_reference: true,
+            operation: word,
+            is_indirect: false,
+            ..sum
+        }),
+        Step::Alone => Ok(alone(sum)),
+        Step::Indirect => Ok(Sum {
+            is_indirect: true,
+            ..sum
+        }),
+        Step::Name(name) => with_name(symbols, name, sum),
+        Step::Number(word) => with_value(word, sum),
+        Step::Here => with_place(location, sum),
+        Step::Sign(sign) => Ok(Sum { sign, ..sum }),
+        Step::Open(_) | Step::Close => Ok(sum),
+    }
+}
+
+/// What stands in a memory reference at a place for an address, if it can be reached.
+pub fn offset_of(location: u16, address: Word) -> Option<Word>
+    ensures value { result ≡ offset_of location address }
+    ensures range { IfSome result (λ offset. offset < 0o400) }
+{
+    let number = address.get();
+    if number < PAGE {
+        return Some(Word::low(number));
+    }
+    if number / PAGE == location / PAGE {
+        return Some(Word::low(number % PAGE + OWN_PAGE));
+    }
+    None
+}
+
+fn indirect_bit(is_indirect: bool) -> Word
+    ensures value { result ≡ indirect_bit is_indirect }
+    ensures range { result < 0o10000 }
+{
+    if is_indirect {
+        Word::low(0o400)
+    } else {
+        Word::ZERO
+    }
+}
+
+/// The word of a memory reference.
+pub fn reference_word(operation: Word, is_indirect: bool, offset: Word) -> Word
+    ensures value { result ≡ reference_word operation is_indirect offset }
+    ensures range { result < 0o10000 }
+{
+    operation.or(indirect_bit(is_indirect)).or(offset)
+}
+
+/// The value of terms where no link can be made.
+fn direct(location: u16, sum: Sum) -> Result<Word, ValueFault>
+    ensures { Answers (direct location sum.is_reference sum) result }
+{
+    if !sum.is_reference {
+        return Ok(sum.total);
+    }
+    match offset_of(location, sum.total) {
+        Some(offset) => Ok(reference_word(sum.operation, sum.is_indirect, offset)),
+        None => Err(ValueFault::IR),
+    }
+}
+
+/// The value of steps without literals at a place (0 to 0o10000, which is past 7777), by the names so far; or its first fault from the
+/// left: UA, PF, DZ, or at last IR. It takes no memory (PAL8, in this project's profile).
+pub fn early_value(symbols: &Symbols, location: u16, steps: &[Step]) -> Result<Word, ValueFault>
+    ensures { Answers (early_value (value_of symbols.now) location steps.now) result }
+{
+    let mut sum = empty();
+    let mut rest = steps;
+    while let [step, others @ ..] = rest {
+        sum = match with_plain(symbols, location, *step, sum) {
+            Ok(next) => next,
+            Err(fault) => return Err(fault),
+        };
+        rest = others;
+    }
+    direct(location, sum)
+}
