@@ -95,7 +95,7 @@ impl Machine {
     }
 
     /// Makes up to n steps as long as they are quiet, and no break is ahead. Where few were made, IOTs come close together,
-    /// and the loop with IOTs goes on. It comes back after `MOST` steps, since a wait for a flag is made sooner without it.
+    /// and the loop with IOTs goes on. It comes back after `MOST` steps, since steps without IOTs are made sooner without it.
     #[inline(always)]
     fn run_quietly(
         &mut self,
@@ -158,7 +158,7 @@ impl Machine {
         0
     }
 
-    /// The steps of a quiet machine with IOTs among them.
+    /// The steps of a quiet machine with IOTs among them, on a copy of the processor too.
     #[inline(never)]
     fn run_with_transfers(&mut self, n: usize, quick: bool, breaks: &[bool]) -> usize
         requires { is_quiet quick self.old ≡ true }

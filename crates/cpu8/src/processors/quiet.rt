@@ -31,6 +31,17 @@ macro_rules! each_for_itself {
     };
 }
 
+/// Does a reference to memory by code of its own for each five leading bits that are listed, and another instruction as its arm
+/// says.
+macro_rules! refer_or_else {
+    ($processor:ident, $core:ident, $word:ident: $($bits:literal)*; $($other:pat => $does:expr,)*) => {
+        match $word.get() / 0o200 {
+            $($bits => $processor.refer($core, leading($bits, $word)),)*
+            $($other => $does,)*
+        }
+    };
+}
+
 impl Processor {
     /// Whether the machine runs, no interrupt request can be granted, and a quick printer has no character to end.
     #[inline(always)]
@@ -122,7 +133,7 @@ impl Processor {
     }
 
     /// Makes up to n steps as long as they are quiet and no break is ahead, with IOTs among them. It is a loop beside the others, so
-    /// that what an IOT changes is constant in those.
+    /// that what an IOT changes is constant in those. A break is looked for before each step, since the cell is then known.
     #[inline(always)]
     pub(crate) fn run_with_transfers(
         &mut self,
@@ -194,37 +205,15 @@ impl Processor {
         ensures asks { asks ≡ true → result ≡ true → finds_no_key (with_core self.old core.old) ≡ false }
     {
         let word = core.get(self.next_cell());
-        match word.get() / 0o200 {
-            0 => self.refer(core, leading(0, word)),
-            1 => self.refer(core, leading(1, word)),
-            2 => self.refer(core, leading(2, word)),
-            3 => self.refer(core, leading(3, word)),
-            4 => self.refer(core, leading(4, word)),
-            5 => self.refer(core, leading(5, word)),
-            6 => self.refer(core, leading(6, word)),
-            7 => self.refer(core, leading(7, word)),
-            0o10 => self.refer(core, leading(0o10, word)),
-            0o11 => self.refer(core, leading(0o11, word)),
-            0o12 => self.refer(core, leading(0o12, word)),
-            0o13 => self.refer(core, leading(0o13, word)),
-            0o14 => self.refer(core, leading(0o14, word)),
-            0o15 => self.refer(core, leading(0o15, word)),
-            0o16 => self.refer(core, leading(0o16, word)),
-            0o17 => self.refer(core, leading(0o17, word)),
-            0o20 => self.refer(core, leading(0o20, word)),
-            0o21 => self.refer(core, leading(0o21, word)),
-            0o22 => self.refer(core, leading(0o22, word)),
-            0o23 => self.refer(core, leading(0o23, word)),
-            0o24 => self.refer(core, leading(0o24, word)),
-            0o25 => self.refer(core, leading(0o25, word)),
-            0o26 => self.refer(core, leading(0o26, word)),
-            0o27 => self.refer(core, leading(0o27, word)),
+        refer_or_else! { self, core, word:
+            0o00 0o01 0o02 0o03 0o04 0o05 0o06 0o07 0o10 0o11 0o12 0o13
+            0o14 0o15 0o16 0o17 0o20 0o21 0o22 0o23 0o24 0o25 0o26 0o27;
             0o30 => {
                 if asks && self.finds_no_key(core) {
                     return false;
                 }
                 return self.make_transfer::<TRANSFERS>(core, leading(0o30, word));
-            }
+            },
             0o31 => return self.make_other_transfer::<TRANSFERS>(core, leading(0o31, word)),
             0o32 => return self.make_other_transfer::<TRANSFERS>(core, leading(0o32, word)),
             0o33 => return self.make_other_transfer::<TRANSFERS>(core, leading(0o33, word)),
@@ -252,8 +241,8 @@ impl Processor {
         }
     }
 
-    /// An IOT of the words 6000 to 6177, if it is one that is done in this loop. Those of interrupts and of the Teletype that print
-    /// nothing are compiled each for itself.
+    /// An IOT of the words 6000 to 6177, if it is one that is done in this loop. In the loop with IOTs those of interrupts and of the
+    /// Teletype that print nothing have code of their own. It is called at one place, so that it is inlined.
     #[inline(always)]
     fn make_transfer<const TRANSFERS: bool>(&mut self, core: &Core, word: Word) -> bool
         requires { word / 0o1000 ≡ 6 }
