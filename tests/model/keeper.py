@@ -21,8 +21,13 @@ Asked = Union[bytes, int]
 """What a file is asked for by: its name as typed, or its first block."""
 
 
+def typed_name(typed: bytes) -> Optional[Name]:
+    """The name that is typed on a command line, where small letters are taken for capitals."""
+    return parsed_name(typed.upper())
+
+
 def asked_text(asked: Asked) -> str:
-    return f"--at {asked}" if isinstance(asked, int) else asked.decode()
+    return f"--at {asked}" if isinstance(asked, int) else asked.decode().upper()
 
 
 def can_be_typed(name: Name) -> bool:
@@ -31,7 +36,7 @@ def can_be_typed(name: Name) -> bool:
 
 def found(volume: Volume, asked: Asked) -> tuple[Optional[Name], str]:
     """The name of the file that is asked for, and why there is none."""
-    name = volume.name_at(asked) if isinstance(asked, int) else parsed_name(asked)
+    name = volume.name_at(asked) if isinstance(asked, int) else typed_name(asked)
     if name is None:
         return None, NOT_FOUND if isinstance(asked, int) else BAD_NAME
     return name, "" if name in volume.files else NOT_FOUND
@@ -73,7 +78,7 @@ class Keeper:
         return [f"STORED {shown_name(name)} {file.blocks}"], 0
 
     def put_frames(self, image: str, typed: bytes, frames: bytes, info: Optional[tuple[int, ...]]) -> Answer:
-        name = parsed_name(typed)
+        name = typed_name(typed)
         if name is not None and not frames:
             return emptying("-") if name in self.volumes[image].files else refused(NOTHING)
         return self.put(image, name, packed(list(frames)), info)
@@ -121,7 +126,7 @@ class Keeper:
         return lines, 0
 
     def rename(self, image: str, asked: Asked, wanted: bytes) -> Answer:
-        volume, new = self.volumes[image], parsed_name(wanted)
+        volume, new = self.volumes[image], typed_name(wanted)
         name, why = found(volume, asked)
         if why == BAD_NAME or new is None:
             return refused(BAD_NAME)
@@ -140,7 +145,7 @@ class Keeper:
         if name is None or why:
             return [f"note: {image} is the image that refuses", why], 1
         file = self.volumes[image].files[name]
-        lines, status = self.put(to, name if wanted is None else parsed_name(wanted), file.words, file.info)
+        lines, status = self.put(to, name if wanted is None else typed_name(wanted), file.words, file.info)
         return [*([f"note: {to} is the image that refuses"] if status else []), *lines], status
 
     def squeeze(self, image: str) -> Answer:
@@ -178,7 +183,8 @@ class Keeper:
         volume, lines = self.volumes[image], []
         in_order = sorted(volume.files, key=lambda it: volume.places[it])
         names = list(in_order) if is_all else []
-        for word in words:
+        for typed in words:
+            word = typed if typed.startswith("--at ") else typed.upper()
             asked: Asked = int(word[5:]) if word.startswith("--at ") else word.encode()
             if "*" in word or "?" in word:
                 found_names, why = [it for it in in_order if is_like(word, it)], "" if is_pattern(word) else BAD_NAME

@@ -1,6 +1,6 @@
 -- What plain command lines ask for, by what they give their arguments.
 use Rattle.std.proofs.Common.{◌≡◌, ◌∙◌, if◌then◌else◌, ℕ, Bool, codes, true, false, true≢false, refl, sym, ap, map, option_map, subst, List, [], ◌∷◌, Option, Some, None, is_some}
-use Rattle.std.specs.Prelude.{◌&&◌, length, nat_eq, nat_le, nat_lt}
+use Rattle.std.specs.Prelude.{◌&&◌, length, nat_eq, nat_le, nat_lt, option_and_then}
 use Rattle.clap.specs.Words.{Row, Text, all_of, first_of, one_of}
 use Rattle.char_pack.specs.declared.forms.GetForm.{GetForm}
 use Rattle.char_pack.specs.declared.forms.GetForm.TheVariants as get_as
@@ -59,10 +59,6 @@ cell_plain (b ∷ rest) cell is = λ hyphen. by_rest rest (subst (λ (x : ℕ). 
 pub word_plain : (text : Text) (n : ℕ) → word_of text ≡ Some n → IsPlain text
 word_plain [] n is = tt
 word_plain (b ∷ rest) n is = λ hyphen. hyphen_octal 0o7777 rest n (subst (λ (x : ℕ). word_of (x ∷ rest) ≡ Some n) hyphen is)
-
-pub read_given : (read : Option ℕ) (given : Option ℕ) → Some read ≡ option_map Some given → given ≡ read
-read_given read None is = absurd (cc)
-read_given read (Some number) is = sym (some_eq read (Some number) is)
 
 -- a number is no option
 pub number_plain : (least most : ℕ) (text : Text) (n : ℕ) → number_in least most text ≡ Some n → IsPlain text
@@ -133,13 +129,13 @@ asks_assemble files output rows is task (a_assemble form) asks = (
 
 -- what is asked for, but for the tape and the start
 pub teletype_asked : (file : Text) (member : Option Text) (start : Option ℕ) (rows : List Row) → told_tape rows ≡ (Some file, member, None)
-    → ((given : Option ℕ) → option_map cell_of (first_of (codes "start") rows) ≡ option_map Some given → given ≡ start)
+    → option_and_then cell_of (first_of (codes "start") rows) ≡ start
     → (first_of (codes "switches") rows ≡ None) × (one_of (codes "steps") rows ≡ None) × (is_set (codes "raw") rows ≡ false) × (is_set (codes "live") rows ≡ false)
     → (task : Task) → Seen verb.Teletype task → AsksFor verb.Teletype rows task → IsTeletypeOf file member start task
 teletype_asked file member start rows is start_is rest task (a_teletype form) asks = (
   tape_is file member rows form.tape is asks.1.0,
-  start_is form.start asks.1.1,
-  no_value Some form.switches (sym (ap (option_map word_of) rest.0) ∙ asks.1.2),
+  sym asks.1.1 ∙ start_is,
+  sym asks.1.2 ∙ ap (option_and_then word_of) rest.0,
   sym asks.1.3 ∙ ap (option_map number_of) rest.1,
   asks.1.4 ∙ rest.2,
   asks.1.5 ∙ rest.3,
@@ -152,8 +148,8 @@ pub traced : (file : Text) (member keys : Option Text) (rows : List Row) (form :
     → IsTraceForm rows form → IsTraceFormOf file member keys form
 traced file member keys rows form is keys_are rest asks = (
   tape_is file member rows form.tape is asks.0,
-  no_value Some form.start (sym (ap (option_map cell_of) rest.0) ∙ asks.1),
-  no_value Some form.switches (sym (ap (option_map word_of) rest.1) ∙ asks.2),
+  sym asks.1 ∙ ap (option_and_then cell_of) rest.0,
+  sym asks.2 ∙ ap (option_and_then word_of) rest.1,
   sym asks.3 ∙ ap (option_map number_of) rest.2,
   sym asks.4 ∙ keys_are,
 )

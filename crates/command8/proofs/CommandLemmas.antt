@@ -39,11 +39,6 @@ changed : (old new after : Arg) (f : Rule → Rule) (rule : Rule) → new ≡ af
 unfolding IsArgument
 changed old new after f rule is of local old_is = (ap rule_of is ∙ (of ∙ ap f old_is.0), ap (λ (a : Arg). a.global) is ∙ (local ∙ old_is.1))
 
-pub named_new : (old new : Arg) (id : List ℕ) (help : _) → rule_of old ≡ new_rule id → old.global ≡ false → new ≡ record old { help = help }
-    → IsArgument new (new_rule id)
-unfolding IsArgument
-named_new old new id help of local is = (ap rule_of is ∙ of, ap (λ (a : Arg). a.global) is ∙ local)
-
 pub fresh : (a : Arg) (id : List ℕ) → rule_of a ≡ new_rule id → a.global ≡ false → IsArgument a (new_rule id)
 unfolding IsArgument
 fresh a id of local = (of, local)
@@ -157,16 +152,6 @@ adds_leaf : (old new leaf : Command) (app sub : App) → AddsSubcommand old leaf
 unfolding IsCommand
 adds_leaf old new leaf app sub adds is given =
     (adds.shape given.1 ∙ ap₂ with_subcommand is.0 (ap (λ (a : App). a.top) given.0), adds.globals ∙ ap₂ (λ (a b : Bool). a || b) is.1 given.1)
-
-pub argument_draft : {E : Type 0} (old : Command) (argument : Arg) (made : Result Command E) (app : App) (rule : Rule) → IsCommand old app → IsArgument argument rule
-    → IfOk made (λ new. AddsArg old argument new) → IfOk made (λ new. IsCommand new (with_rule app rule))
-argument_draft old argument (Ok new) app rule is of adds = adds_argument old new argument app rule adds of is
-argument_draft old argument (Err error) app rule is of adds = tt
-
-pub leaf_draft : {E : Type 0} (old leaf : Command) (made : Result Command E) (app sub : App) → IsCommand old app → IsCommand leaf sub
-    → IfOk made (λ new. AddsSubcommand old leaf new) → IfOk made (λ new. IsCommand new (with_leaf app sub))
-leaf_draft old leaf (Ok new) app sub is given adds = adds_leaf old new leaf app sub adds is given
-leaf_draft old leaf (Err error) app sub is given adds = tt
 
 -- ## The loops over the table
 

@@ -40,9 +40,6 @@ bounded_given low high (Some t) r none some =
     let had = some t refl in
     (ap Some (sym had.2) ∙ sym had.1, subst (λ (o : Option ℕ). IfSome o (λ n. (low ≤ n) × (n ≤ high))) (sym had.1) (had.3, had.4))
 
-pub same_some : {X : Type 0} (x y : X) → Some x ≡ Some y → x ≡ y
-same_some x y same = cc
-
 pub none_some : {X : Type 0} (x : X) → None ≡ Some x → ⊥
 none_some x same = cc
 

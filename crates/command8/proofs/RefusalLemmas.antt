@@ -46,13 +46,13 @@ entry_needs name values entry is whole none =
     let same : whole.0 ≡ entry = some_eq whole.0 entry (sym whole.1 ∙ is) in
     let one = or_second (option_map (λ pair. together pair.0 pair.1) (both_given which values)) _ none in
     let two = or_second (option_map missing (missing_of which values)) _ one in
-    let three = or_second (if names_input_twice which values then Some input_twice else None) _ two in
+    let three = or_second (if names_input_twice values then Some input_twice else None) _ two in
     let four = or_second (option_map unexpected (unexpected_of values)) _ three in (
       subst (λ (e : Entry). AllHold (rows_for e.verb) values) same whole.2,
       all_well (rows_for which) values (map_none said_of (first_bad (rows_for which) values) (or_first (option_map said_of (first_bad (rows_for which) values)) _ four)),
       map_none missing (missing_of which values) (or_first (option_map missing (missing_of which values)) _ one),
-      once (names_input_twice which values) (or_first (if names_input_twice which values then Some input_twice else None) _ two),
-      map_none said_of (bad_block which values) (or_second (option_map said_of (first_bad (rows_for which) values)) _ four),
+      once (names_input_twice values) (or_first (if names_input_twice values then Some input_twice else None) _ two),
+      map_none said_of (bad_block values) (or_second (option_map said_of (first_bad (rows_for which) values)) _ four),
     )
 
 -- ## What words have with nothing missing
@@ -191,7 +191,7 @@ after_takes takes which moved own values one other = go (has (codes "at") values
     go false = other
 
 -- the two numbers of blocks are some
-pub first_read : (values : List Row) → is_set (codes "blocks") values ≡ true → bad_block verb.Get values ≡ None
+pub first_read : (values : List Row) → is_set (codes "blocks") values ≡ true → bad_block values ≡ None
     → is_some (number_in 0 4094 (blocks_word 0 values)) ≡ true
 first_read values blocks none = go (is_some (number_in 0 4094 (blocks_word 0 values))) (sym (ap (λ b. if not b then None else if not (is_some (number_in 0 4094 (blocks_word 0 values)))
     then Some (codes "<FIRST>", codes "not a block, 0 to 4094", blocks_word 0 values) else later) blocks) ∙ none)
@@ -203,7 +203,7 @@ first_read values blocks none = go (is_some (number_in 0 4094 (blocks_word 0 val
     go true is = refl
     go false is = absurd (cc)
 
-pub count_read : (values : List Row) → is_set (codes "blocks") values ≡ true → bad_block verb.Get values ≡ None
+pub count_read : (values : List Row) → is_set (codes "blocks") values ≡ true → bad_block values ≡ None
     → is_some (number_in 1 4095 (blocks_word 1 values)) ≡ true
 count_read values blocks none = go (is_some (number_in 1 4095 (blocks_word 1 values))) (sym (ap (λ b. if not b then Some (codes "<FIRST>", codes "not a block, 0 to 4094", blocks_word 0 values) else later (is_some (number_in 1 4095 (blocks_word 1 values)))) (first_read values blocks none))
     ∙ (sym (ap (λ b. if not b then None else if not (is_some (number_in 0 4094 (blocks_word 0 values)))

@@ -98,7 +98,7 @@ is_limit steps = option_map_or (λ count. nat_le 1 count) steps true
 
 -- what was given is read as this number, if it was given
 abbrev pub IsReadAs : (Text → Option ℕ) → Option Text → Option ℕ → Type 0
-IsReadAs read given number = option_map read given ≡ option_map Some number
+IsReadAs read given number = option_and_then read given ≡ number
 
 -- ## Where a volume lies in its file
 

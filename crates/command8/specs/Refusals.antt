@@ -134,9 +134,8 @@ abbrev pub input_count : List Text → ℕ
 input_count [] = 0
 input_count (name ∷ names) = (if bytes_eq name (codes "-") then 1 else 0) + input_count names
 
-abbrev pub names_input_twice : Verb → List Row → Bool
-names_input_twice verb.Assemble values = nat_lt 1 (input_count (values_of (codes "FILE") values))
-names_input_twice which values = false
+abbrev pub names_input_twice : List Row → Bool
+names_input_twice values = nat_lt 1 (input_count (values_of (codes "FILE") values))
 
 -- ## An argument too many
 
@@ -173,16 +172,12 @@ first_bad [] values = None
 first_bad (row ∷ rows) values = bad_or row (first_not (form_of row.kind) (values_of row.id values)) (first_bad rows values)
 
 -- the first block and their number, where blocks are got
-abbrev pub gets_blocks : Verb → List Row → Bool
-gets_blocks verb.Get values = is_set (codes "blocks") values
-gets_blocks which values = false
-
 abbrev pub blocks_word : ℕ → List Row → Text
 blocks_word index values = unwrap_or (word_at (codes "NAME") index values) []
 
-abbrev pub bad_block : Verb → List Row → Option Bad
-bad_block which values =
-    if not (gets_blocks which values) then None
+abbrev pub bad_block : List Row → Option Bad
+bad_block values =
+    if not (is_set (codes "blocks") values) then None
     else if not (is_some (number_in 0 4094 (blocks_word 0 values))) then Some (codes "<FIRST>", codes "not a block, 0 to 4094", blocks_word 0 values)
     else if not (is_some (number_in 1 MOST_BLOCKS (blocks_word 1 values))) then Some (codes "<COUNT>", codes "not a number of blocks, 1 to 4095", blocks_word 1 values)
     else None
@@ -204,7 +199,7 @@ abbrev pub refusal_of : Verb → List Row → Option Said
 refusal_of which values =
     or_else (option_map (λ pair. together pair.0 pair.1) (both_given which values))
     (or_else (option_map missing (missing_of which values))
-    (or_else (said_twice (names_input_twice which values))
+    (or_else (said_twice (names_input_twice values))
     (or_else (option_map unexpected (unexpected_of values))
     (or_else (option_map said_of (first_bad (rows_for which) values))
-    (option_map said_of (bad_block which values))))))
+    (option_map said_of (bad_block values))))))

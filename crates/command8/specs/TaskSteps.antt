@@ -32,7 +32,7 @@ IsAskedBy which values task = AsksFor which values task × HasFitBlocks task
 -- blocks are some
 abbrev pub Needs : Verb → List Row → Type 0
 Needs which values = AllHold (rows_for which) values × AllWell (rows_for which) values × (missing_of which values ≡ None)
-    × (names_input_twice which values ≡ false) × (bad_block which values ≡ None)
+    × (names_input_twice values ≡ false) × (bad_block values ≡ None)
 
 abbrev pub IsWhole : Text → List Row → Type 0
 IsWhole name values = (entry : Entry) × (entry_named name ≡ Some entry) × AllHold (rows_for entry.verb) values

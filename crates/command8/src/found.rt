@@ -252,30 +252,22 @@ pub fn size_of(found: &ArgMatches<'_>, _verb: Verb, id: &str) -> Option<usize>
 
 /// The cell of an option, if it was given.
 pub fn cell_of(found: &ArgMatches<'_>, _verb: Verb, id: &str) -> Option<Cell>
-    requires kind { kind_at id.now (rows_for _verb) ≡ Some (kind.One form.Cell) }
-    requires well { IsWell form.Cell id.now (rows_of (found_of found.now)) }
+    requires { kind_at id.now (rows_for _verb) ≡ Some (kind.One form.Cell) }
     ensures { IsReadAs spec.cell_of (first_of id.now (rows_of (found_of found.now))) result }
 {
     match text_of(found, id) {
-        Some(text) => match cell_in(text.as_bytes()) {
-            Some(cell) => Some(cell),
-            None => unreachable!(),
-        },
+        Some(text) => cell_in(text.as_bytes()),
         None => None,
     }
 }
 
 /// The word of an option, if it was given.
 pub fn octal_of(found: &ArgMatches<'_>, _verb: Verb, id: &str) -> Option<Word>
-    requires kind { kind_at id.now (rows_for _verb) ≡ Some (kind.One form.Octal) }
-    requires well { IsWell form.Octal id.now (rows_of (found_of found.now)) }
+    requires { kind_at id.now (rows_for _verb) ≡ Some (kind.One form.Octal) }
     ensures { IsReadAs spec.word_of (first_of id.now (rows_of (found_of found.now))) result }
 {
     match text_of(found, id) {
-        Some(text) => match word_in(text.as_bytes()) {
-            Some(word) => Some(word),
-            None => unreachable!(),
-        },
+        Some(text) => word_in(text.as_bytes()),
         None => None,
     }
 }

@@ -30,7 +30,7 @@ pub fn judged(alloc: Global, found: &ArgMatches<'_>, entry: &'static Entry) -> R
     if let Some(what) = missing_of(found, entry.verb) {
         return Err(TaskFault::Refused(entry.usage, Refusal::Missing(what)));
     }
-    if names_input_twice(found, entry.verb) {
+    if names_input_twice(found) {
         return Err(TaskFault::Refused(entry.usage, Refusal::InputTwice));
     }
     if let Some(text) = unexpected_of(found) {
@@ -41,7 +41,7 @@ pub fn judged(alloc: Global, found: &ArgMatches<'_>, entry: &'static Entry) -> R
         let text = String::from_str(alloc, text)?;
         return Err(TaskFault::Refused(entry.usage, Refusal::Value(shown, why, text)));
     }
-    if let Some((shown, why, text)) = bad_block(found, entry.verb) {
+    if let Some((shown, why, text)) = bad_block(found) {
         let text = String::from_str(alloc, text)?;
         return Err(TaskFault::Refused(entry.usage, Refusal::Value(shown, why, text)));
     }
@@ -197,11 +197,11 @@ fn why(form: Form) -> &'static str
 }
 
 /// The number of the two of `get --blocks` that is none.
-fn bad_block<'a>(found: &ArgMatches<'a>, verb: Verb) -> Option<Bad<'a>>
+fn bad_block<'a>(found: &ArgMatches<'a>) -> Option<Bad<'a>>
     ensures { option_map (λ bad. (bad.0.now, bad.1.now, bad.2.now)) result
-        ≡ spec.bad_block verb (rows_of (found_of found.now)) }
+        ≡ spec.bad_block (rows_of (found_of found.now)) }
 {
-    if !gets_blocks(found, verb) {
+    if !is_set(found, "blocks") {
         return None;
     }
     let first = blocks_word(found, 0);
@@ -213,31 +213,6 @@ fn bad_block<'a>(found: &ArgMatches<'a>, verb: Verb) -> Option<Bad<'a>>
         return Some(("<COUNT>", "not a number of blocks, 1 to 4095", count));
     }
     None
-}
-
-/// Whether blocks are got.
-fn gets_blocks(found: &ArgMatches<'_>, verb: Verb) -> bool
-    ensures { result ≡ spec.gets_blocks verb (rows_of (found_of found.now)) }
-{
-    match verb {
-        Verb::Get => is_set(found, "blocks"),
-        Verb::Tape
-        | Verb::Rim
-        | Verb::Source
-        | Verb::Assemble
-        | Verb::Teletype
-        | Verb::Trace
-        | Verb::Profile
-        | Verb::Run
-        | Verb::Create
-        | Verb::List
-        | Verb::Put
-        | Verb::Delete
-        | Verb::Rename
-        | Verb::Copy
-        | Verb::Squeeze
-        | Verb::Check => false,
-    }
 }
 
 /// An argument after the image, an empty text where there is none.
@@ -267,29 +242,11 @@ fn unexpected_of<'a>(found: &ArgMatches<'a>) -> Option<&'a str>
     None
 }
 
-/// Whether standard input is named twice among sources.
-fn names_input_twice(found: &ArgMatches<'_>, verb: Verb) -> bool
-    ensures { result ≡ spec.names_input_twice verb (rows_of (found_of found.now)) }
+/// Whether standard input is named twice among files.
+fn names_input_twice(found: &ArgMatches<'_>) -> bool
+    ensures { result ≡ spec.names_input_twice (rows_of (found_of found.now)) }
 {
-    match verb {
-        Verb::Assemble => input_count(texts_in(found, "FILE")) > 1,
-        Verb::Tape
-        | Verb::Rim
-        | Verb::Source
-        | Verb::Teletype
-        | Verb::Trace
-        | Verb::Profile
-        | Verb::Run
-        | Verb::Create
-        | Verb::List
-        | Verb::Get
-        | Verb::Put
-        | Verb::Delete
-        | Verb::Rename
-        | Verb::Copy
-        | Verb::Squeeze
-        | Verb::Check => false,
-    }
+    input_count(texts_in(found, "FILE")) > 1
 }
 
 /// How many of the names are that of standard input.

@@ -41,7 +41,7 @@ pub enum Refusal {
     #[error("the following required arguments were not provided:\n  {0}")]
     Missing(What),
 
-    /// Standard input is named twice among the sources.
+    /// Standard input is named twice among the files.
     #[error("the argument '-' cannot be used multiple times")]
     InputTwice,
 

@@ -11,7 +11,7 @@ use Rattle.word12.specs.declared.sizes.TheConstants.{MOST_BLOCKS}
 use Rattle.command8.specs.Found.{capitals, cell_of, number_of}
 use Rattle.command8.specs.Refusals.{together}
 use Rattle.command8.specs.Tasks.{IsAssembleOf, IsAt, IsCheckOf, IsCopyOf, IsCreateOf, IsCreateTapeOf, IsDeleteOf, IsGetBinOf, IsGetBlocksOf, IsGetManyOf, IsGetOf, IsListLongOf, IsListOf, IsNamed, IsProfileOf, IsPutManyOf, IsPutOf, IsRenameOf, IsRimOf, IsRunOf, IsSourceOf, IsSqueezeOf, IsTapeOf, IsTeletypeOf, IsTraceOf}
-use Rattle.command8.proofs.AskLemmas.{asks_assemble, asks_check, asks_copy, asks_create, asks_create_tape, asks_delete, asks_get, asks_get_bin, asks_get_blocks, asks_get_many, asks_list, asks_list_long, asks_put, asks_put_many, asks_rename, asks_rim, asks_run, asks_squeeze, asks_tape, cell_plain, named_file, no_info, no_numbers, no_value, number_plain, one_info, one_number, placed_file, profile_asked, read_given, source_asked, teletype_asked, trace_asked, traced, volume_told, word_plain}
+use Rattle.command8.proofs.AskLemmas.{asks_assemble, asks_check, asks_copy, asks_create, asks_create_tape, asks_delete, asks_get, asks_get_bin, asks_get_blocks, asks_get_many, asks_list, asks_list_long, asks_put, asks_put_many, asks_rename, asks_rim, asks_run, asks_squeeze, asks_tape, cell_plain, named_file, no_info, no_numbers, no_value, number_plain, one_info, one_number, placed_file, profile_asked, source_asked, teletype_asked, trace_asked, traced, volume_told, word_plain}
 use Rattle.command8.proofs.EnteredLemmas.{a_flag, a_value, a_word, entered_as, found_by}
 use Rattle.command8.proofs.NumberLemmas.{some_none}
 use Rattle.command8.proofs.UseLemmas.{no_option}
@@ -385,21 +385,21 @@ returns-clause-teletype c = λ name tape tape_is.
     let uses = a_word (codes "teletype") (codes "TAPE") tape ∷ [] in
     let rows = found_by (codes "teletype") uses in
     entered_as (codes "teletype") uses (IsTeletypeOf tape None None) refl refl (record { pass = (no_option tape tape_is, record { found = refl; passes = refl; no_end = refl }, tt); settles = refl; defaults = refl; valid = refl }) name
-    (λ task seen asks. teletype_asked tape None None rows refl (λ given is. no_value Some given is) (refl, refl, refl, refl) task seen asks.1)
+    (λ task seen asks. teletype_asked tape None None rows refl refl (refl, refl, refl, refl) task seen asks.1)
 
 pub returns-clause-teletype_file : goal.returns-clause-teletype_file
 returns-clause-teletype_file c = λ name image file image_is file_is.
     let uses = a_word (codes "teletype") (codes "TAPE") image ∷ a_word (codes "teletype") (codes "NAME") file ∷ [] in
     let rows = found_by (codes "teletype") uses in
     entered_as (codes "teletype") uses (IsTeletypeOf image (Some (capitals file)) None) refl refl (record { pass = (no_option image image_is, record { found = refl; passes = refl; no_end = refl }, (no_option file file_is, record { found = refl; passes = refl; no_end = refl }, tt)); settles = refl; defaults = refl; valid = refl }) name
-    (λ task seen asks. teletype_asked image (Some (capitals file)) None rows refl (λ given is. no_value Some given is) (refl, refl, refl, refl) task seen asks.1)
+    (λ task seen asks. teletype_asked image (Some (capitals file)) None rows refl refl (refl, refl, refl, refl) task seen asks.1)
 
 pub returns-clause-teletype_start : goal.returns-clause-teletype_start
 returns-clause-teletype_start c = λ name tape start cell tape_is octal.
     let uses = a_word (codes "teletype") (codes "TAPE") tape ∷ a_value (codes "teletype") (codes "start") start ∷ [] in
     let rows = found_by (codes "teletype") uses in
     entered_as (codes "teletype") uses (IsTeletypeOf tape None (Some cell)) refl refl (record { pass = (no_option tape tape_is, record { found = refl; passes = refl; no_end = refl }, (no_option start (cell_plain start cell octal), record { read = refl; found = refl; takes_value = refl }, record { own = refl; one = refl; passes = refl }, tt)); settles = refl; defaults = refl; valid = refl }) name
-    (λ task seen asks. teletype_asked tape None (Some cell) rows refl (λ given is. read_given (cell_of start) given is ∙ octal) (refl, refl, refl, refl) task seen asks.1)
+    (λ task seen asks. teletype_asked tape None (Some cell) rows refl octal (refl, refl, refl, refl) task seen asks.1)
 
 pub returns-clause-trace : goal.returns-clause-trace
 returns-clause-trace c = λ name tape tape_is.
