@@ -2,8 +2,10 @@
 //! is such a file whole.
 
 use archive8::{Asked, GetForm};
-use image_file8::{bytes_of, bytes_of_file, core_of_file};
-use outcome::Ending;
+use file_kind::kind_of;
+use image_file8::{bytes_of, bytes_of_file, core_of_file, tell};
+use outcome::{Ending, Note, kind_note};
+use script8::SessionFault;
 use std::fs::Files;
 use task8::ImageForm;
 use word12::Cell;
@@ -29,5 +31,22 @@ pub fn program_of<R: Files + Eprint + AllocGlobal>(
         let (frames, start) = core_of_file(rt, &image, &asked)?;
         return Ok((frames, Some(start)));
     }
-    Ok((bytes_of_file(rt, &image, &asked, GetForm::Tape)?, None))
+    match bytes_of_file(rt, &image, &asked, GetForm::Tape) {
+        Ok(frames) => Ok((frames, None)),
+        Err(ending) => {
+            if let Ending::Fault(SessionFault::Tape(_)) = &ending {
+                tell_kind(rt, &bytes_of_file(rt, &image, &asked, GetForm::Frames)?);
+            }
+            Err(ending)
+        }
+    }
+}
+
+/// Prints what frames are that are no BIN tape, and which command takes that, if one does.
+pub fn tell_kind<R: Eprint + AllocGlobal>(rt: &R, frames: &[u8]) {
+    if let Ok(kind) = kind_of(rt.alloc(), frames) {
+        if let Some(note) = kind_note(kind) {
+            tell(rt, Note::Plain(note));
+        }
+    }
 }
