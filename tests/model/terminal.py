@@ -29,9 +29,20 @@ def keys_of(text: bytes, is_raw: bool) -> list[int]:
     return [it + 0o200 for it in text if it < 0o200]
 
 
-def first_cell(frames: list[int], meaning: dict[int, int]) -> int:
-    """The cell of the tape's first word; a mapping is in the order in which cells were first named."""
-    return next(iter(meaning))
+def start_cell(meaning: dict[int, int]) -> int:
+    """Where a program is started that says no start: at 00200, or else at the tape's first word; a mapping is in the order in which cells
+    were first named."""
+    return 0o200 if 0o200 in meaning else next(iter(meaning))
+
+
+def start_note(sitting: Sitting, meaning: dict[int, int]) -> str:
+    """What is said of that start, unless the first word goes to 00200 too."""
+    start = start_cell(meaning)
+    if sitting.start >= 0 or next(iter(meaning)) == 0o200:
+        return ""
+    if start == 0o200:
+        return "note: no --start is given, and 00200 has a word: the program starts there\n"
+    return f"note: no --start is given, and 00200 has no word: the program starts at the first word of the tape\nSTART {octal(start, 5)}\n"
 
 
 def asks(machine: Machine, since: int) -> bool:
@@ -64,7 +75,7 @@ def begun(sitting: Sitting) -> tuple[Machine, dict[int, int], list[int]] | str:
     for cell, word in meaning.items():
         machine.core[cell] = word
     machine.switches = sitting.switches
-    machine.start(sitting.start if sitting.start >= 0 else first_cell(sitting.frames, meaning))
+    machine.start(sitting.start if sitting.start >= 0 else start_cell(meaning))
     return machine, meaning, keys_of(sitting.keys, sitting.is_raw)
 
 
@@ -73,7 +84,14 @@ def sat(sitting: Sitting) -> tuple[bytes, bytes, int]:
     all_begun = begun(sitting)
     if isinstance(all_begun, str):
         return b"", all_begun.encode(), 1
-    machine, _, keys = all_begun
+    machine, given, keys = all_begun
+    note = start_note(sitting, given).encode()
+    shown, end, status = ended(machine, keys, sitting)
+    return shown, note + end, status
+
+
+def ended(machine: Machine, keys: list[int], sitting: Sitting) -> tuple[bytes, bytes, int]:
+    """What a machine prints, how it ends, and the status."""
     for *_, why in steps(machine, keys, sitting.steps):
         pass
     shown = bytes(it % 128 for it in machine.printed if it % 128)

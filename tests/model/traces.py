@@ -1,6 +1,6 @@
 """The lines of a trace and of a profile, by their definitions: a line for each step of a machine at a terminal, and how often each cell
 was fetched."""
-from terminal import Sitting, begun, steps
+from terminal import Sitting, begun, start_note, steps
 from words import octal
 
 OPERATIONS = ["AND", "TAD", "ISZ", "DCA", "JMS", "JMP"]
@@ -48,7 +48,7 @@ def traced(sitting: Sitting, names: Words) -> tuple[str, int]:
         machine.printed.clear()
         lines.append(said + "\n")
     lines.append(f"STEPS {made} {why} {octal(machine.here, 5)}\n")
-    return "".join(lines), 0
+    return start_note(sitting, given) + "".join(lines), 0
 
 
 def changed_cells(before: list[int], core: list[int], cell: int, word: int, is_interrupt: bool) -> list[int]:
@@ -74,7 +74,7 @@ def profiled(sitting: Sitting) -> tuple[str, int]:
     ranked = sorted((it for it in range(32768) if counts[it]), key=lambda it: (-counts[it], it))
     lines = [f"{octal(it, 5)} {counts[it]}\n" for it in ranked]
     lines += [f"NEVER {octal(first, 5)}" + (f" TO {octal(last, 5)}" if last > first else "") + "\n" for first, last in runs(given, counts)]
-    return "".join(lines) + f"STEPS {made} {why} {octal(machine.here, 5)}\n", 0
+    return start_note(sitting, given) + "".join(lines) + f"STEPS {made} {why} {octal(machine.here, 5)}\n", 0
 
 
 def runs(given: dict[int, int], counts: list[int]) -> list[tuple[int, int]]:

@@ -225,7 +225,7 @@ pub const ASSEMBLE: &[Argument] = rows! {
 pub const TELETYPE: &[Argument] = rows! {
     "TAPE" must Kind::Word, "", "The file of the tape, or of the image that holds NAME";
     "NAME" may Kind::Word, "", "The name of the file on the volume";
-    "start" option Kind::One(Form::Cell), "FAAAA", "The cell to start at, in octal, as 10200 or 1:0200; else that of the tape's first word";
+    "start" option Kind::One(Form::Cell), "FAAAA", "The cell to start at, in octal, as 10200 or 1:0200; else 00200 if the tape has that cell, else its first word's";
     "switches" option Kind::One(Form::Octal), "WWWW", "The word that the switches are set to, in octal; else 0000";
     "steps" option Kind::Count, "N", "The most instructions that are done, 1 up; without it there is no limit";
     "raw" flag Kind::Flag, "", "Strike each byte as it is, with no change of line ends and no top bit set";
@@ -238,7 +238,7 @@ pub const TELETYPE: &[Argument] = rows! {
 pub const TRACE: &[Argument] = rows! {
     "TAPE" must Kind::Word, "", "The file of the tape, or of the image that holds NAME";
     "NAME" may Kind::Word, "", "The name of the file on the volume";
-    "start" option Kind::One(Form::Cell), "FAAAA", "The cell to start at, in octal, as 10200 or 1:0200; else that of the tape's first word";
+    "start" option Kind::One(Form::Cell), "FAAAA", "The cell to start at, in octal, as 10200 or 1:0200; else 00200 if the tape has that cell, else its first word's";
     "switches" option Kind::One(Form::Octal), "WWWW", "The word that the switches are set to, in octal; else 0000";
     "steps" option Kind::Count, "N", "The most steps that are made, 1 up";
     "keys" option Kind::One(Form::Text), "TEXT", "The keys to strike, each where the program asks for one; a line's end is CR";

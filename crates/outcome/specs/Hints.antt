@@ -1,8 +1,10 @@
 -- What may help where an image is refused (this project's profile).
-use Rattle.std.specs.Prelude.{ℕ, nat_lt, if◌then◌else◌, Option, Some, None}
+use Rattle.std.specs.Prelude.{ℕ, nat_eq, nat_lt, if◌then◌else◌, Option, Some, None}
 use Rattle.disk8.specs.Disks.{guess_of}
 use Rattle.disk8.specs.declared.layouts.Layout.{Layout}
 use Rattle.disk8.specs.declared.layouts.Layout.TheVariants.{First, Second, Dectape}
+use Rattle.file_kind.specs.declared.kinds.FileKind.{FileKind}
+use Rattle.file_kind.specs.declared.kinds.FileKind.TheVariants as kind
 use Rattle.os8_dir.specs.declared.faults.DirFault.{DirFault}
 use Rattle.os8_dir.specs.declared.faults.DirFault.TheVariants as directory
 use Rattle.archive8.specs.declared.faults.ArchiveFault.{ArchiveFault}
@@ -35,3 +37,16 @@ abbrev pub image_note : ℕ → ArchiveFault → Option PlainNote
 image_note size (Image fault) = layout_note (guess_of size)
 image_note size (Directory fault) = directory_note size fault
 image_note size (Refused fault) = None
+
+-- what is said of frames that are no BIN tape, by what they are
+abbrev pub kind_note : FileKind → Option PlainNote
+kind_note kind.Rim = Some plain.RimTape
+kind_note kind.Text = Some plain.TextFile
+kind_note (kind.Core start) = Some plain.CoreImage
+kind_note kind.Zeros = None
+kind_note kind.Bin = None
+kind_note kind.Unknown = None
+
+-- what is said of where a program starts if that isn't given, by the cell of its first word: nothing where both are 00200
+abbrev pub start_note : ℕ → ℕ → Option PlainNote
+start_note first start = if nat_eq start 0o200 then (if nat_eq first 0o200 then None else Some plain.StartAt200) else Some plain.StartAtFirst

@@ -6,8 +6,9 @@ ghost use Rattle.outcome.specs.Hints as spec;
 use crate::notes::PlainNote;
 use archive8::ArchiveFault;
 use disk8::{Layout, guess};
+use file_kind::FileKind;
 use os8_dir::DirFault;
-use word12::{BLOCK, MOST_BLOCKS};
+use word12::{BLOCK, Cell, MOST_BLOCKS};
 
 /// The most bytes that an image has.
 pub const IMAGE: usize = MOST_BLOCKS * BLOCK * 2;
@@ -42,6 +43,32 @@ fn directory_note(size: usize, fault: DirFault) -> Option<PlainNote>
         DirFault::PastVolume if size < IMAGE => Some(PlainNote::ShortDisk),
         _ => None,
     }
+}
+
+/// What is said of frames that are no BIN tape, by what they are; nothing where that takes no command (this project's profile).
+pub fn kind_note(kind: FileKind) -> Option<PlainNote>
+    ensures { result ≡ spec.kind_note kind }
+{
+    match kind {
+        FileKind::Rim => Some(PlainNote::RimTape),
+        FileKind::Text => Some(PlainNote::TextFile),
+        FileKind::Core(_) => Some(PlainNote::CoreImage),
+        FileKind::Zeros | FileKind::Bin | FileKind::Unknown => None,
+    }
+}
+
+/// What is said of where a tape's program starts if that isn't given, by the cell of its first word; nothing where that is 00200 too
+/// (this project's profile).
+pub fn start_note(first: Cell, start: Cell) -> Option<PlainNote>
+    ensures { result ≡ spec.start_note first start }
+{
+    if start.index() != 0o200 {
+        return Some(PlainNote::StartAtFirst);
+    }
+    if first.index() != 0o200 {
+        return Some(PlainNote::StartAt200);
+    }
+    None
 }
 
 /// What is said of a line of a script whose first word is no command.

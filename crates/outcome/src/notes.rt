@@ -26,6 +26,18 @@ pub enum PlainNote {
     /// Frames that are no BIN tape are a RIM tape.
     RimTape,
 
+    /// They are a text.
+    TextFile,
+
+    /// They are a core image.
+    CoreImage,
+
+    /// A program whose start isn't given starts at 00200.
+    StartAt200,
+
+    /// It starts at its first word.
+    StartAtFirst,
+
     /// What names the files of a volume have.
     FileNames,
 
@@ -75,6 +87,9 @@ pub enum NameNote {
 
     /// A source can't be read.
     NoSource,
+
+    /// A source that is refused has the top bit set in each character.
+    TopBits,
 
     /// A source would be written over.
     OverSource,
@@ -134,7 +149,15 @@ fn plain_text(note: PlainNote) -> &'static str
         PlainNote::ShortDisk =>
             "note: the file ends before the blocks that its directory covers: if the end of an RK05 disk was never written, --volume 1 takes it as zeros\n",
         PlainNote::RimTape =>
-            "note: the frames are a RIM tape: addresses and words in turn, and no check sum; a BIN tape is wanted\n",
+            "note: the frames are a RIM tape: addresses and words in turn, and no check sum; rim takes it, and rim --bin makes a BIN tape of it\n",
+        PlainNote::TextFile =>
+            "note: the frames are a text, and no BIN tape; assemble makes the tape of a PAL III source\n",
+        PlainNote::CoreImage =>
+            "note: the frames are a core image, and no BIN tape; get IMAGE NAME --bin makes a BIN tape of one on a volume\n",
+        PlainNote::StartAt200 =>
+            "note: no --start is given, and 00200 has a word: the program starts there\n",
+        PlainNote::StartAtFirst =>
+            "note: no --start is given, and 00200 has no word: the program starts at the first word of the tape\n",
         PlainNote::FileNames =>
             "note: a file's name is 1 to 6 letters or digits, then nothing, or a dot and 1 or 2 more\n",
         PlainNote::FurtherFaults => "note: these words have a fault too:\n",
@@ -195,6 +218,10 @@ fn write_on_name<W: fmt::Write>(
         ),
         NameNote::Refuses => write!(f, "note: {name} is the image that refuses\n"),
         NameNote::NoSource => write!(f, "error: the source {name} can't be read\n"),
+        NameNote::TopBits => write!(
+            f,
+            "note: {name} has the frames of a text, each with its top bit: get IMAGE NAME --text writes the text\n"
+        ),
         NameNote::OverSource => write!(f, "error: {name} is a source, and would be written over\n"),
         NameNote::OnePlace => write!(
             f,

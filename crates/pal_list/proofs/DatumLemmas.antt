@@ -101,8 +101,11 @@ inside_field cell word inside small = omega (arith, inside, small)
 
 pub shown_datum : (look : Look) (tagged : ℕ → Bool) (cell word : ℕ) → IsNaming look.name → cell < 32768 → word < 4096
     → look.is_code cell ≡ false → IsShown look tagged cell word (datum look.name tagged cell word)
-shown_datum look tagged cell word naming inside small data_there = either (tagged (4096 * (cell / 4096) + word)) refl
+shown_datum look tagged cell word naming inside small data_there = by_zero (nat_eq word 0) refl
   where
+    is_zero : (w : ℕ) → nat_eq w 0 ≡ true → w ≡ 0
+    is_zero w e = elim (eqb_tells w 0) [ inl same ↦ same.1 | inr other ↦ absurd (true≢false (sym e ∙ other.0)) ]
+
     address : (field word : ℕ) → word < 4096 → (4096 * field + word) % 4096 ≡ word
     address field word small = omega (arith, small)
 
@@ -120,8 +123,16 @@ shown_datum look tagged cell word naming inside small data_there = either (tagge
           body = Word (term_parts (Name (name_in look.name target)));
           says = λ at. name_says (look.name target) at is (naming.not_reserved target low) (naming.not_permanent target low);
           means = tag_word look tagged target (cell % 4096) word low marked (address (cell / 4096) word small);
-          names = record { reference = λ c r g. absurd (true≢false (sym c ∙ data_there)); datum = λ d g. refl };
+          names = record { reference = λ c r g. absurd (true≢false (sym c ∙ data_there)); datum = λ d n g. refl };
         }
     either false none =
         shown_number look tagged cell word
-        record { reference = λ c r g. absurd (true≢false (sym c ∙ data_there)); datum = λ d g. absurd (true≢false (sym g ∙ none)) } small
+        record { reference = λ c r g. absurd (true≢false (sym c ∙ data_there)); datum = λ d n g. absurd (true≢false (sym g ∙ none)) } small
+
+    by_zero : (z : Bool) → nat_eq word 0 ≡ z
+        → IsShown look tagged cell word
+        ((if z then octal4 word else if tagged (4096 * (cell / 4096) + word) then look.name (4096 * (cell / 4096) + word) else octal4 word) ∷ [])
+    by_zero true zero =
+        shown_number look tagged cell word
+        record { reference = λ c r g. absurd (true≢false (sym c ∙ data_there)); datum = λ d n g. absurd (n (is_zero word zero)) } small
+    by_zero false other = either (tagged (4096 * (cell / 4096) + word)) refl

@@ -324,7 +324,7 @@ named look tagged cell word (p ∷ others) e comes some code apart = record {
   body = Word (all_parts p others);
   says = λ at. names_say p others at e;
   means = names_word look tagged p others word (cell % 4096) e comes;
-  names = record { reference = λ c r g. absurd (true≢false (sym r ∙ apart)); datum = λ d g. absurd (true≢false (sym code ∙ d)) };
+  names = record { reference = λ c r g. absurd (true≢false (sym r ∙ apart)); datum = λ d n g. absurd (true≢false (sym code ∙ d)) };
 }
 
 pub shown_names : (look : Look) (tagged : ℕ → Bool) (cell word : ℕ) → look.is_code cell ≡ true → is_reference (cell % 4096) word ≡ false → is_named word ≡ true → IsShown look tagged cell word (names (chosen word patterns))

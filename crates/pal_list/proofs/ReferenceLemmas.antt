@@ -354,7 +354,7 @@ shown_reference look tagged cell word naming inside code shown =
           is_operation = v;
           body_is = ap (λ t. Reference op.operation indirect (Some (term_parts t))) (is.is_name is_marked);
         };
-        datum = λ d is_marked. absurd (true≢false (sym code ∙ d));
+        datum = λ d n is_marked. absurd (true≢false (sym code ∙ d));
       };
     }
   where

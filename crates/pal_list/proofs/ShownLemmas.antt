@@ -28,7 +28,7 @@ shown look tagged cell word naming inside small = by_cell (look.is_code cell) re
         → IsShown look tagged cell word (if n then names (chosen word patterns) else octal4 word ∷ [])
     second_kind true code apart e = shown_names look tagged cell word code apart e
     second_kind false code apart e =
-        shown_number look tagged cell word record { reference = λ c r g. absurd (true≢false (sym r ∙ apart)); datum = λ d g. absurd (true≢false (sym code ∙ d)) } small
+        shown_number look tagged cell word record { reference = λ c r g. absurd (true≢false (sym r ∙ apart)); datum = λ d n g. absurd (true≢false (sym code ∙ d)) } small
 
     first_kind : (r : Bool) → look.is_code cell ≡ true → is_reference (cell % 4096) word ≡ r
         → IsShown look tagged cell word (if r then reference look.name tagged cell word else (if is_named word then names (chosen word patterns) else octal4 word ∷ []))
@@ -69,7 +69,7 @@ same_statement : (c d : Look) (f g : ℕ → Bool) → SameLook c d → ((cell :
 same_statement c d f g look same cell word small low =
     ap (λ (b : Bool). if b then instruction_by c.name f cell word else datum c.name f cell word) (look.code cell small)
     ∙ ap (λ l. if d.is_code cell then l else datum c.name f cell word) (same_instruction c d f g look same cell word small)
-    ∙ ap (λ l. if d.is_code cell then instruction_by d.name g cell word else l ∷ [])
+    ∙ ap (λ l. if d.is_code cell then instruction_by d.name g cell word else (if nat_eq word 0 then octal4 word else l) ∷ [])
     (same_name c d f g look same (4096 * (cell / 4096) + word) (octal4 word) (inside_field cell word small low))
 
 same_word_line : (c d : Look) (f g : ℕ → Bool) → SameLook c d → ((cell : ℕ) → cell < 32768 → f cell ≡ g cell) → (cell word : ℕ) → cell < 32768

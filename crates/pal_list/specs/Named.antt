@@ -1,5 +1,5 @@
 -- The statements that name cells by their tags.
-use Rattle.std.specs.Prelude.{◌≡◌, ℕ, ◌+◌, ◌*◌, ◌/◌, ◌%◌, nat_eq, Bool, true, false, Some, Ok, List, [], ◌∷◌, ◌++◌}
+use Rattle.std.specs.Prelude.{◌≡◌, ◌≢◌, ℕ, ◌+◌, ◌*◌, ◌/◌, ◌%◌, nat_eq, Bool, true, false, Some, Ok, List, [], ◌∷◌, ◌++◌}
 use Rattle.word12.specs.declared.sizes.TheConstants.{FIELD}
 use Rattle.pal_lex.specs.Text.{text_of}
 use Rattle.pal_lex.specs.Language.{word_of}
@@ -24,11 +24,11 @@ pub record IsReferenceBy (word name : ℕ) (body : Body) : Type 0 where
   pub body_is : body ≡ Reference operation (nat_eq (word / 0o400 % 2) 1) (Some (record { joint = Add; term = Name name } ∷ []))
 
 -- The body of a cell's word is by a tag: an instruction's that is a memory reference, where the cell that it names is tagged, and a
--- datum's, where the cell is whose address it is in its own field.
+-- datum's that is not 0, where the cell is whose address it is in its own field.
 pub record IsByTag (look : Look) (tagged : ℕ → Bool) (cell word : ℕ) (body : Body) : Type 0 where
   pub reference : look.is_code cell ≡ true → is_reference (cell % FIELD) word ≡ true → tagged (referred_cell cell word) ≡ true
       → IsReferenceBy word (name_in look.name (referred_cell cell word)) body
-  pub datum : look.is_code cell ≡ false → tagged (FIELD * (cell / FIELD) + word) ≡ true
+  pub datum : look.is_code cell ≡ false → word ≢ 0 → tagged (FIELD * (cell / FIELD) + word) ≡ true
       → body ≡ Word (record { joint = Add; term = Name (name_in look.name (FIELD * (cell / FIELD) + word)) } ∷ [])
 
 -- The statement of a source at a cell has a body of which this holds.

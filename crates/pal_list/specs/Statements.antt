@@ -32,10 +32,11 @@ instruction_by name tagged cell word =
 abbrev pub instruction : (ℕ → Bool) → ℕ → ℕ → List (List ℕ)
 instruction tagged cell word = instruction_by tag tagged cell word
 
--- the pieces of a datum: the tag of the cell whose address it is, in its own field, where the source has that, else its number
+-- the pieces of a datum: the tag of the cell whose address it is, in its own field, where the source has that, else its number; a zero is
+-- a number, since cells that are to begin as 0 are more than those that point to cell 0
 abbrev pub datum : (ℕ → List ℕ) → (ℕ → Bool) → ℕ → ℕ → List (List ℕ)
 datum name tagged cell word =
-    (if tagged (FIELD * (cell / FIELD) + word) then name (FIELD * (cell / FIELD) + word) else octal4 word) ∷ []
+    (if nat_eq word 0 then octal4 word else if tagged (FIELD * (cell / FIELD) + word) then name (FIELD * (cell / FIELD) + word) else octal4 word) ∷ []
 
 -- the pieces of the statement of a cell's word: an instruction where the cell is told to be one, else a datum
 abbrev pub statement : Look → (ℕ → Bool) → ℕ → ℕ → List (List ℕ)

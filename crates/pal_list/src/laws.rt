@@ -51,7 +51,7 @@ pub fn tags_are_defined_once()
 {}
 
 /// At each instruction of a tape that is a memory reference whose cell has a tag, the statement of the tape's source there is a
-/// reference by that tag; and at each datum that is the address, in its own field, of a tagged cell it is that tag.
+/// reference by that tag; and at each datum but 0 that is the address, in its own field, of a tagged cell it is that tag.
 pub fn cells_are_named_by_tags()
     ensures { (look : Look) (frames text : List ℕ)
         (source : IsSourceWith look frames text) → NamesTags look text source.items }

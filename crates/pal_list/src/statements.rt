@@ -39,13 +39,17 @@ pub fn put_statement(
     put_datum(text, tags, cell, word)
 }
 
-/// Appends a datum, behind a tab: the tag of the cell whose address it is in its own field, where that is tagged, else its number.
+/// Appends a datum, behind a tab: the tag of the cell whose address it is in its own field, where that is tagged, else its number. A zero
+/// is a number.
 fn put_datum(text: &mut Vec<u8>, tags: &Tags<'_>, cell: Cell, word: Word) -> Result<(), AllocError>
     requires { length tags.now.flags.now ≡ CORE }
     ensures { OnOk result (text.new.items ≡ text.old.items
         ++ led 9 (datum (name_or_tag (given_by tags.now.names.now)) (flagged_in tags.now.flags.now)
         cell word)) }
 {
+    if word.get() == 0 {
+        return put_number(text, word);
+    }
     let named = Cell::at(cell.field(), word);
     if tags.flags[named.index()] {
         return put_tag(text, b'\t', tags.names, named);

@@ -1,3 +1,4 @@
+pub mod StartLemmas
 pub mod LineLemmas
 mod LineEndLemmas
 mod PrefixLemmas

@@ -20,4 +20,4 @@ pub use prefixes::with_prefix;
 pub use programs::{ProgramLine, put_program};
 pub use rims::{RimTextFault, rim_text};
 pub use sources::{SourceFault, put_source, source_text};
-pub use starts::first_cell;
+pub use starts::{first_cell, start_cell};

@@ -1,13 +1,63 @@
 //! Where a tape's program begins.
-ghost use Rattle.std.specs.Prelude.{◌≡◌, ℕ, List, ◌++◌};
+ghost use Rattle.std.specs.Prelude.{◌≡◌, ℕ, ◌||◌, List, ◌++◌};
 ghost use Rattle.bin_tape.specs.Items.{Item, words_of};
 ghost use Rattle.bin_tape.specs.Tape.{IsTape};
 ghost use Rattle.bin_tape.specs.Reading.{words_in};
-ghost use Rattle.report8.specs.Starts.{first_cell};
+ghost use Rattle.report8.specs.Starts.{first_cell, gives_word, start_cell};
 
 use bin_tape::laws::handed_words;
 use bin_tape::{Tape, TapeFault, TapeReader};
-use word12::Cell;
+use word12::{Cell, Word};
+
+/// Where programs mostly begin.
+const USUAL: u16 = 0o200;
+
+/// The cell at which a tape's program is started where nothing else is said: 00200 if the tape gives it a word, else the cell of its
+/// first word; none where it gives none (this project's profile). Of frames that are no tape nothing is claimed.
+pub fn start_cell(frames: &[u8]) -> Option<Cell>
+    ensures { (items : List Item) → IsTape frames.now items → result ≡ start_cell (words_of items) }
+{
+    let usual = Cell::at(0, Word::low(USUAL));
+    if gives_word(frames, usual) {
+        return Some(usual);
+    }
+    first_cell(frames)
+}
+
+/// Whether a tape gives a cell a word.
+fn gives_word(frames: &[u8], cell: Cell) -> bool
+    ensures { (items : List Item) → IsTape frames.now items
+        → result ≡ gives_word (words_of items) cell }
+{
+    handed_words();
+    let mut reader = TapeReader::new();
+    let mut is_given = false;
+    for frame in frames {
+        is_given = is_given_behind(is_given, reader.push(*frame), cell);
+    }
+    is_given
+}
+
+/// Whether a cell has a word behind one more frame.
+fn is_given_behind(is_given: bool, came: Result<Tape, TapeFault>, cell: Cell) -> bool
+    ensures { (out : List (ℕ × ℕ)) → is_given ≡ gives_word out cell
+        → result ≡ gives_word (out ++ words_in came) cell }
+{
+    is_given || is_word_of(came, cell)
+}
+
+/// Whether what came is a word of a cell.
+fn is_word_of(came: Result<Tape, TapeFault>, cell: Cell) -> bool
+    ensures { result ≡ gives_word (words_in came) cell }
+{
+    match came {
+        Ok(tape) => match tape.word() {
+            Some((other, _)) => other == cell,
+            None => false,
+        },
+        Err(_) => false,
+    }
+}
 
 /// The cell of the first word that a tape gives; none where it gives none, as one of an origin and a check sum alone (this project's
 /// profile: a program begins there where nothing else is said). Of frames that are no tape nothing is claimed.

@@ -1,6 +1,7 @@
 //! Sources in files of the host to a BIN tape and a listing, each written whole or not at all.
 
 use assemble8::{SourceFault, assemble_sources, fault_text, further_faults};
+use file_kind::{are_marked, is_text};
 use image_file8::{bytes_of, input_bytes, make_file, print_bytes, tell, tell_text, texts_of};
 use outcome::{Content, Ending, NameNote, Note, PlainNote};
 use report8::with_line_feeds;
@@ -128,8 +129,18 @@ fn tell_faults<R: Eprint + AllocGlobal>(
         SourceFault::Memory => Err(Ending::Fault(SessionFault::Memory)),
         SourceFault::At(first) => {
             let names = texts_of(rt.alloc(), &form.sources)?;
+            tell_top_bits(rt, sources, &names);
             tell_text(rt, &fault_text(rt.alloc(), sources, &names, first)?);
             tell_further_faults(rt, sources, &names)
+        }
+    }
+}
+
+/// Prints which of the sources are the frames of a text, with the top bits that they have on a volume.
+fn tell_top_bits<R: Eprint>(rt: &R, sources: &[&[u8]], names: &[&str]) {
+    for (source, name) in sources.iter().zip(names) {
+        if are_marked(source) && is_text(source) {
+            tell(rt, Note::OnName(NameNote::TopBits, name));
         }
     }
 }

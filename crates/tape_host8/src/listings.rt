@@ -1,10 +1,9 @@
 //! Tapes whose words are listed.
 
-use crate::tapes::{frames_of, program_of};
-use image_file8::{CountedInput, Output, input_bytes, tell};
-use outcome::{Ending, Note, PlainNote};
+use crate::tapes::{frames_of, program_of, tell_kind};
+use image_file8::{CountedInput, Output, input_bytes};
+use outcome::Ending;
 use report8::{put_tape_text, rim_text};
-use rim_tape::RimFault;
 use script8::SessionFault;
 use std::fs::{File, Files};
 use std::io::Input;
@@ -27,7 +26,7 @@ pub fn list_tape<R: Files<File = File> + Input + Print + Eprint + AllocGlobal>(
         return Ok(());
     };
     if let SessionFault::Tape(_) = &fault {
-        tell_rim(rt, &frames);
+        tell_kind(rt, &frames);
     }
     Err(output.ending_of(fault.into()))
 }
@@ -62,14 +61,5 @@ fn write_input_rim<R: Input + Print + Eprint + AllocGlobal>(
             input.tell_of_limit(rt);
             Err(output.ending_of(fault.into()))
         }
-    }
-}
-
-/// Prints that frames which are no BIN tape are a RIM tape, where they are one.
-fn tell_rim<R: Eprint + AllocGlobal>(rt: &R, frames: &[u8]) {
-    match rim_tape::read(rt.alloc(), frames) {
-        // memory is asked for only where the frames are a tape
-        Ok(_) | Err(RimFault::Memory) => tell(rt, Note::Plain(PlainNote::RimTape)),
-        Err(_) => {}
     }
 }

@@ -1,12 +1,14 @@
 //! Sources of tapes.
 
-use crate::tapes::program_of;
-use image_file8::{CountedInput, Output, bytes_of};
+use crate::tapes::{program_of, tell_kind};
+use image_file8::{Output, bytes_of, input_bytes};
 use outcome::Ending;
-use report8::{put_source, source_text};
+use report8::{SourceFault, put_source};
+use script8::SessionFault;
 use std::fs::Files;
 use std::io::Input;
 use task8::SourceForm;
+use word12::Cell;
 
 /// Writes the source of a tape. The program of a core image starts where that tells, unless other cells are given.
 pub fn write_source<R: Files + Input + Print + Eprint + AllocGlobal>(
@@ -30,18 +32,31 @@ fn put_source_of<R: Files + Input + Print + Eprint + AllocGlobal>(
         None => None,
     };
     let Some(tape) = &form.tape else {
-        let mut input = CountedInput::new(rt.reader());
-        let written = source_text(rt.alloc(), &mut input, &form.starts, &names, output);
-        input.tell_of_limit(rt);
-        written?;
-        return Ok(());
+        let frames = input_bytes(rt)?;
+        return put_frames(rt, &frames, &form.starts, &names, output);
     };
     let (frames, start) = program_of(rt, tape)?;
     match start {
         Some(start) if form.starts.is_empty() => {
-            put_source(rt.alloc(), &frames, &[start], &names, output)?;
+            put_frames(rt, &frames, &[start], &names, output)
         }
-        _ => put_source(rt.alloc(), &frames, &form.starts, &names, output)?,
+        _ => put_frames(rt, &frames, &form.starts, &names, output),
     }
-    Ok(())
+}
+
+/// Writes the source of a tape's frames. What they are is printed where they are none.
+fn put_frames<R: Print + Eprint + AllocGlobal>(
+    rt: &R,
+    frames: &[u8],
+    starts: &[Cell],
+    names: &Option<Vec<u8>>,
+    output: &mut Output<'_, R>,
+) -> Result<(), Ending> {
+    let Err(fault) = put_source(rt.alloc(), frames, starts, names, output) else {
+        return Ok(());
+    };
+    if let SourceFault::Session(SessionFault::Tape(_)) = &fault {
+        tell_kind(rt, frames);
+    }
+    Err(fault.into())
 }

@@ -2,10 +2,12 @@
 //! is such a file whole.
 
 use archive8::{Asked, GetForm};
-use image_file8::{bytes_of, bytes_of_file, core_of_file};
-use outcome::Ending;
+use file_kind::kind_of;
+use image_file8::{bytes_of, bytes_of_file, core_of_file, tell};
+use outcome::{Ending, Note, kind_note};
+use script8::SessionFault;
 use std::fs::Files;
-use task8::TapeForm;
+use task8::{ImageForm, TapeForm};
 use word12::Cell;
 
 /// How the name of a core image ends.
@@ -24,7 +26,24 @@ pub fn program_of<R: Files + Eprint + AllocGlobal>(
                 let (frames, start) = core_of_file(rt, image, &asked)?;
                 return Ok((frames, Some(start)));
             }
-            Ok((bytes_of_file(rt, image, &asked, GetForm::Tape)?, None))
+            Ok((tape_of_file(rt, image, &asked)?, None))
+        }
+    }
+}
+
+/// The BIN tape that a file of a volume begins with. What the file is instead is printed.
+fn tape_of_file<R: Files + Eprint + AllocGlobal>(
+    rt: &R,
+    image: &ImageForm,
+    asked: &Asked,
+) -> Result<Vec<u8>, Ending> {
+    match bytes_of_file(rt, image, asked, GetForm::Tape) {
+        Ok(frames) => Ok(frames),
+        Err(ending) => {
+            if let Ending::Fault(SessionFault::Tape(_)) = &ending {
+                tell_kind(rt, &bytes_of_file(rt, image, asked, GetForm::Frames)?);
+            }
+            Err(ending)
         }
     }
 }
@@ -39,6 +58,15 @@ pub fn frames_of<R: Files + Eprint + AllocGlobal>(
         TapeForm::Member(image, name) => {
             let asked = Asked::Name(String::from_str(rt.alloc(), name)?);
             bytes_of_file(rt, image, &asked, GetForm::Frames)
+        }
+    }
+}
+
+/// Prints what frames are that are no BIN tape, and which command takes that, if one does.
+pub fn tell_kind<R: Eprint + AllocGlobal>(rt: &R, frames: &[u8]) {
+    if let Ok(kind) = kind_of(rt.alloc(), frames) {
+        if let Some(note) = kind_note(kind) {
+            tell(rt, Note::Plain(note));
         }
     }
 }

@@ -1,11 +1,11 @@
 //! A program of a tape at the Teletype: standard input is the keyboard, and standard output the paper.
 
-use crate::tapes::program_of;
+use crate::tapes::{program_of, tell_kind};
 use core_load::{Core, load};
 use cpu8::Machine;
-use image_file8::{Output, tell_line};
-use outcome::Ending;
-use report8::{ProgramLine, first_cell};
+use image_file8::{Output, tell, tell_line};
+use outcome::{Ending, Note, PlainNote, start_note};
+use report8::{ProgramLine, first_cell, start_cell};
 use script8::SessionFault;
 use std::fs::Files;
 use std::io::Input;
@@ -42,24 +42,49 @@ pub fn run_teletype<R: Files + Input + Print + Eprint + AllocGlobal>(
     }
 }
 
-/// A machine that stands where the program of a tape is to begin: at its first word where no other start is known.
-pub fn machine_of<R: AllocGlobal>(
+/// A machine that stands where the program of a tape is to begin: where it has none, at 00200 or else at the tape's first word, which is
+/// printed.
+pub fn machine_of<R: Eprint + AllocGlobal>(
     rt: &R,
     frames: &[u8],
     start: Option<Cell>,
     switches: Option<Word>,
 ) -> Result<Machine, Ending> {
     let mut core = Core::new(rt.alloc()).map_err(SessionFault::from)?;
-    load(rt.alloc(), frames, &mut core).map_err(SessionFault::from)?;
-    let Some(first) = first_cell(frames) else {
+    if let Err(fault) = load(rt.alloc(), frames, &mut core) {
+        tell_kind(rt, frames);
+        return Err(Ending::Fault(SessionFault::from(fault)));
+    }
+    let Some(usual) = usual_start(rt, frames, start.is_some())? else {
         return Err(Ending::Line(ProgramLine::NothingToRun));
     };
     let mut machine = Machine::new(core);
     if let Some(word) = switches {
         machine.switches(word);
     }
-    machine.start(start.unwrap_or(first));
+    machine.start(start.unwrap_or(usual));
     Ok(machine)
+}
+
+/// Where a tape's program starts if nothing else is said. That is printed where it is needed, and isn't the tape's first word at 00200.
+fn usual_start<R: Eprint + AllocGlobal>(
+    rt: &R,
+    frames: &[u8],
+    is_given: bool,
+) -> Result<Option<Cell>, Ending> {
+    let (Some(first), Some(start)) = (first_cell(frames), start_cell(frames)) else {
+        return Ok(None);
+    };
+    if is_given {
+        return Ok(Some(start));
+    }
+    if let Some(note) = start_note(first, start) {
+        tell(rt, Note::Plain(note));
+        if let PlainNote::StartAtFirst = note {
+            tell_line(rt, &ProgramLine::Start(start))?;
+        }
+    }
+    Ok(Some(start))
 }
 
 /// Tells on standard error why a machine goes no further: a HLT and the end of the keys are ends of a program's own.

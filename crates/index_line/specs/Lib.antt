@@ -1,0 +1,4 @@
+pub mod Quoting
+pub mod Columns
+pub mod Lines
+pub mod Laws
