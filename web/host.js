@@ -183,6 +183,8 @@ function imports(memory, files, words, host) {
         },
         mkdir(at) { return files.make_folder?.(path(at)) === false ? fail(EACCES) : 0; },
         clock_gettime: () => fail(EINVAL),
+        // nobody lets a file go while the program runs, so no time passes
+        nanosleep: () => 0,
         flock(number) { return host.locked?.(own_of(number).name) ? fail(EAGAIN) : 0; },
         fchmod: () => 0, chown: () => 0, fsync: () => 0, fdatasync: () => 0, __sysv_signal: () => 0n,
     };
