@@ -1,0 +1,87 @@
+-- A new volume with just some files.
+use Rattle.std.specs.Prelude.{◌≡◌, ℕ, ◌*◌, ◌<◌, ◌≤◌, Result, Ok, Err, List, [], ◌∷◌, ◌++◌, length}
+use Rattle.std.specs.Global.{Vec}
+use Rattle.std.specs.FinMap.{from_entries, insert}
+use Rattle.word12.specs.declared.sizes.TheConstants.{BLOCK, MOST_BLOCKS}
+use Rattle.volume_image.specs.Image.{Creates, IsImageOf}
+use Rattle.os8_dir.specs.declared.file_faults.FileFault.{FileFault}
+use Rattle.os8_dir.specs.declared.file_faults.FileFault.TheVariants as file
+use Rattle.os8_dir.specs.Entries.{IsNamed}
+use Rattle.os8_dir.specs.Files.{Files, files_of}
+use Rattle.os8_dir.specs.Names.{padded}
+use Rattle.os8_files.specs.Calls.{IsReady, info_of}
+use Rattle.os8_files.specs.Mounted.{Mounted}
+use Rattle.os8_files.specs.Puts.{HasPutWith, PutsFileWith, blocks_filled}
+use Rattle.rescue.specs.declared.faults.RescueFault.{RescueFault}
+use Rattle.rescue.specs.declared.faults.RescueFault.TheVariants.{Image, Unread, Refused}
+use Rattle.rescue.specs.declared.faults.Refusal.{Refusal}
+use Rattle.rescue.specs.declared.faults.Refusal.TheVariants.{NoName, NotWhole, NoRoom, DirectoryFull, Failed}
+use Rattle.rescue.specs.declared.volumes.KeptFile.{KeptFile}
+
+-- Files with others put among them: each has its words, and the first of its information words, so many of them.
+abbrev pub with_files : ℕ → Files → List KeptFile → Files
+with_files info files [] = files
+with_files info files (f ∷ fs) = with_files info (insert files f.name (padded info f.info, f.words.items)) fs
+
+-- The image is that of a volume which has just these files.
+pub record IsRescued (kept : List KeptFile) (image : List ℕ) : Type 0 where
+  pub blocks : List (List ℕ)
+  pub is_image : IsImageOf image blocks
+  pub files : files_of blocks ≡ with_files (info_of blocks) (from_entries []) kept
+
+-- at least one whole block of words
+pub record AreBlocks (words : List ℕ) : Type 0 where
+  pub some : 0 < blocks_filled words
+  pub whole : BLOCK * blocks_filled words ≡ length words
+
+-- of some files this is the one at a place, counted from 0, and it is so
+pub record IsAt (kept : List KeptFile) (place : ℕ) (Is : KeptFile → Type 0) : Type 0 where
+  pub before : List KeptFile
+  pub file : KeptFile
+  pub after : List KeptFile
+  pub split : kept ≡ before ++ file ∷ after
+  pub place_is : place ≡ length before
+  pub is : Is file
+
+-- a volume refuses a file with this fault
+pub record Refuses (old : Mounted) (f : KeptFile) (fault : FileFault) (new : Mounted) : Type 0 where
+  pub puts : PutsFileWith old f.name f.info f.words.items (Err fault) new
+
+-- A file is put into a volume, or why not.
+abbrev pub Keeps : Mounted → KeptFile → ℕ → Result (Unit {0}) Refusal → Mounted → Type 0
+Keeps old f place (Ok done) new = HasPutWith old f.name f.info f.words.items new
+Keeps old f place (Err (NoName at)) new = (at ≡ place) × (IsNamed f.name → ⊥)
+Keeps old f place (Err (NotWhole at)) new = (at ≡ place) × (AreBlocks f.words.items → ⊥)
+Keeps old f place (Err (NoRoom at largest)) new = (at ≡ place) × Refuses old f (file.NoRoom largest) new
+Keeps old f place (Err (DirectoryFull at)) new = (at ≡ place) × Refuses old f file.DirectoryFull new
+Keeps old f place (Err (Failed at)) new = (at ≡ place) × ((fault : FileFault) × Refuses old f fault new)
+
+-- a file is the first that isn't put, for this
+pub record IsRefused (refusal : Refusal) (place : ℕ) (f : KeptFile) : Type 0 where
+  pub old : Mounted
+  pub new : Mounted
+  pub why : Keeps old f place (Err refusal) new
+
+-- the file at the place that a refusal tells is refused so
+pub record IsRefusedOf (kept : List KeptFile) (refusal : Refusal) : Type 0 where
+  pub place : ℕ
+  pub at : IsAt kept place (IsRefused refusal place)
+
+-- files are put into a volume, one after the other, or one is refused
+abbrev pub KeepsFiles : Mounted → List KeptFile → Result (Unit {0}) Refusal → Mounted → Type 0
+KeepsFiles old kept (Ok done) new = (info_of new.blocks ≡ info_of old.blocks) × (files_of new.blocks ≡ with_files (info_of old.blocks) (files_of old.blocks) kept)
+KeepsFiles old kept (Err refusal) new = IsRefusedOf kept refusal
+
+-- a new volume is mounted, and has no file
+abbrev pub Mounts : Result Mounted RescueFault → Type 0
+Mounts (Ok m) = IsReady m × (files_of m.blocks ≡ from_entries [])
+Mounts (Err Unread) = Unit {0}
+Mounts (Err (Image fault)) = ⊥
+Mounts (Err (Refused refusal)) = ⊥
+
+-- what is answered where a volume of so many blocks with these files is wanted
+abbrev pub Rescues : ℕ → List KeptFile → Result (Vec ℕ) RescueFault → Type 0
+Rescues count kept (Ok image) = IsRescued kept image.items
+Rescues count kept (Err (Image fault)) = Creates count (Err fault)
+Rescues count kept (Err Unread) = (8 ≤ count) × (count ≤ MOST_BLOCKS)
+Rescues count kept (Err (Refused refusal)) = IsRefusedOf kept refusal
