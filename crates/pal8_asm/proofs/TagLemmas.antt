@@ -1,11 +1,11 @@
 -- Tags, one at a time.
-use Rattle.std.proofs.Common.{◌≡◌, ℕ, ◌-◌, ◌≤◌, suc, Bool, true, false, if◌then◌else◌, Option, Result, Ok, Err, length, get_or, take, drop, List, [], ◌∷◌, refl, ap, sym, subst, ◌∙◌, arith}
+use Rattle.std.proofs.Common.{◌≡◌, ℕ, ◌-◌, ◌≤◌, suc, Bool, true, false, if◌then◌else◌, Ok, Err, length, get_or, take, drop, List, [], ◌∷◌, refl, ap, sym, ◌∙◌, arith}
 use Rattle.std.proofs.lemmas.List.{take_all}
 use Rattle.pal_sym.specs.SymbolTable.{SymbolTable}
 use Rattle.pal8_lex.specs.Kinds.{is_comma}
 use Rattle.pal8_lex.specs.declared.tokens.Token.{Token}
 use Rattle.pal8_grammar.specs.Bodies.{free_name}
-use Rattle.pal8_asm.specs.Places.{Standing, with_tag, with_tag_if, with_tags}
+use Rattle.pal8_asm.specs.Places.{Standing, with_tag, with_tags}
 use Rattle.pal8_asm.specs.Steps.{Defines, standing}
 use Rattle.pal8_asm.specs.declared.faults.Code.{Code}
 use Rattle.pal8_asm.specs.declared.faults.Stop.{Stop}

@@ -1,4 +1,5 @@
 pub mod Places
 pub mod Sources
 pub mod Tapes
+pub mod Kept
 pub mod Steps

@@ -1,6 +1,7 @@
 -- The statements of a source, and the words that it leaves to be made (PAL8, in this project's profile). A source is the list of its statements,
 -- the newest first. What each one leaves rests on those before it alone.
-use Rattle.std.specs.Prelude.{ℕ, ◌+◌, ◌-◌, ◌*◌, ◌%◌, nat_eq, Bool, true, false, if◌then◌else◌, is_some, Option, Some, None, Result, Ok, Err, length, replicate, List, [], ◌∷◌}
+use Rattle.std.specs.Prelude.{ℕ, ◌+◌, ◌-◌, ◌*◌, ◌%◌, Bool, true, false, if◌then◌else◌, is_some, Option, Some, None, Result, Ok, Err, length, replicate, List, [], ◌∷◌, ◌++◌}
+use Rattle.word12.specs.declared.sizes.TheConstants.{FIELD}
 use Rattle.pal_sym.specs.Permanent as old
 use Rattle.pal8_lex.specs.Text.{line_after, live}
 use Rattle.pal8_lex.specs.Statements.{Statement, statements}
@@ -15,11 +16,9 @@ use Rattle.pal8_grammar.specs.declared.steps.Step.TheVariants as step
 use Rattle.pal8_grammar.specs.declared.faults.GrammarFault.{GrammarFault}
 use Rattle.pal8_grammar.specs.declared.faults.GrammarFault.TheVariants as grammar
 use Rattle.pal8_values.specs.Sums.{Known}
-use Rattle.pal8_values.specs.declared.sums.Spot.{Spot}
 use Rattle.pal8_asm.specs.Places.{Standing, with_statement}
 use Rattle.pal8_asm.specs.declared.faults.Code.{Code}
 use Rattle.pal8_asm.specs.declared.faults.Code.TheVariants as code
-use Rattle.pal8_asm.specs.declared.places.Position.{Position}
 use Rattle.pal8_asm.specs.declared.places.TheConstants.{FIRST_PLACE}
 
 abbrev pub Source : Type 0
@@ -30,13 +29,13 @@ pub record Fault : Type 0 where
   pub code : Code
   pub line : ℕ
 
--- A word that is to be made: where it stands, the line of its statement, and the steps of its value.
+-- A word that is to be made: the line of its statement, its cell, and the steps of its value.
 pub record Entry : Type 0 where
   pub line : ℕ
-  pub spot : Spot
+  pub cell : ℕ
   pub steps : List Step
 
--- What statements leave: places and names, and their words, the newest first.
+-- What statements leave: places and names, and their words, in the order of the source.
 pub record Left : Type 0 where
   pub standing : Standing
   pub entries : List Entry
@@ -101,11 +100,11 @@ words_in body.Text kept steps string size = text_words string
 words_in body.Listing kept steps string size = []
 words_in body.Word kept steps string size = resolved kept steps ∷ []
 
--- words from a place on, after others
+-- words from an address on, after others (no word that has a fault is kept, so none is past 7777)
 abbrev pub with_entries : ℕ → ℕ → ℕ → List (List Step) → List Entry → List Entry
-with_entries line field location [] entries = entries
-with_entries line field location (steps ∷ others) entries =
-    with_entries line field (location + 1) others (record { line = line; spot = record { field = field; location = location }; steps = steps } ∷ entries)
+with_entries line field address [] entries = entries
+with_entries line field address (steps ∷ others) entries =
+    with_entries line field ((address + 1) % 0o10000) others (entries ++ record { line = line; cell = FIELD * field + address; steps = steps } ∷ [])
 
 -- ## Statements
 
@@ -118,19 +117,22 @@ code_of grammar.Memory = code.SY
 abbrev pub at_line : ℕ → Code → Fault
 at_line line code = record { code = code; line = line }
 
+abbrev pub is_close : End → Bool
+is_close end.Semicolon = false
+is_close end.Line = false
+is_close end.Open = false
+is_close end.Close = true
+is_close end.Dollar = false
+
 -- no bracket is open, so `>` closes none
-abbrev pub closed : Statement → End → Left → Passed
-closed s end.Semicolon left = Ok left
-closed s end.Line left = Ok left
-closed s end.Open left = Ok left
-closed s end.Close left = Err (at_line s.line code.PH)
-closed s end.Dollar left = Ok left
+abbrev pub closed : Statement → Left → Passed
+closed s left = if is_close s.end then Err (at_line s.line code.PH) else Ok left
 
 abbrev pub with_phrase : Statement → Phrase → Left → Result Standing Code → Passed
 with_phrase s phrase left (Err fault) = Err (at_line s.line fault)
-with_phrase s phrase left (Ok standing) = closed s s.end record {
+with_phrase s phrase left (Ok standing) = closed s record {
   standing = standing;
-  entries = with_entries s.line left.standing.position.field left.standing.position.location
+  entries = with_entries s.line left.standing.position.field (left.standing.position.location % 0o10000)
       (words_in phrase.0 standing.kept phrase.1 s.string (standing.position.location - left.standing.position.location)) left.entries;
 }
 
@@ -169,6 +171,11 @@ source_in (s ∷ older) = if is_ended older then source_in older else s ∷ olde
 -- the statements of a text that count
 abbrev pub source_of : List ℕ → Source
 source_of text = source_in (statements text)
+
+-- the line of the last statement, which is that of the `$`
+abbrev pub last_line : Source → ℕ
+last_line [] = 1
+last_line (s ∷ older) = s.line
 
 abbrev pub if_ended : List ℕ → Bool → Passed → Passed
 if_ended text ended (Err fault) = Err fault

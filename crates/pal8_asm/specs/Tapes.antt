@@ -1,14 +1,13 @@
 -- The words of a source with their cells, and what its pools hold (PAL8, in this project's profile).
-use Rattle.std.specs.Prelude.{ℕ, ◌+◌, ◌*◌, ◌/◌, ◌%◌, nat_eq, nat_lt, Bool, true, false, ◌&&◌, ◌||◌, if◌then◌else◌, Option, Some, None, Result, Ok, Err, List, [], ◌∷◌, ◌++◌}
+use Rattle.std.specs.Prelude.{ℕ, ◌/◌, ◌%◌, nat_lt, Bool, true, false, ◌&&◌, ◌||◌, Option, Some, None, Result, Ok, Err, List, [], ◌∷◌, ◌++◌}
 use Rattle.word12.specs.declared.sizes.TheConstants.{FIELD, PAGE}
-use Rattle.pal8_pools.specs.Asks.{Ask, cell_in}
+use Rattle.pal8_pools.specs.Asks.{Ask}
 use Rattle.pal8_pools.specs.Pooled.{is_cell_of}
 use Rattle.pal8_values.specs.Sums.{Known}
 use Rattle.pal8_values.specs.Words.{Asked, word_value}
-use Rattle.pal8_values.specs.declared.faults.ValueFault.{ValueFault}
+use Rattle.pal8_values.specs.declared.sums.Spot.{Spot}
 use Rattle.pal8_asm.specs.Places.{code_of, stands}
-use Rattle.pal8_asm.specs.Sources.{Entry, Fault, Left, Passed, Source, at_line, left_of, source_of}
-use Rattle.pal8_asm.specs.declared.faults.Code.{Code}
+use Rattle.pal8_asm.specs.Sources.{Entry, Fault, Passed, at_line, last_line, left_of, source_of}
 use Rattle.pal8_asm.specs.declared.faults.Code.TheVariants as code
 
 -- What entries make: their words with their cells, in the order of the source; what they asked, the newest first; and the first fault of a word
@@ -18,8 +17,8 @@ pub record Made : Type 0 where
   pub asks : List Ask
   pub clash : Option Fault
 
-abbrev pub cell_of : Entry → ℕ
-cell_of e = FIELD * e.spot.field + e.spot.location
+abbrev pub spot_of : ℕ → Spot
+spot_of cell = record { field = cell / FIELD; location = cell % FIELD }
 
 -- a cell of a page zero
 abbrev pub is_on_zero : ℕ → Bool
@@ -47,24 +46,23 @@ first_of (Some fault) later = Some fault
 abbrev pub with_word : Entry → Made → Asked → Result Made Fault
 with_word e made (Err fault) = Err (at_line e.line (code_of fault))
 with_word e made (Ok (word, asks)) = Ok record {
-  words = made.words ++ (cell_of e, word) ∷ [];
+  words = made.words ++ (e.cell, word) ∷ [];
   asks = asks;
-  clash = first_of made.clash (clash_of e.line asks (made.words ++ (cell_of e, word) ∷ []));
+  clash = first_of made.clash (clash_of e.line asks (made.words ++ (e.cell, word) ∷ []));
 }
 
 abbrev pub with_entry : Known → Entry → Result Made Fault → Result Made Fault
 with_entry last e (Err fault) = Err fault
-with_entry last e (Ok made) = with_word e made (word_value last e.spot e.steps made.asks)
+with_entry last e (Ok made) = with_word e made (word_value last (spot_of e.cell) e.steps made.asks)
 
--- what entries make, the newest first, by what names stand for at last; or the first fault of a word
+-- entries more, up to the first fault of a word
+abbrev pub with_entries : Known → List Entry → Result Made Fault → Result Made Fault
+with_entries last [] made = made
+with_entries last (e ∷ others) made = with_entries last others (with_entry last e made)
+
+-- what entries make, by what names stand for at last; or the first fault of a word
 abbrev pub made_of : Known → List Entry → Result Made Fault
-made_of last [] = Ok record { words = []; asks = []; clash = None }
-made_of last (e ∷ older) = with_entry last e (made_of last older)
-
--- the line of the last statement, which is that of the `$`
-abbrev pub last_line : Source → ℕ
-last_line [] = 1
-last_line (s ∷ older) = s.line
+made_of last entries = with_entries last entries (Ok record { words = []; asks = []; clash = None })
 
 abbrev pub has_words : List (ℕ × ℕ) → Bool
 has_words [] = false

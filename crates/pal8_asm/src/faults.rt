@@ -1,4 +1,5 @@
 ghost use Rattle.std.specs.Prelude.{◌≡◌};
+ghost use Rattle.pal8_asm.specs.declared.faults.AsmFault.TheVariants as asm;
 ghost use Rattle.pal8_asm.specs.declared.faults.Stop.TheVariants.{Memory};
 
 use std::alloc::AllocError;
@@ -69,5 +70,23 @@ impl From<AllocError> for Stop {
 
     fn from(_error: AllocError) -> Stop {
         Stop::Memory
+    }
+}
+
+/// Why a source isn't assembled: a code with the line at which it is found, 1 and up; or memory ran out.
+#[derive(Clone, Copy, PartialEq, Eq, Debug, Error)]
+pub enum AsmFault {
+    #[error("{0} in line {1}")]
+    At(Code, u64),
+
+    #[error("out of memory")]
+    Memory,
+}
+
+impl From<AllocError> for AsmFault {
+    ghost from_gives = { λ _ fault. fault ≡ asm.Memory };
+
+    fn from(_error: AllocError) -> AsmFault {
+        AsmFault::Memory
     }
 }

@@ -1,5 +1,6 @@
-ghost use Rattle.std.specs.Prelude.{◌≡◌, ℕ, ◌<◌, IfSome, OnOk};
-ghost use Rattle.pal_sym.specs.Values.{symbol_value};
+ghost use Rattle.std.specs.Prelude.{◌≡◌, ℕ, ◌<◌, IfSome, OnOk, is_some};
+ghost use Rattle.pal_sym.specs.Permanent as old;
+ghost use Rattle.pal_sym.specs.Values.{is_fixed, symbol_value};
 ghost use Rattle.pal8_sym.specs.Permanent.{permanent};
 ghost use Rattle.pal8_sym.specs.Symbols.{DefinesTag, DefinesValue, Gives, IsSetAgain, MakesRoom, value_in, value_of};
 
@@ -31,7 +32,9 @@ impl Symbols {
     /// The permanent names alone. It takes no memory.
     #[tactic(auto, unfolding(crate::specs::Symbols::value_of, crate::specs::Permanent::permanent))]
     pub fn new(alloc: Global) -> Symbols
-        ensures { (name : ℕ) → value_of result name ≡ value_in (permanent name) }
+        ensures values { (name : ℕ) → value_of result name ≡ value_in (permanent name) }
+        ensures kept { (name : ℕ) → symbol_value result name ≡ old.permanent name }
+        ensures fixed { (name : ℕ) → is_fixed result name ≡ is_some (old.permanent name) }
     {
         Symbols {
             table: pal_sym::Symbols::new(alloc),

@@ -1,0 +1,16 @@
+use Rattle.std.proofs.Common.{◌∙◌, ◌++◌, ◌∷◌, [], ap, refl}
+use Rattle.pal_sym.specs.Values.{symbol_value}
+use Rattle.pal8_asm.specs.Sources.{resolved}
+use Rattle.pal8_asm.proofs.MakingLemmas.{one_more, still_fits}
+use Rattle.pal8_asm.proofs.entries.Entries.push.Goals as goal
+
+pub invariant_of-self-2 : goal.invariant_of-self-2
+invariant_of-self-2 c =
+    still_fits c.self.inside.heads.items c.reserve.new.self.items c.push_reserved.new.self.items c.self.inside.steps.items c.reserve-2.new.self.items c.put_steps.new.to.items
+    c.args.steps.now (symbol_value c.args.symbols.now) _ c.reserve.ensures.items c.push_reserved.ensures.items c.reserve-2.ensures.items c.put_steps.ensures c.self.invariant refl
+
+pub returns : goal.returns
+returns c =
+    one_more c.self.inside.heads.items c.reserve.new.self.items c.push_reserved.new.self.items c.self.inside.steps.items c.reserve-2.new.self.items c.put_steps.new.to.items
+    c.args.steps.now (symbol_value c.args.symbols.now) _ c.reserve.ensures.items c.push_reserved.ensures.items c.reserve-2.ensures.items c.put_steps.ensures c.self.invariant refl
+    ∙ ap (λ l. l ++ record { line = c.args.line; cell = c.args.cell; steps = resolved (symbol_value c.args.symbols.now) c.args.steps.now } ∷ []) c.self.view_is

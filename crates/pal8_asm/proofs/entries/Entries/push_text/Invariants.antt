@@ -1,0 +1,14 @@
+use Rattle.std.proofs.Common.{◌≡◌, ◌<◌, length}
+use Rattle.pal8_asm.specs.Sources.{text_words, with_entries}
+use Rattle.pal8_asm.proofs.entries.Entries.push_text.Given as goal
+
+-- the words that are left come after those that were put
+abbrev pub invariant-loop-rest : goal.invariant-loop-rest
+invariant-loop-rest l = record {
+  same :
+      with_entries l.line l.field l.at (text_words l.rest) l.self ≡ with_entries l.fn.line l.fn.field l.fn.address (text_words l.fn.string) l.fn.self;
+  range : l.at < 0o10000;
+}
+
+abbrev pub decreases-loop-rest : goal.decreases-loop-rest
+decreases-loop-rest l = length l.rest

@@ -1,0 +1,15 @@
+use Rattle.std.proofs.Common.{◌≡◌, ◌<◌, replicate}
+use Rattle.pal8_asm.specs.Sources.{number, with_entries}
+use Rattle.pal8_asm.proofs.entries.Entries.push_zeros.Given as goal
+
+-- the zeros that are left come after those that were put
+abbrev pub invariant-loop-left : goal.invariant-loop-left
+invariant-loop-left l = record {
+  same :
+      with_entries l.line l.field l.at (replicate l.left (number 0)) l.self
+      ≡ with_entries l.fn.line l.fn.field l.fn.address (replicate l.fn.count (number 0)) l.fn.self;
+  range : l.at < 0o10000;
+}
+
+abbrev pub decreases-loop-left : goal.decreases-loop-left
+decreases-loop-left l = l.left

@@ -1,0 +1,15 @@
+-- How the words that are to be made lie: their heads, and the steps of them all, one after the other.
+use Rattle.std.specs.Prelude.{ℕ, ◌+◌, take, drop, List, [], ◌∷◌}
+use Rattle.pal8_grammar.specs.declared.steps.Step.{Step}
+use Rattle.pal8_asm.specs.Sources.{Entry}
+use Rattle.pal8_asm.specs.declared.entries.Head.{Head}
+
+-- how many steps heads have
+abbrev pub total : List Head → ℕ
+total [] = 0
+total (h ∷ others) = h.count + total others
+
+-- each head with its own steps
+abbrev pub cut : List Head → List Step → List Entry
+cut [] steps = []
+cut (h ∷ others) steps = record { line = h.line; cell = h.cell; steps = take h.count steps } ∷ cut others (drop h.count steps)
