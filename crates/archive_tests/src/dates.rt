@@ -1,5 +1,7 @@
 //! Dates: what the manual's words mean.
 
+ghost use Rattle.std.specs.Prelude.{◌≤◌};
+
 use os8_dates::laws::{one_year_of_eight, spelled_dates, words_and_dates};
 use os8_dates::{date_word, last_year, parse_date, put_date};
 use std::alloc::{AllocError, Global};

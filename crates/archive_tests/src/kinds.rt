@@ -1,5 +1,7 @@
 //! What files and images hold.
 
+ghost use Rattle.std.specs.Prelude.{◌≤◌};
+
 use file_kind::{FileKind, kind_of};
 use image_kind::{Form, ImageKind, kind_of as image_kind_of};
 use std::alloc::Global;

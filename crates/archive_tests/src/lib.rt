@@ -11,3 +11,5 @@ mod indexes;
 mod kinds;
 #[cfg(test)]
 mod names;
+#[cfg(test)]
+mod volumes;

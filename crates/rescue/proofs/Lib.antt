@@ -1,1 +1,2 @@
 pub mod RescueLemmas
+pub mod LawLemmas

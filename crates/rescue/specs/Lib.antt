@@ -1,1 +1,3 @@
 pub mod Rescued
+pub mod Laws
+pub mod Steps

@@ -9,7 +9,7 @@ use Rattle.os8_dir.specs.declared.file_faults.FileFault.TheVariants as file
 use Rattle.os8_dir.specs.Entries.{IsNamed}
 use Rattle.os8_dir.specs.Files.{Files, files_of}
 use Rattle.os8_dir.specs.Names.{padded}
-use Rattle.os8_files.specs.Calls.{IsReady, info_of}
+use Rattle.os8_files.specs.Calls.{info_of}
 use Rattle.os8_files.specs.Mounted.{Mounted}
 use Rattle.os8_files.specs.Puts.{HasPutWith, PutsFileWith, blocks_filled}
 use Rattle.rescue.specs.declared.faults.RescueFault.{RescueFault}
@@ -66,18 +66,6 @@ pub record IsRefused (refusal : Refusal) (place : ℕ) (f : KeptFile) : Type 0 w
 pub record IsRefusedOf (kept : List KeptFile) (refusal : Refusal) : Type 0 where
   pub place : ℕ
   pub at : IsAt kept place (IsRefused refusal place)
-
--- files are put into a volume, one after the other, or one is refused
-abbrev pub KeepsFiles : Mounted → List KeptFile → Result (Unit {0}) Refusal → Mounted → Type 0
-KeepsFiles old kept (Ok done) new = (info_of new.blocks ≡ info_of old.blocks) × (files_of new.blocks ≡ with_files (info_of old.blocks) (files_of old.blocks) kept)
-KeepsFiles old kept (Err refusal) new = IsRefusedOf kept refusal
-
--- a new volume is mounted, and has no file
-abbrev pub Mounts : Result Mounted RescueFault → Type 0
-Mounts (Ok m) = IsReady m × (files_of m.blocks ≡ from_entries [])
-Mounts (Err Unread) = Unit {0}
-Mounts (Err (Image fault)) = ⊥
-Mounts (Err (Refused refusal)) = ⊥
 
 -- what is answered where a volume of so many blocks with these files is wanted
 abbrev pub Rescues : ℕ → List KeptFile → Result (Vec ℕ) RescueFault → Type 0

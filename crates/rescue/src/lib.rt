@@ -5,6 +5,7 @@
 #![tactic(auto)]
 
 mod faults;
+pub mod laws;
 mod volumes;
 
 pub use faults::{Refusal, RescueFault};

@@ -2,7 +2,8 @@ ghost use Rattle.std.specs.Prelude.{◌≡◌, ℕ, ◌↔◌, IsTrue};
 ghost use Rattle.os8_dir.specs.Entries.{IsNamed};
 ghost use Rattle.os8_files.specs.Calls.{IsReady};
 ghost use Rattle.volume_image.specs.Image.{IsNewVolume};
-ghost use Rattle.rescue.specs.Rescued.{AreBlocks, Keeps, KeepsFiles, Mounts, Rescues};
+ghost use Rattle.rescue.specs.Rescued.{AreBlocks, Keeps, Rescues};
+ghost use Rattle.rescue.specs.Steps.{KeepsFiles, Mounts};
 
 use crate::{Refusal, RescueFault};
 use os8_dir::Name;

@@ -1,0 +1,30 @@
+-- What holds of the files of a rescued volume.
+use Rattle.std.specs.Prelude.{◌≡◌, ◌≢◌, ℕ, Some, None, List, [], ◌∷◌}
+use Rattle.std.specs.FinMap.{from_entries, get}
+use Rattle.os8_dir.specs.Files.{Files}
+use Rattle.os8_dir.specs.Names.{padded}
+use Rattle.rescue.specs.Rescued.{with_files}
+use Rattle.rescue.specs.declared.volumes.KeptFile.{KeptFile}
+
+-- no file has the name
+abbrev pub HasNone : ℕ → List KeptFile → Type 0
+HasNone name [] = Unit {0}
+HasNone name (f ∷ fs) = (f.name ≢ name) × HasNone name fs
+
+-- no two files have one name
+abbrev pub Differ : List KeptFile → Type 0
+Differ [] = Unit {0}
+Differ (f ∷ fs) = HasNone f.name fs × Differ fs
+
+-- each of these files is there, with its words and so many information words
+abbrev pub AreThere : ℕ → Files → List KeptFile → Type 0
+AreThere info files [] = Unit {0}
+AreThere info files (f ∷ fs) = (get files f.name ≡ Some (padded info f.info, f.words.items)) × AreThere info files fs
+
+-- of files with names of their own each is there
+abbrev pub KeptAreThere : Type 0
+KeptAreThere = (info : ℕ) (kept : List KeptFile) → Differ kept → AreThere info (with_files info (from_entries []) kept) kept
+
+-- and no file of another name
+abbrev pub OthersAreNot : Type 0
+OthersAreNot = (info name : ℕ) (kept : List KeptFile) → HasNone name kept → get (with_files info (from_entries []) kept) name ≡ None
