@@ -8,8 +8,10 @@ use Rattle.pal8_lex.specs.Reading as lex
 use Rattle.pal8_lex.specs.Reading.{HasRead}
 use Rattle.pal8_lex.specs.Text.{line_after, live}
 use Rattle.pal8_lex.specs.Statements.{Statement, statements}
+use Rattle.pal8_asm.specs.Laws.{FaultStays}
 use Rattle.pal8_asm.specs.Sources.{Fault, Source, at_line, first_left, if_ended, is_dollar, is_ended, last_line, left_of, passed, source_in, source_of, with_next}
-use Rattle.pal8_asm.specs.Steps.{FailsAt, HasEnded, HasTaken, IsOnTheWay, Makes, MakesWords, Progress, ReadsOn, ReadsText, TakesByte, left_in}
+use Rattle.pal8_asm.specs.Steps.{FailsAt, HasEnded, HasTaken, IsOnTheWay, Makes, ReadsOn, TakesByte}
+use Rattle.pal8_asm.specs.Assembling.{MakesWords, Progress, ReadsText, left_in}
 use Rattle.pal8_asm.specs.Tapes.{Made}
 use Rattle.pal8_pools.specs.Pooled.{PoolTable}
 use Rattle.pal8_asm.specs.declared.faults.AsmFault.{AsmFault}
@@ -150,3 +152,18 @@ reads_none whole answer lexer a is reads = subst (λ o. ReadsOn whole (Ok o) lex
 pub words_fail : (whole : Result Made Fault) (fault : AsmFault) (pools : PoolTable) (pairs : List (ℕ × ℕ)) → Makes whole (Err fault) pools pairs → MakesWords whole (Err fault) pools
 words_fail whole (At code line) pools pairs is = is
 words_fail whole Memory pools pairs is = tt
+
+source_fault_stays : (further source : Source) (fault : Fault) → passed (source_in source) ≡ Err fault → passed (source_in (further ++ source)) ≡ Err fault
+source_fault_stays [] source fault fails = fails
+source_fault_stays (x ∷ further) source fault fails = by_test (is_ended (further ++ source)) refl (source_fault_stays further source fault fails)
+  where
+    by_test : (test : Bool) → is_ended (further ++ source) ≡ test → passed (source_in (further ++ source)) ≡ Err fault
+        → passed (if test then source_in (further ++ source) else x ∷ further ++ source) ≡ Err fault
+    by_test true e before = before
+    by_test false e before = ap (with_next x) (sym (ap passed (open_is_whole (further ++ source) e)) ∙ before)
+
+pub text_fault_stays : StatementsStay → FaultStays
+text_fault_stays stay later text fault fails =
+    let more = stay text later in
+    ap (if_ended (later ++ text) (is_ended (statements (later ++ text))))
+    (ap (λ l. passed (source_in l)) more.1 ∙ source_fault_stays more.0 (statements text) fault fails)

@@ -6,7 +6,8 @@ use Rattle.pal8_lex.specs.Kinds.{is_comma}
 use Rattle.pal8_lex.specs.declared.tokens.Token.{Token}
 use Rattle.pal8_grammar.specs.Bodies.{free_name}
 use Rattle.pal8_asm.specs.Places.{Standing, with_tag, with_tags}
-use Rattle.pal8_asm.specs.Steps.{Defines, standing}
+use Rattle.pal8_asm.specs.Steps.{Defines}
+use Rattle.pal8_asm.specs.Assembling.{standing}
 use Rattle.pal8_asm.specs.declared.faults.Code.{Code}
 use Rattle.pal8_asm.specs.declared.faults.Stop.{Stop}
 use Rattle.pal8_asm.specs.declared.faults.Stop.TheVariants.{At, Memory}

@@ -8,7 +8,8 @@ use Rattle.pal8_lex.specs.Statements.{Statement}
 use Rattle.pal8_grammar.specs.Bodies.{Phrase, said_by}
 use Rattle.pal8_asm.specs.Places.{with_statement}
 use Rattle.pal8_asm.specs.Sources.{Entry, Left, Passed, at_line, closed, first_left, is_close, with_next, with_phrase, with_said}
-use Rattle.pal8_asm.specs.Steps.{IsTaken, Progress, Takes, TakesStatement, standing}
+use Rattle.pal8_asm.specs.Steps.{IsTaken, TakesStatement}
+use Rattle.pal8_asm.specs.Assembling.{Progress, Takes, standing}
 use Rattle.pal8_asm.specs.declared.faults.AsmFault.{AsmFault}
 use Rattle.pal8_asm.specs.declared.faults.AsmFault.TheVariants.{At, Memory}
 use Rattle.pal8_asm.specs.declared.faults.Code.TheVariants as code

@@ -5,7 +5,8 @@ use Rattle.pal_lex.specs.Text.{text_of}
 use Rattle.pal_sym.specs.Permanent.{permanent}
 use Rattle.pal8_pools.specs.Asks.{Ask, cell_in}
 use Rattle.pal8_asm.specs.Sources.{Fault}
-use Rattle.pal8_asm.specs.Tapes.{Made, assembled}
+use Rattle.pal8_asm.specs.Tapes.{Made}
+use Rattle.pal8_asm.specs.Assembled.{assembled}
 use Rattle.pal8_asm.specs.declared.faults.Code.{Code}
 use Rattle.pal8_asm.specs.declared.faults.Code.TheVariants.{IC, SY, NU, UA, DT, RD, IR, II, FD, PG, PF, DZ, PE, ZE, PH, NE, NW}
 

@@ -1,18 +1,18 @@
 -- What the small steps of a pass come to, for private clauses.
+use Rattle.pal8_asm.specs.Assembling.{IsMade, Progress, ReadsText, left_in, standing}
 use Rattle.std.specs.Prelude.{◌≡◌, ℕ, ◌-◌, ◌%◌, true, false, Option, Some, None, Result, Ok, Err, List, ◌∷◌}
 use Rattle.pal_sym.specs.SymbolTable.{SymbolTable}
-use Rattle.pal_sym.specs.Values.{is_fixed, symbol_value}
+use Rattle.pal_sym.specs.Values.{symbol_value}
 use Rattle.pal_lex.specs.Text.{text_from}
 use Rattle.pal8_lex.specs.Reading.{HasRead}
 use Rattle.pal8_lex.specs.Reading as lex
 use Rattle.pal8_lex.specs.Statements.{Statement, statements}
 use Rattle.pal8_grammar.specs.declared.bodies.Body.{Body}
 use Rattle.pal8_grammar.specs.declared.steps.Step.{Step}
-use Rattle.std.specs.Global.{Vec}
-use Rattle.pal8_pools.specs.Pooled.{Holds, PoolTable}
+use Rattle.pal8_pools.specs.Pooled.{PoolTable}
 use Rattle.pal8_asm.specs.Places.{Standing}
 use Rattle.pal8_asm.specs.Tapes.{Made}
-use Rattle.pal8_asm.specs.Sources.{Entry, Fault, Left, Passed, Source, at_line, is_ended, last_line, left_of, passed, source_of, with_entries, words_in}
+use Rattle.pal8_asm.specs.Sources.{Entry, Fault, Passed, Source, at_line, is_ended, last_line, passed, source_of, with_entries, words_in}
 use Rattle.pal8_asm.specs.declared.faults.AsmFault.{AsmFault}
 use Rattle.pal8_asm.specs.declared.faults.AsmFault.TheVariants as asm
 use Rattle.pal8_asm.specs.declared.faults.Code.{Code}
@@ -20,21 +20,11 @@ use Rattle.pal8_asm.specs.declared.faults.Stop.{Stop}
 use Rattle.pal8_asm.specs.declared.faults.Stop.TheVariants.{At, Memory}
 use Rattle.pal8_asm.specs.declared.places.Position.{Position}
 
--- what a table of names and a position are
-abbrev pub standing : SymbolTable → Position → Standing
-standing table position = record { kept = symbol_value table; fixed = is_fixed table; position = position }
-
 -- a position is answered, or the fault that refuses it
 abbrev pub Moves : Result Position Code → Result Position Stop → Type 0
 Moves whole (Ok next) = whole ≡ Ok next
 Moves whole (Err (At code)) = whole ≡ Err code
 Moves whole (Err Memory) = Unit {0}
-
--- a statement is taken, or its fault is answered; or memory ran out
-abbrev pub Passes : Result Standing Code → Result Position Stop → SymbolTable → Type 0
-Passes whole (Ok next) new = whole ≡ Ok (standing new next)
-Passes whole (Err (At code)) new = whole ≡ Err code
-Passes whole (Err Memory) new = Unit {0}
 
 -- names are defined, or the fault is answered that refuses them; or memory ran out
 abbrev pub Defines : Result Standing Code → Position → Result (Unit {0}) Stop → SymbolTable → Type 0
@@ -47,22 +37,6 @@ abbrev pub Values : Result ℕ Code → Result ℕ Stop → Type 0
 Values whole (Ok found) = whole ≡ Ok found
 Values whole (Err (At code)) = whole ≡ Err code
 Values whole (Err Memory) = Unit {0}
-
--- How far an assembler is.
-pub record Progress : Type 0 where
-  pub table : SymbolTable
-  pub position : Position
-  pub entries : List Entry
-
--- what the statements before leave
-abbrev pub left_in : Progress → Left
-left_in a = record { standing = standing a.table a.position; entries = a.entries }
-
--- a statement is taken, or its fault is answered; or memory ran out
-abbrev pub Takes : Passed → Result (Unit {0}) AsmFault → Progress → Type 0
-Takes whole (Ok nothing) new = whole ≡ Ok (left_in new)
-Takes whole (Err (asm.At code line)) new = whole ≡ Err (at_line line code)
-Takes whole (Err asm.Memory) new = Unit {0}
 
 -- a statement is taken at a position, or its fault is answered; or memory ran out
 abbrev pub TakesStatement : Passed → Result Position AsmFault → SymbolTable → List Entry → Type 0
@@ -116,12 +90,6 @@ pub record IsOnTheWay (whole rest : List ℕ) (lexer : lex.Progress) (a : Progre
   pub same : text_from here rest ≡ whole
   pub taken : HasTaken here lexer a
 
--- what a text leaves to be made was taken, and its `$` has this line; or its fault; or memory ran out
-abbrev pub ReadsText : List ℕ → Result ℕ AsmFault → Progress → Type 0
-ReadsText text (Ok line) a = (left_of text ≡ Ok (left_in a)) × (last_line (source_of text) ≡ line)
-ReadsText text (Err (asm.At code line)) a = left_of text ≡ Err (at_line line code)
-ReadsText text (Err asm.Memory) a = Unit {0}
-
 -- what further bytes come to: nothing is left, or the source is over
 abbrev pub ReadsOn : List ℕ → Result (Option ℕ) AsmFault → lex.Progress → Progress → Type 0
 ReadsOn whole (Ok None) lexer a = HasTaken whole lexer a
@@ -130,21 +98,8 @@ ReadsOn whole (Err fault) lexer a = ReadsText whole (Err fault) a
 
 -- ## Words
 
--- Entries were made, after others: these are the words so far, and the pools hold what was asked.
-pub record IsMade (whole : Result Made Fault) (pools : PoolTable) (pairs : List (ℕ × ℕ)) : Type 0 where
-  pub made : Made
-  pub is_whole : whole ≡ Ok made
-  pub words : pairs ≡ made.words
-  pub holds : Holds pools made.asks made.asks
-
 -- what making entries comes to, or the first fault of a word; or memory ran out
 abbrev pub Makes : Result Made Fault → Result (Unit {0}) AsmFault → PoolTable → List (ℕ × ℕ) → Type 0
 Makes whole (Ok nothing) pools pairs = IsMade whole pools pairs
 Makes whole (Err (asm.At code line)) pools pairs = whole ≡ Err (at_line line code)
 Makes whole (Err asm.Memory) pools pairs = Unit {0}
-
--- the words are answered, and the pools hold what they asked; or the first fault of a word; or memory ran out
-abbrev pub MakesWords : Result Made Fault → Result (Vec (ℕ × ℕ)) AsmFault → PoolTable → Type 0
-MakesWords whole (Ok pairs) pools = IsMade whole pools pairs.items
-MakesWords whole (Err (asm.At code line)) pools = whole ≡ Err (at_line line code)
-MakesWords whole (Err asm.Memory) pools = Unit {0}

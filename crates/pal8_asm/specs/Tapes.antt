@@ -6,8 +6,8 @@ use Rattle.pal8_pools.specs.Pooled.{is_cell_of}
 use Rattle.pal8_values.specs.Sums.{Known}
 use Rattle.pal8_values.specs.Words.{Asked, word_value}
 use Rattle.pal8_values.specs.declared.sums.Spot.{Spot}
-use Rattle.pal8_asm.specs.Places.{code_of, stands}
-use Rattle.pal8_asm.specs.Sources.{Entry, Fault, Passed, at_line, last_line, left_of, source_of}
+use Rattle.pal8_asm.specs.Places.{code_of}
+use Rattle.pal8_asm.specs.Sources.{Entry, Fault, at_line}
 use Rattle.pal8_asm.specs.declared.faults.Code.TheVariants as code
 
 -- What entries make: their words with their cells, in the order of the source; what they asked, the newest first; and the first fault of a word
@@ -63,25 +63,3 @@ with_entries last (e ∷ others) made = with_entries last others (with_entry las
 -- what entries make, by what names stand for at last; or the first fault of a word
 abbrev pub made_of : Known → List Entry → Result Made Fault
 made_of last entries = with_entries last entries (Ok record { words = []; asks = []; clash = None })
-
-abbrev pub has_words : List (ℕ × ℕ) → Bool
-has_words [] = false
-has_words (word ∷ others) = true
-
-abbrev pub judged_by : List ℕ → Made → Option Fault → Bool → Result Made Fault
-judged_by text made (Some fault) has = Err fault
-judged_by text made None true = Ok made
-judged_by text made None false = Err (at_line (last_line (source_of text)) code.NW)
-
--- no word lies on a pool's cell, and there is a word
-abbrev pub judged : List ℕ → Result Made Fault → Result Made Fault
-judged text (Err fault) = Err fault
-judged text (Ok made) = judged_by text made made.clash (has_words made.words)
-
-abbrev pub made_by : List ℕ → Passed → Result Made Fault
-made_by text (Err fault) = Err fault
-made_by text (Ok left) = judged text (made_of (stands left.standing.kept) left.entries)
-
--- what a text makes, or its first fault: of places and names; of its end; of words; of words on pools' cells; that there is no word
-abbrev pub assembled : List ℕ → Result Made Fault
-assembled text = made_by text (left_of text)

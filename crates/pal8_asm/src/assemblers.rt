@@ -1,7 +1,8 @@
 ghost use Rattle.std.specs.Prelude.{◌≡◌, ◌<◌, ◌≤◌, IfOk, Ok, length};
 ghost use Rattle.pal8_asm.specs.Places.{with_statement};
 ghost use Rattle.pal8_asm.specs.Sources.{first_left, is_close, with_next};
-ghost use Rattle.pal8_asm.specs.Steps.{Takes, TakesBody, TakesStatement, left_in, standing};
+ghost use Rattle.pal8_asm.specs.Steps.{TakesBody, TakesStatement};
+ghost use Rattle.pal8_asm.specs.Assembling.{Takes, left_in, standing};
 
 use crate::entries::Entries;
 use crate::places::{Position, first_position};
@@ -27,7 +28,7 @@ impl Model for Assembler {
     ghost use Rattle.std.specs.Prelude.{◌<◌, ◌≤◌};
     ghost use Rattle.pal_sym.specs.SymbolTable.{table_code};
     ghost use Rattle.std.specs.Coded.{codes};
-    ghost use Rattle.pal8_asm.specs.Steps.{Progress};
+    ghost use Rattle.pal8_asm.specs.Assembling.{Progress};
 
     ghost Value = { Progress };
 

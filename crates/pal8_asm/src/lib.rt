@@ -1,9 +1,11 @@
-//! The assembler of PAL8, the assembler of OS/8 (in this project's profile of it), so far what each statement does to places and names.
+//! The assembler of PAL8, the assembler of OS/8 (in this project's profile of it): of a text its first fault, or the words that its statements
+//! leave to be made, and these with their cells. No place and no name rests on a literal or a link, so words are made after all statements.
 #![tactic(auto)]
 
 mod assemblers;
 mod entries;
 mod faults;
+pub mod laws;
 mod places;
 mod tags;
 mod texts;

@@ -4,7 +4,8 @@ ghost use Rattle.pal8_values.specs.Sums.{early_value};
 ghost use Rattle.pal8_lex.specs.Kinds.{is_comma};
 ghost use Rattle.pal8_grammar.specs.Bodies.{free_name};
 ghost use Rattle.pal8_asm.specs.Places.{coded, with_body, with_definition, with_statement, with_tag, with_tags, with_value_of, with_valued};
-ghost use Rattle.pal8_asm.specs.Steps.{Defines, Passes, Values, standing};
+ghost use Rattle.pal8_asm.specs.Steps.{Defines, Values};
+ghost use Rattle.pal8_asm.specs.Assembling.{Passes, standing};
 
 use crate::places::{Position, at_location, next_page, with_field, with_page, with_size};
 use crate::{Code, Stop};

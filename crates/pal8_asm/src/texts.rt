@@ -7,7 +7,8 @@ ghost use Rattle.pal_sym.specs.Values.{symbol_value};
 ghost use Rattle.pal8_pools.specs.Pooled.{Holds};
 ghost use Rattle.pal8_asm.specs.Places.{stands};
 ghost use Rattle.pal8_asm.specs.Tapes.{made_of};
-ghost use Rattle.pal8_asm.specs.Steps.{HasTaken, MakesWords, IsOnTheWay, ReadsOn, ReadsText, TakesByte, left_in};
+ghost use Rattle.pal8_asm.specs.Steps.{HasTaken, IsOnTheWay, ReadsOn, TakesByte};
+ghost use Rattle.pal8_asm.specs.Assembling.{MakesWords, ReadsText, left_in};
 
 use crate::{AsmFault, Assembler, Code};
 use pal8_lex::laws::statements_stay;

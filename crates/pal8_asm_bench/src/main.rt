@@ -1,21 +1,48 @@
-//! Assembles a PAL8 source on standard input, to hold its parts to the plain model: it prints each cell that has a word, as field, address and
-//! word in octal, or the code of the first fault with its line.
+//! Assembles a PAL8 source on standard input by `pal8_asm`, to hold it to the plain model: it prints each cell that has a word, as field,
+//! address and word in octal, or the code of the first fault with its line. Where a word lies on a pool's cell it looks by itself.
 #![tactic(auto)]
 
 mod sources;
 mod words;
 
+use pal8_asm::{AsmFault, Assembler};
+use pal8_pools::Pools;
 use sources::{Fault, Source};
 use std::alloc::Global;
 use std::io::Read;
 use std::process::ExitCode;
 use words::{Core, NO_WORD, make_words};
 
+fn fault_of(fault: AsmFault) -> Fault {
+    match fault {
+        AsmFault::At(code, line) => Fault::At(code, line),
+        AsmFault::Memory => Fault::Memory,
+    }
+}
+
 /// Assembles a text.
 fn assemble(alloc: Global, text: &[u8]) -> Result<Core, Fault> {
+    let mut assembler = Assembler::new(alloc);
+    let last_line = match assembler.read(alloc, text) {
+        Ok(line) => line,
+        Err(fault) => return Err(fault_of(fault)),
+    };
+    let mut pools = Pools::new(alloc);
+    let pairs = match assembler.words(alloc, &mut pools) {
+        Ok(pairs) => pairs,
+        Err(fault) => return Err(fault_of(fault)),
+    };
     let mut source = Source::new(alloc);
-    let last_line = source.read(alloc, text)?;
-    make_words(alloc, &source, last_line)
+    let _line = source.read(alloc, text)?;
+    make_words(alloc, &source, last_line)?;
+    let mut core = Core::new(alloc)?;
+    for pair in &pairs {
+        core.put(pair.0.index(), pair.1.get());
+    }
+    for (cell, word) in pools.cells() {
+        core.put(cell.index(), word.get());
+    }
+    Ok(core)
 }
 
 /// Prints the cells that have words.

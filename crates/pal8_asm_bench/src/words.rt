@@ -36,10 +36,25 @@ fn no_words(alloc: Global, count: usize) -> Result<Vec<u16>, AllocError> {
 }
 
 impl Core {
-    fn put(&mut self, cell: usize, word: u16) {
+    /// Core without a word.
+    pub fn new(alloc: Global) -> Result<Core, AllocError> {
+        let words = no_words(alloc, CORE)?;
+        Ok(Core { words, clash: None })
+    }
+
+    pub fn put(&mut self, cell: usize, word: u16) {
         if let Some(place) = self.words.get_mut(cell) {
             *place = word;
         }
+    }
+
+    fn has_word(&self) -> bool {
+        for word in &self.words {
+            if *word != NO_WORD {
+                return true;
+            }
+        }
+        false
     }
 
     /// Looks at so many cells for a word on a pool's cell.
@@ -66,12 +81,9 @@ impl Core {
     }
 }
 
-/// Makes the words of a source whose `$` is at this line.
-pub fn make_words(alloc: Global, source: &Source, last_line: u64) -> Result<Core, Fault> {
-    let mut core = Core {
-        words: no_words(alloc, CORE)?,
-        clash: None,
-    };
+/// Makes the words of a source whose `$` is at this line, to find the first that lies on a pool's cell.
+pub fn make_words(alloc: Global, source: &Source, last_line: u64) -> Result<(), Fault> {
+    let mut core = Core::new(alloc)?;
     let mut pools = Pools::new(alloc);
     let mut frames = Frames::new(alloc);
     let mut steps: usize = 0;
@@ -103,13 +115,10 @@ pub fn make_words(alloc: Global, source: &Source, last_line: u64) -> Result<Core
     if let Some((code, line)) = core.clash {
         return Err(Fault::At(code, line));
     }
-    if !core.words.iter().any(|word| *word != NO_WORD) {
+    if source.items.is_empty() || !core.has_word() {
         return Err(Fault::At(Code::NW, last_line));
     }
-    for (cell, word) in pools.cells() {
-        core.put(cell.index(), word.get());
-    }
-    Ok(core)
+    Ok(())
 }
 
 /// The word of a value, whose steps begin here.

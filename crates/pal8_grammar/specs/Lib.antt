@@ -1,3 +1,4 @@
 pub mod Values
 pub mod Bodies
+pub mod Saying
 pub mod Steps

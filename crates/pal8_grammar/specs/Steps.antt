@@ -37,11 +37,3 @@ abbrev pub ReadsBody : Option Phrase → Result (Option Body) AllocError → Rea
 ReadsBody phrase (Ok (Some body)) new = phrase ≡ Some (body, new.steps)
 ReadsBody phrase (Ok None) new = phrase ≡ None
 ReadsBody phrase (Err refused) new = Unit {0}
-
--- what a statement says was read, with its steps, or its fault; or memory ran out
-abbrev pub Says : Result Phrase GrammarFault → Result Body GrammarFault → Reading → Type 0
-Says said (Ok body) new = said ≡ Ok (body, new.steps)
-Says said (Err IC) new = said ≡ Err IC
-Says said (Err NU) new = said ≡ Err NU
-Says said (Err SY) new = said ≡ Err SY
-Says said (Err Memory) new = Unit {0}

@@ -1,7 +1,8 @@
 ghost use Rattle.std.specs.Prelude.{◌≡◌, [], ◌∷◌, Ok};
 ghost use Rattle.pal8_lex.specs.Judging.{tag_count};
 ghost use Rattle.pal8_grammar.specs.Bodies.{alone, argument_steps, body_in, body_phrase, definition_phrase, expression_steps, form_by, form_phrase, has_free_tags, judged_in, named_phrase, names_file, opens, page_phrase, phrase, phrase_by, said_by, text_phrase, word_phrase};
-ghost use Rattle.pal8_grammar.specs.Steps.{Reads, ReadsBody, Says};
+ghost use Rattle.pal8_grammar.specs.Steps.{Reads, ReadsBody};
+ghost use Rattle.pal8_grammar.specs.Saying.{Says};
 ghost use Rattle.pal8_grammar.specs.declared.bodies.Body.{Body};
 
 use crate::kinds::{free_name, is_equals, is_star, is_string, name_of, sign_of};

@@ -3,7 +3,7 @@ use Rattle.std.proofs.Common.{◌≡◌, ℕ, ◌-◌, ◌≤◌, length, get_or
 use Rattle.std.proofs.lemmas.List.{take_all}
 use Rattle.pal8_grammar.specs.declared.steps.Step.{Step}
 use Rattle.pal8_values.specs.Sums.{Known, direct_value, with_plain, with_plains}
-use Rattle.pal8_values.specs.Steps.{IsFault}
+use Rattle.pal8_values.specs.Answering.{IsFault}
 use Rattle.pal8_values.specs.declared.sums.Sum.{Sum}
 use Rattle.pal8_values.specs.declared.faults.ValueFault.{ValueFault}
 use Rattle.pal8_values.specs.declared.faults.ValueFault.TheVariants.{UA, PF, DZ, IR, II, PE, ZE, Memory}

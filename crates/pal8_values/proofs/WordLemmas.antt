@@ -5,7 +5,8 @@ use Rattle.pal8_pools.specs.Pooled.{Holds, PoolTable}
 use Rattle.pal8_grammar.specs.declared.steps.Step.{Step}
 use Rattle.pal8_values.specs.Sums.{Known}
 use Rattle.pal8_values.specs.Words.{Asked, Evaluation, with_step, with_steps, word_in}
-use Rattle.pal8_values.specs.Steps.{Gives, IsFault, Takes}
+use Rattle.pal8_values.specs.Steps.{Takes}
+use Rattle.pal8_values.specs.Answering.{Gives, IsFault}
 use Rattle.pal8_values.specs.declared.sums.Sum.{Sum}
 use Rattle.pal8_values.specs.declared.sums.Spot.{Spot}
 use Rattle.pal8_values.specs.declared.frames.Frame.{Frame}

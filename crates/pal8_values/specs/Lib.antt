@@ -1,3 +1,4 @@
 pub mod Sums
 pub mod Words
+pub mod Answering
 pub mod Steps

@@ -1,4 +1,5 @@
 -- What the small steps of an evaluation come to, for private clauses.
+use Rattle.pal8_values.specs.Answering.{IsFault}
 use Rattle.std.specs.Prelude.{◌≡◌, ℕ, Option, Some, None, Result, Ok, Err, List, [], ◌∷◌}
 use Rattle.pal8_pools.specs.Asks.{Ask}
 use Rattle.pal8_pools.specs.Pooled.{Holds, PoolTable}
@@ -12,33 +13,6 @@ use Rattle.pal8_values.specs.declared.faults.ValueFault.TheVariants.{UA, PF, DZ,
 abbrev pub Pops : List Frame → Option Frame → List Frame → Type 0
 Pops frames None new = (frames ≡ []) × (new ≡ [])
 Pops frames (Some frame) new = frames ≡ frame ∷ new
-
--- A fault is this one; want of memory may come in its place.
-abbrev pub IsFault : {A : Type 0} → Result A ValueFault → ValueFault → Type 0
-IsFault whole UA = whole ≡ Err UA
-IsFault whole PF = whole ≡ Err PF
-IsFault whole DZ = whole ≡ Err DZ
-IsFault whole IR = whole ≡ Err IR
-IsFault whole II = whole ≡ Err II
-IsFault whole PE = whole ≡ Err PE
-IsFault whole ZE = whole ≡ Err ZE
-IsFault whole Memory = Unit {0}
-
--- an answer is this one
-abbrev pub Answers : {A : Type 0} → Result A ValueFault → Result A ValueFault → Type 0
-Answers whole (Ok found) = whole ≡ Ok found
-Answers whole (Err fault) = IsFault whole fault
-
--- A value was found, and the pools hold what was asked up to it.
-pub record IsAsked (whole : Asked) (value : ℕ) (new : PoolTable) : Type 0 where
-  pub asks : List Ask
-  pub is_whole : whole ≡ Ok (value, asks)
-  pub holds : Holds new asks asks
-
--- a value with its asks is answered, or its fault
-abbrev pub Gives : Asked → Result ℕ ValueFault → PoolTable → Type 0
-Gives whole (Ok value) new = IsAsked whole value new
-Gives whole (Err fault) new = IsFault whole fault
 
 -- A step was taken, and the pools hold what was asked up to it.
 pub record IsTaken (whole : Result Evaluation ValueFault) (sum : Sum) (frames : List Frame) (new : PoolTable) : Type 0 where

@@ -1,7 +1,7 @@
 ghost use Rattle.std.specs.Prelude.{◌≡◌, ◌<◌, IfSome, false};
 ghost use Rattle.pal8_sym.specs.Symbols.{value_of};
 ghost use Rattle.pal8_values.specs.Sums.{alone_by, direct, direct_by, early_value, empty, indirect_bit, is_undivided, joined, offset_of, reference_word, with_known, with_place, with_plain, with_value};
-ghost use Rattle.pal8_values.specs.Steps.{Answers};
+ghost use Rattle.pal8_values.specs.Answering.{Answers};
 
 use crate::ValueFault;
 use pal8_grammar::Step;

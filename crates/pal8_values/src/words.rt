@@ -3,7 +3,8 @@ ghost use Rattle.pal8_sym.specs.Symbols.{value_of as symbol_value};
 ghost use Rattle.pal8_pools.specs.Asks.{Ask};
 ghost use Rattle.pal8_pools.specs.Pooled.{Holds};
 ghost use Rattle.pal8_values.specs.Words.{ask_of, full, page_of, referred, value_of, with_ask, with_close, with_step, word_value};
-ghost use Rattle.pal8_values.specs.Steps.{Gives, Takes};
+ghost use Rattle.pal8_values.specs.Steps.{Takes};
+ghost use Rattle.pal8_values.specs.Answering.{Gives};
 
 use crate::sums::{Spot, Sum, empty, offset_of, reference_word, with_plain, with_value};
 use crate::{Frame, Frames, ValueFault};

@@ -1,5 +1,6 @@
 use Rattle.std.proofs.Common.{◌∙◌, Err, sym, subst}
-use Rattle.pal8_asm.specs.Steps.{Defines, standing}
+use Rattle.pal8_asm.specs.Steps.{Defines}
+use Rattle.pal8_asm.specs.Assembling.{standing}
 use Rattle.pal8_asm.proofs.TagLemmas.{tag_fails, tag_goes_on}
 use Rattle.pal8_asm.proofs.tags.define_tags.Goals as goal
 

@@ -1,6 +1,6 @@
 use Rattle.std.proofs.Common.{◌≡◌, Ok, length}
 use Rattle.pal8_asm.specs.Places.{with_tags}
-use Rattle.pal8_asm.specs.Steps.{standing}
+use Rattle.pal8_asm.specs.Assembling.{standing}
 use Rattle.pal8_asm.proofs.tags.define_tags.Given as goal
 
 -- the tags that are left are to be defined after those that were

@@ -1,6 +1,7 @@
 use Rattle.std.proofs.Common.{Ok, Err, subst}
 use Rattle.pal8_asm.specs.Sources.{with_next}
-use Rattle.pal8_asm.specs.Steps.{TakesStatement, left_in}
+use Rattle.pal8_asm.specs.Steps.{TakesStatement}
+use Rattle.pal8_asm.specs.Assembling.{left_in}
 use Rattle.pal8_asm.proofs.TakingLemmas.{passes_on}
 use Rattle.pal8_asm.proofs.assemblers.Assembler.take.Goals as goal
 

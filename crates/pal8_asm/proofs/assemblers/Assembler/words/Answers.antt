@@ -2,7 +2,7 @@ use Rattle.std.proofs.Common.{None, Err, [], subst}
 use Rattle.pal_sym.specs.Values.{symbol_value}
 use Rattle.pal8_sym.specs.Symbols.{value_of}
 use Rattle.pal8_asm.specs.Places.{stands}
-use Rattle.pal8_asm.specs.Steps.{IsMade, MakesWords}
+use Rattle.pal8_asm.specs.Assembling.{IsMade, MakesWords}
 use Rattle.pal8_asm.specs.Tapes.{made_of}
 use Rattle.pal8_asm.proofs.SourceLemmas.{words_fail}
 use Rattle.pal8_asm.proofs.assemblers.Assembler.words.Goals as goal

@@ -1,0 +1,60 @@
+-- What the answers of an assembler come to.
+use Rattle.std.specs.Prelude.{◌≡◌, ℕ, Result, Ok, Err, List}
+use Rattle.pal_sym.specs.SymbolTable.{SymbolTable}
+use Rattle.pal_sym.specs.Values.{is_fixed, symbol_value}
+use Rattle.std.specs.Global.{Vec}
+use Rattle.pal8_pools.specs.Pooled.{Holds, PoolTable}
+use Rattle.pal8_asm.specs.Places.{Standing}
+use Rattle.pal8_asm.specs.Tapes.{Made}
+use Rattle.pal8_asm.specs.Sources.{Entry, Fault, Left, Passed, at_line, last_line, left_of, source_of}
+use Rattle.pal8_asm.specs.declared.faults.AsmFault.{AsmFault}
+use Rattle.pal8_asm.specs.declared.faults.AsmFault.TheVariants as asm
+use Rattle.pal8_asm.specs.declared.faults.Code.{Code}
+use Rattle.pal8_asm.specs.declared.faults.Stop.{Stop}
+use Rattle.pal8_asm.specs.declared.faults.Stop.TheVariants.{At, Memory}
+use Rattle.pal8_asm.specs.declared.places.Position.{Position}
+
+-- what a table of names and a position are
+abbrev pub standing : SymbolTable → Position → Standing
+standing table position = record { kept = symbol_value table; fixed = is_fixed table; position = position }
+
+-- a statement is taken, or its fault is answered; or memory ran out
+abbrev pub Passes : Result Standing Code → Result Position Stop → SymbolTable → Type 0
+Passes whole (Ok next) new = whole ≡ Ok (standing new next)
+Passes whole (Err (At code)) new = whole ≡ Err code
+Passes whole (Err Memory) new = Unit {0}
+
+-- How far an assembler is.
+pub record Progress : Type 0 where
+  pub table : SymbolTable
+  pub position : Position
+  pub entries : List Entry
+
+-- what the statements before leave
+abbrev pub left_in : Progress → Left
+left_in a = record { standing = standing a.table a.position; entries = a.entries }
+
+-- a statement is taken, or its fault is answered; or memory ran out
+abbrev pub Takes : Passed → Result (Unit {0}) AsmFault → Progress → Type 0
+Takes whole (Ok nothing) new = whole ≡ Ok (left_in new)
+Takes whole (Err (asm.At code line)) new = whole ≡ Err (at_line line code)
+Takes whole (Err asm.Memory) new = Unit {0}
+
+-- what a text leaves to be made was taken, and its `$` has this line; or its fault; or memory ran out
+abbrev pub ReadsText : List ℕ → Result ℕ AsmFault → Progress → Type 0
+ReadsText text (Ok line) a = (left_of text ≡ Ok (left_in a)) × (last_line (source_of text) ≡ line)
+ReadsText text (Err (asm.At code line)) a = left_of text ≡ Err (at_line line code)
+ReadsText text (Err asm.Memory) a = Unit {0}
+
+-- Entries were made, after others: these are the words so far, and the pools hold what was asked.
+pub record IsMade (whole : Result Made Fault) (pools : PoolTable) (pairs : List (ℕ × ℕ)) : Type 0 where
+  pub made : Made
+  pub is_whole : whole ≡ Ok made
+  pub words : pairs ≡ made.words
+  pub holds : Holds pools made.asks made.asks
+
+-- the words are answered, and the pools hold what they asked; or the first fault of a word; or memory ran out
+abbrev pub MakesWords : Result Made Fault → Result (Vec (ℕ × ℕ)) AsmFault → PoolTable → Type 0
+MakesWords whole (Ok pairs) pools = IsMade whole pools pairs.items
+MakesWords whole (Err (asm.At code line)) pools = whole ≡ Err (at_line line code)
+MakesWords whole (Err asm.Memory) pools = Unit {0}

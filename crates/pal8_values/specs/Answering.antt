@@ -1,0 +1,36 @@
+-- What the answer for a value comes to.
+use Rattle.std.specs.Prelude.{◌≡◌, ℕ, Option, Some, None, Result, Ok, Err, List, [], ◌∷◌}
+use Rattle.pal8_pools.specs.Asks.{Ask}
+use Rattle.pal8_pools.specs.Pooled.{Holds, PoolTable}
+use Rattle.pal8_values.specs.Words.{Asked, Evaluation}
+use Rattle.pal8_values.specs.declared.sums.Sum.{Sum}
+use Rattle.pal8_values.specs.declared.frames.Frame.{Frame}
+use Rattle.pal8_values.specs.declared.faults.ValueFault.{ValueFault}
+use Rattle.pal8_values.specs.declared.faults.ValueFault.TheVariants.{UA, PF, DZ, IR, II, PE, ZE, Memory}
+
+-- A fault is this one; want of memory may come in its place.
+abbrev pub IsFault : {A : Type 0} → Result A ValueFault → ValueFault → Type 0
+IsFault whole UA = whole ≡ Err UA
+IsFault whole PF = whole ≡ Err PF
+IsFault whole DZ = whole ≡ Err DZ
+IsFault whole IR = whole ≡ Err IR
+IsFault whole II = whole ≡ Err II
+IsFault whole PE = whole ≡ Err PE
+IsFault whole ZE = whole ≡ Err ZE
+IsFault whole Memory = Unit {0}
+
+-- an answer is this one
+abbrev pub Answers : {A : Type 0} → Result A ValueFault → Result A ValueFault → Type 0
+Answers whole (Ok found) = whole ≡ Ok found
+Answers whole (Err fault) = IsFault whole fault
+
+-- A value was found, and the pools hold what was asked up to it.
+pub record IsAsked (whole : Asked) (value : ℕ) (new : PoolTable) : Type 0 where
+  pub asks : List Ask
+  pub is_whole : whole ≡ Ok (value, asks)
+  pub holds : Holds new asks asks
+
+-- a value with its asks is answered, or its fault
+abbrev pub Gives : Asked → Result ℕ ValueFault → PoolTable → Type 0
+Gives whole (Ok value) new = IsAsked whole value new
+Gives whole (Err fault) new = IsFault whole fault
