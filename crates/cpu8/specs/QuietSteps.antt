@@ -5,7 +5,7 @@ use Rattle.tty8.specs.Teletype.{is_requesting}
 use Rattle.cpu8.specs.State.{State, place, next_cell}
 use Rattle.cpu8.specs.Decoding.{is_group_1, is_group_2, has_hlt}
 use Rattle.cpu8.specs.Operate.{is_group1_unassigned}
-use Rattle.cpu8.specs.Step.{executed, fetched}
+use Rattle.cpu8.specs.Step.{executed}
 use Rattle.cpu8.specs.Go.{after, answer, is_break}
 use Rattle.cpu8.specs.declared.outcomes.Stepped.TheVariants.{Ran}
 
