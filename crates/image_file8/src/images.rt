@@ -123,7 +123,11 @@ pub fn make_file<R: Files<File = File> + Eprint + AllocGlobal>(
     bytes: &[u8],
     content: Content,
 ) -> Result<(), Ending> {
-    make_over(rt, name, bytes, content, hold(rt, name))
+    match hold(rt, name) {
+        Ok(mut held) => write_held(rt, &mut held, bytes, content),
+        Err(HoldFault::Absent) => make_absent(rt, name, bytes, content),
+        Err(fault) => Err(ending_of_write(content, fault)),
+    }
 }
 
 /// Makes a file as `make_file` does, and waits so many seconds where another program holds the one of its name.
@@ -134,7 +138,11 @@ pub fn make_file_within<R: Files<File = File> + Eprint + Clock + AllocGlobal>(
     content: Content,
     seconds: usize,
 ) -> Result<(), Ending> {
-    make_over(rt, name, bytes, content, hold_within(rt, name, seconds))
+    match hold_within(rt, name, seconds) {
+        Ok(mut held) => write_held(rt, &mut held, bytes, content),
+        Err(HoldFault::Absent) => make_absent(rt, name, bytes, content),
+        Err(fault) => Err(ending_of_write(content, fault)),
+    }
 }
 
 /// Makes a file that holds these bytes, where there is none of its name: else the answer is `? HOST EXISTS`.
@@ -154,23 +162,28 @@ pub fn make_new_file<R: Files<File = File> + Eprint + AllocGlobal>(
     }
 }
 
-/// Makes a file that holds these bytes, where the one of its name was to be held so.
-fn make_over<R: Files<File = File> + Eprint + AllocGlobal>(
+/// Makes a file that holds these bytes, where there was none of its name.
+fn make_absent<R: Files<File = File> + Eprint + AllocGlobal>(
     rt: &R,
     name: &str,
     bytes: &[u8],
     content: Content,
-    found: Result<HeldFile, HoldFault>,
 ) -> Result<(), Ending> {
-    if let Err(HoldFault::Absent) = &found {
-        let durability = make(rt, name, bytes).map_err(|fault| ending_of_write(content, fault))?;
-        let _ = tells_of_folder(rt, durability, content);
-        return Ok(());
-    }
-    let mut held = found.map_err(|fault| ending_of_write(content, fault))?;
-    tell_of_lock(rt, &held, content);
-    tell_of_place(rt, &held, content);
-    let durability = write(rt, &mut held, bytes, content)?;
+    let durability = make(rt, name, bytes).map_err(|fault| ending_of_write(content, fault))?;
+    let _ = tells_of_folder(rt, durability, content);
+    Ok(())
+}
+
+/// Has a held file hold these bytes.
+fn write_held<R: Files<File = File> + Eprint>(
+    rt: &R,
+    held: &mut HeldFile,
+    bytes: &[u8],
+    content: Content,
+) -> Result<(), Ending> {
+    tell_of_lock(rt, held, content);
+    tell_of_place(rt, held, content);
+    let durability = write(rt, held, bytes, content)?;
     let _ = tells_of_folder(rt, durability, content);
     Ok(())
 }
