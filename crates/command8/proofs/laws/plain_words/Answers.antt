@@ -8,10 +8,10 @@ use Rattle.disk8.specs.declared.layouts.Layout.TheVariants.{Dectape}
 use Rattle.task8.specs.declared.tasks.RimForm.TheVariants.{Lines, Bin}
 use Rattle.task8.specs.declared.tasks.Saving.TheVariants.{AtEnd, Never, Always}
 use Rattle.word12.specs.declared.sizes.TheConstants.{MOST_BLOCKS}
-use Rattle.command8.specs.Found.{capitals, cell_of, number_of}
+use Rattle.command8.specs.Found.{capitals, number_of}
 use Rattle.command8.specs.Refusals.{together}
 use Rattle.command8.specs.Tasks.{IsAssembleOf, IsAt, IsCheckOf, IsCopyOf, IsCreateOf, IsCreateTapeOf, IsDeleteOf, IsGetBinOf, IsGetBlocksOf, IsGetManyOf, IsGetOf, IsListLongOf, IsListOf, IsNamed, IsProfileOf, IsPutManyOf, IsPutOf, IsRenameOf, IsRimOf, IsRunOf, IsSourceOf, IsSqueezeOf, IsTapeOf, IsTeletypeOf, IsTraceOf}
-use Rattle.command8.proofs.AskLemmas.{asks_assemble, asks_check, asks_copy, asks_create, asks_create_tape, asks_delete, asks_get, asks_get_bin, asks_get_blocks, asks_get_many, asks_list, asks_list_long, asks_put, asks_put_many, asks_rename, asks_rim, asks_run, asks_squeeze, asks_tape, cell_plain, named_file, no_info, no_numbers, no_value, number_plain, one_info, one_number, placed_file, profile_asked, source_asked, teletype_asked, trace_asked, traced, volume_told, word_plain}
+use Rattle.command8.proofs.AskLemmas.{asks_assemble, asks_check, asks_copy, asks_create, asks_create_tape, asks_delete, asks_get, asks_get_bin, asks_get_blocks, asks_get_many, asks_list, asks_list_long, asks_put, asks_put_many, asks_rename, asks_rim, asks_run, asks_squeeze, asks_tape, cell_plain, named_file, no_info, no_numbers, number_plain, one_info, one_number, placed_file, profile_asked, source_asked, teletype_asked, trace_asked, traced, volume_told, word_plain}
 use Rattle.command8.proofs.EnteredLemmas.{a_flag, a_value, a_word, entered_as, found_by}
 use Rattle.command8.proofs.NumberLemmas.{some_none}
 use Rattle.command8.proofs.UseLemmas.{no_option}
