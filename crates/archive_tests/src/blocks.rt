@@ -30,8 +30,8 @@ fn words_are_patched(rt: HostRuntime) -> Result<(), Fail> {
     assert_eq!(rt; (image[516], image[517]), (0o234, 2));
     let again = patch(&mut image, 1, 2, 0, Word::ONE);
     assert_eq!(rt; again, Err(PatchFault::OtherWord(0o1234)));
-    let behind = patch(&mut image, 8, 0, 0, Word::ONE);
-    assert_eq!(rt; behind, Err(PatchFault::NoBlock(8)));
+    let after = patch(&mut image, 8, 0, 0, Word::ONE);
+    assert_eq!(rt; after, Err(PatchFault::NoBlock(8)));
     patched_back();
     Ok(())
 }

@@ -21,7 +21,7 @@ fn kind(alloc: Global, frames: &[u8]) -> u8 {
     }
 }
 
-/// The image of an empty volume with so many bytes behind it.
+/// The image of an empty volume with so many bytes after it.
 fn image(alloc: Global, blocks: usize, more: usize) -> Result<Vec<u8>, ImageFault>
     requires blocks { blocks ≤ 4095 }
     requires more { more ≤ 512 }
@@ -33,14 +33,14 @@ fn image(alloc: Global, blocks: usize, more: usize) -> Result<Vec<u8>, ImageFaul
     Ok(bytes)
 }
 
-/// What an image is, its bytes before and behind.
+/// What an image is, its bytes before and after.
 fn form(bytes: &[u8]) -> (u8, usize, usize) {
     match image_kind_of(bytes) {
         Some(
             ImageKind {
                 form,
                 before,
-                behind,
+                after,
             },
         ) => {
             let letter = match form {
@@ -48,7 +48,7 @@ fn form(bytes: &[u8]) -> (u8, usize, usize) {
                 Form::Disk => b'd',
                 Form::Dectape => b't',
             };
-            (letter, before, behind)
+            (letter, before, after)
         }
         None => (b'?', 0, 0),
     }

@@ -9,7 +9,7 @@ abbrev pub number_text : ℕ → List ℕ
 number_text n =
     (if nat_lt n 100 then 0o40 else 0o60 + n / 100 % 10) ∷ (if nat_lt n 10 then 0o40 else 0o60 + n / 10 % 10) ∷ (0o60 + n % 10) ∷ []
 
--- words in octal, each behind a blank
+-- words in octal, each after a blank
 abbrev pub octals : List ℕ → List ℕ
 octals [] = []
 octals (word ∷ words) = 0o40 ∷ octal4 word ++ octals words

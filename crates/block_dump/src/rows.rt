@@ -42,7 +42,7 @@ fn number_text(number: usize) -> [u8; 3]
     [hundreds, tens, b'0' + (number % 10) as u8]
 }
 
-/// Appends words in octal, each behind a blank.
+/// Appends words in octal, each after a blank.
 fn put_octals(text: &mut Vec<u8>, words: &[Word]) -> Result<(), AllocError>
     ensures { OnOk result (text.new.items ≡ text.old.items ++ octals words.now) }
 {
@@ -54,7 +54,7 @@ fn put_octals(text: &mut Vec<u8>, words: &[Word]) -> Result<(), AllocError>
     Ok(())
 }
 
-/// Appends a word in octal behind a blank.
+/// Appends a word in octal after a blank.
 fn put_octal(text: &mut Vec<u8>, word: Word) -> Result<(), AllocError>
     ensures { OnOk result (text.new.items ≡ text.old.items ++ octals (word ∷ [])) }
 {

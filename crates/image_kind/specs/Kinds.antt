@@ -1,5 +1,5 @@
 -- What a file of unknown origin holds (OS/8's use of the RK05 disk and of the DECtape; SIMH's files of both).
-use Rattle.std.specs.Prelude.{ℕ, ◌+◌, ◌-◌, ◌/◌, ◌%◌, nat_le, nat_lt, min, Bool, true, ◌&&◌, ◌||◌, if◌then◌else◌, Option, Some, None, List, length}
+use Rattle.std.specs.Prelude.{ℕ, ◌+◌, ◌-◌, ◌*◌, ◌/◌, ◌%◌, nat_le, nat_lt, min, Bool, true, ◌&&◌, ◌||◌, if◌then◌else◌, Option, Some, None, List, length}
 use Rattle.image_kind.specs.declared.kinds.Form.{Form}
 use Rattle.image_kind.specs.declared.kinds.Form.TheVariants.{Volume, Disk, Dectape}
 use Rattle.image_kind.specs.declared.kinds.ImageKind.{ImageKind}
@@ -12,7 +12,7 @@ abbrev pub excess : Form → ℕ → Option ℕ
 excess Dectape size = if nat_lt size TAPE || nat_le (TAPE + BLOCK_BYTES) size then None else Some (size - TAPE)
 excess Disk size =
     if nat_le size DISK_VOLUME || nat_le (DISK + BLOCK_BYTES) size then None else if nat_le size DISK then Some 0 else Some (size - DISK)
-excess Volume size = if nat_lt size 4096 || nat_le (LARGEST + BLOCK_BYTES) size then None else Some (size % BLOCK_BYTES)
+excess Volume size = if nat_lt size (8 * BLOCK_BYTES) || nat_le (LARGEST + BLOCK_BYTES) size then None else Some (size % BLOCK_BYTES)
 
 -- how many whole blocks so many bytes are, as far as a volume goes
 abbrev pub volume_blocks : ℕ → ℕ
@@ -27,12 +27,12 @@ fits bytes Disk before =
     else nat_lt LARGEST (length bytes) && is_head bytes (before + BLOCK_BYTES) 3248
 fits bytes Volume before = is_head bytes (before + BLOCK_BYTES) (volume_blocks (length bytes))
 
--- with so many bytes beyond those of the form, which stand behind all or before it
+-- with so many bytes beyond those of the form, which stand after all or before it
 abbrev pub placed : List ℕ → Form → Option ℕ → Option ImageKind
 placed bytes form None = None
 placed bytes form (Some excess) =
-    if fits bytes form 0 then Some (record { form = form; before = 0; behind = excess })
-    else if fits bytes form excess then Some (record { form = form; before = excess; behind = 0 })
+    if fits bytes form 0 then Some (record { form = form; before = 0; after = excess })
+    else if fits bytes form excess then Some (record { form = form; before = excess; after = 0 })
     else None
 
 -- a file as one of this form

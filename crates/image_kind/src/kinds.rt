@@ -16,12 +16,12 @@ pub enum Form {
     Dectape,
 }
 
-/// What a file holds, and how many bytes before and behind it are none of it.
+/// What a file holds, and how many bytes before and after it are none of it.
 #[derive(Clone, Copy, PartialEq, Eq, Debug)]
 pub struct ImageKind {
     pub form: Form,
     pub before: usize,
-    pub behind: usize,
+    pub after: usize,
 }
 
 /// The bytes of one volume of a disk.
@@ -36,11 +36,11 @@ const TAPE: usize = 380292;
 /// The bytes of the largest volume.
 const LARGEST: usize = 2096640;
 
-/// Fewer bytes than a block has may stand before or behind.
+/// Fewer bytes than a block has may stand before or after.
 const BLOCK_BYTES: usize = 512;
 
 /// What a file holds, by its length and the directories in it: a DECtape, else a disk, else a volume; none where no directory begins where
-/// it should. Bytes beyond whole blocks, fewer than a block has, stand behind all, or else before it (OS/8 Software Support Manual; SIMH's
+/// it should. Bytes beyond whole blocks, fewer than a block has, stand after all, or else before it (OS/8 Software Support Manual; SIMH's
 /// files of the RK05 and of the TU56; the order is this project's profile).
 pub fn kind_of(bytes: &[u8]) -> Option<ImageKind>
     ensures { result ≡ kind_of bytes.now }
@@ -63,14 +63,14 @@ fn kind_in(bytes: &[u8], form: Form) -> Option<ImageKind>
         return Some(ImageKind {
             form,
             before: 0,
-            behind: excess,
+            after: excess,
         });
     }
     if fits(bytes, form, excess) {
         return Some(ImageKind {
             form,
             before: excess,
-            behind: 0,
+            after: 0,
         });
     }
     None
@@ -106,7 +106,7 @@ fn excess(form: Form, size: usize) -> Option<usize>
     }
 }
 
-/// Whether directories begin where they should behind so many bytes: a disk has one in either volume, and in the second where the file may
+/// Whether directories begin where they should after so many bytes: a disk has one in either volume, and in the second where the file may
 /// be one volume.
 fn fits(bytes: &[u8], form: Form, before: usize) -> bool
     requires { before < 512 }

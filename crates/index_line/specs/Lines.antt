@@ -7,15 +7,15 @@ use Rattle.index_line.specs.declared.lines.IndexEntry.{IndexEntry}
 use Rattle.index_line.specs.Quoting.{quoted}
 use Rattle.index_line.specs.Columns.{hexadecimal, kind_text, volume_text}
 
--- the columns of where a file lies, each behind a tab
+-- the columns of where a file lies, each after a tab
 abbrev pub place : IndexEntry → List ℕ
 place entry = 0o11 ∷ volume_text entry.volume ++ 0o11 ∷ decimal entry.first ++ 0o11 ∷ decimal entry.length
 
--- the columns of what it is, each behind a tab: its name, its date and its kind
+-- the columns of what it is, each after a tab: its name, its date and its kind
 abbrev pub content : IndexEntry → ℕ → List ℕ
 content entry last = 0o11 ∷ text_of entry.name ++ 0o11 ∷ spelled last entry.date ++ 0o11 ∷ kind_text entry.kind
 
--- the column of the MD5 digest of bytes (RFC 1321) behind a tab, and the end of the line
+-- the column of the MD5 digest of bytes (RFC 1321) after a tab, and the end of the line
 abbrev pub digest : List ℕ → List ℕ
 digest words = 0o11 ∷ hexadecimal (md5 words) ++ 0o12 ∷ []
 

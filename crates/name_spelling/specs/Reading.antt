@@ -10,7 +10,7 @@ taking count None = None
 taking count (Some code) = Some (code, count)
 
 -- the next code of a text, and how many characters it takes: `_` and two octal digits are one code, a letter or a digit is its own, and
--- behind the end zeros follow
+-- after the end zeros follow
 abbrev pub next_code : List ℕ → Option (ℕ × ℕ)
 next_code [] = Some (0, 0)
 next_code (first ∷ []) = taking 1 (sixbit_code first)
@@ -31,7 +31,7 @@ with_high text (Some high) = with_low high (next_code (drop high.1 text))
 abbrev pub word_in : List ℕ → Option (ℕ × ℕ)
 word_in text = with_high text (next_code text)
 
--- a last word, behind which nothing stands
+-- a last word, after which nothing stands
 abbrev pub last_in : List ℕ → Option (ℕ × ℕ) → Option ℕ
 last_in text None = None
 last_in text (Some word) = if nat_lt word.1 (length text) then None else Some word.0
@@ -54,7 +54,7 @@ abbrev pub with_first : List ℕ → Option (ℕ × ℕ) → Option (ℕ × ℕ 
 with_first text None = None
 with_first text (Some first) = with_second (drop first.1 text) first.0 (word_in (drop first.1 text))
 
--- the three words of up to six codes, zeros behind
+-- the three words of up to six codes, zeros after
 abbrev pub stem_in : List ℕ → Option (ℕ × ℕ × ℕ)
 stem_in text = with_first text (word_in text)
 

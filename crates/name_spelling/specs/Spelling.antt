@@ -20,7 +20,7 @@ abbrev pub all_zero : List ℕ → Bool
 all_zero [] = true
 all_zero (code ∷ codes) = if nat_eq code 0 then all_zero codes else false
 
--- codes, but for the zeros behind the last that is none
+-- codes, but for the zeros after the last that is none
 abbrev pub spelled_codes : List ℕ → List ℕ
 spelled_codes [] = []
 spelled_codes (code ∷ codes) = if all_zero (code ∷ codes) then [] else spelled_code code ++ spelled_codes codes

@@ -30,14 +30,14 @@ fn dot_in(text: &[u8]) -> usize
     text.len()
 }
 
-/// The three words of up to six codes, zeros behind.
+/// The three words of up to six codes, zeros after.
 fn stem_in(text: &[u8]) -> Option<(Word, Word, Word)>
     ensures { result ≡ stem_in text.now }
 {
     let (first, used) = word_in(text)?;
-    let behind = &text[used..];
-    let (second, more) = word_in(behind)?;
-    let last = &behind[more..];
+    let rest = &text[used..];
+    let (second, more) = word_in(rest)?;
+    let last = &rest[more..];
     let (third, all) = word_in(last)?;
     if all < last.len() {
         return None;
@@ -62,7 +62,7 @@ fn extension_in(text: &[u8]) -> Option<Word>
     }
 }
 
-/// The word of the next two codes of a text, and how many characters they take; behind its end zeros follow.
+/// The word of the next two codes of a text, and how many characters they take; after its end zeros follow.
 fn word_in(text: &[u8]) -> Option<(Word, usize)>
     ensures word { result ≡ word_in text.now }
     ensures within { IfSome result (λ word. word.1 ≤ length text.now) }

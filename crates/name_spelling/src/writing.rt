@@ -9,7 +9,7 @@ use word12::Word;
 pub(crate) const ESCAPE: u8 = b'_';
 
 /// Appends a name as it is typed: the codes of letters and digits as these, each other code as `_` and two octal digits, a dot before the
-/// extension, and no zeros behind the last code of either (OS/8 Software Support Manual for the codes; the escape is this project's
+/// extension, and no zeros after the last code of either (OS/8 Software Support Manual for the codes; the escape is this project's
 /// profile). No character of it means anything to a shell.
 pub fn put_name(text: &mut Vec<u8>, name: Name) -> Result<(), AllocError>
     ensures { OnOk result (text.new.items ≡ text.old.items ++ text_of name) }
@@ -42,7 +42,7 @@ fn put_extension(text: &mut Vec<u8>, codes: &[u8]) -> Result<(), AllocError>
     put_codes(text, codes)
 }
 
-/// Appends codes, but for the zeros behind the last that is none.
+/// Appends codes, but for the zeros after the last that is none.
 fn put_codes(text: &mut Vec<u8>, codes: &[u8]) -> Result<(), AllocError>
     ensures { OnOk result (text.new.items ≡ text.old.items ++ spelled_codes codes.now) }
 {

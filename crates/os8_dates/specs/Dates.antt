@@ -32,7 +32,7 @@ is_day date = nat_le 1 date.day && nat_le date.day (days_in date.year date.month
 abbrev pub last_year : ℕ → ℕ
 last_year word = LEAST_LAST + 8 * (word / 0o200 % 4)
 
--- The year that a word means: bits 9 to 11 are the year less 1970, modulo 8. It is the latest such year that is not behind the last one.
+-- The year that a word means: bits 9 to 11 are the year less 1970, modulo 8. It is the latest such year that is not after the last one.
 abbrev pub year_in : ℕ → ℕ → ℕ
 year_in last word = last - (last - FIRST_YEAR - word % 8) % 8
 
