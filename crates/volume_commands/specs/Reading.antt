@@ -1,14 +1,14 @@
 -- How an image file is held and read.
 use Rattle.std.specs.Prelude.{◌≡◌, ◌⊎◌, ◌<◌, ◌≤◌, ℕ, Bool, true, false, if◌then◌else◌, Option, None, Some, Result, Ok, Err, List, [], ◌∷◌, length}
 use Rattle.std.specs.Global.{Vec}
-use Rattle.hosts.specs.Event.{Event, resolve_call, hold_call, drop_seconds_call, look_call, input_call, tell_call}
+use Rattle.hosts.specs.Event.{Event, resolve_call, hold_call, drop_seconds_call, look_call, tell_call}
 use Rattle.hosts.specs.Place.{about}
 use Rattle.hosts.specs.Streams.{output, errors, read, failures}
 use Rattle.disk8.specs.Disks.{FitsLayout, IsImageIn}
 use Rattle.disk8.specs.Files.{Disk, Opens as OpensDisk}
 use Rattle.disk8.specs.declared.layouts.Layout.{Layout}
 use Rattle.script8.specs.declared.readings.TheConstants.{MOST}
-use Rattle.script8.specs.declared.faults.SessionFault.TheVariants.{Memory, Reader}
+use Rattle.script8.specs.declared.faults.SessionFault.TheVariants.{Memory}
 use Rattle.report8.specs.declared.programs.ProgramLine.TheVariants.{HostRead}
 use Rattle.report8.specs.declared.programs.ProgramLine.TheVariants as line
 use Rattle.outcome.specs.Contents.{content_name}

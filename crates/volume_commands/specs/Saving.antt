@@ -1,9 +1,9 @@
 -- How an image file gets another image.
-use Rattle.std.specs.Prelude.{◌≡◌, ◌≢◌, ◌⊎◌, ◌<◌, ℕ, Bool, true, false, Option, None, Some, Result, Ok, Err, List, [], ◌∷◌, length}
+use Rattle.std.specs.Prelude.{◌≡◌, ◌≢◌, ◌⊎◌, ◌<◌, ℕ, Bool, true, false, Option, None, Some, Result, Ok, Err, List, ◌∷◌, length}
 use Rattle.std.specs.Str.{bytes_eq}
 use Rattle.hosts.specs.Event.{Event, print_call}
 use Rattle.hosts.specs.Place.{about}
-use Rattle.hosts.specs.Saving.{SavesFile, KeepsFile, StaysAsItWas, AnyMomentOf}
+use Rattle.hosts.specs.Saving.{KeepsFile, StaysAsItWas, AnyMomentOf}
 use Rattle.hosts.specs.Streams.{output, errors, read, failures, may_replace}
 use Rattle.hosts.specs.declared.faults.Durability.{Durability}
 use Rattle.hosts.specs.declared.faults.Durability.TheVariants.{Certain, Unknown}
@@ -12,7 +12,6 @@ use Rattle.disk8.specs.Disks.{image_size}
 use Rattle.disk8.specs.Files.{Disk, HasLaid}
 use Rattle.outcome.specs.Contents.{content_name}
 use Rattle.outcome.specs.Notes.{file_text}
-use Rattle.outcome.specs.declared.contents.Content.{Content}
 use Rattle.outcome.specs.declared.contents.Content.TheVariants as content
 use Rattle.outcome.specs.declared.notes.FileNote.TheVariants.{InPlace, NoSync}
 use Rattle.outcome.specs.declared.endings.Ending.{Ending}

@@ -1,4 +1,4 @@
-use Rattle.std.proofs.Common.{rules, inl, inr, refl}
+use Rattle.std.proofs.Common.{rules, inl, inr}
 use Rattle.volume_commands.proofs.showing.list_places.Goals as goal
 
 pub returns-in_err-text : goal.returns-in_err-text
