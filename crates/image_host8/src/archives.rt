@@ -1,46 +1,12 @@
 //! Files out of the image file of a volume.
 
-use archive8::{Asked, GetForm, NewImage, list, list_long};
-use image_file8::{
-    Image, answer_of, bytes_of_file, core_of_file, image_bytes, print_bytes, save_and_print,
-    tell_line,
-};
+use archive8::{Asked, NewImage};
+use image_file8::{Image, core_of_file, print_bytes, save_and_print, tell_line};
 use outcome::Ending;
 use report8::ProgramLine;
 use script8::{LineReply, Reply, put_reply};
 use std::fs::{File, Files};
 use task8::{FileForm, ImageForm};
-
-/// Lists the files of the volume in an image file.
-pub fn list_files<R: Files + Print + Eprint + AllocGlobal>(
-    rt: &R,
-    image: &ImageForm,
-) -> Result<(), Ending> {
-    let bytes = image_bytes(rt, image)?;
-    let text = answer_of(rt, bytes.len(), list(rt.alloc(), &bytes))?;
-    print_bytes(rt, &text)
-}
-
-/// Lists them in the directory's order, with where they lie and their information words.
-pub fn list_places<R: Files + Print + Eprint + AllocGlobal>(
-    rt: &R,
-    image: &ImageForm,
-) -> Result<(), Ending> {
-    let bytes = image_bytes(rt, image)?;
-    let text = answer_of(rt, bytes.len(), list_long(rt.alloc(), &bytes))?;
-    print_bytes(rt, &text)
-}
-
-/// Writes what a file has on the volume in an image file.
-pub fn get_file<R: Files + Print + Eprint + AllocGlobal>(
-    rt: &R,
-    image: &ImageForm,
-    file: FileForm,
-    form: GetForm,
-) -> Result<(), Ending> {
-    let given = bytes_of_file(rt, image, &asked_of(file), form)?;
-    print_bytes(rt, &given)
-}
 
 /// Writes the BIN tape of a core image on the volume in an image file, and tells on standard error where its program starts.
 pub fn get_bin<R: Files + Print + Eprint + AllocGlobal>(

@@ -2,18 +2,15 @@
 //! memory; where a name is refused nothing is written.
 
 use crate::archives::{asked_of, store};
-use archive8::{
-    ArchiveFault, Asked, CopyFault, DeleteFault, RenameFault, copy, delete, rename, squeeze,
-};
-use image_file8::{Image, answer_of, image_bytes, refusal, save_and_print, tell};
+use archive8::{ArchiveFault, Asked, CopyFault, DeleteFault, copy, delete};
+use image_file8::{Image, image_bytes, refusal, save_and_print, tell};
 use os8_dir::Name;
 use outcome::{Ending, NameNote, Note};
-use report8::{ProgramLine, put_program};
 use script8::{LineReply, Reply, SessionFault, put_reply};
 use std::alloc::{AllocError, Global};
 use std::fs::{File, Files};
 use std::time::Clock;
-use task8::{CopyForm, DeleteForm, FileForm, ImageForm};
+use task8::{CopyForm, DeleteForm};
 
 /// Takes files out of the volume in an image file, all or none.
 pub fn delete_files<R: Files<File = File> + Print + Eprint + Clock + AllocGlobal>(
@@ -75,46 +72,6 @@ fn deleted_lines<R: AllocGlobal>(rt: &R, names: &[Name]) -> Result<Vec<u8>, Endi
         put_reply(None, &Ok(deleted), &mut lines)?;
     }
     Ok(lines)
-}
-
-/// Gives a file of the volume in an image file another name.
-pub fn rename_file<R: Files<File = File> + Print + Eprint + Clock + AllocGlobal>(
-    rt: &R,
-    image: &ImageForm,
-    file: FileForm,
-    new: &str,
-) -> Result<(), Ending> {
-    let mut held = Image::open(rt, image)?;
-    let done = rename(rt.alloc(), held.bytes(), &asked_of(file), new.as_bytes());
-    let new = match done {
-        Ok(new) => new,
-        Err(RenameFault::Archive(fault)) => return Err(refusal(rt, held.bytes().len(), fault)),
-        Err(RenameFault::Exists) => return Err(Ending::Line(ProgramLine::Exists)),
-    };
-    let renamed = ProgramLine::Renamed(new.old_name, new.new_name);
-    save_and_tell(rt, &mut held, new.bytes, &renamed)
-}
-
-/// Moves the files of the volume in an image file together.
-pub fn squeeze_files<R: Files<File = File> + Print + Eprint + Clock + AllocGlobal>(
-    rt: &R,
-    image: &ImageForm,
-) -> Result<(), Ending> {
-    let mut held = Image::open(rt, image)?;
-    let new = answer_of(rt, held.bytes().len(), squeeze(rt.alloc(), held.bytes()))?;
-    save_and_tell(rt, &mut held, new.bytes, &ProgramLine::Squeezed(new.moved))
-}
-
-/// Has an image file hold these bytes, and then prints the line that tells of the change.
-fn save_and_tell<R: Files<File = File> + Print + Eprint + AllocGlobal>(
-    rt: &R,
-    held: &mut Image,
-    bytes: Vec<u8>,
-    told: &ProgramLine,
-) -> Result<(), Ending> {
-    let mut line = Vec::new(rt.alloc());
-    put_program(told, &mut line)?;
-    save_and_print(rt, held, bytes, &line)
 }
 
 /// Copies a file of the volume in an image file to the volume in another.

@@ -10,4 +10,4 @@ mod texts;
 
 pub use blocks::get_blocks;
 pub use getting::get_files;
-pub use putting::{put_file, put_files};
+pub use putting::put_files;

@@ -2,10 +2,9 @@
 
 use crate::sets::is_added;
 use crate::texts::{check_extensions, is_one_of};
-use archive8::{ArchiveFault, PutForm, put};
+use archive8::PutForm;
 use image_file8::{
-    Image, answer_of, bytes_of, given_words, input_bytes, refusal, save_and_print, tell,
-    tell_bad_text,
+    Image, answer_of, bytes_of, given_words, refusal, save_and_print, tell, tell_bad_text,
 };
 use many8::{ManyFault, NewFile, VolumeFile, empties, open, put_all, volume_name};
 use os8_dir::{FileFault, Name};
@@ -15,54 +14,8 @@ use script8::{LineReply, Reply, SessionFault, put_reply};
 use std::alloc::AllocError;
 use std::collections::BTreeSet;
 use std::fs::{File, Files};
-use std::io::Input;
 use std::time::Clock;
-use task8::{PutManyForm, PutOneForm, TextsForm};
-
-/// The name of standard input where a file's may stand.
-const STANDARD: &str = "-";
-
-/// Makes a file of the host, or standard input, a file of the volume in an image file, with a name that is given, and tells of it.
-pub fn put_file<R: Files<File = File> + Input + Print + Eprint + Clock + AllocGlobal>(
-    rt: &R,
-    form: &PutOneForm,
-) -> Result<(), Ending> {
-    let mut held = Image::open(rt, &form.image)?;
-    let bytes = given_bytes(rt, &form.file)?;
-    if let Some(name) = Name::parse(form.name.as_bytes())
-        && bytes.is_empty()
-        && !form.may_empty
-    {
-        let files = files_on(rt, held.bytes())?;
-        refuse_emptying(rt, &files, &form.file, name, &bytes)?;
-    }
-    let done = put(
-        rt.alloc(),
-        held.bytes(),
-        form.name.as_bytes(),
-        &bytes,
-        form.form,
-        given_words(&form.info),
-    );
-    if let Err(ArchiveFault::Refused(SessionFault::BadText)) = &done {
-        tell_bad_text(rt, &bytes);
-    }
-    let new = answer_of(rt, held.bytes().len(), done)?;
-    let mut line = Vec::new(rt.alloc());
-    put_stored(&mut line, new.name, new.blocks)?;
-    save_and_print(rt, &mut held, new.bytes, &line)
-}
-
-/// The bytes of a file of the host, or of standard input.
-fn given_bytes<R: Files<File = File> + Input + Eprint + AllocGlobal>(
-    rt: &R,
-    name: &str,
-) -> Result<Vec<u8>, Ending> {
-    if name == STANDARD {
-        return input_bytes(rt);
-    }
-    bytes_of(rt, name)
-}
+use task8::{PutManyForm, TextsForm};
 
 /// The files of the volume in an image.
 fn files_on<R: Eprint + AllocGlobal>(rt: &R, image: &[u8]) -> Result<Vec<VolumeFile>, Ending> {

@@ -3,27 +3,47 @@
 
 use crate::runs::run_image;
 use command8::{TaskFault, task};
-use image_file8::{print_bytes, tell, tell_text, texts_of};
-use image_host8::{
-    check_images, copy_file, create_image, create_tape, delete_files, get_bin, get_file,
-    list_files, list_places, rename_file, squeeze_files,
-};
-use many_host8::{get_blocks, get_files, put_file, put_files};
-use outcome::{
-    Ending, LineRoom, Note, Outcome, PlainNote, Stream, ending_of_output, gives_data,
-    no_memory_line, outcome_of,
-};
+use hosts::Host;
+use image_file8::{tell, texts_of};
+use image_host8::{check_images, copy_file, delete_files, get_bin};
+use many_host8::{get_blocks, get_files, put_files};
+use outcome::{Content, Ending, Note, PlainNote, ending_of_output, gives_data, no_memory_line};
 use script8::SessionFault;
 use std::alloc::AllocError;
 use std::env::{self, Env};
 use std::fs::{File, Files};
 use std::io::{self, ErrorKind, Input, IsTerminal};
 use std::process::ExitCode;
-use std::time::Clock;
+use std::thread;
+use std::time::{Clock, Duration};
+use system::System;
 use tape_host8::{
     assemble_files, list_tape, profile_tape, run_teletype, trace_tape, write_rim, write_source,
 };
 use task8::Task;
+use volume_commands::{
+    Rooms, asked_of, create_image, create_tape, end, get_file, list_files, list_places, put_file,
+    rename_file, squeeze_files,
+};
+
+/// How many times a second a command is tried again whose image another program holds.
+const TRIES: usize = 20;
+
+/// Does a command again for so many seconds while another program holds its image. A command that ends so has changed, read and printed
+/// nothing.
+macro_rules! wait_for_image {
+    ($rt:expr, $seconds:expr, $command:expr) => {{
+        for _ in 0..$seconds.saturating_mul(TRIES) {
+            match $command {
+                Err(Ending::Busy(Content::Image)) => {
+                    thread::sleep($rt, Duration::from_millis(50))
+                }
+                done => return done,
+            }
+        }
+        $command
+    }};
+}
 
 /// Does what the words of the command line ask for, as `command8::task` reads them: a subcommand, and the files that it works on.
 /// The exit status is 0, 1 after a fault, and 2 for words that are refused; `outcome::outcome_of` says which line goes to which stream
@@ -34,26 +54,29 @@ pub fn program<R: Env + Files<File = File> + Input + Print + Eprint + Clock + Al
 where
     R::Reader: IsTerminal,
 {
-    let Ok(rooms) = Rooms::new(rt) else {
-        let _ = print_bytes(rt, no_memory_line());
+    let mut host = System::new(rt);
+    let Ok(rooms) = Rooms::new(rt.alloc()) else {
+        let _ = host.print(no_memory_line());
         return ExitCode::FAILURE;
     };
     let task = match read_words(rt) {
         Ok(task) => task,
-        Err(fault) => return refuse_words(rt, rooms, fault),
+        Err(fault) => return refuse_words(rt, &mut host, rooms, fault),
     };
     let is_data = gives_data(&task);
-    let work = do_task(rt, task);
-    end(rt, rooms, is_data, work)
+    let work = do_task(rt, &mut host, task);
+    ExitCode::from(end(&mut host, rooms, is_data, work))
 }
 
-fn do_task<R: Files<File = File> + Input + Print + Eprint + Clock + AllocGlobal>(
+fn do_task<R: Env + Files<File = File> + Input + Print + Eprint + Clock + AllocGlobal>(
     rt: &R,
+    host: &mut System<'_, R>,
     task: Task,
 ) -> Result<(), Ending>
 where
     R::Reader: IsTerminal,
 {
+    let alloc = rt.alloc();
     match task {
         Task::Tape(tape) => list_tape(rt, &tape),
         Task::Rim(tape, form) => write_rim(rt, &tape, form),
@@ -63,74 +86,42 @@ where
         Task::Trace(form) => trace_tape(rt, &form),
         Task::Profile(form) => profile_tape(rt, &form),
         Task::Run(image, form) => run_image(rt, &image, form),
-        Task::Create(form, blocks) => create_image(rt, &form, blocks),
-        Task::CreateTape(form) => create_tape(rt, &form),
-        Task::List(image) => list_files(rt, &image),
-        Task::ListLong(image) => list_places(rt, &image),
-        Task::Get(image, file, form) => get_file(rt, &image, file, form),
+        Task::Create(form, blocks) => wait_for_image!(
+            rt,
+            form.wait,
+            create_image(host, alloc, &form, blocks)
+        ),
+        Task::CreateTape(form) => wait_for_image!(rt, form.wait, create_tape(host, alloc, &form)),
+        Task::List(image) => list_files(host, alloc, &image),
+        Task::ListLong(image) => list_places(host, alloc, &image),
+        Task::Get(image, file, form) => get_file(host, alloc, &image, file, form),
         Task::GetBin(image, file) => get_bin(rt, &image, file),
         Task::GetMany(form) => get_files(rt, &form),
         Task::GetBlocks(form) => get_blocks(rt, &form),
-        Task::Put(form) => put_file(rt, &form),
+        Task::Put(form) => wait_for_image!(rt, form.image.wait, put_file(host, alloc, &form)),
         Task::PutMany(form) => put_files(rt, &form),
         Task::Delete(form) => delete_files(rt, form),
-        Task::Rename(image, file, new) => rename_file(rt, &image, file, &new),
+        Task::Rename(image, file, new) => {
+            let file = asked_of(file);
+            wait_for_image!(
+                rt,
+                image.wait,
+                rename_file(host, alloc, &image, &file, &new)
+            )
+        }
         Task::Copy(form) => copy_file(rt, form),
-        Task::Squeeze(image) => squeeze_files(rt, &image),
+        Task::Squeeze(image) => wait_for_image!(rt, image.wait, squeeze_files(host, alloc, &image)),
         Task::Check(form) => check_images(rt, form),
     }
 }
 
-/// Room for the last line of the program, and for one in its place where standard output does not take that.
-#[derive(Drop)]
-struct Rooms {
-    line: LineRoom,
-    other: LineRoom,
-}
-
-impl Rooms {
-    fn new<R: AllocGlobal>(rt: &R) -> Result<Rooms, AllocError> {
-        let line = LineRoom::new(rt.alloc())?;
-        let other = LineRoom::new(rt.alloc())?;
-        Ok(Rooms { line, other })
-    }
-}
-
-/// Prints what is printed at the end of a command that ends so, and gives the exit status.
-fn end<R: Print + Eprint>(
-    rt: &R,
-    rooms: Rooms,
-    is_data: bool,
-    work: Result<(), Ending>,
-) -> ExitCode {
-    let Rooms { line, other } = rooms;
-    let outcome = outcome_of(line, is_data, work);
-    match print_outcome(rt, &outcome) {
-        Ok(()) => ExitCode::from(outcome.status),
-        Err(ending) => {
-            let outcome = outcome_of(other, is_data, Err(ending));
-            let _ = print_outcome(rt, &outcome);
-            ExitCode::from(outcome.status)
-        }
-    }
-}
-
-/// Prints the note and the line of an outcome. Where standard output does not take the line, the answer is how the command ends then.
-fn print_outcome<R: Print + Eprint>(rt: &R, outcome: &Outcome) -> Result<(), Ending> {
-    if let Some(note) = outcome.note {
-        tell(rt, note);
-    }
-    match outcome.stream {
-        Stream::Output => print_bytes(rt, &outcome.line),
-        Stream::Errors => {
-            tell_text(rt, &outcome.line);
-            Ok(())
-        }
-    }
-}
-
 /// Prints why the words ask for nothing, and gives the exit status. Help that is asked for is output as that of a command is.
-fn refuse_words<R: Print + Eprint>(rt: &R, rooms: Rooms, fault: WordsFault) -> ExitCode {
+fn refuse_words<H: Host, R: Print + Eprint>(
+    rt: &R,
+    host: &mut H,
+    rooms: Rooms,
+    fault: WordsFault,
+) -> ExitCode {
     let ending = match fault {
         WordsFault::NoText => {
             tell(rt, Note::Plain(PlainNote::NoText));
@@ -149,7 +140,7 @@ fn refuse_words<R: Print + Eprint>(rt: &R, rooms: Rooms, fault: WordsFault) -> E
             Ending::Misuse
         }
     };
-    end(rt, rooms, false, Err(ending))
+    ExitCode::from(end(host, rooms, false, Err(ending)))
 }
 
 /// Says why words are refused, as `clap` says it of those that it refuses itself.

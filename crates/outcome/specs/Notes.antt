@@ -2,6 +2,7 @@
 use Rattle.std.specs.Prelude.{ℕ, codes, decimal, Option, Some, None, List, [], ◌++◌}
 use Rattle.script8.specs.declared.readings.TheConstants.{MOST}
 use Rattle.outcome.specs.Contents.{content_name}
+use Rattle.outcome.specs.declared.contents.Content.{Content}
 use Rattle.outcome.specs.declared.notes.Note.{Note}
 use Rattle.outcome.specs.declared.notes.Note.TheVariants as note
 use Rattle.outcome.specs.declared.notes.PlainNote.{PlainNote}
@@ -64,7 +65,7 @@ note_text (note.OnName it name) = name_text it name.now
 note_text (note.OnBlock block) = block_text block
 note_text (note.OnText place) = bad_text place.line place.byte
 
--- that of a note, if there is one
-abbrev pub text_of : Option Note → List ℕ
-text_of None = []
-text_of (Some note) = note_text note
+-- that of a note on a file of the host, if there is one
+abbrev pub text_on_file : Option (FileNote × Content) → List ℕ
+text_on_file None = []
+text_on_file (Some it) = file_text it.0 (content_name it.1)

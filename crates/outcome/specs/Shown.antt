@@ -1,6 +1,6 @@
 -- What an outcome of the program is.
 use Rattle.std.specs.Prelude.{ℕ, List, [], ◌++◌}
-use Rattle.outcome.specs.Notes.{text_of}
+use Rattle.outcome.specs.Notes.{text_on_file}
 use Rattle.outcome.specs.Outcomes.{Said}
 use Rattle.outcome.specs.declared.outcomes.Outcome.{Outcome}
 use Rattle.outcome.specs.declared.outcomes.Stream.{Stream}
@@ -12,4 +12,4 @@ said_on Output note line status = record { output = line; errors = note; status 
 said_on Errors note line status = record { output = []; errors = note ++ line; status = status }
 
 abbrev pub said : Outcome → Said
-said it = said_on it.stream (text_of it.note) it.line.items it.status
+said it = said_on it.stream (text_on_file it.note) it.line.items it.status

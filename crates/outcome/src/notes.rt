@@ -1,6 +1,8 @@
 //! The notes that are printed on standard error beside lines, each with the end of its line. Printing one takes no memory.
 ghost use Rattle.std.specs.Prelude.{◌≡◌, Some};
 ghost use Rattle.std.specs.Fmt.{DisplaysOnOk};
+ghost use Rattle.outcome.specs.Contents.{content_name};
+ghost use Rattle.outcome.specs.declared.contents.Content.TheVariants.{Image, Tape, Listing};
 ghost use Rattle.outcome.specs.Notes as spec;
 
 use crate::contents::Content;
@@ -128,8 +130,8 @@ impl<'a> fmt::Display for Note<'a> {
 
     fn fmt<W: fmt::Write>(&self, f: &mut fmt::Formatter<W>) -> fmt::Result {
         match self {
-            Note::Plain(note) => f.write_str(plain_text(*note)),
-            Note::OnFile(note, content) => write_on_file(*note, content.name(), f),
+            Note::Plain(note) => f.write_str(note.text()),
+            Note::OnFile(note, content) => f.write_str(note.text(*content)),
             Note::OnName(note, name) => write_on_name(*note, *name, f),
             Note::OnBlock(block) => write_on_block(*block, f),
             Note::OnText(place) => write_on_text(place.line, place.byte, f),
@@ -137,63 +139,97 @@ impl<'a> fmt::Display for Note<'a> {
     }
 }
 
-fn plain_text(note: PlainNote) -> &'static str
-    ensures { result.now ≡ spec.plain_text note }
-{
-    match note {
-        PlainNote::NoText => "error: an argument is not UTF-8 text\n",
-        PlainNote::Dectape =>
-            "note: 380292 bytes are a DECtape with 129 words a block: --dectape takes it so\n",
-        PlainNote::Disk =>
-            "note: the file may be an RK05 disk of two volumes: --volume 1 or --volume 2 takes one of them\n",
-        PlainNote::ShortDisk =>
-            "note: the file ends before the blocks that its directory covers: if the end of an RK05 disk was never written, --volume 1 takes it as zeros\n",
-        PlainNote::RimTape =>
-            "note: the frames are a RIM tape: addresses and words in turn, and no check sum; rim takes it, and rim --bin makes a BIN tape of it\n",
-        PlainNote::TextFile =>
-            "note: the frames are a text, and no BIN tape; assemble makes the tape of a PAL III source\n",
-        PlainNote::CoreImage =>
-            "note: the frames are a core image, and no BIN tape; get IMAGE NAME --bin makes a BIN tape of one on a volume\n",
-        PlainNote::StartAt200 =>
-            "note: no --start is given, and 00200 has a word: the program starts there\n",
-        PlainNote::StartAtFirst =>
-            "note: no --start is given, and 00200 has no word: the program starts at the first word of the tape\n",
-        PlainNote::FileNames =>
-            "note: a file's name is 1 to 6 letters or digits, then nothing, or a dot and 1 or 2 more\n",
-        PlainNote::FurtherFaults => "note: these words have a fault too:\n",
+impl PlainNote {
+    /// The text of the note, with the end of its line (this project's profile).
+    pub fn text(self) -> &'static str
+        ensures { result.now ≡ spec.plain_text self }
+    {
+        match self {
+            PlainNote::NoText => "error: an argument is not UTF-8 text\n",
+            PlainNote::Dectape =>
+                "note: 380292 bytes are a DECtape with 129 words a block: --dectape takes it so\n",
+            PlainNote::Disk =>
+                "note: the file may be an RK05 disk of two volumes: --volume 1 or --volume 2 takes one of them\n",
+            PlainNote::ShortDisk =>
+                "note: the file ends before the blocks that its directory covers: if the end of an RK05 disk was never written, --volume 1 takes it as zeros\n",
+            PlainNote::RimTape =>
+                "note: the frames are a RIM tape: addresses and words in turn, and no check sum; rim takes it, and rim --bin makes a BIN tape of it\n",
+            PlainNote::TextFile =>
+                "note: the frames are a text, and no BIN tape; assemble makes the tape of a PAL III source\n",
+            PlainNote::CoreImage =>
+                "note: the frames are a core image, and no BIN tape; get IMAGE NAME --bin makes a BIN tape of one on a volume\n",
+            PlainNote::StartAt200 =>
+                "note: no --start is given, and 00200 has a word: the program starts there\n",
+            PlainNote::StartAtFirst =>
+                "note: no --start is given, and 00200 has no word: the program starts at the first word of the tape\n",
+            PlainNote::FileNames =>
+                "note: a file's name is 1 to 6 letters or digits, then nothing, or a dot and 1 or 2 more\n",
+            PlainNote::FurtherFaults => "note: these words have a fault too:\n",
+        }
     }
 }
 
-/// Writes the note on a file by the word for what it is to hold.
-fn write_on_file<W: fmt::Write>(
-    note: FileNote,
-    content: &str,
-    f: &mut fmt::Formatter<W>,
-) -> fmt::Result
-    ensures { DisplaysOnOk W.write_str_gives f.old result (Some (spec.file_text note content.now)) f.new }
-{
-    match note {
-        FileNote::Busy => write!(f, "error: another program works on the {content}\n"),
-        FileNote::AsItWas => write!(
-            f,
-            "error: the {content} is not written: the file is as it was\n"
-        ),
-        FileNote::InPart => write!(
-            f,
-            "error: the {content} is not written whole: the file may hold a part of it\n"
-        ),
-        FileNote::NoLock => write!(
-            f,
-            "note: the file system has no locks, so let no other program work on the {content}\n"
-        ),
-        FileNote::InPlace => write!(
-            f,
-            "note: the {content} is written in its place, and is not whole if that breaks off\n"
-        ),
-        FileNote::NoSync => write!(
-            f,
-            "note: the {content} is written, but its folder is not synced: whether a crash keeps it isn't known\n"
-        ),
+impl FileNote {
+    /// The text of the note on a file that is to hold this, with the end of its line (this project's profile). No memory is taken.
+    pub fn text(self, content: Content) -> &'static str
+        ensures { result.now ≡ spec.file_text self (content_name content) }
+    {
+        match content {
+            Content::Image => self.text_on_image(),
+            Content::Tape => self.text_on_tape(),
+            Content::Listing => self.text_on_listing(),
+        }
+    }
+
+    fn text_on_image(self) -> &'static str
+        ensures { result.now ≡ spec.file_text self (content_name Image) }
+    {
+        match self {
+            FileNote::Busy => "error: another program works on the image\n",
+            FileNote::AsItWas => "error: the image is not written: the file is as it was\n",
+            FileNote::InPart =>
+                "error: the image is not written whole: the file may hold a part of it\n",
+            FileNote::NoLock =>
+                "note: the file system has no locks, so let no other program work on the image\n",
+            FileNote::InPlace =>
+                "note: the image is written in its place, and is not whole if that breaks off\n",
+            FileNote::NoSync =>
+                "note: the image is written, but its folder is not synced: whether a crash keeps it isn't known\n",
+        }
+    }
+
+    fn text_on_tape(self) -> &'static str
+        ensures { result.now ≡ spec.file_text self (content_name Tape) }
+    {
+        match self {
+            FileNote::Busy => "error: another program works on the tape\n",
+            FileNote::AsItWas => "error: the tape is not written: the file is as it was\n",
+            FileNote::InPart =>
+                "error: the tape is not written whole: the file may hold a part of it\n",
+            FileNote::NoLock =>
+                "note: the file system has no locks, so let no other program work on the tape\n",
+            FileNote::InPlace =>
+                "note: the tape is written in its place, and is not whole if that breaks off\n",
+            FileNote::NoSync =>
+                "note: the tape is written, but its folder is not synced: whether a crash keeps it isn't known\n",
+        }
+    }
+
+    fn text_on_listing(self) -> &'static str
+        ensures { result.now ≡ spec.file_text self (content_name Listing) }
+    {
+        match self {
+            FileNote::Busy => "error: another program works on the listing\n",
+            FileNote::AsItWas => "error: the listing is not written: the file is as it was\n",
+            FileNote::InPart =>
+                "error: the listing is not written whole: the file may hold a part of it\n",
+            FileNote::NoLock =>
+                "note: the file system has no locks, so let no other program work on the listing\n",
+            FileNote::InPlace =>
+                "note: the listing is written in its place, and is not whole if that breaks off\n",
+            FileNote::NoSync =>
+                "note: the listing is written, but its folder is not synced: whether a crash keeps it isn't known\n",
+        }
     }
 }
 

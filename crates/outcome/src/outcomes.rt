@@ -1,13 +1,14 @@
 //! The table of outcomes, as a function of how a command ends.
 ghost use Rattle.std.specs.Prelude.{◌≡◌};
-ghost use Rattle.outcome.specs.Notes.{text_of};
+ghost use Rattle.outcome.specs.Notes.{text_on_file};
 ghost use Rattle.outcome.specs.Outcomes as spec;
 ghost use Rattle.outcome.specs.Shown.{said};
 ghost use Rattle.outcome.specs.Steps.{refusal_stream};
 ghost use Rattle.report8.specs.Program.{program_line};
 
+use crate::contents::Content;
 use crate::endings::Ending;
-use crate::notes::{FileNote, Note};
+use crate::notes::FileNote;
 use crate::rooms::LineRoom;
 use host8::Unwritten;
 use report8::ProgramLine;
@@ -32,7 +33,8 @@ pub enum Stream {
 /// What is printed at the end of a command, and its exit status: first the note, on standard error, and then the line, on its stream.
 #[derive(Drop)]
 pub struct Outcome {
-    pub note: Option<Note<'static>>,
+    /// The note on a file of the host that is to hold this.
+    pub note: Option<(FileNote, Content)>,
     pub line: Vec<u8>,
     pub stream: Stream,
     pub status: u8,
@@ -57,11 +59,11 @@ fn ending_outcome(room: LineRoom, is_data: bool, ending: Ending) -> Outcome
         Ending::Fault(fault) => fault_outcome(room, is_data, fault),
         Ending::Failure => silence(room, REFUSAL),
         Ending::Busy(content) => {
-            let note = Note::OnFile(FileNote::Busy, content);
+            let note = (FileNote::Busy, content);
             refusal(room, is_data, Some(note), &ProgramLine::HostBusy)
         }
         Ending::NotWritten(content, left) => {
-            let note = Note::OnFile(note_of_write(left), content);
+            let note = (note_of_write(left), content);
             refusal(room, is_data, Some(note), &ProgramLine::HostWrite)
         }
         Ending::FullOutput => full_output(room),
@@ -89,10 +91,10 @@ fn fault_outcome(room: LineRoom, is_data: bool, fault: SessionFault) -> Outcome
 fn refusal(
     room: LineRoom,
     is_data: bool,
-    note: Option<Note<'static>>,
+    note: Option<(FileNote, Content)>,
     line: &ProgramLine,
 ) -> Outcome
-    ensures { said result ≡ spec.refusal is_data (text_of note.entry) (program_line line.now) }
+    ensures { said result ≡ spec.refusal is_data (text_on_file note) (program_line line.now) }
 {
     Outcome {
         note,

@@ -1,0 +1,14 @@
+pub mod AnswerSteps
+pub mod Answers
+pub mod Changing
+pub mod Ending
+pub mod Faults
+pub mod Making
+pub mod Notes
+pub mod PutSteps
+pub mod Putting
+pub mod Reading
+pub mod ReadingSteps
+pub mod Saving
+pub mod Showing
+pub mod Work

@@ -1,0 +1,115 @@
+-- The commands that make a new volume in a file.
+use Rattle.std.specs.Prelude.{◌≡◌, ◌⊎◌, ◌<◌, ℕ, Bool, true, false, Result, Ok, Err, List}
+use Rattle.std.specs.Global.{Vec}
+use Rattle.hosts.specs.Event.{Event}
+use Rattle.hosts.specs.Place.{about}
+use Rattle.hosts.specs.Saving.{Makes, AnyMomentOf}
+use Rattle.hosts.specs.Streams.{errors, failures, freed, has_links}
+use Rattle.hosts.specs.declared.faults.Durability.{Durability}
+use Rattle.hosts.specs.declared.faults.HostFault.{HostFault}
+use Rattle.hosts.specs.declared.faults.HostFault.TheVariants as host
+use Rattle.host8.specs.declared.faults.Unwritten.TheVariants.{AsItWas}
+use Rattle.script8.specs.declared.faults.SessionFault.TheVariants.{Memory}
+use Rattle.outcome.specs.declared.contents.Content.TheVariants.{Image}
+use Rattle.outcome.specs.declared.endings.Ending.{Ending}
+use Rattle.outcome.specs.declared.endings.Ending.TheVariants.{Line, Fault, Busy, NotWritten}
+use Rattle.disk8.specs.Files.{IsBlankTape}
+use Rattle.volume_image.specs.Image.{Creates, IsImageOf}
+use Rattle.volume_image.specs.Stores.{InMemory}
+use Rattle.volume_image.specs.declared.faults.ImageFault.{ImageFault}
+use Rattle.volume_image.specs.declared.faults.ImageFault.TheVariants as image
+use Rattle.report8.specs.Program.{program_line}
+use Rattle.report8.specs.declared.programs.ProgramLine.TheVariants as line
+use Rattle.task8.specs.declared.forms.CreateForm.{CreateForm}
+use Rattle.volume_commands.specs.Work.{Then, Purely}
+use Rattle.volume_commands.specs.Answers.{AreLines}
+use Rattle.volume_commands.specs.declared.creating.TheConstants.{TAPE_BLOCKS}
+use Rattle.volume_commands.specs.Reading.{IsIdle, with_lock_note, hold_calls}
+use Rattle.volume_commands.specs.Saving.{Writes, IsSyncTold, TouchesOnly, Prints}
+
+-- a file that is to be written can't be held, or can't be made, and is as it was
+abbrev pub ending_of_file : HostFault → Ending
+ending_of_file host.Busy = Busy Image
+ending_of_file host.Memory = Fault Memory
+ending_of_file host.Absent = NotWritten Image AsItWas
+ending_of_file host.Unwritable = NotWritten Image AsItWas
+ending_of_file host.Failed = NotWritten Image AsItWas
+
+-- a file that is to be the first of its name can't be made: there is one, or a call failed
+abbrev pub ending_of_first : HostFault → Ending
+ending_of_first host.Busy = Line line.HostExists
+ending_of_first host.Memory = Fault Memory
+ending_of_first host.Absent = NotWritten Image AsItWas
+ending_of_first host.Unwritable = NotWritten Image AsItWas
+ending_of_first host.Failed = NotWritten Image AsItWas
+
+-- A file of these bytes is made where the host says that a name has none: it is there whole, on the disk, unless a note says that it is not
+-- known whether a crash keeps it. At each moment meanwhile a crash left what it might have left before, or the file, whole, where the file
+-- system has further names.
+pub record HasMade (file : List ℕ) (old new : List Event) : Type 0 where
+  pub durability : Durability
+  pub made : Makes (Ok durability) file (about (freed new) old) (about (freed new) new)
+  pub moments : AnyMomentOf (has_links new) file (about (freed new) old) (about (freed new) new)
+  pub sync : IsSyncTold durability (errors old) (errors new)
+  pub only : TouchesOnly (freed new) old new
+
+-- no file is made, since a call failed
+pub record HasNotMade (file : List ℕ) (fault : HostFault) (old new : List Event) : Type 0 where
+  pub unmade : Makes (Err fault) file (about (freed new) old) (about (freed new) new)
+  pub moments : AnyMomentOf (has_links new) file (about (freed new) old) (about (freed new) new)
+  pub cause : failures old < failures new
+  pub tells : errors new ≡ errors old
+  pub only : TouchesOnly (freed new) old new
+
+abbrev pub MakesNewFile : List ℕ → List Event → Result (Unit {0}) HostFault → List Event → Type 0
+MakesNewFile file old (Ok it) new = HasMade file old new
+MakesNewFile file old (Err fault) new = HasNotMade file fault old new
+
+-- the same where the command ends so by a fault
+abbrev pub MakesBy : (HostFault → Ending) → List ℕ → List Event → Result (Unit {0}) Ending → List Event → Type 0
+MakesBy ends file old (Ok it) new = HasMade file old new
+MakesBy ends file old (Err ending) new = (fault : HostFault) × (ending ≡ ends fault) × HasNotMade file fault old new
+
+-- a file of these bytes is the first of its name, or none is made
+abbrev pub MakesFirst : List ℕ → List Event → Result (Unit {0}) Ending → List Event → Type 0
+MakesFirst = MakesBy ending_of_first
+
+-- why the file of a name can't be held to be written
+abbrev pub IsUnheldFile : Result (Unit {0}) Ending → Type 0
+IsUnheldFile (Ok it) = ⊥
+IsUnheldFile (Err (Busy Image)) = Unit {0}
+IsUnheldFile (Err (Fault Memory)) = Unit {0}
+IsUnheldFile (Err (NotWritten Image AsItWas)) = Unit {0}
+IsUnheldFile (Err _) = ⊥
+
+-- A file of a name is to have these bytes: one that is there is held, and gets them as any image file does; where there is none, one is
+-- made; else a call failed, and nothing is changed.
+abbrev pub MakesFile : List ℕ → List ℕ → List Event → Result (Unit {0}) Ending → List Event → Type 0
+MakesFile name file old result new =
+    ((path : List ℕ) × (has_lock : Bool) × (ok : Bool) × Writes path file (with_lock_note has_lock ok (hold_calls name path old)) result new)
+    ⊎ (((between : List Event) × IsIdle old between × (failures old < failures between) × MakesBy ending_of_file file between result new)
+    ⊎ (IsUnheldFile result × IsIdle old new × (failures old < failures new)))
+
+-- the image of an empty volume of so many blocks
+abbrev pub IsBlankImage : ℕ → Result (Vec ℕ) Ending → Type 0
+IsBlankImage blocks (Ok bytes) = (volume : InMemory) × Creates blocks (Ok volume) × IsImageOf bytes.items volume.blocks
+IsBlankImage blocks (Err ending) = (fault : ImageFault) × (ending ≡ Line (line.Image fault)) × (Creates blocks (Err fault) ⊎ (fault ≡ image.Memory))
+
+-- the file of a DECtape with an empty volume; only memory can be wanted for it
+abbrev pub IsBlankTapeFile : Result (Vec ℕ) Ending → Type 0
+IsBlankTapeFile (Ok file) = (bytes : List ℕ) × (volume : InMemory) × Creates TAPE_BLOCKS (Ok volume) × IsImageOf bytes volume.blocks × IsBlankTape bytes file.items
+IsBlankTapeFile (Err ending) = Unit {0}
+
+-- whether a file of these bytes is to be the first of its name
+abbrev pub MakesIf : Bool → List ℕ → List ℕ → List Event → Result (Unit {0}) Ending → List Event → Type 0
+MakesIf true name file old result new = MakesFirst file old result new
+MakesIf false name file old result new = MakesFile name file old result new
+
+-- a file gets these bytes, and only then the line of a new volume of so many blocks is printed
+abbrev pub MakesVolume : CreateForm → List ℕ → ℕ → List Event → Result (Unit {0}) Ending → List Event → Type 0
+MakesVolume form file blocks = Then (Purely (AreLines (program_line (line.Created blocks)))) (λ lines. Then (MakesIf form.is_new form.file.bytes.items file) (λ it. Prints lines.items))
+
+-- The file of a new volume of so many blocks is made, in place of any of its name unless it is to be the first, and only then its line is
+-- printed.
+abbrev pub CreatesFile : (Result (Vec ℕ) Ending → Type 0) → CreateForm → ℕ → List Event → Result (Unit {0}) Ending → List Event → Type 0
+CreatesFile gives form blocks = Then (Purely gives) (λ file. MakesVolume form file.items blocks)

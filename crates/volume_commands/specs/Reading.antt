@@ -1,0 +1,106 @@
+-- How an image file is held and read.
+use Rattle.std.specs.Prelude.{◌≡◌, ◌⊎◌, ◌<◌, ◌≤◌, ℕ, Bool, true, false, if◌then◌else◌, Option, None, Some, Result, Ok, Err, List, [], ◌∷◌, length}
+use Rattle.std.specs.Global.{Vec}
+use Rattle.hosts.specs.Event.{Event, resolve_call, hold_call, drop_seconds_call, look_call, tell_call}
+use Rattle.hosts.specs.Place.{about}
+use Rattle.hosts.specs.Streams.{output, errors, read, failures}
+use Rattle.disk8.specs.Disks.{FitsLayout, IsImageIn}
+use Rattle.disk8.specs.Files.{Disk, Opens as OpensDisk}
+use Rattle.disk8.specs.declared.layouts.Layout.{Layout}
+use Rattle.script8.specs.declared.readings.TheConstants.{MOST}
+use Rattle.script8.specs.declared.faults.SessionFault.TheVariants.{Memory}
+use Rattle.report8.specs.declared.programs.ProgramLine.TheVariants.{HostRead}
+use Rattle.report8.specs.declared.programs.ProgramLine.TheVariants as line
+use Rattle.outcome.specs.Contents.{content_name}
+use Rattle.outcome.specs.Notes.{file_text, name_text}
+use Rattle.outcome.specs.declared.contents.Content.TheVariants.{Image}
+use Rattle.outcome.specs.declared.notes.FileNote.TheVariants.{NoLock}
+use Rattle.outcome.specs.declared.notes.NameNote.TheVariants.{TooLong}
+use Rattle.outcome.specs.declared.endings.Ending.{Ending}
+use Rattle.outcome.specs.declared.endings.Ending.TheVariants.{Line, Fault, Busy}
+use Rattle.task8.specs.declared.forms.ImageForm.{ImageForm}
+use Rattle.volume_commands.specs.Work.{Then, Purely}
+use Rattle.volume_commands.specs.declared.reading.ImagePlace.{ImagePlace}
+use Rattle.volume_commands.specs.declared.images.Image.{Image as Opened}
+
+-- no file was changed, nothing was printed, and nothing was read
+pub record IsIdle (old new : List Event) : Type 0 where
+  pub files : (path : List ℕ) → about path new ≡ about path old
+  pub prints : output new ≡ output old
+  pub tells : errors new ≡ errors old
+  pub reads : read new ≡ read old
+
+-- the file that a name leads to was held, at this path, the newest call first
+abbrev pub hold_calls : List ℕ → List ℕ → List Event → List Event
+hold_calls name path old = drop_seconds_call path true ∷ hold_call path true ∷ resolve_call name true path ∷ old
+
+-- a note was printed where the file system has no locks
+abbrev pub with_lock_note : Bool → Bool → List Event → List Event
+with_lock_note true ok old = old
+with_lock_note false ok old = tell_call ok (file_text NoLock (content_name Image)) ∷ old
+
+-- why an image file can't be held
+abbrev pub IsUnheld : Ending → Type 0
+IsUnheld (Busy Image) = Unit {0}
+IsUnheld (Line HostRead) = Unit {0}
+IsUnheld (Fault Memory) = Unit {0}
+IsUnheld _ = ⊥
+
+-- An image file is held before it is read. One that may not be written is not held, and a call failed; where another program holds it
+-- the command ends.
+abbrev pub HoldsAt : List ℕ → ImagePlace → Bool → List Event → List Event → Type 0
+HoldsAt name place true old new = (has_lock : Bool) × (ok : Bool) × (new ≡ with_lock_note has_lock ok (hold_calls name place.path.bytes.items old))
+HoldsAt name place false old new = IsIdle old new × (failures old < failures new)
+
+abbrev pub Holds : List ℕ → List Event → Result ImagePlace Ending → List Event → Type 0
+Holds name old (Ok place) new = HoldsAt name place place.is_held old new
+Holds name old (Err ending) new = IsUnheld ending × IsIdle old new × (failures old < failures new)
+
+-- the path of a file that is held, else its name
+abbrev pub looked_name : ImagePlace → List ℕ → List ℕ
+looked_name place name = if place.is_held then place.path.bytes.items else name
+
+-- why a file is not read: its call failed; or it has more bytes than are read, and a note told so, or memory was wanted for that
+abbrev pub IsUnread : List ℕ → List ℕ → List Event → Ending → List Event → Type 0
+IsUnread name shown old (Busy Image) new = new ≡ look_call name false [] ∷ old
+IsUnread name shown old (Line HostRead) new = (new ≡ look_call name false [] ∷ old)
+    ⊎ ((bytes : List ℕ) × (MOST < length bytes) × (ok : Bool) × (new ≡ tell_call ok (name_text TooLong shown) ∷ look_call name true bytes ∷ old))
+IsUnread name shown old (Fault Memory) new = (new ≡ look_call name false [] ∷ old)
+    ⊎ ((bytes : List ℕ) × (MOST < length bytes) × (new ≡ look_call name true bytes ∷ old))
+IsUnread name shown old _ new = ⊥
+
+-- a file is read whole, and has no more bytes than are read
+abbrev pub Looks : List ℕ → List ℕ → List Event → Result (Vec ℕ) Ending → List Event → Type 0
+Looks name shown old (Ok bytes) new = (length bytes.items ≤ MOST) × (new ≡ look_call name true bytes.items ∷ old)
+Looks name shown old (Err ending) new = IsUnread name shown old ending new
+
+-- an image is the whole file, or the volume that lies in it as a disk or a DECtape
+abbrev pub IsVolumeOf : Option Layout → List ℕ → List ℕ → Option Disk → Type 0
+IsVolumeOf None file image None = image ≡ file
+IsVolumeOf None file image (Some disk) = ⊥
+IsVolumeOf (Some layout) file image None = ⊥
+IsVolumeOf (Some layout) file image (Some disk) = (disk.layout ≡ layout) × (disk.bytes ≡ file) × FitsLayout layout file × IsImageIn layout file image
+
+-- the file is none of a disk or of a DECtape so
+abbrev pub IsNoVolume : Option Layout → List ℕ → Ending → Type 0
+IsNoVolume None file ending = ⊥
+IsNoVolume (Some layout) file (Line (line.Disk fault)) = OpensDisk layout file (Err fault)
+IsNoVolume (Some layout) file (Fault Memory) = FitsLayout layout file
+IsNoVolume (Some layout) file _ = ⊥
+
+abbrev pub MakesImage : ImagePlace → Option Layout → List ℕ → Result Opened Ending → Type 0
+MakesImage place layout file (Ok image) = (image.place ≡ place) × IsVolumeOf layout file image.bytes.items image.disk
+MakesImage place layout file (Err ending) = IsNoVolume layout file ending
+
+-- an image file is held, and then read
+abbrev pub Opens : ImageForm → List Event → Result Opened Ending → List Event → Type 0
+Opens form = Then (Holds form.file.bytes.items) (λ place. Then (Looks (looked_name place form.file.bytes.items) form.file.bytes.items) (λ file. Purely (MakesImage place form.layout file.items)))
+
+-- the image in a file that is only looked at
+abbrev pub FindsVolume : Option Layout → List ℕ → Result (Vec ℕ) Ending → Type 0
+FindsVolume layout file (Ok image) = (disk : Option Disk) × IsVolumeOf layout file image.items disk
+FindsVolume layout file (Err ending) = IsNoVolume layout file ending
+
+-- an image file is read
+abbrev pub LooksAt : ImageForm → List Event → Result (Vec ℕ) Ending → List Event → Type 0
+LooksAt form = Then (Looks form.file.bytes.items form.file.bytes.items) (λ file. Purely (FindsVolume form.layout file.items))

@@ -1,0 +1,107 @@
+-- How an image file gets another image.
+use Rattle.std.specs.Prelude.{◌≡◌, ◌≢◌, ◌⊎◌, ◌<◌, ℕ, Bool, true, false, Option, None, Some, Result, Ok, Err, List, ◌∷◌, length}
+use Rattle.std.specs.Str.{bytes_eq}
+use Rattle.hosts.specs.Event.{Event, print_call}
+use Rattle.hosts.specs.Place.{about}
+use Rattle.hosts.specs.Saving.{KeepsFile, StaysAsItWas, AnyMomentOf}
+use Rattle.hosts.specs.Streams.{output, errors, read, failures, may_replace}
+use Rattle.hosts.specs.declared.faults.Durability.{Durability}
+use Rattle.hosts.specs.declared.faults.Durability.TheVariants.{Certain, Unknown}
+use Rattle.host8.specs.declared.faults.Unwritten.TheVariants as unwritten
+use Rattle.disk8.specs.Disks.{image_size}
+use Rattle.disk8.specs.Files.{Disk, HasLaid}
+use Rattle.outcome.specs.Contents.{content_name}
+use Rattle.outcome.specs.Notes.{file_text}
+use Rattle.outcome.specs.declared.contents.Content.TheVariants as content
+use Rattle.outcome.specs.declared.notes.FileNote.TheVariants.{InPlace, NoSync}
+use Rattle.outcome.specs.declared.endings.Ending.{Ending}
+use Rattle.outcome.specs.declared.endings.Ending.TheVariants.{NotWritten, FullOutput, NoReader}
+use Rattle.volume_commands.specs.Work.{Then}
+use Rattle.volume_commands.specs.declared.images.Image.{Image}
+
+-- what standard error got besides: nothing, or the note that the file is written in its place
+abbrev pub IsPlaceTold : List (Bool × List ℕ) → List (Bool × List ℕ) → Type 0
+IsPlaceTold old new = (new ≡ old) ⊎ ((ok : Bool) × (new ≡ (ok, file_text InPlace (content_name content.Image)) ∷ old))
+
+-- what standard error got besides: the note that it is not known whether a crash keeps the file, where this is so
+abbrev pub IsSyncTold : Durability → List (Bool × List ℕ) → List (Bool × List ℕ) → Type 0
+IsSyncTold Certain old new = new ≡ old
+IsSyncTold Unknown old new = (ok : Bool) × (new ≡ (ok, file_text NoSync (content_name content.Image)) ∷ old)
+
+-- what the file is that has this image: the image alone, or the disk or the DECtape with it
+abbrev pub IsFileWith : Option Disk → List ℕ → List ℕ → Type 0
+IsFileWith None image file = file ≡ image
+IsFileWith (Some disk) image file = HasLaid disk image (record { layout = disk.layout; bytes = file })
+
+-- no file but the one at a path was changed, nothing was printed on standard output, and nothing was read
+pub record TouchesOnly (path : List ℕ) (old new : List Event) : Type 0 where
+  pub others : (other : List ℕ) → bytes_eq path other ≡ false → about other new ≡ about other old
+  pub prints : output new ≡ output old
+  pub reads : read new ≡ read old
+
+-- The file at a path has these bytes now, and after a crash too, unless a note says that this is not known; at each moment meanwhile a crash
+-- left what it might have left before, or these bytes, whole. Where the file could only be written in its place, nothing is promised of
+-- a crash meanwhile.
+pub record HasSaved (path file : List ℕ) (old new : List Event) : Type 0 where
+  pub durability : Durability
+  pub kept : KeepsFile (may_replace new) durability file (about path old) (about path new)
+  pub moments : AnyMomentOf (may_replace new) file (about path old) (about path new)
+  pub noted : List (Bool × List ℕ)
+  pub place : IsPlaceTold (errors old) noted
+  pub sync : IsSyncTold durability noted (errors new)
+  pub only : TouchesOnly path old new
+
+-- the file at a path is as it was, and so it was at each moment or it had these bytes, since a call failed
+pub record IsUnsaved (path file : List ℕ) (old new : List Event) : Type 0 where
+  pub same : StaysAsItWas (about path old) (about path new)
+  pub moments : AnyMomentOf (may_replace new) file (about path old) (about path new)
+  pub cause : failures old < failures new
+  pub place : IsPlaceTold (errors old) (errors new)
+  pub only : TouchesOnly path old new
+
+-- the file at a path, which could only be written in its place, may have a part of what it was to have, since a call failed
+pub record IsInPart (path : List ℕ) (old new : List Event) : Type 0 where
+  pub in_place : may_replace new ≡ false
+  pub cause : failures old < failures new
+  pub place : IsPlaceTold (errors old) (errors new)
+  pub only : TouchesOnly path old new
+
+-- what becomes of the file at a path that is to have these bytes
+abbrev pub Writes : List ℕ → List ℕ → List Event → Result (Unit {0}) Ending → List Event → Type 0
+Writes path file old (Ok it) new = HasSaved path file old new
+Writes path file old (Err (NotWritten content.Image unwritten.AsItWas)) new = IsUnsaved path file old new
+Writes path file old (Err (NotWritten content.Image unwritten.InPart)) new = IsInPart path old new
+Writes path file old (Err _) new = ⊥
+
+-- an image can't be saved: its file may not be written, or it has another size than the volume
+abbrev pub CannotHold : Image → List ℕ → Type 0
+CannotHold image bytes = (image.place.is_held ≡ false) ⊎ ((disk : Disk) × (image.disk ≡ Some disk) × (length bytes ≢ image_size disk.layout))
+
+abbrev pub IsDone : Result (Unit {0}) Ending → Type 0
+IsDone (Ok it) = Unit {0}
+IsDone (Err ending) = ⊥
+
+abbrev pub IsRefused : Result (Unit {0}) Ending → Type 0
+IsRefused (Ok it) = ⊥
+IsRefused (Err ending) = ending ≡ NotWritten content.Image unwritten.AsItWas
+
+-- whether the image has these bytes, and what becomes of its file
+abbrev pub SavesIf : Bool → Image → List ℕ → List Event → Result (Unit {0}) Ending → List Event → Type 0
+SavesIf true image bytes old result new = IsDone result × (new ≡ old)
+SavesIf false image bytes old result new = (IsRefused result × CannotHold image bytes × (new ≡ old))
+    ⊎ ((image.place.is_held ≡ true) × (file : List ℕ) × IsFileWith image.disk bytes file × Writes image.place.path.bytes.items file old result new)
+
+-- What becomes of an image file that is to have these bytes of an image. Where it has them, nothing is asked of the host.
+abbrev pub Saves : Image → List ℕ → List Event → Result (Unit {0}) Ending → List Event → Type 0
+Saves image bytes old result new = SavesIf (bytes_eq image.bytes.items bytes) image bytes old result new
+
+-- bytes are printed; where standard output doesn't take them, the command ends
+abbrev pub Prints : List ℕ → List Event → Result (Unit {0}) Ending → List Event → Type 0
+Prints bytes old (Ok it) new = new ≡ print_call true 0 bytes ∷ old
+Prints bytes old (Err FullOutput) new = new ≡ print_call false 0 bytes ∷ old
+Prints bytes old (Err NoReader) new = new ≡ print_call false 1 bytes ∷ old
+Prints bytes old (Err _) new = ⊥
+
+-- an image file gets an image, and only then the lines are printed that tell of it
+abbrev pub Stores : Image → List ℕ → List ℕ → List Event → Result (Unit {0}) Ending → List Event → Type 0
+Stores image bytes lines = Then (Saves image bytes) (λ it. Prints lines)

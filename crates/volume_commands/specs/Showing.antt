@@ -1,0 +1,23 @@
+-- The commands that print what an image has.
+use Rattle.std.specs.Prelude.{Result, List, length, ℕ}
+use Rattle.std.specs.Global.{Vec}
+use Rattle.hosts.specs.Event.{Event}
+use Rattle.archive8.specs.Asking.{Wanted, OfName, AtBlock}
+use Rattle.archive8.specs.declared.faults.ArchiveFault.{ArchiveFault}
+use Rattle.outcome.specs.declared.endings.Ending.{Ending}
+use Rattle.task8.specs.declared.forms.ImageForm.{ImageForm}
+use Rattle.task8.specs.declared.forms.FileForm.{FileForm}
+use Rattle.task8.specs.declared.forms.FileForm.TheVariants.{Name, At}
+use Rattle.volume_commands.specs.Work.{Then}
+use Rattle.volume_commands.specs.Reading.{LooksAt}
+use Rattle.volume_commands.specs.Answers.{Answers}
+use Rattle.volume_commands.specs.Saving.{Prints}
+
+-- the file that is meant by an argument
+abbrev pub wanted_file : FileForm → Wanted
+wanted_file (Name text) = OfName text.bytes.items
+wanted_file (At place) = AtBlock place
+
+-- An image file is read, and what its bytes give is printed, with nothing else on standard output. No file changes.
+abbrev pub Shows : (List ℕ → Result (Vec ℕ) ArchiveFault → Type 0) → ImageForm → List Event → Result (Unit {0}) Ending → List Event → Type 0
+Shows gives form = Then (LooksAt form) (λ image. Then (Answers (gives image.items) (length image.items)) (λ bytes. Prints bytes.items))

@@ -1,0 +1,68 @@
+//! How a command ends by the faults of its host.
+ghost use Rattle.std.specs.Prelude.{◌≡◌};
+ghost use Rattle.volume_commands.specs.Faults as spec;
+ghost use Rattle.volume_commands.specs.Making.{ending_of_file, ending_of_first};
+
+use hosts::{HostFault, PrintFault, Unwritten};
+use outcome::{Content, Ending};
+use report8::ProgramLine;
+use script8::SessionFault;
+
+/// How a command ends whose image can't be held, or can't be read (this project's profile).
+pub fn ending_of_image(fault: HostFault) -> Ending
+    ensures { result ≡ spec.ending_of_image fault }
+{
+    match fault {
+        HostFault::Busy => Ending::Busy(Content::Image),
+        HostFault::Memory => Ending::Fault(SessionFault::Memory),
+        HostFault::Absent | HostFault::Unwritable | HostFault::Failed => {
+            Ending::Line(ProgramLine::HostRead)
+        }
+    }
+}
+
+/// How a command ends whose standard output failed (this project's profile).
+pub fn ending_of_print(fault: PrintFault) -> Ending
+    ensures { result ≡ spec.ending_of_print fault }
+{
+    match fault {
+        PrintFault::Abandoned => Ending::NoReader,
+        PrintFault::Failed => Ending::FullOutput,
+    }
+}
+
+/// How a command ends whose image is not written, and what its file holds (this project's profile).
+pub fn ending_of_write(left: Unwritten) -> Ending
+    ensures { result ≡ spec.ending_of_write left }
+{
+    match left {
+        Unwritten::AsItWas => Ending::NotWritten(Content::Image, host8::Unwritten::AsItWas),
+        Unwritten::InPart => Ending::NotWritten(Content::Image, host8::Unwritten::InPart),
+    }
+}
+
+/// How a command ends whose file for an image can't be held or made, and is as it was (this project's profile).
+pub fn ending_of_file(fault: HostFault) -> Ending
+    ensures { result ≡ ending_of_file fault }
+{
+    match fault {
+        HostFault::Busy => Ending::Busy(Content::Image),
+        HostFault::Memory => Ending::Fault(SessionFault::Memory),
+        HostFault::Absent | HostFault::Unwritable | HostFault::Failed => {
+            Ending::NotWritten(Content::Image, host8::Unwritten::AsItWas)
+        }
+    }
+}
+
+/// How a command ends whose file for an image can't be made where there is to be none of its name (this project's profile).
+pub fn ending_of_first(fault: HostFault) -> Ending
+    ensures { result ≡ ending_of_first fault }
+{
+    match fault {
+        HostFault::Busy => Ending::Line(ProgramLine::HostExists),
+        HostFault::Memory => Ending::Fault(SessionFault::Memory),
+        HostFault::Absent | HostFault::Unwritable | HostFault::Failed => {
+            Ending::NotWritten(Content::Image, host8::Unwritten::AsItWas)
+        }
+    }
+}

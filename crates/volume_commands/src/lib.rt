@@ -1,0 +1,29 @@
+//! The commands on volumes in image files, over any host: what is read, which files hold what at each moment, and what each stream gets.
+#![tactic(auto)]
+
+mod answers;
+mod changes;
+mod creating;
+mod ending;
+mod faults;
+mod images;
+mod inputs;
+mod making;
+mod notes;
+mod printing;
+mod putting;
+mod reading;
+mod saving;
+mod showing;
+
+pub use answers::asked_of;
+pub use changes::{rename_file, squeeze_files};
+pub use creating::{create_image, create_tape};
+pub use ending::{Rooms, end};
+pub use images::Image;
+pub use making::{make_file, make_first};
+pub use notes::{refuse_image, tell_note};
+pub use printing::{print, store};
+pub use putting::put_file;
+pub use reading::{ImagePlace, look_at};
+pub use showing::{get_file, list_files, list_places};

@@ -1,0 +1,184 @@
+//! The command that puts a file of the host, or standard input, on the volume in an image file.
+ghost use Rattle.std.specs.Prelude.{◌≡◌, option_copied, OnOk, OnErr};
+ghost use Rattle.volume_commands.specs.Answers.{AreLines};
+ghost use Rattle.volume_commands.specs.Putting as spec;
+ghost use Rattle.volume_commands.specs.Putting.{Puts, PutsInto, KeepsWords, MakesNew, TellsBad, stored_line, words_of};
+ghost use Rattle.volume_commands.specs.PutSteps.{RefusesLoss, FindsFiles, IsNotPut};
+
+use crate::images::Image;
+use crate::inputs::given_bytes;
+use crate::notes::{refuse_image, tell_note};
+use crate::printing::store;
+use archive8::{ArchiveFault, NewImage, bad_text_at, put};
+use hosts::Host;
+use many8::{VolumeFile, empties, open};
+use os8_dir::{FileFault, Name};
+use outcome::{Ending, NameNote, Note};
+use script8::{LineReply, Reply, SessionFault, put_reply};
+use std::alloc::{AllocError, Global};
+use task8::PutOneForm;
+use word12::Word;
+
+/// Makes a file of the host, or standard input, a file of the volume in an image file, with a name that is given, and tells of it.
+pub fn put_file<H: Host>(host: &mut H, alloc: Global, form: &PutOneForm) -> Result<(), Ending>
+    ensures { Puts form.now (H.history host.old) result (H.history host.new) }
+{
+    let image = Image::open(host, alloc, &form.image)?;
+    let bytes = given_bytes(host, alloc, form.file.as_str())?;
+    put_into(host, alloc, form, image, &bytes)
+}
+
+/// Puts bytes of the host on the volume in an image, and tells of it.
+fn put_into<H: Host>(
+    host: &mut H,
+    alloc: Global,
+    form: &PutOneForm,
+    image: Image,
+    bytes: &[u8],
+) -> Result<(), Ending>
+    ensures { PutsInto form.now image bytes.now (H.history host.old) result (H.history host.new) }
+{
+    keep_words(host, alloc, form, &image.bytes, bytes)?;
+    let new = new_image(host, alloc, form, &image.bytes, bytes)?;
+    let line = line_of(alloc, &new)?;
+    store(host, alloc, image, &new.bytes, &line)
+}
+
+/// Refuses a text of no byte that would replace a file of the volume, unless that is asked for.
+fn keep_words<H: Host>(
+    host: &mut H,
+    alloc: Global,
+    form: &PutOneForm,
+    image: &[u8],
+    bytes: &[u8],
+) -> Result<(), Ending>
+    ensures { KeepsWords form.now image.now bytes.now (H.history host.old) result (H.history host.new) }
+{
+    if form.may_empty || !bytes.is_empty() {
+        return Ok(());
+    }
+    match Name::parse(form.name.as_bytes()) {
+        None => Ok(()),
+        Some(name) => refuse_loss(host, alloc, image, form.file.as_str(), name),
+    }
+}
+
+/// Refuses to replace a file of this name of the volume in an image, and says so.
+fn refuse_loss<H: Host>(
+    host: &mut H,
+    alloc: Global,
+    image: &[u8],
+    path: &str,
+    name: Name,
+) -> Result<(), Ending>
+    ensures { RefusesLoss path.now name image.now (H.history host.old) result (H.history host.new) }
+{
+    let files = files_on(host, alloc, image)?;
+    if !empties(&files, name, &[]) {
+        return Ok(());
+    }
+    tell_note(host, alloc, Note::OnName(NameNote::Empty, path))?;
+    Err(Ending::Fault(SessionFault::File(FileFault::NothingWritten)))
+}
+
+/// The files of the volume in an image.
+fn files_on<H: Host>(host: &mut H, alloc: Global, image: &[u8]) -> Result<Vec<VolumeFile>, Ending>
+    ensures { FindsFiles image.now (H.history host.old) result (H.history host.new) }
+{
+    match open(alloc, image) {
+        Ok(volume) => {
+            let files = volume.files(alloc)?;
+            Ok(files)
+        }
+        Err(fault) => Err(refuse_image(host, image.len(), fault)),
+    }
+}
+
+/// The image with the file.
+fn new_image<H: Host>(
+    host: &mut H,
+    alloc: Global,
+    form: &PutOneForm,
+    image: &[u8],
+    bytes: &[u8],
+) -> Result<NewImage, Ending>
+    ensures { MakesNew form.now image.now bytes.now (H.history host.old) result (H.history host.new) }
+{
+    let info = given_words(&form.info);
+    match put(alloc, image, form.name.as_bytes(), bytes, form.form, info) {
+        Ok(new) => Ok(new),
+        Err(fault) => Err(refuse_put(host, alloc, image.len(), bytes, fault)),
+    }
+}
+
+/// How the command ends whose file is refused, or its image of so many bytes. What may help is printed.
+fn refuse_put<H: Host>(
+    host: &mut H,
+    alloc: Global,
+    size: usize,
+    bytes: &[u8],
+    fault: ArchiveFault,
+) -> Ending
+    ensures { IsNotPut fault bytes.now size (H.history host.old) result (H.history host.new) }
+{
+    if !is_bad_text(&fault) {
+        return refuse_image(host, size, fault);
+    }
+    match tell_bad_text(host, alloc, bytes) {
+        Ok(()) => Ending::from(fault),
+        Err(error) => Ending::from(error),
+    }
+}
+
+/// Whether a text is refused.
+fn is_bad_text(fault: &ArchiveFault) -> bool
+    ensures { result ≡ spec.is_bad_text fault.now }
+{
+    match fault {
+        ArchiveFault::Image(_) | ArchiveFault::Directory(_) => false,
+        ArchiveFault::Refused(why) => is_bad(*why),
+    }
+}
+
+fn is_bad(why: SessionFault) -> bool
+    ensures { result ≡ spec.is_bad why }
+{
+    match why {
+        SessionFault::BadText => true,
+        _ => false,
+    }
+}
+
+/// Prints where a text that can't be put has the first byte that may not stand in one.
+fn tell_bad_text<H: Host>(host: &mut H, alloc: Global, text: &[u8]) -> Result<(), AllocError>
+    ensures told { OnOk result (TellsBad text.now (H.history host.old) (H.history host.new)) }
+    ensures wanted { OnErr result (H.history host.new ≡ H.history host.old) }
+{
+    match bad_text_at(text) {
+        Some(place) => tell_note(host, alloc, Note::OnText(place)),
+        None => Ok(()),
+    }
+}
+
+/// The line of a file that was put.
+pub(crate) fn line_of(alloc: Global, new: &NewImage) -> Result<Vec<u8>, Ending>
+    ensures { AreLines (stored_line new.now) result }
+{
+    let stored = Reply::Line(LineReply::Stored {
+        name: new.name,
+        blocks: new.blocks,
+    });
+    let mut line = Vec::new(alloc);
+    put_reply(None, &Ok(stored), &mut line)?;
+    Ok(line)
+}
+
+/// The information words that are given, if any are.
+fn given_words(info: &Option<Vec<Word>>) -> Option<&[Word]>
+    ensures { option_copied result ≡ words_of info.now }
+{
+    match info {
+        Some(words) => Some(words.as_slice()),
+        None => None,
+    }
+}

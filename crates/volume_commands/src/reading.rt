@@ -1,0 +1,122 @@
+//! How image files are held and read. A file that a command may change is held from before it is read until the program ends.
+ghost use Rattle.std.specs.Prelude.{◌≡◌, ℕ, List};
+ghost use Rattle.hosts.specs.Place.{about};
+ghost use Rattle.hosts.specs.Streams.{output};
+ghost use Rattle.volume_commands.specs.Reading.{Holds, Looks, LooksAt, FindsVolume, looked_name, with_lock_note};
+ghost use Rattle.volume_commands.specs.ReadingSteps.{IsAnswer};
+
+use crate::faults::ending_of_image;
+use crate::notes::{tell, tell_note};
+use disk8::{DiskFile, Layout};
+use hosts::{Host, HostFault, hold_file};
+use outcome::{Content, Ending, FileNote, NameNote, Note};
+use report8::ProgramLine;
+use script8::readings::MOST;
+use std::alloc::Global;
+use task8::ImageForm;
+
+/// Where an image file is held.
+#[derive(Drop)]
+pub struct ImagePlace {
+    /// Its path; nothing of one that is not held, since it may not be written.
+    pub path: String,
+    pub is_held: bool,
+}
+
+/// Holds an image file, unless it may not be written. No file changes.
+pub(crate) fn hold<H: Host>(host: &mut H, alloc: Global, name: &str) -> Result<ImagePlace, Ending>
+    ensures { Holds name.now (H.history host.old) result (H.history host.new) }
+{
+    match hold_file(host, alloc, name) {
+        Ok(held) => {
+            tell_of_lock(host, held.has_lock);
+            Ok(ImagePlace {
+                path: held.path,
+                is_held: true,
+            })
+        }
+        Err(fault) => match fault {
+            HostFault::Unwritable => Ok(ImagePlace {
+                path: String::new(alloc),
+                is_held: false,
+            }),
+            _ => Err(ending_of_image(fault)),
+        },
+    }
+}
+
+/// Prints a note where the file system of a held file has no locks.
+pub(crate) fn tell_of_lock<H: Host>(host: &mut H, has_lock: bool)
+    ensures { (ok : _) × (H.history host.new ≡ with_lock_note has_lock ok (H.history host.old)) }
+{
+    if !has_lock {
+        tell(host, FileNote::NoLock.text(Content::Image));
+    }
+}
+
+/// The bytes of an image file that is held, or of one that is only looked at.
+pub(crate) fn look<H: Host>(
+    host: &mut H,
+    alloc: Global,
+    place: &ImagePlace,
+    name: &str,
+) -> Result<Vec<u8>, Ending>
+    ensures { Looks (looked_name place.now name.now) name.now (H.history host.old) result (H.history host.new) }
+{
+    if place.is_held {
+        let found = host.look_held(alloc, place.path.as_str(), MOST);
+        return within(host, alloc, name, found);
+    }
+    look_file(host, alloc, name)
+}
+
+/// The bytes of a file that is only looked at.
+pub(crate) fn look_file<H: Host>(host: &mut H, alloc: Global, name: &str) -> Result<Vec<u8>, Ending>
+    ensures { Looks name.now name.now (H.history host.old) result (H.history host.new) }
+{
+    let found = host.look(alloc, name, MOST);
+    within(host, alloc, name, found)
+}
+
+/// The bytes that were read, if they are not too many, of which a note is printed.
+fn within<H: Host>(
+    host: &mut H,
+    alloc: Global,
+    name: &str,
+    found: Result<Vec<u8>, HostFault>,
+) -> Result<Vec<u8>, Ending>
+    ensures { IsAnswer name.now found (H.history host.old) result (H.history host.new) }
+{
+    match found {
+        Ok(bytes) => {
+            if bytes.len() > MOST {
+                tell_note(host, alloc, Note::OnName(NameNote::TooLong, name))?;
+                return Err(Ending::Line(ProgramLine::HostRead));
+            }
+            Ok(bytes)
+        }
+        Err(fault) => Err(ending_of_image(fault)),
+    }
+}
+
+/// The image in a file that is only looked at. No file changes, and standard output gets nothing.
+pub fn look_at<H: Host>(host: &mut H, alloc: Global, form: &ImageForm) -> Result<Vec<u8>, Ending>
+    ensures looks { LooksAt form.now (H.history host.old) result (H.history host.new) }
+    ensures files { (path : List ℕ) → about path (H.history host.new) ≡ about path (H.history host.old) }
+    ensures output { output (H.history host.new) ≡ output (H.history host.old) }
+{
+    let file = look_file(host, alloc, form.file.as_str())?;
+    volume_in(alloc, file, form.layout)
+}
+
+/// The image in a file of these bytes: all of it, or the volume that lies in it.
+fn volume_in(alloc: Global, file: Vec<u8>, layout: Option<Layout>) -> Result<Vec<u8>, Ending>
+    ensures { FindsVolume layout file.items result }
+{
+    let Some(layout) = layout else {
+        return Ok(file);
+    };
+    let disk = DiskFile::new(file, layout)?;
+    let image = disk.volume(alloc)?;
+    Ok(image)
+}
