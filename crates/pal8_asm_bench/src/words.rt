@@ -165,7 +165,8 @@ fn put_text(core: &mut Core, first: usize, bytes: &[u8], from: usize, count: usi
     let end = from.saturating_add(count);
     for n in 0..count / 2 + 1 {
         let at = from.saturating_add(n.saturating_mul(2));
-        let word = 0o100 * half(bytes, end, at) + half(bytes, end, at.saturating_add(1));
+        let high = half(bytes, end, at).saturating_mul(0o100);
+        let word = high.saturating_add(half(bytes, end, at.saturating_add(1)));
         core.put(first.saturating_add(n), word);
     }
 }
