@@ -89,8 +89,10 @@ pub fn make_words(alloc: Global, source: &Source, last_line: u64) -> Result<(), 
     let mut steps: usize = 0;
     let mut bytes: usize = 0;
     for item in &source.items {
-        let first = 0o10000 * usize::from(item.position.field)
-            + usize::from(item.position.location);
+        let field = usize::from(item.position.field);
+        let first = field
+            .saturating_mul(0o10000)
+            .saturating_add(usize::from(item.position.location));
         match item.kind {
             Kind::Value => {
                 let word = value(alloc, source, &mut pools, &mut frames, item, steps)?;
