@@ -47,7 +47,7 @@ fn assemble(alloc: Global, text: &[u8]) -> Result<Core, Fault> {
 
 /// Prints the cells that have words.
 fn print_core(rt: &mut HostRuntime, words: &[u16]) -> bool {
-    let mut cell = 0;
+    let mut cell: u32 = 0;
     for word in words {
         if *word != NO_WORD {
             let printed = println!(rt; "{} {:04o} {:04o}", cell / 0o10000, cell % 0o10000, *word);
@@ -55,7 +55,7 @@ fn print_core(rt: &mut HostRuntime, words: &[u16]) -> bool {
                 return false;
             }
         }
-        cell = (cell + 1) % 0o100000;
+        cell = cell.saturating_add(1) % 0o100000;
     }
     true
 }

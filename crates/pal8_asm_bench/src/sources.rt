@@ -113,6 +113,9 @@ impl Source {
         let line = lexer.line();
         let closes = matches!(end, End::Close);
         let before = self.position;
+        if before.location > 0o10000 || before.field > 7 {
+            return Err(Fault::At(Code::PF, line));
+        }
         let body = match self
             .reader
             .read_statement(lexer.tokens(), lexer.is_cut(), end, self.position.radix)

@@ -89,8 +89,10 @@ pub fn make_words(alloc: Global, source: &Source, last_line: u64) -> Result<(), 
     let mut steps: usize = 0;
     let mut bytes: usize = 0;
     for item in &source.items {
-        let first = 0o10000 * usize::from(item.position.field)
-            + usize::from(item.position.location);
+        let field = usize::from(item.position.field);
+        let first = field
+            .saturating_mul(0o10000)
+            .saturating_add(usize::from(item.position.location));
         match item.kind {
             Kind::Value => {
                 let word = value(alloc, source, &mut pools, &mut frames, item, steps)?;
@@ -165,7 +167,8 @@ fn put_text(core: &mut Core, first: usize, bytes: &[u8], from: usize, count: usi
     let end = from.saturating_add(count);
     for n in 0..count / 2 + 1 {
         let at = from.saturating_add(n.saturating_mul(2));
-        let word = 0o100 * half(bytes, end, at) + half(bytes, end, at.saturating_add(1));
+        let high = half(bytes, end, at).saturating_mul(0o100);
+        let word = high.saturating_add(half(bytes, end, at.saturating_add(1)));
         core.put(first.saturating_add(n), word);
     }
 }
