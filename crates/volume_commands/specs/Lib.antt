@@ -4,6 +4,7 @@ pub mod Changing
 pub mod Ending
 pub mod Faults
 pub mod Making
+pub mod MakingSteps
 pub mod Notes
 pub mod PutSteps
 pub mod Putting

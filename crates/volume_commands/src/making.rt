@@ -1,5 +1,6 @@
 //! New files of the host, in place of any of their names.
-ghost use Rattle.volume_commands.specs.Making.{MakesFile, MakesFirst, MakesNewFile};
+ghost use Rattle.volume_commands.specs.Making.{MakesFile, MakesFirst};
+ghost use Rattle.volume_commands.specs.MakingSteps.{MakesNewFile};
 
 use crate::faults::{ending_of_file, ending_of_first};
 use crate::notes::tell;

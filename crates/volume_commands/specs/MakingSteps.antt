@@ -1,0 +1,9 @@
+-- How a file is made where there is none of its name. No contract of a public function cites this.
+use Rattle.std.specs.Prelude.{ℕ, Result, Ok, Err, List}
+use Rattle.hosts.specs.Event.{Event}
+use Rattle.hosts.specs.declared.faults.HostFault.{HostFault}
+use Rattle.volume_commands.specs.Making.{HasMade, HasNotMade}
+
+abbrev pub MakesNewFile : List ℕ → List Event → Result (Unit {0}) HostFault → List Event → Type 0
+MakesNewFile file old (Ok it) new = HasMade file old new
+MakesNewFile file old (Err fault) new = HasNotMade file fault old new
