@@ -61,7 +61,7 @@ pub record HasNotMade (file : List ℕ) (fault : HostFault) (old new : List Even
   pub tells : errors new ≡ errors old
   pub only : TouchesOnly (freed new) old new
 
--- the same, or else the command ends so by a fault
+-- a file is made where there is none of its name, or else the command ends so by a fault
 abbrev pub MakesBy : (HostFault → Ending) → List ℕ → List Event → Result (Unit {0}) Ending → List Event → Type 0
 MakesBy ends file old (Ok it) new = HasMade file old new
 MakesBy ends file old (Err ending) new = (fault : HostFault) × (ending ≡ ends fault) × HasNotMade file fault old new
