@@ -14,7 +14,10 @@ seed=${1:?the seed that programs are drawn from}
 dpkg -s simh valgrind >/dev/null 2>&1 || { apt-get update && apt-get install -y simh valgrind; } >&2
 simh=/usr/bin/pdp8
 ours=$top/crates/cpu_bench/out/cpu_bench
-(cd "$top/crates/cpu_bench" && rt run <stdin >/dev/null) 2>/dev/null
+# what the gate has just built needs no further proof
+if [ ! -x "$ours" ] || [ -n "$(find "$top"/crates/*/src "$top"/crates/*/specs "$top"/crates/*/proofs -newer "$ours" -print -quit)" ]; then
+    (cd "$top/crates/cpu_bench" && rt run <stdin >/dev/null) 2>/dev/null
+fi
 
 run_ours() { "$ours" <"$1.bin"; }
 run_script() { "$program" run V <"$1"; }
