@@ -23,22 +23,22 @@ abbrev pub sixbit_text : List ℕ → List ℕ
 sixbit_text [] = []
 sixbit_text (word ∷ words) = sixbit_character (word / 0o100) ∷ sixbit_character (word % 0o100) ∷ sixbit_text words
 
--- a frame without its top bit, or a dot where that is not seen
-abbrev pub seen : ℕ → ℕ
-seen frame = if nat_le 0o40 (frame % 0o200) && nat_lt (frame % 0o200) 0o177 then frame % 0o200 else 0o56
+-- a frame without its top bit, or a dot where that is no character that prints
+abbrev pub visible_character : ℕ → ℕ
+visible_character frame = if nat_le 0o40 (frame % 0o200) && nat_lt (frame % 0o200) 0o177 then frame % 0o200 else 0o56
 
 -- the three characters of each two words, as frames are packed (OS/8 Software Support Manual)
-abbrev pub seen_text : List ℕ → List ℕ
-seen_text [] = []
-seen_text (first ∷ []) = []
-seen_text (first ∷ second ∷ words) =
-    seen (first % 256) ∷ seen (second % 256) ∷ seen (16 * (first / 256) + second / 256) ∷ seen_text words
+abbrev pub character_text : List ℕ → List ℕ
+character_text [] = []
+character_text (first ∷ []) = []
+character_text (first ∷ second ∷ words) =
+    visible_character (first % 0o400) ∷ visible_character (second % 0o400) ∷ visible_character (16 * (first / 0o400) + second / 0o400) ∷ character_text words
 
 -- what stands beside words
 abbrev pub beside : DumpForm → List ℕ → List ℕ
 beside Words words = []
 beside Sixbit words = 0o40 ∷ 0o40 ∷ sixbit_text words
-beside Text words = 0o40 ∷ 0o40 ∷ seen_text words
+beside Text words = 0o40 ∷ 0o40 ∷ character_text words
 
 -- the line of words, of which the first has this number
 abbrev pub row : DumpForm → ℕ → List ℕ → List ℕ

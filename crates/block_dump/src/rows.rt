@@ -1,6 +1,6 @@
 //! One line of a block.
 ghost use Rattle.std.specs.Prelude.{◌≡◌, ◌++◌, ◌<◌, ◌∷◌, [], OnOk};
-ghost use Rattle.block_dump.specs.Rows.{beside, number_text, octals, row, seen_text, sixbit_character, sixbit_text, seen};
+ghost use Rattle.block_dump.specs.Rows.{beside, number_text, octals, row, character_text, sixbit_character, sixbit_text, visible_character};
 
 use crate::dumping::DumpForm;
 use std::alloc::AllocError;
@@ -75,7 +75,7 @@ fn put_beside(text: &mut Vec<u8>, words: &[Word], form: DumpForm) -> Result<(), 
         }
         DumpForm::Text => {
             text.extend_from_slice(b"  ")?;
-            put_seen(text, words)
+            put_characters(text, words)
         }
     }
 }
@@ -114,8 +114,8 @@ fn sixbit_character(code: u8) -> u8
 }
 
 /// Appends the characters of words as a text has them.
-fn put_seen(text: &mut Vec<u8>, words: &[Word]) -> Result<(), AllocError>
-    ensures { OnOk result (text.new.items ≡ text.old.items ++ seen_text words.now) }
+fn put_characters(text: &mut Vec<u8>, words: &[Word]) -> Result<(), AllocError>
+    ensures { OnOk result (text.new.items ≡ text.old.items ++ character_text words.now) }
 {
     let mut rest = words;
     while let [first, second, others @ ..] = rest {
@@ -127,22 +127,22 @@ fn put_seen(text: &mut Vec<u8>, words: &[Word]) -> Result<(), AllocError>
 
 /// Appends the three characters of two words.
 fn put_three(text: &mut Vec<u8>, first: Word, second: Word) -> Result<(), AllocError>
-    ensures { OnOk result (text.new.items ≡ text.old.items ++ seen_text (first ∷ second ∷ [])) }
+    ensures { OnOk result (text.new.items ≡ text.old.items ++ character_text (first ∷ second ∷ [])) }
 {
     let high = first.get();
     let low = second.get();
     let three = [
-        seen((high % 256) as u8),
-        seen((low % 256) as u8),
-        seen((16 * (high / 256) + low / 256) as u8),
+        visible_character((high % 0o400) as u8),
+        visible_character((low % 0o400) as u8),
+        visible_character((16 * (high / 0o400) + low / 0o400) as u8),
     ];
     text.extend_from_slice(&three)?;
     Ok(())
 }
 
-/// A frame as its character is seen.
-fn seen(frame: u8) -> u8
-    ensures { result ≡ seen frame }
+/// The character of a frame without its top bit, or a dot where that is none that prints.
+fn visible_character(frame: u8) -> u8
+    ensures { result ≡ visible_character frame }
 {
     let character = frame % 0o200;
     if character >= 0o40 && character < 0o177 {

@@ -130,38 +130,6 @@ pub fn make_file<R: Files<File = File> + Eprint + AllocGlobal>(
     }
 }
 
-/// Makes a file as `make_file` does, and waits so many seconds where another program holds the one of its name.
-pub fn make_file_within<R: Files<File = File> + Eprint + Clock + AllocGlobal>(
-    rt: &R,
-    name: &str,
-    bytes: &[u8],
-    content: Content,
-    seconds: usize,
-) -> Result<(), Ending> {
-    match hold_within(rt, name, seconds) {
-        Ok(mut held) => write_held(rt, &mut held, bytes, content),
-        Err(HoldFault::Absent) => make_absent(rt, name, bytes, content),
-        Err(fault) => Err(ending_of_write(content, fault)),
-    }
-}
-
-/// Makes a file that holds these bytes, where there is none of its name: else the answer is `? HOST EXISTS`.
-pub fn make_new_file<R: Files<File = File> + Eprint + AllocGlobal>(
-    rt: &R,
-    name: &str,
-    bytes: &[u8],
-    content: Content,
-) -> Result<(), Ending> {
-    match make(rt, name, bytes) {
-        Ok(durability) => {
-            let _ = tells_of_folder(rt, durability, content);
-            Ok(())
-        }
-        Err(HoldFault::Busy) => Err(Ending::Line(ProgramLine::HostExists)),
-        Err(fault) => Err(ending_of_write(content, fault)),
-    }
-}
-
 /// Makes a file that holds these bytes, where there was none of its name.
 fn make_absent<R: Files<File = File> + Eprint + AllocGlobal>(
     rt: &R,

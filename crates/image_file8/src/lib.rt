@@ -11,9 +11,7 @@ mod streams;
 mod words;
 
 pub use files::{answer_of, bytes_of_file, core_of_file, refusal};
-pub use images::{
-    Image, bytes_of, image_bytes, make_file, make_file_within, make_new_file, save_and_print,
-};
+pub use images::{Image, bytes_of, image_bytes, make_file, save_and_print};
 pub use inputs::{CountedInput, input_bytes};
 pub use printing::{print_bytes, print_of, tell, tell_bad_text, tell_line, tell_text};
 pub use progress::Progress;

@@ -3,7 +3,7 @@ use Rattle.std.specs.Prelude.{ℕ, ◌+◌, ◌-◌, ◌*◌, ◌%◌, nat_le, B
 
 -- the low twelve bits of the word that begins with a byte
 abbrev pub twelve_bits : List ℕ → ℕ → ℕ
-twelve_bits bytes at = (slice_index bytes at + 256 * slice_index bytes (at + 1)) % 0o10000
+twelve_bits bytes at = (slice_index bytes at + 0o400 * slice_index bytes (at + 1)) % 0o10000
 
 -- minus a word
 abbrev pub minus : ℕ → ℕ

@@ -32,7 +32,7 @@ fn twelve_bits(bytes: &[u8], at: usize) -> u16
     ensures value { result ≡ twelve_bits bytes.now at }
     ensures range { result < 0o10000 }
 {
-    (u16::from(bytes[at]) + 256 * u16::from(bytes[at + 1])) % 0o10000
+    (u16::from(bytes[at]) + 0o400 * u16::from(bytes[at + 1])) % 0o10000
 }
 
 /// Minus a word.

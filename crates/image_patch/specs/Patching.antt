@@ -13,13 +13,13 @@ pub record IsPatched (old new : List ℕ) (place word : ℕ) : Type 0 where
 
 -- the image has the block, whole
 abbrev pub HasBlock : List ℕ → ℕ → Type 0
-HasBlock image block = block < length image / 512
+HasBlock image block = block < length image / 0o1000
 
 -- What is answered where a word of a block is to be put in place of this one: another word that stands there is told.
 abbrev pub Patches : List ℕ → ℕ → ℕ → ℕ → ℕ → Result (Unit {0}) PatchFault → List ℕ → Type 0
 Patches old block number found word (Ok done) new =
     HasBlock old block × (number < BLOCK) × (image_word old (BLOCK * block + number) ≡ found) × IsPatched old new (BLOCK * block + number) word
-Patches old block number found word (Err (NoBlock count)) new = (new ≡ old) × (count ≡ length old / 512) × (count ≤ block)
+Patches old block number found word (Err (NoBlock count)) new = (new ≡ old) × (count ≡ length old / 0o1000) × (count ≤ block)
 Patches old block number found word (Err NoWord) new = (new ≡ old) × HasBlock old block × (BLOCK ≤ number)
 Patches old block number found word (Err (OtherWord there)) new =
     (new ≡ old) × HasBlock old block × (number < BLOCK) × (there ≡ image_word old (BLOCK * block + number)) × (there ≢ found)

@@ -19,7 +19,7 @@ pub fn patch(
 ) -> Result<(), PatchFault>
     ensures { Patches image.old block number old new result image.new }
 {
-    let count = image.len() / 512;
+    let count = image.len() / 0o1000;
     if block >= count {
         return Err(PatchFault::NoBlock(count));
     }
@@ -40,7 +40,7 @@ pub fn word_at(image: &[u8], place: usize) -> u16
     requires { 2 * place + 1 < length image.now }
     ensures { result ≡ image_word image.now place }
 {
-    u16::from(image[2 * place]) + 256 * u16::from(image[2 * place + 1])
+    u16::from(image[2 * place]) + 0o400 * u16::from(image[2 * place + 1])
 }
 
 /// Puts a word into an image.
@@ -49,6 +49,6 @@ fn put_word(image: &mut [u8], place: usize, word: Word)
     ensures { IsPatched image.old image.new place word }
 {
     let bits = word.get();
-    image[2 * place] = (bits % 256) as u8;
-    image[2 * place + 1] = (bits / 256) as u8;
+    image[2 * place] = (bits % 0o400) as u8;
+    image[2 * place + 1] = (bits / 0o400) as u8;
 }

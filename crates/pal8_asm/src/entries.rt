@@ -52,7 +52,7 @@ fn resolved_step(symbols: &Symbols, step: Step) -> Step
 {
     let again = step;
     match step {
-        Step::Name(name) => match symbols.kept(name) {
+        Step::Name(name) => match symbols.kept_value(name) {
             Some(word) => Step::Number(word),
             None => again,
         },

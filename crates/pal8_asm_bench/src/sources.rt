@@ -51,7 +51,7 @@ pub struct Source {
 fn resolved(symbols: &Symbols, step: Step) -> Step {
     let again = step;
     match step {
-        Step::Name(name) => match symbols.kept(name) {
+        Step::Name(name) => match symbols.kept_value(name) {
             Some(word) => Step::Number(word),
             None => again,
         },

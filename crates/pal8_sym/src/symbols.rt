@@ -93,7 +93,7 @@ impl Symbols {
 
     /// The value that a name keeps, if it has one: what it was defined as, or else its permanent value if it isn't soft. A soft name that
     /// wasn't defined keeps none, since a later definition may give it another (PAL8, in this project's profile).
-    pub fn kept(&self, name: Name) -> Option<Word>
+    pub fn kept_value(&self, name: Name) -> Option<Word>
         ensures value { result ≡ symbol_value self.now name }
         ensures range { IfSome result (λ word. word < 0o10000) }
     {
