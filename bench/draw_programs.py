@@ -6,7 +6,8 @@ goes on; the others have a loop drawn so, with interrupts, with fields, with a t
 writes. Eight more are of IOTs and are not drawn. Each starts at 200, halts, and ends in the same registers whenever the printer is done.
 ROUNDS times 4096 is how often a loop is made.
 """
-import random, sys
+import random
+import sys
 
 # All operates that go on: group 1 but for what is unassigned, and group 2 but for HLT.
 GROUP_1 = [0o7000 + 0o20 * clears + rotation + iac for clears in range(16) for rotation in (0, 4, 6, 0o10, 0o12) for iac in (0, 1)]

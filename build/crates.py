@@ -1,5 +1,7 @@
 """The crates that crates.txt lists, what a proof of one rests on, and the words with which the prover is called for it."""
-import hashlib, os, shutil
+import hashlib
+import os
+import shutil
 
 TOP = os.path.dirname(os.path.dirname(os.path.abspath(__file__)))
 PARTS = ("src", "specs", "proofs")

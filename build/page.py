@@ -7,13 +7,21 @@ on, and makes no native object of it. Else, or with --unproved, it is made of th
 toolchain's clang and its linker make a WebAssembly module of either and of web/runtime.c. The foot of the page says which it is. A module
 is made again only where a source of the program, the toolchain, runtime.c or this file has changed. --proved refuses to make the other page.
 """
-import glob, hashlib, os, shutil, subprocess, sys, tempfile
+import glob
+import hashlib
+import os
+import shutil
+import subprocess
+import sys
+import tempfile
 
 sys.dont_write_bytecode = True
-from crates import TOP, kit, toolchain
-from proved import MADE, PROGRAM, Wanted
-from unproved import Build, ready
-from working import Progress, lock, toolchain_with
+TOP = os.path.dirname(os.path.dirname(os.path.abspath(__file__)))
+sys.path.insert(0, TOP)
+from build.crates import kit, toolchain
+from build.proved import MADE, PROGRAM, Wanted
+from build.unproved import Build, ready
+from build.working import Progress, lock, toolchain_with
 
 # A call of it is `.. -c -x ir module.bc -o module.o ..`: the object, which nothing would use, stays empty.
 STAND_IN = """#!/bin/sh

@@ -6,12 +6,20 @@ with a sum of all that the proof rests on, so that a run that was broken off goe
 source has its crate and those above it proved again. What is proved is shown on standard error; the log of a crate that fails is shown,
 and named. --status prints which program a call of ./pdp8 runs; the status is 0 where it is the proved one.
 """
-import hashlib, os, shlex, shutil, subprocess, sys, time
+import hashlib
+import os
+import shlex
+import shutil
+import subprocess
+import sys
+import time
 
 sys.dont_write_bytecode = True
-from crates import TOP, Crates, kit, toolchain
-from unproved import Build
-from working import Group, Progress, heed_signals, lock
+TOP = os.path.dirname(os.path.dirname(os.path.abspath(__file__)))
+sys.path.insert(0, TOP)
+from build.crates import Crates, kit, toolchain
+from build.unproved import Build
+from build.working import Group, Progress, heed_signals, lock
 
 PROGRAM = "pdp8"
 MADE = f"{TOP}/crates/{PROGRAM}/out/{PROGRAM}"

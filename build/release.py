@@ -2,11 +2,20 @@
 """release.py FOLDER: packs the proved program into an archive in a folder, with all that someone without the toolchain needs. Made twice of
 one commit, it has the same bytes: each file has the time of the commit, and no owner.
 """
-import gzip, hashlib, io, os, subprocess, sys, tarfile, tempfile
+import gzip
+import hashlib
+import io
+import os
+import subprocess
+import sys
+import tarfile
+import tempfile
 
 sys.dont_write_bytecode = True
-from crates import TOP, kit
-from proved import MADE, PROGRAM, Wanted
+TOP = os.path.dirname(os.path.dirname(os.path.abspath(__file__)))
+sys.path.insert(0, TOP)
+from build.crates import kit
+from build.proved import MADE, PROGRAM, Wanted
 
 TEXT = """{version}: a PDP-8 programming system, proved
 
@@ -65,7 +74,7 @@ def main(folder):
     with tempfile.TemporaryDirectory() as room:
         made = f"{room}/{root}"
         os.makedirs(f"{room}/scripts")
-        run(["lay", MADE, PROGRAM, f"{room}/scripts", made])
+        run(["lay.sh", MADE, PROGRAM, f"{room}/scripts", made])
         run(["page.py", "--proved", f"{made}/page"])
         with open(f"{made}/README.txt", "w", encoding="utf-8") as text:
             text.write(TEXT.format(version=version, kit=kit(), sum=wanted.sums[PROGRAM]))

@@ -1,9 +1,17 @@
 """What the builds of the program share: what they show on standard error, the processes that they start, and the lock that keeps two
 builds of one kind apart.
 """
-import contextlib, fcntl, os, shutil, signal, subprocess, sys, tempfile, time
+import contextlib
+import fcntl
+import os
+import shutil
+import signal
+import subprocess
+import sys
+import tempfile
+import time
 
-from crates import toolchain
+from build.crates import toolchain
 
 
 class Progress:

@@ -6,30 +6,30 @@ with another status than its last line says. The last line is 'N passed, M faile
 """
 import contextlib
 import glob
-import importlib.machinery
-import importlib.util
 import io
 import os
 import sys
-from types import ModuleType
 from typing import Iterator
 
-sys.dont_write_bytecode = True
 TOP = os.path.dirname(os.path.dirname(os.path.abspath(__file__)))
+sys.path.insert(0, TOP)
+from tests import gate
+
 # What no gate runs by itself, and why.
 APART = {
+    "tests/run": "it is a shorter name for tests/run_sessions.py",
     "tests/defects/program": "it stands for the program where the runner of sessions is tried",
-    "tests/gate": "it is the gate",
-    "tests/page/sessions": "tests/page/run runs it",
-    "tests/page/try_faults": "tests/page/run runs it",
+    "tests/gate.py": "it is the gate",
+    "tests/page/run_sessions.py": "tests/page/check_page.sh runs it",
+    "tests/page/try_faults.py": "tests/page/check_page.sh runs it",
 }
 # What `./check quick` leaves out, and why.
 NOT_QUICK = {
-    "tests/try_edits": "it asks the prover",
-    "tests/installed": "it lays the proved program",
-    "tests/released": "it packs the proved program",
-    "tests/model/pal8_statements": "its program is built by rt ci",
-    "tests/model/pal8_sources": "its program is built by rt ci",
+    "tests/try_edits.py": "it asks the prover",
+    "tests/check_install.py": "it lays the proved program",
+    "tests/check_release.py": "it packs the proved program",
+    "tests/model/compare_pal8_statements.py": "its program is built by rt ci",
+    "tests/model/compare_pal8_sources.py": "its program is built by rt ci",
 }
 # What `./check` leaves out, and why.
 QUICK_ALONE: dict[str, str] = {}
@@ -52,19 +52,6 @@ PARTS = {
 }
 
 
-def loaded(path: str) -> ModuleType:
-    """A script as a module."""
-    loader = importlib.machinery.SourceFileLoader("gate", path)
-    spec = importlib.util.spec_from_loader("gate", loader)
-    assert spec
-    module = importlib.util.module_from_spec(spec)
-    loader.exec_module(module)
-    return module
-
-
-GATE = loaded(f"{TOP}/tests/gate")
-
-
 def checks() -> list[str]:
     """The executable files of tests/ and of its folders."""
     found = [it for part in ("tests/*", "tests/*/*") for it in glob.glob(f"{TOP}/{part}") if os.path.isfile(it) and os.access(it, os.X_OK)]
@@ -73,7 +60,7 @@ def checks() -> list[str]:
 
 def listed() -> Iterator[tuple[str, bool]]:
     """What is to be so of the lists of parts, each with whether it is."""
-    whole, quick = ([words for group in GATE.parts(is_quick) for words in group] for is_quick in (False, True))
+    whole, quick = ([words for group in gate.parts(is_quick) for words in group] for is_quick in (False, True))
     with open(f"{TOP}/docs/GATE.md", encoding="utf-8") as text:
         page = text.read()
     for check in checks():
@@ -85,27 +72,26 @@ def listed() -> Iterator[tuple[str, bool]]:
     for words in {tuple(words) for words in (*whole, *quick)} - {("rt", "ci")}:
         yield f"there is a check {words[0]}", words[0] in checks()
     yield "./check runs rt ci", ("rt", "ci") in whole
-    yield "./check runs the sessions with the build with checks", ("tests/run", "--unproved") in whole
+    yield "./check runs the sessions with the build with checks", ("tests/run_sessions.py", "--unproved") in whole
     yield "no list names a check that is not there", {*APART, *NOT_QUICK, *QUICK_ALONE} <= {*checks()}
 
 
 def by_builds() -> Iterator[tuple[str, bool]]:
     """Whether each part that runs the program runs each build of it."""
-    whole, quick = ([words for group in GATE.parts(is_quick) for words in group] for is_quick in (False, True))
+    whole, quick = ([words for group in gate.parts(is_quick) for words in group] for is_quick in (False, True))
     for program, words in [*((it, whole) for it in PROGRAMS), (UNPROVED, quick)]:
         ran = sorted(it[0] for it in words if program in it)
-        wanted = [*map(str, ("tests/calls/run", "tests/damaged", "tests/killed", "tests/memory/run", "tests/model/archives", "tests/model/host"))]
-        wanted += ["tests/model/run", "tests/run", "tests/terminal"]
-        yield f"{program} is run by {', '.join(wanted)}", ran == wanted
+        wanted = sorted(it[0] for it in [*gate.RUNS, ("tests/memory/check_refused_growths.py",)])
+        yield f"{program} is run by {', '.join(wanted)}", ran == wanted and len(wanted) >= 9
 
 
 def strict() -> Iterator[tuple[str, bool]]:
     """Whether the gate counts parts as it must."""
     for script, wanted in PARTS.items():
-        counted = GATE.Part(("sh", "-c", script), 0).run()
+        counted = gate.Part(("sh", "-c", script), 0).run()
         yield f"{script}: {counted} is counted, {wanted} is wanted", counted == wanted
-    yield "a part that can't be started fails", GATE.Part((f"{TOP}/tests/no-such-check",), 0).run() == (0, 1)
-    yield "the gate counts all parts of all groups", GATE.run([[("sh", "-c", it) for it in PARTS], [("echo", "3 passed, 0 failed")]]) == [
+    yield "a part that can't be started fails", gate.Part((f"{TOP}/tests/no-such-check",), 0).run() == (0, 1)
+    yield "the gate counts all parts of all groups", gate.run([[("sh", "-c", it) for it in PARTS], [("echo", "3 passed, 0 failed")]]) == [
         sum(passed for passed, _ in PARTS.values()) + 3, sum(failed for _, failed in PARTS.values())
     ]
 

@@ -3,7 +3,7 @@ import functools
 import os
 import re
 
-from rattle_sources import OF_DEFINITIONS, TOP, Source, crate_of, crates, files_of, source
+from tests.rattle_sources import OF_DEFINITIONS, TOP, Source, crate_of, crates, files_of, source
 
 Cited = set[tuple[str, str, str]]
 

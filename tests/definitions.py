@@ -3,7 +3,7 @@ import os
 import re
 from typing import Iterable
 
-from rattle_sources import OF_TYPES, TOP, Definitions, definitions
+from tests.rattle_sources import OF_TYPES, TOP, Definitions, definitions
 
 Found = set[tuple[str, str, str]]
 WORD = re.compile(r"[^\s(){}\[\],;.]+")
@@ -23,7 +23,8 @@ def types_in(text: str, importing: str) -> Found:
         if not os.path.isdir(f"{TOP}/crates/{below}"):
             continue
         if named == "TheConstants":
-            found |= {(below, module.replace(".", "/"), it) for it in parts.split(", ") if re.search(rf"(?<![\w.']){it}(?![\w'])", text)}
+            named_here = parts.split(", ") if parts else re.findall(rf"(?<![\w.']){alias}\.(\w+)", text)
+            found |= {(below, module.replace(".", "/"), it) for it in named_here if alias or re.search(rf"(?<![\w.']){it}(?![\w'])", text)}
             continue
         ours = "|".join(re.escape(it.split(" as ")[-1].strip()) for it in parts.split(",")) if parts else rf"{alias}(?=\.)"
         if re.search(rf"(?<![\w.'])(?:{ours})(?![\w'])", text):

@@ -4,10 +4,10 @@ import subprocess
 import tempfile
 from dataclasses import dataclass
 from typing import Callable
-from cases import Case
-from system import Differs, System, Told
-from volume import Unsound, Volume, read_volume
-from words import shown_name
+from tests.model.cases import Case
+from tests.model.system import Differs, System, Told
+from tests.model.volume import Unsound, Volume, read_volume
+from tests.model.words import shown_name
 
 SECONDS = 60
 

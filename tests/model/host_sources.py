@@ -3,10 +3,10 @@ from __future__ import annotations
 
 import re
 from dataclasses import dataclass
-from assembler import PERMANENT, Pair, Source
-from statements import Joined, Statement, is_live, joined
-from tape import tape_of
-from words import octal
+from tests.model.assembler import PERMANENT, Pair, Source
+from tests.model.statements import Joined, Statement, is_live, joined
+from tests.model.tape import tape_of
+from tests.model.words import octal
 
 WORDS = dict(
     IC="illegal character", SY="bad statement", NU="bad number", UA="undefined name", DT="duplicate tag", RD="redefinition",

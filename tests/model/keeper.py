@@ -4,8 +4,8 @@ import fnmatch
 import re
 from dataclasses import dataclass, replace
 from typing import Optional, Union
-from volume import File, Run, Volume
-from words import Name, frames_of, octal, packed, parsed_name, shown_name, shown_word, stored_host_text, text_of
+from tests.model.volume import File, Run, Volume
+from tests.model.words import Name, frames_of, octal, packed, parsed_name, shown_name, shown_word, stored_host_text, text_of
 
 FULL = "? 4.3 DIRECTORY FULL"
 BAD_NAME = "? 4.5 BAD NAME"

@@ -10,7 +10,7 @@ from __future__ import annotations
 from dataclasses import dataclass, field, replace
 from typing import Optional, Union
 
-from assembler import PERMANENT
+from tests.model.assembler import PERMANENT
 
 OPERATIONS = ("AND", "TAD", "ISZ", "DCA", "JMS", "JMP")
 SOFT = dict(

@@ -3,7 +3,7 @@ import sys
 from array import array
 from dataclasses import dataclass
 from typing import Optional
-from words import BLOCK_WORDS, Name
+from tests.model.words import BLOCK_WORDS, Name
 
 FIRST_ENTRY = 5
 
