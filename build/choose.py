@@ -11,7 +11,7 @@ from build.unproved import Build, ready
 from build.working import heed_signals
 
 
-def main():
+def main() -> int:
     heed_signals()
     if Wanted().is_proved(PROGRAM):
         os.utime(MADE)  # a source may be newer, though it is what was proved

@@ -6,18 +6,22 @@ import re
 import subprocess
 import sys
 
+# An option: its short and its long name, whether a value follows, and what it says. A command: its name, what it says, and its options.
+Option = tuple[str, str, bool, str]
+Row = tuple[str, str, list[Option]]
 
-def help_of(program, *words):
+
+def help_of(program: str, *words: str) -> str:
     return subprocess.run([program, *words, "--help"], capture_output=True, text=True, check=True).stdout
 
 
-def commands_of(program):
+def commands_of(program: str) -> list[tuple[str, str]]:
     """The commands, each with what the program's own help says of it."""
     listed = help_of(program).split("\nOptions:\n")[0]
     return re.findall(r"(?m)^  (\w+) +(.*)$", listed)
 
 
-def options_of(program, name):
+def options_of(program: str, name: str) -> list[Option]:
     """The options of a command: each its short and its long name, whether a value follows, and what it says."""
     if name == "help":
         return []
@@ -25,11 +29,11 @@ def options_of(program, name):
     return [(short, long, bool(value), text) for short, long, value, text in found]
 
 
-def quoted(text):
+def quoted(text: str) -> str:
     return "'" + text.replace("'", "'\\''") + "'"
 
 
-def bash(name, commands):
+def bash(name: str, commands: list[Row]) -> list[str]:
     word = re.sub(r"\W", "_", name)
     lines = [f"# completions of {name} for bash", f"_{word}() {{", "    local here=${COMP_WORDS[COMP_CWORD]} options="]
     lines += ["    COMPREPLY=()", "    if [ \"$COMP_CWORD\" -eq 1 ]; then"]
@@ -43,9 +47,13 @@ def bash(name, commands):
     return lines
 
 
-def zsh(name, commands):
+def plain(text: str) -> str:
+    """A text as zsh reads the words of an option."""
+    return re.sub(r"([\[\]:])", r"\\\1", text)
+
+
+def zsh(name: str, commands: list[Row]) -> list[str]:
     word = re.sub(r"\W", "_", name)
-    plain = lambda text: re.sub(r"([\[\]:])", r"\\\1", text)
     lines = [f"#compdef {name}", f"_{word}() {{", "    local -a commands", "    commands=("]
     lines += [f"        {quoted(f'{command}:{plain(about)}')}" for command, about, _ in commands]
     lines += ["    )", "    if (( CURRENT == 2 )); then", "        _describe command commands", "        return", "    fi", "    case $words[2] in"]
@@ -56,7 +64,7 @@ def zsh(name, commands):
     return [*lines, "    esac", "}", f'_{word} "$@"']
 
 
-def fish(name, commands):
+def fish(name: str, commands: list[Row]) -> list[str]:
     lines = [f"# completions of {name} for fish"]
     for command, about, options in commands:
         lines += [f"complete -c {name} -n __fish_use_subcommand -f -a {command} -d {quoted(about)}"]
@@ -69,7 +77,7 @@ def fish(name, commands):
 SHELLS = {"bash": bash, "zsh": zsh, "fish": fish}
 
 
-def main(words):
+def main(words: list[str]) -> None:
     if len(words) != 3 or words[2] not in SHELLS or not os.access(words[0], os.X_OK):
         sys.exit("completions: usage: completions.py PROGRAM NAME bash|zsh|fish")
     program = os.path.abspath(words[0])

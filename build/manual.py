@@ -7,37 +7,39 @@ import subprocess
 import sys
 
 
-def help_of(program, *words):
+def help_of(program: str, *words: str) -> str:
     """What the program says of itself, or of a command."""
     return subprocess.run([program, *words, "--help"], capture_output=True, text=True, check=True).stdout
 
 
-def plain(text):
+def plain(text: str) -> str:
     """A text as roff reads it: no character of it is a command or a ligature."""
     text = text.replace("\\", "\\e").replace("-", "\\-").replace("^", "\\(ha").replace("~", "\\(ti").replace("'", "\\(aq")
     return re.sub(r"(?m)^(?=\.)", "\\\\&", text)
 
 
-def groups_of(told):
+def groups_of(told: str) -> list[tuple[str, list[str]]]:
     """The groups of commands that the program's own help lists: each its heading and the names of its commands."""
     found = re.findall(r"(?m)^(\S[^\n]*):\n((?:  [a-z]+ +\S.*\n)+)", told)
     named = [(heading, re.findall(r"(?m)^  ([a-z]+) ", rows)) for heading, rows in found]
     return [(heading, [it for it in names if it != "help"]) for heading, names in named if names != ["help"]]
 
 
-def options_of(told):
+def options_of(told: str) -> list[tuple[str, str]]:
     """The options that a command's help lists, but for that of help itself: each its head and its text."""
     found = re.findall(r"(?m)^ {2,6}(-\S[^\n]*)\n {10}(\S.*)$", told)
     return [(head, text) for head, text in found if "--help" not in head]
 
 
-def about_of(told):
+def about_of(told: str) -> tuple[str, str]:
     """What a command's help begins with, up to its usage, and that."""
-    about, usage = re.match(r"(?s)(.*?)\n\nUsage: pdp8 (.*?)\n", told).groups()
-    return about.split("\n\n")[0].replace("\n", " "), usage
+    found = re.match(r"(?s)(.*?)\n\nUsage: pdp8 (.*?)\n", told)
+    if not found:
+        sys.exit(f"manual.py: the program's help has no usage: {told[:80]}")
+    return found[1].split("\n\n")[0].replace("\n", " "), found[2]
 
 
-def option(head, text):
+def option(head: str, text: str) -> list[str]:
     shown = re.sub(r"<(\w+)>", r"\\fI\1\\fR", plain(head))
     shown = re.sub(r"((?:\\-){1,2}\w[\w\\-]*)", r"\\fB\1\\fR", shown)
     return [f'.IP "{shown}" 8', plain(text)]
@@ -111,9 +113,9 @@ proof says that its answers are right."""
 SEE = "The folder docs of the sources shows each command in sessions. simh(1), palbart(1)."
 
 
-def commands(program, told):
+def commands(program: str, told: str) -> list[str]:
     """The commands by their groups, with the options of each that no other shares."""
-    lines, heads = [], {}
+    lines, heads = list[str](), dict[str, str]()
     for heading, names in groups_of(told):
         lines += [f".SS {heading}"]
         for name in names:
@@ -129,7 +131,7 @@ def commands(program, told):
     return [*lines, ".SS Options of several commands", *shared]
 
 
-def page(program):
+def page(program: str) -> str:
     version = subprocess.run([program, "--version"], capture_output=True, text=True, check=True).stdout.strip()
     told = help_of(program)
     about = told.split("\n")[0]
@@ -141,7 +143,7 @@ def page(program):
     return "\n".join([*lines, ".SH FILES", FILES, ".SH PROOF", plain(PROOF), ".SH SEE ALSO", SEE]) + "\n"
 
 
-def main(words):
+def main(words: list[str]) -> None:
     if len(words) != 2 or not os.access(words[0], os.X_OK):
         sys.exit("manual: usage: manual.py PROGRAM NAME")
     text = page(os.path.abspath(words[0]))

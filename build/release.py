@@ -10,6 +10,7 @@ import subprocess
 import sys
 import tarfile
 import tempfile
+from typing import IO, cast
 
 sys.dont_write_bytecode = True
 TOP = os.path.dirname(os.path.dirname(os.path.abspath(__file__)))
@@ -34,7 +35,7 @@ The program is proved with {kit}. The sum of all that its proof rests on, the to
 """
 
 
-def commit_time():
+def commit_time() -> int:
     """The time that each file of the archive has, in seconds: that of the commit, or SOURCE_DATE_EPOCH."""
     if os.environ.get("SOURCE_DATE_EPOCH", "").isdigit():
         return int(os.environ["SOURCE_DATE_EPOCH"])
@@ -42,10 +43,12 @@ def commit_time():
     return int(said) if said.isdigit() else 0
 
 
-def pack(folder, root, time):
+def pack(folder: str, root: str, time: int) -> bytes:
     """The bytes of an archive of all files below a folder, under the name `root`."""
     packed = io.BytesIO()
-    with gzip.GzipFile(fileobj=packed, mode="wb", mtime=time, filename="") as stream, tarfile.open(fileobj=stream, mode="w", format=tarfile.USTAR_FORMAT) as archive:
+    with gzip.GzipFile(fileobj=packed, mode="wb", mtime=time, filename="") as stream, tarfile.open(
+        fileobj=cast(IO[bytes], stream), mode="w", format=tarfile.USTAR_FORMAT
+    ) as archive:
         for at, folders, names in os.walk(folder):
             folders.sort()
             for name in sorted(names):
@@ -58,13 +61,13 @@ def pack(folder, root, time):
     return packed.getvalue()
 
 
-def run(words):
+def run(words: list[str]) -> None:
     """Runs a script of this folder. Where it fails, that is the end."""
     if subprocess.run([f"{TOP}/build/{words[0]}", *words[1:]]).returncode:
         sys.exit(70)
 
 
-def main(folder):
+def main(folder: str) -> int:
     wanted = Wanted()
     if not wanted.is_proved(PROGRAM):
         print("release: the program is not proved as its sources stand; ./prove proves it", file=sys.stderr)

@@ -17,7 +17,7 @@ TOP = os.path.dirname(os.path.dirname(os.path.abspath(__file__)))
 BLOCK = 512
 
 
-def option(name, value):
+def option(name: str, value: str) -> str:
     return sys.argv[sys.argv.index(name) + 1] if name in sys.argv else value
 
 
@@ -29,7 +29,7 @@ SCRIPT = b"DELETE C.TX\nSTORE NEW.TX 2\nONE\nTWO\nSQUEEZE\nFINISH\nDIRECT\n"
 NAMED = {"C.TX", "NEW.TX"}
 
 
-def pdp8(*words, given=b""):
+def pdp8(*words: str, given: bytes = b"") -> tuple[int, bytes]:
     """A command's status and output; one that breaks off or hangs is an exception."""
     run = subprocess.run([PROGRAM, *words], input=given, stdout=subprocess.PIPE, stderr=subprocess.DEVNULL, timeout=20)
     if run.returncode not in (0, 1):
@@ -37,7 +37,7 @@ def pdp8(*words, given=b""):
     return run.returncode, run.stdout
 
 
-def volume(folder):
+def volume(folder: str) -> bytes:
     """The bytes of a volume with files of several lengths, and gaps."""
     name = f"{folder}/whole"
     pdp8("create", name, "80")
@@ -47,7 +47,7 @@ def volume(folder):
     return open(name, "rb").read()
 
 
-def damage(whole, chance):
+def damage(whole: bytes, chance: random.Random) -> bytes:
     """The bytes with one to four kinds of damage, half of them in the directory, blocks 1 to 6."""
     image = bytearray(whole)
     for _ in range(chance.choice((1, 1, 1, 2, 3, 4))):
@@ -74,26 +74,26 @@ def damage(whole, chance):
 class Damaged:
     """A damaged image in a file of its own."""
 
-    def __init__(self, folder, number, whole):
+    def __init__(self, folder: str, number: int, whole: bytes) -> None:
         self.name = f"{folder}/{number}"
         self.write(damage(whole, random.Random(f"{SEED} {number}")))
 
-    def write(self, image):
+    def write(self, image: bytes) -> None:
         self.image = image
         with open(self.name, "wb") as file:
             file.write(image)
 
-    def bytes(self):
+    def frames(self) -> bytes:
         return open(self.name, "rb").read()
 
-    def looks(self, *words, given=b""):
+    def looks(self, *words: str, given: bytes = b"") -> tuple[int, bytes]:
         """What a command prints that is to leave the image alone."""
         answer = pdp8(*words, given=given)
-        if self.bytes() != self.image:
+        if self.frames() != self.image:
             raise AssertionError(f"{words[0]} changed the image")
         return answer
 
-    def held(self):
+    def held(self) -> dict[str, bytes] | None:
         """The files that can be got, with their frames, or none where the directory isn't sound."""
         status, listed = self.looks("list", self.name)
         if status:
@@ -102,11 +102,11 @@ class Damaged:
         got = {name: self.looks("get", self.name, "--", name) for name in names}
         return {name: frames for name, (status, frames) in got.items() if not status}
 
-    def writes(self, named, *words, given):
+    def writes(self, named: set[str], *words: str, given: bytes) -> None:
         """Whether a command that may write keeps what it doesn't name."""
         before = self.held()
         status, told = pdp8(*words, given=given)
-        after = self.bytes()
+        after = self.frames()
         if (before is None or (words[0] == "put" and status)) and after != self.image:
             raise AssertionError(f"{words[0]} was refused and changed the image")
         self.write(after)
@@ -118,7 +118,7 @@ class Damaged:
             if words[0] == "put" and not status and self.looks("get", self.name, "NEW.TX", "--text")[1] != given:
                 raise AssertionError("what was put isn't got")
 
-    def tried(self):
+    def tried(self) -> str | None:
         """What is wrong with the commands on this image, if something is."""
         try:
             self.looks("check", self.name)
@@ -134,7 +134,7 @@ class Damaged:
         return None
 
 
-def main():
+def main() -> int:
     with tempfile.TemporaryDirectory(prefix="pdp8-damaged-") as folder, concurrent.futures.ThreadPoolExecutor() as lanes:
         whole = volume(folder)
         faults = [it for it in lanes.map(lambda number: Damaged(folder, number, whole).tried(), range(IMAGES)) if it]

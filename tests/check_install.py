@@ -14,6 +14,7 @@ import subprocess
 import sys
 import tempfile
 import time
+from typing import Any, Iterator
 
 sys.dont_write_bytecode = True
 TOP = os.path.dirname(os.path.dirname(os.path.abspath(__file__)))
@@ -23,7 +24,7 @@ from tests.rattle_sources import source
 TAPE = f"{TOP}/examples/add-one.bin"
 
 
-def ran(words, folder, **how):
+def ran(words: list[str], folder: str, **how: Any) -> subprocess.CompletedProcess[str]:
     return subprocess.run(words, cwd=folder, capture_output=True, text=True, stdin=open(TAPE, "rb"), **how)
 
 
@@ -31,18 +32,18 @@ FILES = ["bin/pdp8", "libexec/pdp8", "libexec/pdp8-terminal", "share/bash-comple
     "share/man/man1/pdp8.1", "share/zsh/site-functions/_pdp8"]
 
 
-def files_of(folder):
+def files_of(folder: str) -> list[str]:
     return sorted(os.path.relpath(f"{at}/{name}", folder) for at, _, names in os.walk(folder) for name in names)
 
 
-def named():
+def named() -> tuple[list[str], list[str]]:
     """The commands and options that the table of the command line names, but for the hidden ones."""
     text = source(f"{TOP}/crates/command8/src/table.rt").code
     commands = re.findall(r'(?m)^    Verb::\w+, "(\w+)",', text)
     return commands, [f"--{it}" for it in re.findall(r'(?m)^    "([\w-]+)" (?:\'\w\' )?(?:flag|option) ', text)]
 
 
-def faults(room):
+def faults(room: str) -> Iterator[list[str]]:
     """What is wrong with what ./install lays, a list for each check."""
     folder, link = f"{room}/laid in here", f"{room}/linked"
     laid = ran([f"{TOP}/install", folder], room)
@@ -78,7 +79,7 @@ def faults(room):
     yield [f"a call by the script costs {cost(folder):.1f} ms more"] if cost(folder) > 3 else []
 
 
-def faults_of_unproved(room):
+def faults_of_unproved(room: str) -> Iterator[list[str]]:
     """What is wrong with the program that is built with checks, laid as `eight` between two folders of the PATH that have an `eight` too."""
     folder, own = f"{room}/unproved", f"{room}/unproved/bin"
     for other in ("before", "after"):
@@ -99,7 +100,7 @@ def faults_of_unproved(room):
     yield ["its page has another name"] if not page.startswith(".TH EIGHT 1 ") or ".B eight tape" not in page else []
 
 
-def shown_at_terminal(words):
+def shown_at_terminal(words: list[str]) -> bytes:
     """What a command shows at a terminal."""
     child, terminal = pty.fork()
     if child == 0:
@@ -115,7 +116,7 @@ def shown_at_terminal(words):
     return shown
 
 
-def typed_at_bash(completions, typed, room):
+def typed_at_bash(completions: str, typed: str, room: str) -> str:
     """What an interactive bash at a terminal shows where a line is typed, and Tab struck."""
     open(f"{room}/long.pa", "w").close()
     child, terminal = pty.fork()
@@ -137,9 +138,9 @@ def typed_at_bash(completions, typed, room):
     return shown
 
 
-def cost(folder):
+def cost(folder: str) -> float:
     """The milliseconds that the laid script costs over the program itself, the least of many calls."""
-    least = {}
+    least: dict[str, float] = {}
     for part in ["bin", "libexec"] * 60:
         begun = time.perf_counter()
         subprocess.run([f"{folder}/{part}/pdp8", "--version"], stdin=subprocess.DEVNULL, stdout=subprocess.DEVNULL)
@@ -147,7 +148,7 @@ def cost(folder):
     return (least["bin"] - least["libexec"]) * 1000
 
 
-def main():
+def main() -> int:
     with tempfile.TemporaryDirectory(prefix="pdp8-laid-") as room:
         told = list(faults(room))
     for it in told:

@@ -88,10 +88,10 @@ def absent(lines: list[Line], links: list[Link]) -> Iterator[Line]:
         for crate, file in re.findall(r"\b(\w+)/((?:specs|src)/[\w/]+\.(?:antt|rt))\b", line):
             if not os.path.isfile(f"{TOP}/crates/{crate}/{file}"):
                 yield number, f"no file {crate}/{file}"
-        for name in re.findall(r"`(\w+(?:::\w+)+)`", line):
-            crate, _, rest = name.partition("::")
+        for path in re.findall(r"`(\w+(?:::\w+)+)`", line):
+            crate, _, rest = path.partition("::")
             if crate in CRATES and not any(defines(it, rest.removeprefix("laws::")) for it in files_of(crate)):
-                yield number, f"no {name}"
+                yield number, f"no {path}"
 
 
 def unquoted(quoted: list[Line], links: list[Link]) -> list[Line]:

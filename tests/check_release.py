@@ -11,6 +11,7 @@ import subprocess
 import sys
 import tarfile
 import tempfile
+from typing import Iterator
 
 TOP = os.path.dirname(os.path.dirname(os.path.abspath(__file__)))
 COREUTILS = ("cat", "cp", "head", "ls", "mkdir", "mv", "readlink", "rm", "stty", "tail", "tr")
@@ -18,7 +19,7 @@ FILES = {"README.txt", "bin/pdp8", "libexec/pdp8", "libexec/pdp8-terminal", "sha
     "share/fish/vendor_completions.d/pdp8.fish", "share/zsh/site-functions/_pdp8", "page/index.html", "page/pdp8.wasm"}
 
 
-def unpack(archive, room):
+def unpack(archive: str, room: str) -> str:
     """Unpacks an archive into an empty folder, and returns the folder that it has."""
     os.makedirs(f"{room}/empty")
     with tarfile.open(archive) as packed:
@@ -26,15 +27,15 @@ def unpack(archive, room):
     return f"{room}/empty/{os.listdir(f'{room}/empty')[0]}"
 
 
-def lay_tools(room):
+def lay_tools(room: str) -> str:
     """A folder for a PATH that has coreutils alone."""
     os.makedirs(f"{room}/tools")
     for tool in COREUTILS:
-        os.symlink(shutil.which(tool), f"{room}/tools/{tool}")
+        os.symlink(shutil.which(tool) or f"/usr/bin/{tool}", f"{room}/tools/{tool}")
     return f"{room}/tools"
 
 
-def faults(room):
+def faults(room: str) -> Iterator[list[str]]:
     """What is wrong with what ./release packs, a list for each check."""
     made = []
     for name in ("one", "two"):
@@ -63,7 +64,7 @@ def faults(room):
     yield [] if is_refused else [f"without a proof: {ran.returncode} {ran.stdout}{ran.stderr}"]
 
 
-def copy_of_sources(room):
+def copy_of_sources(room: str) -> str:
     """A copy of the tree in which nothing is proved."""
     listed = subprocess.run(["git", "-C", TOP, "ls-files", "-z", "--", "crates", "crates.txt", "build", "release"], capture_output=True, text=True)
     for name in filter(None, listed.stdout.split("\0")):
@@ -72,7 +73,7 @@ def copy_of_sources(room):
     return f"{room}/sources"
 
 
-def main():
+def main() -> int:
     with tempfile.TemporaryDirectory(prefix="pdp8-released-") as room:
         told = list(faults(room))
     for it in told:

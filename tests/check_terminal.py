@@ -16,6 +16,7 @@ import sys
 import tempfile
 import termios
 import time
+from typing import Any
 
 sys.dont_write_bytecode = True
 TOP = os.path.dirname(os.path.dirname(os.path.abspath(__file__)))
@@ -32,8 +33,9 @@ DOTS = [0o6031, 0o7410, 0o7402, 0o2210, 0o5200, 0o1211, 0o6046, 0o5212, 0o0000, 
 class Sitting:
     """A program at a pseudo-terminal."""
 
-    def __init__(self, folder, *words, more=""):
-        self.said, self.status = b"", None
+    def __init__(self, folder: str, *words: str, more: str = "") -> None:
+        self.said = b""
+        self.status: int | None = None
         command = f'. {TOP}/build/launch.sh; launch ./pdp8 teletype "$@" {more}'
         self.shell, self.terminal = pty.fork()
         if self.shell == 0:
@@ -44,14 +46,14 @@ class Sitting:
             os.execvp("bash", ["bash", "-uc", command, "pdp8", *words])
         self.before = attributes(self.terminal)
 
-    def waits_for(self, wanted):
+    def waits_for(self, wanted: bytes) -> bool:
         """Reads until something was said, and answers whether it was."""
         begun = time.monotonic()
         while wanted not in self.said and time.monotonic() - begun < PATIENCE and self.read(0.1):
             pass
         return wanted in self.said
 
-    def read(self, seconds):
+    def read(self, seconds: float) -> bool:
         try:
             if select.select([self.terminal], [], [], seconds)[0]:
                 more = os.read(self.terminal, 4096)
@@ -61,20 +63,20 @@ class Sitting:
             return False
         return True
 
-    def strikes(self, keys):
+    def strikes(self, keys: bytes) -> None:
         os.write(self.terminal, keys)
 
-    def child(self):
+    def child(self) -> int:
         """The number of the program's process."""
         begun = time.monotonic()
         while time.monotonic() - begun < PATIENCE:
             for number in subprocess.run(["pgrep", "-P", str(self.shell)], capture_output=True, text=True).stdout.split():
-                if program_of(number).endswith("/pdp8"):
+                if program_of(int(number)).endswith("/pdp8"):
                     return int(number)
             time.sleep(0.02)
         return 0
 
-    def ends(self):
+    def ends(self) -> int | None:
         """The status with which the shell ends, and what is wrong behind that."""
         begun = time.monotonic()
         while time.monotonic() - begun < PATIENCE:
@@ -87,7 +89,7 @@ class Sitting:
             pass
         return self.status
 
-    def is_as_it_was(self):
+    def is_as_it_was(self) -> bool:
         """Whether the terminal gets its settings back, soon."""
         begun = time.monotonic()
         while time.monotonic() - begun < PATIENCE:
@@ -97,12 +99,12 @@ class Sitting:
         return False
 
 
-def attributes(terminal):
+def attributes(terminal: int) -> list[Any]:
     found = termios.tcgetattr(terminal)
     return found[:4] + [found[6]]
 
 
-def program_of(number):
+def program_of(number: int) -> str:
     """The file that a process runs; none where the process has ended."""
     try:
         return os.readlink(f"/proc/{number}/exe")
@@ -110,7 +112,7 @@ def program_of(number):
         return ""
 
 
-def is_gone(child):
+def is_gone(child: int) -> bool:
     begun = time.monotonic()
     while time.monotonic() - begun < PATIENCE:
         if not os.path.exists(f"/proc/{child}"):
@@ -119,67 +121,70 @@ def is_gone(child):
     return False
 
 
-def ended(sitting, child, status, what):
+def ended(sitting: Sitting, child: int, status: int, what: str) -> list[str]:
     """What is wrong at an end."""
     got = sitting.ends()
-    told = [] if got == status else [f"{what}: status {got}, and not {status}: {sitting.said}"]
+    told = [] if got == status else [f"{what}: status {got}, and not {status}: {sitting.said!r}"]
     told += [] if sitting.is_as_it_was() else [f"{what}: the terminal is not as it was"]
     told += [] if is_gone(child) else [f"{what}: the program is left"]
     os.close(sitting.terminal)
     return told
 
 
-def begun(folder, *words, more=""):
+def begun(folder: str, *words: str, more: str = "") -> tuple[Sitting, int, list[str]]:
     sitting = Sitting(folder, *words, more=more)
-    told = [] if sitting.waits_for(READY) else [f"no first line: {sitting.said}"]
+    told = [] if sitting.waits_for(READY) else [f"no first line: {sitting.said!r}"]
     return sitting, sitting.child(), told
 
 
-def game(folder):
+def game(folder: str) -> list[str]:
     """The guessing game, each answer once its question stands; a key of the player's name at a time."""
     sitting, child, told = begun(folder, "guess.bin")
     for question, keys in ((b"NAME? ", [b"A", b"D", b"A", b"\r"]), (b"GUESS? ", [b"5\x7f50\r"]), (b"TOO LOW", [b"90\r"]), (b"TOO HIGH", [b"7", b"9\r"])):
-        told += [] if sitting.waits_for(question) else [f"no {question}: {sitting.said}"]
+        told += [] if sitting.waits_for(question) else [f"no {question!r}: {sitting.said!r}"]
         for key in keys:
             sitting.strikes(key)
-    told += [] if sitting.waits_for(b"HALT 00263 AC 0000 L 1\r\n") else [f"no HALT: {sitting.said}"]
-    told += [] if b"NAME? ADA\r\r\n" in sitting.said and b"GUESS? 5\\50 TOO LOW" in sitting.said else [f"said {sitting.said}"]
+    told += [] if sitting.waits_for(b"HALT 00263 AC 0000 L 1\r\n") else [f"no HALT: {sitting.said!r}"]
+    told += [] if b"NAME? ADA\r\r\n" in sitting.said and b"GUESS? 5\\50 TOO LOW" in sitting.said else [f"said {sitting.said!r}"]
     return told + ended(sitting, child, 0, "the game")
 
 
-def keys(folder):
+def keys(folder: str) -> list[str]:
     """Keys that a shell would take for itself, and a burst of them; what is shown is what the program prints."""
     sitting, child, told = begun(folder, "echo.bin")
     for burst in (b"\x03", b"\x1a", b"\x11\x13", b"\x16\x04", bytes(range(65, 91)) * 40 + b"\r"):
         before = len(sitting.said)
         sitting.strikes(burst)
         sitting.waits_for(burst)
-        told += [] if sitting.said[before:] == burst else [f"struck {burst}, and got {sitting.said[before:]}"]
+        told += [] if sitting.said[before:] == burst else [f"struck {burst!r}, and got {sitting.said[before:]!r}"]
     sitting.strikes(b"\x1c")
     return told + ended(sitting, child, 131, "Ctrl-\\")
 
 
-def waiting(folder):
+def waiting(folder: str) -> list[str]:
     """A program that waits takes no time of the processor, and one that looks between other work goes on."""
     sitting, child, told = begun(folder, "echo.bin")
     sitting.strikes(b"A")
-    told += [] if sitting.waits_for(READY + b"A") else [f"no echo: {sitting.said}"]
-    ticks = [spent(child) if time.sleep(it) is None else 0 for it in (0.2, 1)]
+    told += [] if sitting.waits_for(READY + b"A") else [f"no echo: {sitting.said!r}"]
+    ticks = []
+    for seconds in (0.2, 1):
+        time.sleep(seconds)
+        ticks.append(spent(child))
     told += [] if ticks[1] - ticks[0] <= 5 else [f"waiting took {ticks[1] - ticks[0]} ticks of a second"]
     os.kill(sitting.shell, signal.SIGTERM)
     told += ended(sitting, child, 143, "SIGTERM")
     sitting, child, more = begun(folder, "dots.bin")
     sitting.strikes(b"A")
-    more += [] if sitting.waits_for(b"HALT 00203") else [f"no HALT: {sitting.said}"]
+    more += [] if sitting.waits_for(b"HALT 00203") else [f"no HALT: {sitting.said!r}"]
     return told + more + ended(sitting, child, 0, "a look in passing")
 
 
-def spent(child):
+def spent(child: int) -> int:
     fields = open(f"/proc/{child}/stat", encoding="utf-8").read().rsplit(")", 1)[1].split()
     return int(fields[11]) + int(fields[12])
 
 
-def killed(folder):
+def killed(folder: str) -> list[str]:
     """Each way in which the program or the shell around it is ended."""
     told = []
     for what, number, whom, status in (
@@ -192,7 +197,7 @@ def killed(folder):
     return told
 
 
-def streams(folder):
+def streams(folder: str) -> list[str]:
     """Standard output in a file, and closed."""
     sitting, child, told = begun(folder, "echo.bin", more="> out")
     sitting.strikes(b"IN A FILE\r")
@@ -205,11 +210,11 @@ def streams(folder):
     sitting = Sitting(folder, "echo.bin", more=">&-")
     sitting.waits_for(READY)
     sitting.strikes(b"A")
-    told += [] if sitting.waits_for(b"? 9 WRITER\r\n") else [f"standard output closed: {sitting.said}"]
+    told += [] if sitting.waits_for(b"? 9 WRITER\r\n") else [f"standard output closed: {sitting.said!r}"]
     return told + ended(sitting, 0, 1, "standard output closed")
 
 
-def main():
+def main() -> int:
     words = argparse.ArgumentParser(description=__doc__, formatter_class=argparse.RawDescriptionHelpFormatter)
     words.add_argument("--program", default=f"{TOP}/crates/pdp8/out/pdp8")
     program = os.path.abspath(words.parse_args().program)

@@ -20,7 +20,7 @@ def shown(crate: str) -> tuple[frozenset[str], frozenset[str]]:
 
 def clauses(file: Source, names: "set[str] | frozenset[str]", is_whole: bool, has_views: bool) -> str:
     """The public clauses of a source, as one text; with the `impl Model` of its types where these are asked for."""
-    found = []
+    found: list[str] = []
     for block in file.blocks:
         if block.owner not in names:
             continue

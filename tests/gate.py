@@ -25,6 +25,8 @@ from build.crates import Crates
 from build.proved import PROGRAM, Wanted
 from tests.processor_seconds import Spent
 
+# The words of a part: its program, and what that is given.
+Words = tuple[str, ...]
 CRATES = Crates().names
 KEPT = f"{TOP}/target/gate.json"
 PROVED = [(f"crates/pdp8/out/pdp8{by}", f"crates/short_memory/out/short_memory{by}") for by in ("", ".by-rattle")]
@@ -33,21 +35,21 @@ PAL8_SOURCES = ("tests/model/compare_pal8_sources.py", "--program", "crates/pal8
 HOSTS = ("tests/hosts/check_saves.py", "--program", "crates/host_trial/out/host_trial")
 UNPROVED = ("target/unproved/pdp8/pdp8", "target/unproved/short_memory/short_memory")
 RT_CI = ("rt", "ci")
-TEXTS = [("tests/check_definitions.py",), ("tests/check_headline.py",), ("tests/check_memory_claims.py",), ("tests/check_fault_texts.py",)]
+TEXTS: list[Words] = [("tests/check_definitions.py",), ("tests/check_headline.py",), ("tests/check_memory_claims.py",), ("tests/check_fault_texts.py",)]
 TEXTS += [("tests/check_links.py",), ("tests/check_octal_numbers.py",)]
 TEXTS += [("tests/model/check_pal8_rows.py",), ("tests/page/check_types.py",), ("tests/check_gate.py",), ("tests/try_defects.py",)]
-RUNS = [("tests/run_sessions.py",), ("tests/model/compare_scripts.py",), ("tests/model/compare_host_commands.py",), ("tests/model/compare_archives.py",)]
+RUNS: list[Words] = [("tests/run_sessions.py",), ("tests/model/compare_scripts.py",), ("tests/model/compare_host_commands.py",), ("tests/model/compare_archives.py",)]
 RUNS += [("tests/check_terminal.py",), ("tests/check_killed_writers.py",), ("tests/calls/check_failing_calls.py",), ("tests/check_damaged_images.py",)]
 # How many random cases the plain models are given where a contributor waits.
-FEW = {"tests/model/compare_scripts.py": ("--scripts", "50"), "tests/model/compare_host_commands.py": ("--cases", "30"), "tests/model/compare_archives.py": ("--cases", "20")}
+FEW: dict[str, Words] = {"tests/model/compare_scripts.py": ("--scripts", "50"), "tests/model/compare_host_commands.py": ("--cases", "30"), "tests/model/compare_archives.py": ("--cases", "20")}
 
 
-def runs_of(program, short):
+def runs_of(program: str, short: str) -> list[Words]:
     """What is run with one build of the program, and of the one that runs short of memory."""
     return [*((*it, "--program", program) for it in RUNS), ("tests/memory/check_refused_growths.py", "--program", program, "--short", short)]
 
 
-def parts(is_quick):
+def parts(is_quick: bool) -> list[list[Words]]:
     """What is run: one group after the other, the parts of a group side by side."""
     if is_quick:
         runs = [(*it, *FEW.get(it[0], ())) for it in runs_of(*UNPROVED)]
@@ -58,11 +60,11 @@ def parts(is_quick):
     return [TEXTS, [RT_CI, ("tests/build_with_checks.sh",), ("tests/check_builds.py",)], [*rest, ("tests/run_sessions.py", "--unproved")]]
 
 
-def clock(seconds):
+def clock(seconds: float) -> str:
     return f"{int(seconds) // 60}:{int(seconds) % 60:02}"
 
 
-def announce(count, is_quick):
+def announce(count: int, is_quick: bool) -> None:
     """Prints what will be run, and how long that took last time: here, or else where docs/GATE.md was written."""
     if is_quick:
         print(f"gate: {count} parts with the program that is built with checks; nothing is proved", flush=True)
@@ -82,10 +84,11 @@ class Part:
 
     printing = threading.Lock()
 
-    def __init__(self, words, begun):
-        self.words, self.begun, self.proved, self.held = words, begun, set(), None if words == RT_CI else []
+    def __init__(self, words: Words, begun: float) -> None:
+        self.words, self.begun, self.proved = words, begun, set[str]()
+        self.held: list[str] | None = None if words == RT_CI else []
 
-    def show(self, line):
+    def show(self, line: str) -> None:
         if self.held is not None:
             self.held.append(line)
             return
@@ -95,15 +98,15 @@ class Part:
             self.proved.add(proved[1])
             print(f"gate: {len(self.proved)} of {len(CRATES)} crates, {clock(time.monotonic() - self.begun)}", flush=True)
 
-    def tell(self, line):
+    def tell(self, line: str) -> None:
         self.show(f"gate: {line}\n")
 
-    def counted(self):
+    def counted(self) -> tuple[int, int] | None:
         """Runs the part, and returns how much of it passed and failed, or None if it breaks off."""
         last = ""
         try:
             with subprocess.Popen(self.words, cwd=TOP, stdin=subprocess.DEVNULL, stdout=subprocess.PIPE, stderr=subprocess.STDOUT) as run:
-                for line in run.stdout:
+                for line in run.stdout or ():
                     last = line.decode(errors="replace")
                     self.show(last)
         except OSError as error:
@@ -118,13 +121,14 @@ class Part:
             failed += failed == 0
         return passed, failed
 
-    def run(self):
+    def run(self) -> tuple[int, int]:
         """The part's counts. Where the toolchain's gate breaks off with no verdict, for want of memory or disk, it is begun once more."""
         sources = Wanted().sums if self.words == RT_CI else {}
         counts = self.counted()
         if not counts and self.words == RT_CI:
-            free = re.search(r"MemAvailable: *(\d+)", open("/proc/meminfo", encoding="utf-8").read())
-            self.tell(f"rt ci broke off, with {shutil.disk_usage(TOP).free >> 20} MB of disk and {int(free[1]) >> 10} MB of memory free; once more")
+            with open("/proc/meminfo", encoding="utf-8") as about:
+                free = re.findall(r"MemAvailable: *(\d+)", about.read())[0]
+            self.tell(f"rt ci broke off, with {shutil.disk_usage(TOP).free >> 20} MB of disk and {int(free) >> 10} MB of memory free; once more")
             counts = self.counted()
         if not counts:
             self.tell(f"{' '.join(self.words)} broke off")
@@ -136,16 +140,16 @@ class Part:
         return counts or (0, 1)
 
 
-def keep(seconds):
+def keep(seconds: float) -> None:
     """Keeps for the next run how long this one took."""
     os.makedirs(os.path.dirname(KEPT), exist_ok=True)
     with open(KEPT, "w", encoding="utf-8") as kept:
         json.dump({"seconds": round(seconds), "processors": len(os.sched_getaffinity(0))}, kept)
 
 
-def run(groups):
+def run(groups: list[list[Words]]) -> list[int]:
     """Runs the groups of parts, and returns how much passed and failed."""
-    begun, counts = time.monotonic(), []
+    begun, counts = time.monotonic(), list[tuple[int, int]]()
     with concurrent.futures.ThreadPoolExecutor(len(os.sched_getaffinity(0))) as lanes:
         for group in groups:
             print(f"gate: begins {', '.join(map(' '.join, group))}, {clock(time.monotonic() - begun)}", flush=True)
@@ -153,7 +157,7 @@ def run(groups):
     return [sum(it[k] for it in counts) for k in (0, 1)]
 
 
-def main(words):
+def main(words: list[str]) -> int:
     is_quick, begun, spent = words == ["--quick"], time.monotonic(), Spent(TOP)
     groups = parts(is_quick)
     announce(sum(map(len, groups)), is_quick)

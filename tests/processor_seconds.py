@@ -13,7 +13,7 @@ TICKS = os.sysconf("SC_CLK_TCK")
 KINDS = ("proof", "tests", "edits")
 
 
-def own_memory(pid):
+def own_memory(pid: str) -> int:
     """The bytes that a process holds, its part of what it shares with others."""
     found = re.search(r"(?m)^Pss: *(\d+)", open(f"/proc/{pid}/smaps_rollup", encoding="utf-8").read())
     return int(found[1]) << 10 if found else 0
@@ -22,27 +22,29 @@ def own_memory(pid):
 class Spent:
     """What the provers have taken that work for a tree, since `begin`."""
 
-    def __init__(self, top):
-        self.top, self.taken, self.most, self.dearest = os.path.realpath(top), {}, 0, {}
+    def __init__(self, top: str) -> None:
+        self.top, self.most = os.path.realpath(top), 0
+        self.taken: dict[tuple[str, str], tuple[str, str, float]] = {}
+        self.dearest: dict[str, int] = {}
         self.is_done = threading.Event()
         # a daemon, so that the program ends when its main thread does, however it does
         self.watcher = threading.Thread(target=self.watch, daemon=True)
 
-    def begin(self):
+    def begin(self) -> None:
         self.watcher.start()
 
-    def end(self):
+    def end(self) -> None:
         self.is_done.set()
         self.watcher.join()
 
-    def watch(self):
+    def watch(self) -> None:
         turn = 0
         while not self.is_done.wait(0.25):
             # (to ask for memory is dear)
             self.sample(with_memory=turn % 8 == 0)
             turn += 1
 
-    def kind_of(self, folder, words):
+    def kind_of(self, folder: str, words: list[str]) -> str | None:
         """What a prover in a folder works at: a proof, tests, or a wrong body in a copy of its crate."""
         if folder.startswith(f"{self.top}/"):
             return "tests" if "--test" in words else "proof"
@@ -50,7 +52,7 @@ class Spent:
             return "edits"
         return None
 
-    def sample(self, with_memory):
+    def sample(self, with_memory: bool) -> None:
         """Notes what each prover has taken, by its crate and its work, and the memory of all of them together."""
         together = 0
         for pid in filter(str.isdigit, os.listdir("/proc")):
@@ -70,14 +72,14 @@ class Spent:
                 together += memory
         self.most = max(self.most, together)
 
-    def by_crate(self):
+    def by_crate(self) -> dict[str, dict[str, float]]:
         """The processor seconds of each crate, by kind."""
-        costs = {}
+        costs: dict[str, dict[str, float]] = {}
         for crate, kind, taken in self.taken.values():
             costs.setdefault(crate, dict.fromkeys(KINDS, 0))[kind] += taken
         return costs
 
-    def table(self):
+    def table(self) -> str:
         """The processor seconds of each crate, the dearest first, and the most memory that was held."""
         row = "{:18}{:>9}{:>9}{:>9}{:>9}".format
         costs = self.by_crate()
@@ -86,13 +88,13 @@ class Spent:
             lines.append(row(crate, *(f"{cost[kind]:.0f}" for kind in KINDS), f"{sum(cost.values()):.0f}"))
         sums = [sum(cost[kind] for cost in costs.values()) for kind in KINDS]
         lines.append(row("all", *(f"{it:.0f}" for it in sums), f"{sum(sums):.0f}"))
-        dearest = max(self.dearest, key=self.dearest.get, default="no crate")
+        dearest = max(self.dearest, key=lambda it: self.dearest[it], default="no crate")
         largest = self.dearest.get(dearest, 0)
         lines.append(f"{self.most / 1e9:.1f} GB of memory at most, {largest / 1e9:.1f} GB of it in one process ({dearest})")
         return "\n".join(lines)
 
 
-def main(words):
+def main(words: list[str]) -> int:
     spent, begun = Spent(words[0]), time.monotonic()
     spent.begin()
     status = subprocess.run(words[1:], cwd=words[0], stdin=subprocess.DEVNULL, stdout=sys.stderr).returncode

@@ -24,31 +24,35 @@ sys.path.insert(0, TOP)
 from build.unproved import Build, ready
 
 OWN = f"{TOP}/crates/pdp8/out/pdp8"
+# A session: of each command the number of its line, its text, and what it prints.
+Session = list[tuple[int, str, str]]
 MARK = "=== a command has ended ==="
 # the texts that have no session
 BARE = {f"{TOP}/docs/{name}.md" for name in ("ARCHITECTURE", "DECISIONS", "DEFINITIONS", "GATE", "GLOSSARY", "MACHINE", "PAGE", "PAGE_TESTS", "VOLUME")}
 
 
-def sessions(path):
-    """The sessions of a file, each a list of [line number, command, what it prints]."""
-    found, inside, blank = [[]], False, ""
-    for number, line in enumerate(open(path, encoding="utf-8", newline="\n"), 1):
-        text = line[4:]
+def sessions(path: str) -> list[Session]:
+    """The sessions of a file."""
+    found, inside, blank = [Session()], False, ""
+    with open(path, encoding="utf-8", newline="\n") as whole:
+        lines = whole.readlines()
+    for number, line in enumerate(lines, 1):
+        text, (at, command, printed) = line[4:], found[-1][-1] if found[-1] else (0, "", "")
         if line.startswith("#"):
-            found.append([])
+            found.append(Session())
         if line.startswith("    $ "):
             inside = True
-            found[-1].append([number, text[2:], ""])
+            found[-1].append((number, text[2:], ""))
         elif inside and line.startswith("    >"):
-            found[-1][-1][1] += text[2:] or "\n"
+            found[-1][-1] = (at, command + (text[2:] or "\n"), printed)
         elif inside and line.startswith("    "):
-            found[-1][-1][2] += blank + text
+            found[-1][-1] = (at, command, printed + blank + text)
         inside = inside and (line == "\n" or line.startswith("    "))
         blank = blank + line if line == "\n" else ""
     return [it for it in found if it]
 
 
-def silent(path):
+def silent(path: str) -> list[str]:
     """Where a text has no session though one belongs there: the whole text, or what stands below a heading of tests/sessions/."""
     if not sessions(path):
         return [] if os.path.abspath(path) in BARE else [f"{os.path.relpath(path)}:1: no session"]
@@ -59,7 +63,7 @@ def silent(path):
     return [f"{os.path.relpath(path)}:{number}: no session" for number, part in parts if "\n    $ " not in part]
 
 
-def run(commands, program):
+def run(commands: Session, program: str) -> list[tuple[str, str]]:
     """What each command of a session prints, with its status."""
     with tempfile.TemporaryDirectory(prefix="pdp8-session-") as folder:
         shutil.copy(program, f"{folder}/pdp8")
@@ -67,12 +71,13 @@ def run(commands, program):
         with open(f"{folder}/.session", "w", encoding="utf-8") as script:
             script.write(f". {TOP}/tests/recipes.sh\n")
             script.writelines(f"{command}printf '{MARK}%d\\n' $?\n" for _, command, _ in commands)
-        how = {"stdin": subprocess.DEVNULL, "stdout": subprocess.PIPE, "stderr": subprocess.STDOUT, "timeout": 120}
-        said = subprocess.run(["bash", ".session"], cwd=folder, **how).stdout.decode(errors="backslashreplace")
+        words = ["bash", ".session"]
+        ran = subprocess.run(words, cwd=folder, timeout=120, stdin=subprocess.DEVNULL, stdout=subprocess.PIPE, stderr=subprocess.STDOUT)
+        said = ran.stdout.decode(errors="backslashreplace")
     return re.findall(rf"(.*?){MARK}(\d+)\n", said, re.S)
 
 
-def faults(path, commands, program):
+def faults(path: str, commands: Session, program: str) -> list[str]:
     try:
         ran = run(commands, program)
     except subprocess.TimeoutExpired:
@@ -88,13 +93,13 @@ def faults(path, commands, program):
     return told
 
 
-def is_old():
+def is_old() -> bool:
     """Whether a source of the program has changed since ./pdp8 built it."""
     sources = [it for part in ("src", "specs", "proofs") for it in glob.glob(f"{TOP}/crates/*/{part}/**", recursive=True)]
     return any(os.path.getmtime(it) > os.path.getmtime(OWN) for it in sources if os.path.isfile(it))
 
 
-def main(words):
+def main(words: list[str]) -> int:
     program = OWN
     if words == ["--program"]:
         sys.exit("run_sessions: --program wants a file")

@@ -111,7 +111,10 @@ class Tree:
         for file, how, what in defect.changes:
             path = self.path(file)
             if how == "remove":
-                (shutil.rmtree if os.path.isdir(path) else os.remove)(path)
+                if os.path.isdir(path):
+                    shutil.rmtree(path)
+                else:
+                    os.remove(path)
                 continue
             mode, text = 0o644, ""
             if os.path.exists(path):
@@ -142,8 +145,7 @@ class Tree:
     def run(self, words: list[str]) -> tuple[int, str]:
         """The status of a check in this copy, and what it prints."""
         env = {**os.environ, "PYTHONDONTWRITEBYTECODE": "1"}
-        how = {"stdin": subprocess.DEVNULL, "stdout": subprocess.PIPE, "stderr": subprocess.STDOUT}
-        ran = subprocess.run(words, cwd=self.top, env=env, timeout=SECONDS, check=False, **how)  # type: ignore[call-overload]
+        ran = subprocess.run(words, cwd=self.top, env=env, timeout=SECONDS, stdin=subprocess.DEVNULL, stdout=subprocess.PIPE, stderr=subprocess.STDOUT)
         return ran.returncode, ran.stdout.decode(errors="replace")
 
 
@@ -200,8 +202,8 @@ def faults(defects: list[Defect], room: str) -> list[str]:
 def main(names: list[str]) -> int:
     try:
         defects = defects_of(names)
-    except BadDefect as fault:
-        print(f"try_defects: {fault}\n0 passed, 1 failed")
+    except BadDefect as bad:
+        print(f"try_defects: {bad}\n0 passed, 1 failed")
         return 1
     with tempfile.TemporaryDirectory(prefix="pdp8-defects-") as room:
         found = faults(defects, room)

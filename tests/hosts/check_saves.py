@@ -9,10 +9,12 @@ import os
 import subprocess
 import sys
 import tempfile
+from typing import Iterator
 
 sys.dont_write_bytecode = True
 TOP = os.path.dirname(os.path.dirname(os.path.dirname(os.path.abspath(__file__))))
 sys.path.insert(0, TOP)
+from build.unproved import Build, ready
 NAME = "host_trial"
 CALLS = 12
 # What a trial leaves where its call of a number fails, from the number 0 on; where a later one fails, the last row stands.
@@ -34,19 +36,20 @@ OVER = ["realpath", "dup", "write", "write", "fsync", "print"]
 MAKE = ["dup", "write", "fsync", "link", "unlink", "fsync folder", "print"]
 LAY = ["dup", "write", "rename", "print"]
 
+# A save, the calls that it makes in order, whether the file is there, and whether it is written over.
+Kind = tuple[str, list[str], bool, bool]
 
-def program():
+
+def program() -> str:
     """The trial's program, which is built with checks unless one is given."""
     if "--program" in sys.argv:
         return os.path.abspath(sys.argv[sys.argv.index("--program") + 1])
-    from build.unproved import Build, ready
-
     if ready(NAME):
         sys.exit(1)
     return Build(NAME).program
 
 
-def wanted_rows():
+def wanted_rows() -> Iterator[str]:
     for trial, rows in ROWS.items():
         for number in range(CALLS):
             # of a mount the eighth call takes away the file beside it
@@ -57,11 +60,11 @@ def wanted_rows():
 class Folder:
     """A folder with a file F, in which a save is made with a library laid before the system's."""
 
-    def __init__(self, path, trial, library):
+    def __init__(self, path: str, trial: str, library: str) -> None:
         self.path, self.trial, self.library = path, trial, library
         os.mkdir(path)
 
-    def save(self, what, name, call="", number=1, error=0):
+    def save(self, what: str, name: str, call: str = "", number: int = 1, error: int = 0) -> tuple[str, list[str], str | None]:
         """What the trial prints, the calls that it makes, and what F holds then; its call of this number may fail."""
         log = f"{self.path}.log"
         open(log, "w", encoding="utf-8").close()
@@ -75,16 +78,16 @@ class Folder:
         except FileNotFoundError:
             return run.stdout, calls, None
 
-    def names(self):
+    def names(self) -> list[str]:
         return sorted(os.listdir(self.path))
 
 
-def tried(room, kind, number, trial, library):
+def tried(room: str, kind: Kind, number: int | None, trial: str, library: str) -> bool:
     """Whether a save of a kind makes its calls in order, or leaves the old or the new bytes where one of them fails."""
     what, calls, is_there, is_over = kind
     folder = Folder(f"{room}/{what}{is_over}{number}", trial, library)
     old = "OLD" if is_there else None
-    if is_there:
+    if old:
         with open(f"{folder.path}/F", "w", encoding="utf-8") as file:
             file.write(old)
     if is_over:
@@ -104,7 +107,7 @@ def tried(room, kind, number, trial, library):
     return said == "fault\n" and is_whole and (is_over or found == old) and folder.names() == (["F", "G"] if is_over else ["F"] if is_there else [])
 
 
-def main():
+def main() -> int:
     trial, passed, failed = program(), 0, 0
     found = subprocess.run([trial], capture_output=True, text=True, timeout=60).stdout.split("\n")
     for row, wanted in zip(found, wanted_rows()):

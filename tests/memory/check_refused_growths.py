@@ -14,12 +14,13 @@ import subprocess
 import sys
 import tempfile
 from concurrent.futures import ThreadPoolExecutor
+from typing import Callable, Iterator
 
 HERE = os.path.dirname(os.path.abspath(__file__))
 TOP = os.path.dirname(os.path.dirname(HERE))
 
 
-def option(name, value):
+def option(name: str, value: str) -> str:
     return sys.argv[sys.argv.index(name) + 1] if name in sys.argv else value
 
 
@@ -27,11 +28,11 @@ PROGRAM = os.path.abspath(option("--program", f"{TOP}/crates/pdp8/out/pdp8"))
 SHORT = os.path.abspath(option("--short", f"{TOP}/crates/short_memory/out/short_memory"))
 
 
-def store(name, *lines):
+def store(name: str, *lines: str) -> list[str]:
     return [f"STORE {name} {len(lines)}", *lines]
 
 
-def loaded(*lines):
+def loaded(*lines: str) -> list[str]:
     """A source assembled and loaded, each turn an item of its own."""
     return [*store("S.PA", *lines, "$"), "ASSEMBLE B.BN<S.PA", *["TURN 1"] * 3, "LOAD B.BN", *["TURN 1"] * 2]
 
@@ -59,20 +60,25 @@ EXPECTED = {
     "pdp8": {"memory": (20, 1000), "done without": (1, 8)},
 }
 
+# The words of each file by those of its name; what a run printed, with the files that it left.
+Files = dict[tuple[int, ...], list[int]]
+Front = tuple[bytes, Files]
 
-def unexpected(kind, found):
+
+def unexpected(kind: str, found: dict[str, int]) -> list[str]:
     """What a kind of runs came to too seldom or too often."""
     wanted = EXPECTED[kind]
     return [f"{found.get(what, 0)} {what}, not {low} to {high}" for what, (low, high) in wanted.items() if not low <= found.get(what, 0) <= high]
 
 
-def refused(words, number, text, library):
+def refused(words: list[str], number: int, text: bytes, library: str) -> tuple[int, bytes, bool]:
     """The status and the output of a run whose growth of this number is refused, and whether it met the refusal."""
-    it = subprocess.run(words, input=text, capture_output=True, env={"LD_PRELOAD": library, "REFUSE": str(number)} if number else {})
+    env: dict[str, str] = {"LD_PRELOAD": library, "REFUSE": str(number)} if number else {}
+    it = subprocess.run(words, input=text, capture_output=True, env=env)
     return it.returncode, it.stdout, b"R" in it.stderr
 
 
-def in_session(words, want, number, text, library):
+def in_session(words: list[str], want: bytes | None, number: int, text: bytes, library: str) -> str | None:
     """What became of a run by `short_memory`: 'same', 'outside', a fault, or nothing where no growth was refused."""
     status, out, met = refused(words, number, text, library)
     if not met:
@@ -82,7 +88,7 @@ def in_session(words, want, number, text, library):
     return "same" if status == 0 and (want is None or out == want) else f"status {status} at growth {number}"
 
 
-def untold(text, library):
+def untold(text: bytes, library: str) -> Iterator[str]:
     """The kinds of runs in which `short_memory` does not tell a session that a refused item leaves spoiled. Where no item is refused, since
     the session was not yet made or a line was read anew, none is spoiled."""
     for kind, words in (("again", ["go", "spoilt"]), ("files", ["stop", "it", "spoilt"])):
@@ -92,10 +98,10 @@ def untold(text, library):
             yield f"{kind}: of {len(found)} runs with a spoiled session {found.count(4)} tell it"
 
 
-def files(image):
+def files(image: bytes) -> Files:
     """The files of an image that is sound: the words of each by its name."""
     words = [low + 256 * high for low, high in zip(image[::2], image[1::2])]
-    found, segment = {}, 1
+    found, segment = Files(), 1
     while segment:
         count, place, following, _, info = words[256 * segment :][:5]
         at, info = 256 * segment + 5, -info % 4096
@@ -109,7 +115,7 @@ def files(image):
     return found
 
 
-def program_run(image, text, number=0, library=""):
+def program_run(image: bytes, text: bytes, number: int = 0, library: str = "") -> tuple[int, bytes, bool, bytes]:
     """A run of `pdp8` on a copy of an image: its status, its output, whether it met the refusal, and the image behind it."""
     with tempfile.TemporaryDirectory() as folder:
         name = f"{folder}/v.img"
@@ -120,7 +126,7 @@ def program_run(image, text, number=0, library=""):
             return status, out, met, file.read()
 
 
-def in_program(image, fronts, number, text, library):
+def in_program(image: bytes, fronts: list[Front], number: int, text: bytes, library: str) -> str | None:
     """What became of a run by `pdp8`: its replies up to the refusal, and then the line of want of memory; its files are those of
     the front of the script that these replies belong to. A growth that it can do without it may do without."""
     status, out, met, after = program_run(image, text, number, library)
@@ -134,7 +140,7 @@ def in_program(image, fronts, number, text, library):
     return f"status {status} at growth {number}: {out[-40:]!r}"
 
 
-def items(lines):
+def items(lines: list[str]) -> Iterator[list[str]]:
     """The items of a script: each STORE with its lines."""
     at = 0
     while at < len(lines):
@@ -144,9 +150,9 @@ def items(lines):
         at += size
 
 
-def told_fronts(image, lines):
+def told_fronts(image: bytes, lines: list[str]) -> list[Front]:
     """What `pdp8` writes for each front of the items of a script, and the files that it leaves."""
-    front, found = [], [(b"", files(image))]
+    front, found = list[str](), [(b"", files(image))]
     for item in items(lines):
         front += item
         _, out, _, after = program_run(image, "".join(f"{line}\n" for line in front).encode())
@@ -154,9 +160,9 @@ def told_fronts(image, lines):
     return found
 
 
-def runs(of):
+def runs(of: Callable[[int], str | None]) -> dict[str, int]:
     """What became of each run, for each growth in turn until a run meets no refusal."""
-    found, number = {}, 1
+    found, number = dict[str, int](), 1
     with ThreadPoolExecutor(len(os.sched_getaffinity(0))) as pool:
         while True:
             answers = list(pool.map(of, range(number, number + 64)))
@@ -167,7 +173,7 @@ def runs(of):
             number += 64
 
 
-def main():
+def main() -> int:
     passed = failed = 0
     with tempfile.TemporaryDirectory() as folder:
         library = f"{folder}/refuse.so"

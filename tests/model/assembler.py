@@ -105,7 +105,7 @@ class Source:
         for term in terms:
             value: Optional[int] = self.place(at) if term.is_here else term.number
             if term.name:
-                value = (self.last_value if is_word else self.value)(term.name, at)
+                value = self.last_value(term.name, at) if is_word else self.value(term.name, at)
             if value is None:
                 return None
             value = value % 4096

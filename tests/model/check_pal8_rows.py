@@ -3,6 +3,7 @@
 fault. No program takes PAL8 yet. The last line is 'N passed, M failed'."""
 import os
 import sys
+from typing import Iterator
 
 sys.dont_write_bytecode = True
 HERE = os.path.dirname(os.path.abspath(__file__))
@@ -11,7 +12,7 @@ sys.path.insert(0, TOP)
 from tests.model.pal8 import answer
 
 
-def rows():
+def rows() -> Iterator[tuple[str, str, str]]:
     """Each worked source: its name, its text and what it comes to."""
     name, source, wanted = "", "", ""
     for line in open(f"{HERE}/pal8_rows.txt", encoding="ascii"):

@@ -120,7 +120,7 @@ class Case:
         if kind == "squeeze":
             return self.differs(["squeeze", image, *where], b"", self.keeper.squeeze(image))
         if kind == "list":
-            return self.differs(["list", image, *where], b"", self.keeper.list(image))
+            return self.differs(["list", image, *where], b"", self.keeper.list_short(image))
         return self.differs(["list", image, "--long", *where], b"", self.keeper.list_long(image))
 
     def get_many(self) -> str:
@@ -128,10 +128,10 @@ class Case:
         random, image = self.random, self.random.choice(IMAGES)
         volume = self.keeper.volumes[image]
         asked = [random_pattern(random, volume) for _ in range(random.choice([0, 1, 1, 2]))]
-        places = [f"--at {random_asked(random, volume) if random.random() < 0.5 else 7}" for _ in range(random.choice([0, 0, 1]))]
+        places = [f"--at {random_asked(random, volume) if random.random() < 0.5 else 7!r}" for _ in range(random.choice([0, 0, 1]))]
         places = [it for it in places if it[5:].isdigit()]
         is_all = not (asked or places) or random.random() < 0.2
-        texts = random.choice([[], [], TEXTS, ["PA", "LS"]])
+        texts: list[str] = random.choice([[], [], TEXTS, ["PA", "LS"]])
         options = ["--text"] if texts is TEXTS else ["--text-of", ",".join(texts)] if texts else []
         words = ["get", image, *asked, *(word for it in places for word in it.split()), *(["--all"] if is_all else []), *options]
         names, refused = self.keeper.chosen(image, [*asked, *places], is_all)
@@ -160,12 +160,13 @@ class Case:
         random, image = self.random, self.random.choice(IMAGES)
         names = random.sample(["new.pa", "S1.PA", "b.bn", "C.BN", "f0", "x.tx", "S1.pa", "notes.text", "T.LS", "a-b"], random.choice([1, 2, 2, 3, 5]))
         given = [(it.encode(), random.choice([b"", b"HELLO\r\nYOU\r\r\n", b"A\n" * 300, random.randbytes(random.choice([3, 400]))])) for it in names]
-        texts = random.choice([[], TEXTS, ["PA"]])
+        texts: list[str] = random.choice([[], TEXTS, ["PA"]])
         options = ["--text"] if texts is TEXTS else ["--text-of", "PA"] if texts else []
         info = [random.randrange(0o10000) for _ in range(random.choice([0, 0, 2]))]
         for name, content in given:
             write(f"{self.folder}/{name.decode()}", content)
-        words = ["put", image, *random.choice([[], ["--files"]]), *names, *options, *self.held[image].words(), *(it for word in info for it in ("--info", octal(word, 4)))]
+        marks: list[str] = random.choice([[], ["--files"]])
+        words = ["put", image, *marks, *names, *options, *self.held[image].words(), *(it for word in info for it in ("--info", octal(word, 4)))]
         return self.differs(words, b"", self.keeper.put_all(image, given, texts, tuple(info) if info else None))
 
     def others(self) -> str:
@@ -190,8 +191,7 @@ class Case:
         return self.differs_in_bytes(words, b"", given_of(part, False), 0)
 
     def done(self, words: list[str], given: bytes) -> subprocess.CompletedProcess[bytes]:
-        how = {"cwd": self.folder, "input": given, "stdout": subprocess.PIPE, "stderr": subprocess.STDOUT, "timeout": 60}
-        return subprocess.run([self.program, *words], **how)
+        return subprocess.run([self.program, *words], cwd=self.folder, input=given, stdout=subprocess.PIPE, stderr=subprocess.STDOUT, timeout=60)
 
     def differs(self, words: list[str], given: bytes, wanted: tuple[list[str], int]) -> str:
         return self.differs_in_bytes(words, given, "".join(f"{line}\n" for line in wanted[0]).encode("latin-1"), wanted[1])

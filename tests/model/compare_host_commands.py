@@ -148,11 +148,11 @@ def traces(program: str, seed: int) -> str:
     with tempfile.TemporaryDirectory(prefix="pdp8-host-") as folder:
         with open(f"{folder}/TAPE", "wb") as file:
             file.write(bytes(sitting.frames))
-        for kind, case in (("trace", lambda: traced(sitting, names_of(program))), ("profile", lambda: profiled(sitting))):
+        for kind in ("trace", "profile"):
             printed, errors, status = run(program, [kind, *words], folder)
-            wanted = case()
+            wanted = traced(sitting, names_of(program)) if kind == "trace" else profiled(sitting)
             if (without_kind(errors + printed).decode(), status) != wanted:
-                return f"{kind} {sitting}\n    wanted {wanted}\n    got {printed} {errors} {status}"
+                return f"{kind} {sitting}\n    wanted {wanted}\n    got {printed!r} {errors!r} {status}"
     return ""
 
 
@@ -180,12 +180,12 @@ def wrong_source(program: str, folder: str, frames: bytes, starts: list[int], na
     if lacking or refused or not words:
         line = f"? NAMES {REFUSALS[refused[1]]} {refused[0]}\n" if refused else "? SOURCE 1 NO WORD\n"
         line = f"? SOURCE 2 NO WORD AT {lacking[0]:05o}\n" if lacking else line
-        return "" if (text, errors.decode(), status) == (b"", line, 1) else f"{text} {errors} {status}"
+        return "" if (text, errors.decode(), status) == (b"", line, 1) else f"{text!r} {errors!r} {status}"
     with open(f"{folder}/SOURCE", "wb") as file:
         file.write(text)
     again, errors, status = run(program, ["assemble", "SOURCE"], folder)
     if run(program, ["tape"], folder, again)[0] != loaded:
-        return f"another tape, {errors}, of {text}"
+        return f"another tape, {errors!r}, of {text!r}"
     code = reached(words, starts) if starts else set(words)
     wanted = "\r\n".join([*Listing(words, code, named, names_of(program), bool(starts)).lines(), ""])
     return "" if text.decode("ascii") == wanted else f"{text.decode('ascii')}\n    wanted {wanted}"

@@ -130,7 +130,7 @@ def nearly_bytes(seed: int) -> bytes:
     return ("".join(random.choices(PIECES, k=random.randint(1, 40))) + random.choice(("", "\n$\n", "\n$\n"))).encode("latin1")
 
 
-def rows():
+def rows() -> list[tuple[str, bytes, str]]:
     """The worked sources without conditions."""
     return [(name, source.encode("latin1"), wanted) for name, source, wanted in check_pal8_rows.rows() if "IF" not in source]
 
@@ -167,8 +167,8 @@ def main() -> int:
     given = words.parse_args()
     program = given.program or f"{CRATE}/out/pal8_asm_bench"
     if not given.program and not os.path.exists(program):
-        with open(f"{CRATE}/stdin", "rb") as text:
-            subprocess.run(["rt", "run"], cwd=CRATE, stdin=text, stdout=subprocess.DEVNULL, stderr=subprocess.DEVNULL, check=False)
+        with open(f"{CRATE}/stdin", "rb") as source:
+            subprocess.run(["rt", "run"], cwd=CRATE, stdin=source, stdout=subprocess.DEVNULL, stderr=subprocess.DEVNULL, check=False)
     numbers = range(given.seed, given.seed + given.sources)
     texts = [(name, text, wanted) for name, text, wanted in rows()]
     texts += [(f"source {k}", Maker(k).source(), "") for k in numbers]

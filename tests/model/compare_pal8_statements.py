@@ -114,8 +114,8 @@ def main() -> int:
     given = words.parse_args()
     program = given.program or f"{CRATE}/out/pal8_bench"
     if not given.program and not os.path.exists(program):
-        with open(f"{CRATE}/stdin", "rb") as text:
-            subprocess.run(["rt", "run"], cwd=CRATE, stdin=text, stdout=subprocess.DEVNULL, stderr=subprocess.DEVNULL, check=False)
+        with open(f"{CRATE}/stdin", "rb") as source:
+            subprocess.run(["rt", "run"], cwd=CRATE, stdin=source, stdout=subprocess.DEVNULL, stderr=subprocess.DEVNULL, check=False)
     passed = failed = 0
     for k in range(given.seed, given.seed + given.texts):
         text = random_text(Random(k))

@@ -76,8 +76,10 @@ class HostSources:
 
     def undefined(self, at: int) -> str:
         """The first name of a statement, from the left, that stands for nothing there."""
-        value = self.source.last_value if self.source.is_word(at) else self.source.value
-        return next(it.name for it in self.source.said[at].body.terms if it.name and value(it.name, at) is None)
+        source = self.source
+        names = [it.name for it in source.said[at].body.terms if it.name]
+        is_word = source.is_word(at)
+        return next(it for it in names if (source.last_value(it, at) if is_word else source.value(it, at)) is None)
 
     def first_pass(self) -> Fault | None:
         source = self.source

@@ -158,7 +158,7 @@ class Keeper:
         self.volumes[image] = volume
         return [f"SQUEEZED {moved}"], 0
 
-    def list(self, image: str) -> Answer:
+    def list_short(self, image: str) -> Answer:
         volume, places = self.volumes[image], self.volumes[image].places
         lines = [f"{shown_name(name)} {file.blocks}" + ("" if can_be_typed(name) else f" AT {places[name]}") for name, file in sorted(volume.files.items())]
         return [*lines, f"FREE {volume.capacity - volume.used}"], 0

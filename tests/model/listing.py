@@ -43,8 +43,8 @@ class Listing:
     def statement(self, cell: int) -> str:
         word = self.words[cell]
         if cell not in self.code:
-            named = self.tag(cell // FIELD * FIELD + word) if word else None
-            return named or octal(word, 4)
+            tag = self.tag(cell // FIELD * FIELD + word) if word else None
+            return tag or octal(word, 4)
         named = referred(cell, word)
         if named is None:
             return self.spelled[word] if word >= 0o6000 else octal(word, 4)

@@ -161,7 +161,7 @@ class Lot:
 
 def pieces_of(lots: list[Lot], info: int) -> list[list[Lot]]:
     """The lots of each segment, as many as it has words for: where many are free, more than a change may write."""
-    pieces, room = [], 0
+    pieces, room = list[list[Lot]](), 0
     for lot in lots:
         size = 5 + info if lot.name else 2
         if size > room:

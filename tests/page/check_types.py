@@ -19,7 +19,7 @@ HOW = ["tsc", "--noEmit", "--allowJs", "--checkJs", "--strict", "--target", "es2
 TAGS = {"a": "Anchor", "button": "Button", "canvas": "Canvas", "details": "Details", "dialog": "Dialog", "form": "Form", "input": "Input"}
 TAGS |= {"ol": "OList", "p": "Paragraph", "pre": "Pre", "select": "Select", "table": "Table", "textarea": "TextArea"}
 # What is checked together: a library, further words, and the files where the checker begins; it follows what these import.
-PARTS = [
+PARTS: list[tuple[str, list[str], list[str]]] = [
     ("es2022,dom,dom.iterable", [], [f"{WEB}/page.js", f"{WEB}/types.d.ts"]),
     ("es2022,webworker", [], [f"{WEB}/worker.js", f"{WEB}/worker.d.ts"]),
     ("es2022,webworker", [], [f"{WEB}/sw.js"]),
@@ -28,17 +28,17 @@ PARTS = [
 ]
 
 
-def ids():
+def ids() -> str:
     """The elements of index.html by their ids, as a file of types has them."""
     found = re.findall(r'<(\w+)\b[^>]*?\bid="([\w-]+)"', open(f"{WEB}/index.html", encoding="utf-8").read())
     return "interface Ids {\n" + "".join(f"    '{name}': HTML{TAGS.get(tag, '')}Element;\n" for tag, name in found) + "}\n"
 
 
-def checked(room, library, words, files):
+def checked(room: str, library: str, words: list[str], files: list[str]) -> tuple[set[str], dict[str, list[str]]]:
     """The files that were checked, and what is wrong in them, by file; what no file of the page is to blame for stands under ''."""
     known = [f"{room}/ids.d.ts"] if "dom" in library.split(",") else []
     ran = subprocess.run([*HOW, "--lib", library, *words, "--listFiles", *files, *known], cwd=TOP, capture_output=True, text=True)
-    seen, wrong, last = set(), {}, ""
+    seen, wrong, last = set[str](), dict[str, list[str]](), ""
     for line in ran.stdout.splitlines():
         fault = re.match(r"(\S.*?)\(\d+,\d+\): error", line)
         if os.path.exists(line):
@@ -53,12 +53,12 @@ def checked(room, library, words, files):
     return {it for it in seen if it.endswith(("js", ".d.ts")) and it.startswith((WEB, HERE))}, wrong
 
 
-def main(names):
+def main(names: list[str]) -> int:
     if not shutil.which("tsc"):
         print("check_types: there is no tsc: Debian's package node-typescript has it")
         print("0 passed, 1 failed" if os.environ.get("CI") else "1 passed, 0 failed")
         return 1 if os.environ.get("CI") else 0
-    seen, wrong = set(), {}
+    seen, wrong = set[str](), dict[str, list[str]]()
     with tempfile.TemporaryDirectory(prefix="pdp8-types-") as room:
         with open(f"{room}/ids.d.ts", "w", encoding="utf-8") as laid:
             laid.write(ids())

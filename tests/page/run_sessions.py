@@ -9,6 +9,7 @@ import concurrent.futures
 import glob
 import os
 import sys
+from typing import Iterator
 
 sys.dont_write_bytecode = True
 HERE = os.path.dirname(os.path.abspath(__file__))
@@ -19,7 +20,7 @@ from tests import run_sessions
 PROGRAM = f"{TOP}/target/wasm/client"
 
 
-def headed(path):
+def headed(path: str) -> Iterator[tuple[str, run_sessions.Session]]:
     """The sessions of a file, each with its file and heading, as beyond.txt has them."""
     lines = open(path, encoding="utf-8").read().split("\n")
     for commands in run_sessions.sessions(path):
@@ -27,19 +28,19 @@ def headed(path):
         yield f"{os.path.relpath(path, TOP)}: {heading.lstrip('# ')}", commands
 
 
-def beyond():
+def beyond() -> dict[str, str]:
     """What beyond.txt lists: lines `FILE: HEADING | REASON`."""
     lines = open(f"{HERE}/beyond.txt", encoding="utf-8").read().splitlines()
     return dict(it.split(" | ") for it in lines if it and not it.startswith("#"))
 
 
-def faults(path, commands, program):
+def faults(path: str, commands: run_sessions.Session, program: str) -> list[str]:
     """What tests/run finds. Processes do this beside each other, and not threads, as the copy of a program that one of these is writing would be
     open in the shell that another begins, and so couldn't be started."""
     return run_sessions.faults(path, commands, program)
 
 
-def main(words):
+def main(words: list[str]) -> int:
     program, words = (words[1], words[2:]) if words[:1] == ["--program"] else (PROGRAM, words)
     every = [*sorted(glob.glob(f"{TOP}/tests/sessions/*.md") + glob.glob(f"{TOP}/docs/*.md")), f"{TOP}/README.md"]
     found = [it for path in ([os.path.abspath(it) for it in words] or every) for it in headed(path)]

@@ -28,9 +28,10 @@ PATIENCE = "8000"
 class Fault:
     """A fault: the file that it changes, how, and which tests must notice it."""
 
-    def __init__(self, path):
+    def __init__(self, path: str) -> None:
         self.name = os.path.basename(path).removesuffix(".edit")
-        self.changes, self.file, self.test = [], None, None
+        self.changes, self.file, old = list[tuple[str, str]](), "", ""
+        self.test: tuple[str, ...] = ("", "")
         for line in open(path, encoding="utf-8").read().split("\n"):
             word, _, rest = line.partition(": ")
             if word == "file":
@@ -42,19 +43,19 @@ class Fault:
             elif word == "test":
                 self.test = tuple(rest.split(": ", 1))
 
-    def laid(self, text):
-        """The file's text with the fault in it, or in words why there is none."""
+    def laid(self, text: str) -> tuple[str, str]:
+        """The file's text with the fault in it, and nothing, or in words why there is none."""
         for old, new in self.changes:
             if text.count(old) != 1:
-                return None, f"BAD FAULT: the old text is in {self.file} {text.count(old)} times, and not once"
+                return "", f"BAD FAULT: the old text is in {self.file} {text.count(old)} times, and not once"
             text = text.replace(old, new)
-        return text, None
+        return text, ""
 
-    def tell(self, said):
+    def tell(self, said: str) -> None:
         print(f"{self.name}: {said}", flush=True)
 
 
-def run(program, folder, test):
+def run(program: str, folder: str, test: tuple[str, ...]) -> tuple[int, int, str]:
     """How many of these tests passed and failed, and what they printed."""
     file, *parts = test
     words = ["node", f"{HERE}/{file}.mjs", program, folder, *parts]
@@ -64,7 +65,7 @@ def run(program, folder, test):
     return (int(last[1]), int(last[2]), ran.stdout) if last else (0, 0, ran.stdout)
 
 
-def is_noticed(fault, program, folder):
+def is_noticed(fault: Fault, program: str, folder: str) -> bool:
     """Whether the fault's tests fail where it is in the page."""
     path = f"{folder}/{fault.file}"
     with open(path, encoding="utf-8") as laid:
@@ -83,7 +84,7 @@ def is_noticed(fault, program, folder):
     return failed > 0 and passed == 0
 
 
-def are_sound(faults, program, folder):
+def are_sound(faults: list[Fault], program: str, folder: str) -> list[int]:
     """How many of the tests pass without a fault, and how many don't."""
     counts = [0, 0]
     for file in sorted({it.test[0] for it in faults}):
@@ -94,7 +95,7 @@ def are_sound(faults, program, folder):
     return counts
 
 
-def main(words):
+def main(words: list[str]) -> int:
     program, is_gate = f"{TOP}/pdp8", "--gate" in words
     if "--program" in words:
         at = words.index("--program")
