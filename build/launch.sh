@@ -10,13 +10,13 @@ launch() {
 }
 
 at_terminal() {
-    local child= ended= status
+    local child='' ended='' status
     exec 9<&0
     # the guard ends when this shell does, however it does; it is told the program's number, and then that the program has ended
     exec 8> >(guard_terminal 8>&-)
     local guard=$!
     echo "pdp8: each key is the program's own; Ctrl-\\ ends it" >&2
-    stty -icanon -echo -icrnl -inlcr -igncr -ixon -iexten intr undef susp undef quit '^\' min 0 time 1
+    stty -icanon -echo -icrnl -inlcr -igncr -ixon -iexten intr undef susp undef quit "^\\" min 0 time 1
     trap 'ended=129; stop_child' HUP
     trap 'ended=131; stop_child' QUIT
     trap 'ended=143; stop_child' TERM INT
@@ -40,7 +40,7 @@ stop_child() {
 
 # Reads until its standard input ends. A program that was not told to have ended is ended; then the terminal is put right.
 guard_terminal() {
-    local running= line
+    local running='' line
     trap '' HUP INT QUIT TERM TSTP TTOU
     while read -r line; do
         running=$line

@@ -30,7 +30,7 @@ from dataclasses import dataclass, field
 TOP = os.path.dirname(os.path.dirname(os.path.abspath(__file__)))
 # What a check reads of the tree: no built files, nothing of the version control.
 APART = shutil.ignore_patterns(".git", "target", "out", "__pycache__", ".mypy_cache", ".pytest_cache")
-SECONDS = 60
+SECONDS = 300
 
 
 class BadDefect(Exception):
@@ -151,7 +151,10 @@ class Tree:
 
 def why_not_sound(tree: Tree, words: list[str]) -> str:
     """Why a check does not pass in the copy as it stands, or nothing."""
-    status, printed = tree.run(words)
+    try:
+        status, printed = tree.run(words)
+    except (OSError, subprocess.TimeoutExpired) as fault:
+        return f"{' '.join(words)}: {fault}"
     is_sound = status == 0 and re.search(r"(?m)^[1-9]\d* passed, 0 failed$", printed)
     return "" if is_sound else f"{' '.join(words)} fails without a defect, with status {status}:\n{printed[-2000:]}"
 
