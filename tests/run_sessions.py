@@ -52,6 +52,11 @@ def sessions(path: str) -> list[Session]:
     return [it for it in found if it]
 
 
+def every_file() -> list[str]:
+    """The texts that have sessions, or may have."""
+    return [*sorted(glob.glob(f"{TOP}/tests/sessions/*.md") + glob.glob(f"{TOP}/docs/*.md")), f"{TOP}/README.md"]
+
+
 def silent(path: str) -> list[str]:
     """Where a text has no session though one belongs there: the whole text, or what stands below a heading of tests/sessions/."""
     if not sessions(path):
@@ -113,7 +118,7 @@ def main(words: list[str]) -> int:
         sys.exit(f"run_sessions: there is no program {program}: ./prove builds it")
     if program == OWN and is_old():
         print("run_sessions: the program is older than a source of it: ./prove builds it anew", file=sys.stderr)
-    paths = words or sorted(glob.glob(f"{TOP}/tests/sessions/*.md") + glob.glob(f"{TOP}/docs/*.md")) + [f"{TOP}/README.md"]
+    paths = words or every_file()
     passed = failed = 0
     work = [(os.path.relpath(path), commands) for path in paths for commands in sessions(path)]
     with concurrent.futures.ProcessPoolExecutor(len(os.sched_getaffinity(0))) as lanes:

@@ -6,7 +6,6 @@ than the page has.
 The program is client.c, so this runs below server.mjs, as tests/page/check_page.sh calls it. The last line is 'N passed, M failed'.
 """
 import concurrent.futures
-import glob
 import os
 import sys
 from typing import Iterator
@@ -42,8 +41,7 @@ def faults(path: str, commands: run_sessions.Session, program: str) -> list[str]
 
 def main(words: list[str]) -> int:
     program, words = (words[1], words[2:]) if words[:1] == ["--program"] else (PROGRAM, words)
-    every = [*sorted(glob.glob(f"{TOP}/tests/sessions/*.md") + glob.glob(f"{TOP}/docs/*.md")), f"{TOP}/README.md"]
-    found = [it for path in ([os.path.abspath(it) for it in words] or every) for it in headed(path)]
+    found = [it for path in ([os.path.abspath(it) for it in words] or run_sessions.every_file()) for it in headed(path)]
     listed = beyond()
     missing = [] if words else sorted(listed.keys() - {name for name, _ in found})
     for name in missing:
