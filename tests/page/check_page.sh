@@ -10,7 +10,7 @@ cd "$top" || exit 2
 for word; do
     case $word in
     --quick | --pictures) ;;
-    *) echo "run: usage: tests/page/check_page.sh [--quick] [--pictures]" >&2; exit 2 ;;
+    *) echo "check_page: usage: tests/page/check_page.sh [--quick] [--pictures]" >&2; exit 2 ;;
     esac
 done
 pictures=
