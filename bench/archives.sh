@@ -27,7 +27,7 @@ head -c 576000 /dev/urandom >bytes
 put_bytes() { "$program" put V BYTES <bytes >/dev/null; }
 get_bytes() { "$program" get V BYTES >got; }
 for command in put_bytes get_bytes "$program list V" "$program check V" "$program create W 4095"; do
-    printf '%s: %.3f seconds\n' "${command##*/}" "$(seconds $command)"
+    printf '%s: %.3f seconds\n' "${command##*/}" "$(seconds "$command")"
 done
 cmp bytes got
 
@@ -39,7 +39,7 @@ get_many() { "$program" get M --all --into got-files --force >/dev/null; }
 copy_files() { cp files/* got-files; }
 copy_image() { cp M N; }
 for command in put_many copy_image get_many copy_files; do
-    printf '%s: %.3f seconds\n' "$command" "$(seconds $command)"
+    printf '%s: %.3f seconds\n' "$command" "$(seconds "$command")"
 done
 for file in files/*; do cmp "$file" <(head -c 6000 "got-${file}"); done
 
@@ -52,5 +52,5 @@ check_all() { "$program" check images/* >/dev/null; }
 check_beside() { printf '%s\0' images/* | xargs -0 -P 4 -n 50 "$program" check >/dev/null; }
 copy_images() { cat images/* >/dev/null; }
 for command in check_each check_all check_beside copy_images; do
-    printf '%s of 1000 images: %.3f seconds\n' "$command" "$(seconds $command)"
+    printf '%s of 1000 images: %.3f seconds\n' "$command" "$(seconds "$command")"
 done

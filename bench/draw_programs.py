@@ -6,7 +6,9 @@ goes on; the others have a loop drawn so, with interrupts, with fields, with a t
 writes. Eight more are of IOTs and are not drawn. Each starts at 200, halts, and ends in the same registers whenever the printer is done.
 ROUNDS times 4096 is how often a loop is made.
 """
-import random, sys
+import random
+import sys
+from typing import Sequence
 
 # All operates that go on: group 1 but for what is unassigned, and group 2 but for HLT.
 GROUP_1 = [0o7000 + 0o20 * clears + rotation + iac for clears in range(16) for rotation in (0, 4, 6, 0o10, 0o12) for iac in (0, 1)]
@@ -19,30 +21,30 @@ POINTERS = [f"P{k}" for k in range(8)]
 class Drawing:
     """Programs drawn from one seed."""
 
-    def __init__(self, seed, rounds):
+    def __init__(self, seed: str, rounds: int) -> None:
         self.random, self.rounds = random.Random(seed), rounds
 
-    def operate(self):
+    def operate(self) -> str:
         return f"{self.random.choice(self.random.choice((GROUP_1, GROUP_2))):o}"
 
-    def reference(self):
+    def reference(self) -> str:
         """AND, TAD, ISZ or DCA, one in three through a pointer."""
         name = self.random.choice(("AND", "TAD", "TAD", "ISZ", "DCA"))
         return f"{name} I {self.random.choice(POINTERS)}" if self.random.random() < 1 / 3 else f"{name} {self.random.choice(DATA)}"
 
-    def branch(self):
+    def branch(self) -> str:
         """A jump ahead, or a call of a subroutine, one in two through a pointer."""
         return self.random.choice((f"JMP .+{self.random.randint(1, 3)}", "JMS SUB", "JMS I PSUB"))
 
-    def instructions(self, count, branches=True):
+    def instructions(self, count: int, branches: bool = True) -> list[str]:
         """So many instructions, and three that any skip or jump ahead of the last may come to."""
         drawn = [self.branch if branches and self.random.random() < 0.06 else self.random.choice((self.operate, self.reference)) for _ in range(count)]
         return [one() for one in drawn] + ["NOP"] * 3
 
-    def words(self, count):
+    def words(self, count: int) -> list[str]:
         return [f"{self.random.randrange(4096):o}" for _ in range(count)]
 
-    def program(self, body, first="", service=(), field=0, tail=()):
+    def program(self, body: list[str], first: str = "", service: Sequence[str] = (), field: int = 0, tail: Sequence[str] = ()) -> list[str]:
         """A program of this loop. Its counters, data and subroutine stand behind it."""
         zero = [f"D{k}, {word}" for k, word in enumerate(self.words(4))] + [f"P{k}, D{k}" for k in range(8)] + ["PSUB, SUB", "SAVE, 0", "LINK, 0"]
         end = ["ISZ A", "JMP LOOP", "ISZ B", "JMP LOOP", "HLT", "A, 0", f"B, {-self.rounds & 0o7777:o}"]
@@ -51,27 +53,27 @@ class Drawing:
         lines = ["*0", "0", "JMP SERVE" if service else "0", "*20", *zero, *service, "*200", "CLA CLL", *([first] if first else [])]
         return [*lines, f"LOOP, {body[0]}", *body[1:], *end, *near, *subroutine, *tail]
 
-    def loop(self):
+    def loop(self) -> list[str]:
         return self.program(self.instructions(60))
 
-    def interrupts(self):
+    def interrupts(self) -> list[str]:
         """The printer's end is an interrupt; the service keeps AC and L."""
         service = ["SERVE, DCA SAVE", "RAL", "DCA LINK", "TCF", "TAD LINK", "CLL RAR", "TAD SAVE", "ION", "JMP I 0"]
         return self.program(["TLS", *self.instructions(60)], first="ION", service=service)
 
-    def fields(self):
+    def fields(self) -> list[str]:
         """The data field is 1 or 0, and a subroutine of field 2 is called."""
         body = self.instructions(12) + ["CDF 10"] + self.instructions(12) + ["CIF 20", "JMS I FAR", "CDF 00"]
         body += ["RIF", "RDF"] + self.instructions(12) + ["CIF 20", "JMS I FAR", "CDF 00"] + self.instructions(6)
         far = ["FIELD 2", "*600", "0", self.operate(), "NOP", "TAD 620", "DCA 620", "RDF", "CIF 00", "JMP I 600"]
         return self.program(body, tail=["FAR, 600", *far])
 
-    def talker(self):
+    def talker(self) -> list[str]:
         """Reads the keyboard's buffer, adds a letter, prints it and waits for the printer, again and again."""
         body = ["KSF", "SKP", "NOP", "KRB", "TAD D4", "TSF", "NOP", "TLS", *self.instructions(16), "TSF", "JMP .-1", "TCF", *self.instructions(8)]
         return self.program(body)
 
-    def rewriter(self):
+    def rewriter(self) -> list[str]:
         """Each round writes the next of 64 operates into the loop."""
         table = [self.operate() for _ in range(64)]
         body = ["DCA D7", "TAD AT", "IAC", "AND MASK", "DCA AT", "TAD AT", "TAD BASE", "DCA HERE", "TAD I HERE", "DCA NEW", "TAD D7"]
@@ -80,7 +82,7 @@ class Drawing:
         return self.program(body, tail=tail)
 
 
-    def transfers(self):
+    def transfers(self) -> dict[str, list[str]]:
         """Programs of IOTs, each a few instructions again and again."""
         far = ["FAR, 600", "FIELD 2", "*600", "0", "IAC", "CIF 00", "JMP I 600"]
         return {
@@ -95,7 +97,7 @@ class Drawing:
         }
 
 
-def main():
+def main() -> None:
     drawing = Drawing(sys.argv[1], int(sys.argv[2]) if len(sys.argv) > 2 else 300)
     programs = {f"loop{k}": drawing.loop() for k in range(1, 7)} | drawing.transfers()
     for name in ("interrupts", "fields", "talker", "rewriter"):

@@ -29,7 +29,7 @@ idle_profile=$(seconds run_profile stop)
 printf '%-10s %8s %8s %8s %8s %8s\n' program GO teletype profile teletype profile
 for name in $names; do
     read -r a b c <<<"$(alternate 3 "run_script $name" "run_teletype $name" "run_profile $name")"
-    awk -v name=$name -v a="$a" -v b="$b" -v c="$c" -v script="$idle_script" -v teletype="$idle_teletype" -v profile="$idle_profile" \
+    awk -v name="$name" -v a="$a" -v b="$b" -v c="$c" -v script="$idle_script" -v teletype="$idle_teletype" -v profile="$idle_profile" \
         'BEGIN { a -= script; b -= teletype; c -= profile; printf "%-10s %8.3f %8.3f %8.3f %8.2f %8.2f\n", name, a, b, c, a / b, a / c }'
 done
 
@@ -39,6 +39,6 @@ for name in $names; do
     a=$(($({ cat "$name.start"; echo "GO $part"; } | instructions run V) - $(instructions run V <"$name.start")))
     b=$(($(instructions teletype "$name.bin" --start 00200 --steps $((part + 1)) </dev/null) - $(instructions teletype "$name.bin" --start 00200 --steps 1 </dev/null)))
     c=$(($(instructions profile "$name.bin" --start 00200 --steps $((part + 1))) - $(instructions profile "$name.bin" --start 00200 --steps 1)))
-    awk -v name=$name -v a=$a -v b=$b -v c=$c -v steps=$part \
+    awk -v name="$name" -v a="$a" -v b="$b" -v c="$c" -v steps="$part" \
         'BEGIN { printf "%-10s %8.2f %8.2f %8.2f\n", name, a / steps, b / steps, c / steps }'
 done

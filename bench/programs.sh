@@ -2,14 +2,15 @@
 # that run them: works in a fresh folder, with the tape of each and an image V for scripts. Takes palbart from Debian's packages where it
 # is missing.
 dpkg -s palbart >/dev/null 2>&1 || { apt-get update && apt-get install -y palbart; } >&2
+# shellcheck disable=SC2154  # each script that reads this one sets it
 "$top/prove" >/dev/null
 program=$top/crates/pdp8/out/pdp8
 
 folder=$(mktemp -d)
 trap 'rm -rf "$folder"' EXIT
 cp "$top"/bench/cpu/*.pal "$folder"
-cd "$folder"
-[ -z "${seed:-}" ] || "$top/bench/draw_programs.py" "$seed" ${rounds:-}
+cd "$folder" || exit
+[ -z "${seed:-}" ] || "$top/bench/draw_programs.py" "$seed" ${rounds:+"$rounds"}
 "$top/pdp8" create V 20 >/dev/null
 for source in *.pal; do
     palbart "$source" >/dev/null

@@ -1,6 +1,6 @@
 # The processor seconds of a command, the least of five runs. Read by the scripts beside it.
 seconds() {
-    local best= run
+    local best='' run
     for _ in 1 2 3 4 5; do
         TIMEFORMAT='%U %S'
         run=$({ time "$@" >/dev/null 2>&1; } 2>&1 | awk '{ printf "%.3f", $1 + $2 }')
@@ -11,9 +11,9 @@ seconds() {
 
 # The processor seconds of each of these commands, the least of so many runs of each, one after the other.
 alternate() {
-    local rounds=$1 best=() command round run k
+    local rounds=$1 best=() command run k
     shift
-    for round in $(seq "$rounds"); do
+    for _ in $(seq "$rounds"); do
         k=0
         for command in "$@"; do
             TIMEFORMAT='%U %S'

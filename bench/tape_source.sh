@@ -11,6 +11,7 @@ trap 'rm -rf "$folder"' EXIT
 
 # A tape of words for so many cells, from cell 00000 on.
 make_tape() {
+    # shellcheck disable=SC2059  # the octal escapes are the frames
     printf "$(awk -v words="$1" '
         function pair(mark, n) { printf "\\%03o\\%03o", mark + int(n / 64), n % 64; sum += mark + int(n / 64) + n % 64 }
         BEGIN {
@@ -35,4 +36,5 @@ make_tape 3277 >"$folder/short.bin"
 for tape in long short; do
     printf '%s %s\n' "$tape" "$(seconds write_sources "$folder/$tape.bin")"
 done | awk -v tags="$(cat "$folder/tags")" '{ printf "%5s tape: %.2f ms\n", $1, 1000 * $2 / 50 } END { printf "the short one has %d tags\n", tags }'
+# shellcheck disable=SC2046  # each start is two words
 seconds write_sources "$folder/long.bin" $(printf -- '--start %d0200 ' $(seq 0 7)) | awk '{ printf "from starts: %.2f ms\n", 1000 * $1 / 50 }'

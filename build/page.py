@@ -7,13 +7,22 @@ on, and makes no native object of it. Else, or with --unproved, it is made of th
 toolchain's clang and its linker make a WebAssembly module of either and of web/runtime.c. The foot of the page says which it is. A module
 is made again only where a source of the program, the toolchain, runtime.c or this file has changed. --proved refuses to make the other page.
 """
-import glob, hashlib, os, shutil, subprocess, sys, tempfile
+import glob
+import hashlib
+import os
+import shutil
+import subprocess
+import sys
+import tempfile
+from typing import Callable
 
 sys.dont_write_bytecode = True
-from crates import TOP, kit, toolchain
-from proved import MADE, PROGRAM, Wanted
-from unproved import Build, ready
-from working import Progress, lock, toolchain_with
+TOP = os.path.dirname(os.path.dirname(os.path.abspath(__file__)))
+sys.path.insert(0, TOP)
+from build.crates import kit, toolchain
+from build.proved import MADE, PROGRAM, Wanted
+from build.unproved import Build, ready
+from build.working import Progress, lock, toolchain_with
 
 # A call of it is `.. -c -x ir module.bc -o module.o ..`: the object, which nothing would use, stays empty.
 STAND_IN = """#!/bin/sh
@@ -37,32 +46,32 @@ UNPROVED = "built with checks of sources that were not proved here, and compiled
 class Page:
     """How the module of the page is made, of a program that is proved or not."""
 
-    def __init__(self, wanted, library):
+    def __init__(self, wanted: Wanted, library: Callable[[str], str] | None) -> None:
         self.wanted, self.library = wanted, library
         self.folder = f"{TOP}/target/wasm/{'proved' if library else 'unproved'}"
         self.work, self.made = f"{self.folder}/work", f"{self.folder}/{PROGRAM}.wasm"
 
-    def sum(self):
+    def sum(self) -> str:
         """The sum of all that the module is made of."""
         whole = hashlib.sha256((self.wanted.sums[PROGRAM] if self.library else Build(PROGRAM).sum).encode())
         for path in (f"{TOP}/web/runtime.c", os.path.abspath(__file__)):
             whole.update(open(path, "rb").read())
         return whole.hexdigest()
 
-    def is_current(self):
+    def is_current(self) -> bool:
         kept = f"{self.folder}/sum"
         return os.path.exists(self.made) and os.path.exists(kept) and open(kept, encoding="utf-8").read() == self.sum()
 
-    def run(self, words, folder=TOP):
+    def run(self, words: list[str], folder: str = TOP) -> None:
         """Runs a tool. Where it fails, what it says is shown, and that is the end."""
         ran = subprocess.run(words, cwd=folder, stdin=subprocess.DEVNULL, stdout=subprocess.PIPE, stderr=subprocess.STDOUT)
         if ran.returncode:
             sys.stderr.buffer.write(ran.stdout)
             sys.exit(70)
 
-    def object_of_proof(self):
-        """Compiles what was proved."""
-        words = [f"{toolchain()}/bin/rattle", "build", *self.wanted.all.words(PROGRAM, self.library)]
+    def object_of_proof(self, library: Callable[[str], str]) -> list[str]:
+        """Compiles what was proved, over its libraries."""
+        words = [f"{toolchain()}/bin/rattle", "build", *self.wanted.all.words(PROGRAM, library)]
         words += ["--jobs", str(len(os.sched_getaffinity(0))), "--cpu=x86-64", "-o", f"{self.work}/{PROGRAM}.o"]
         with toolchain_with(STAND_IN.format(module=f"{self.work}/{PROGRAM}.bc", clang=self.clang())) as tools:
             self.run([*words, "--toolchain", tools], f"{TOP}/crates/{PROGRAM}")
@@ -70,7 +79,7 @@ class Page:
         self.run([self.clang(), *WASM, *OF_MODULE, f"{self.work}/{PROGRAM}.bc", "-o", made])
         return [made]
 
-    def object_of_build(self):
+    def object_of_build(self) -> list[str]:
         """Has the linker compile the module of the build with checks, in parts, without what nothing reaches."""
         if ready(PROGRAM, to_module=True):
             sys.exit(70)
@@ -78,15 +87,15 @@ class Page:
         self.run([self.clang(), *WASM, "-O0", "-Xclang", "-disable-llvm-passes", "-emit-llvm", *OF_MODULE, Build(PROGRAM).module, "-o", made])
         return ["--lto-O3", f"--lto-partitions={len(os.sched_getaffinity(0))}", made]
 
-    def clang(self):
+    def clang(self) -> str:
         return f"{toolchain()}/toolchain/bin/clang"
 
-    def build(self):
+    def build(self) -> None:
         """Makes the module."""
         shutil.rmtree(self.folder, ignore_errors=True)
         os.makedirs(self.work)
         of = self.sum()
-        words = self.object_of_proof() if self.library else self.object_of_build()
+        words = self.object_of_proof(self.library) if self.library else self.object_of_build()
         self.run([self.clang(), *WASM, "-ffreestanding", "-fno-builtin", "-c", f"{TOP}/web/runtime.c", "-o", f"{self.work}/runtime.o"])
         with tempfile.TemporaryDirectory(prefix="pdp8-linker-") as tools:
             os.symlink(self.clang(), f"{tools}/wasm-ld")
@@ -95,7 +104,7 @@ class Page:
         with open(f"{self.folder}/sum", "w", encoding="utf-8") as kept:
             kept.write(of)
 
-    def lay(self, folder):
+    def lay(self, folder: str) -> None:
         """Lays all files of the page into a folder."""
         os.makedirs(f"{folder}/examples", exist_ok=True)
         for path in [it for kind in ("css", "js", "svg", "webmanifest") for it in glob.glob(f"{TOP}/web/*.{kind}")]:
@@ -109,7 +118,7 @@ class Page:
         shutil.copy(self.made, folder)
         self.list_files(folder)
 
-    def list_files(self, folder):
+    def list_files(self, folder: str) -> None:
         """Writes into sw.js which files the page has, which is what it keeps for a time without a network."""
         files = sorted(os.path.relpath(it, folder) for it in glob.glob(f"{folder}/**", recursive=True) if os.path.isfile(it))
         with open(f"{folder}/sw.js", encoding="utf-8") as script:
@@ -118,7 +127,7 @@ class Page:
             script.write(text.replace(FILES, ", ".join(f"'{it}'" for it in ["./", *files] if it != "sw.js")))
 
 
-def library_of(wanted):
+def library_of(wanted: Wanted) -> Callable[[str], str] | None:
     """Where the libraries lie of which the proved program was made: where build/proved.py keeps them, or where the toolchain's gate left
     them; nothing where the program is not proved as its sources stand."""
     below = [it for it in wanted.names if it != PROGRAM]
@@ -126,13 +135,16 @@ def library_of(wanted):
         return None
     if all(map(wanted.is_proved, below)):
         return wanted.library
-    left = lambda name: f"{TOP}/crates/{name}/out/rlib/{name}.rlib"
+
+    def left(name: str) -> str:
+        return f"{TOP}/crates/{name}/out/rlib/{name}.rlib"
+
     marks = [f"{left(it)}/format" for it in below]
     is_left = all(os.path.exists(it) and os.path.getmtime(it) <= os.path.getmtime(MADE) for it in marks)
     return left if is_left else None
 
 
-def main(words):
+def main(words: list[str]) -> int:
     which, folder = words if len(words) == 2 else ("", *words)
     wanted = Wanted()
     library = None if which == "--unproved" else library_of(wanted)

@@ -6,12 +6,20 @@ with a sum of all that the proof rests on, so that a run that was broken off goe
 source has its crate and those above it proved again. What is proved is shown on standard error; the log of a crate that fails is shown,
 and named. --status prints which program a call of ./pdp8 runs; the status is 0 where it is the proved one.
 """
-import hashlib, os, shlex, shutil, subprocess, sys, time
+import hashlib
+import os
+import shlex
+import shutil
+import subprocess
+import sys
+import time
 
 sys.dont_write_bytecode = True
-from crates import TOP, Crates, kit, toolchain
-from unproved import Build
-from working import Group, Progress, heed_signals, lock
+TOP = os.path.dirname(os.path.dirname(os.path.abspath(__file__)))
+sys.path.insert(0, TOP)
+from build.crates import Crates, kit, toolchain
+from build.unproved import Build
+from build.working import Group, Progress, heed_signals, lock
 
 PROGRAM = "pdp8"
 MADE = f"{TOP}/crates/{PROGRAM}/out/{PROGRAM}"
@@ -32,24 +40,24 @@ MEMORY_OF_A_JOB = 1_600_000
 class Wanted:
     """The crates that the program stands on, and itself, lowest first, with what is kept of each."""
 
-    def __init__(self):
+    def __init__(self) -> None:
         self.all = Crates()
         self.names = [*self.all.below(PROGRAM), PROGRAM]
         self.sums = {name: self.all.sum(name) for name in self.names}
 
-    def kept(self, name):
+    def kept(self, name: str) -> str:
         return f"{TOP}/crates/{name}/out/program"
 
-    def library(self, name):
+    def library(self, name: str) -> str:
         return f"{self.kept(name)}/{name}.rlib"
 
-    def mark(self, name):
+    def mark(self, name: str) -> str:
         """What is kept of a crate's proof: the sum of what it rests on, and of the program also the sum of its bytes."""
         if name != PROGRAM:
             return self.sums[name]
         return f"{self.sums[name]} {hashlib.sha256(open(MADE, 'rb').read()).hexdigest()}"
 
-    def is_proved(self, name):
+    def is_proved(self, name: str) -> bool:
         """Whether the crate was proved as it stands here."""
         try:
             is_there = name == PROGRAM or os.path.exists(self.library(name))
@@ -57,13 +65,13 @@ class Wanted:
         except OSError:
             return False
 
-    def keep(self, name):
+    def keep(self, name: str) -> None:
         """Notes that the crate is proved as it stands here."""
         os.makedirs(self.kept(name), exist_ok=True)
         with open(f"{self.kept(name)}/sum", "w", encoding="utf-8") as kept:
             kept.write(self.mark(name))
 
-    def command(self, name, jobs):
+    def command(self, name: str, jobs: int) -> list[str]:
         """What proves a crate, in its folder."""
         words = [f"{toolchain()}/bin/rattle", "build", *self.all.words(name, self.library), "--jobs", str(jobs)]
         if name != PROGRAM:
@@ -74,7 +82,7 @@ class Wanted:
         link += [f"{self.kept(name)}/{name}.o", *(f"{toolchain()}/c/{it}" for it in ("libos_c.a", "liblibc_c.a"))]
         return ["sh", "-c", f"{shlex.join(built)} && {shlex.join(link)}"]
 
-    def chain(self, name):
+    def chain(self, name: str) -> float:
         """The seconds of the longest chain of crates from this one up to the program."""
         above = [self.chain(it) for it in self.names if name in self.all.own[it]]
         return SECONDS.get(name, 30) + max(above, default=0)
@@ -83,7 +91,7 @@ class Wanted:
 class Proof:
     """The proof of one crate, as it runs."""
 
-    def __init__(self, wanted, name, jobs, group):
+    def __init__(self, wanted: Wanted, name: str, jobs: int, group: Group) -> None:
         self.wanted, self.name, self.jobs, self.begun = wanted, name, jobs, time.monotonic()
         self.log = f"{LOGS}/{name}.log"
         shutil.rmtree(wanted.kept(name), ignore_errors=True)
@@ -91,10 +99,10 @@ class Proof:
         with open(self.log, "wb") as log:
             self.run = group.start(wanted.command(name, jobs), cwd=f"{TOP}/crates/{name}", stdout=log, stderr=subprocess.STDOUT)
 
-    def has_ended(self):
+    def has_ended(self) -> bool:
         return self.run.poll() is not None
 
-    def has_proved(self):
+    def has_proved(self) -> bool:
         """Whether the crate is proved, which is then noted."""
         if self.run.returncode:
             return False
@@ -102,22 +110,22 @@ class Proof:
         return True
 
 
-def jobs_that_fit():
+def jobs_that_fit() -> int:
     """How many jobs of the prover the memory that is free holds."""
     found = [line.split()[1] for line in open("/proc/meminfo", encoding="utf-8") if line.startswith("MemAvailable:")]
     return max(1, int(found[0]) // MEMORY_OF_A_JOB)
 
 
-def share(wanted, ready, idle):
+def share(wanted: Wanted, ready: list[str], idle: int) -> tuple[str, int]:
     """The crate that is to be proved next, of those that are ready, and its jobs: the one with the longest chain above it goes first. A
     second job costs a prover nearly half its processor seconds again and gains it little time, so it gets only what no other crate waits
     for."""
     return max(ready, key=wanted.chain), max(1, idle // len(ready))
 
 
-def prove(wanted, progress, group):
+def prove(wanted: Wanted, progress: Progress, group: Group) -> Proof | None:
     """Proves all crates, each once those below it are proved. Returns the proof that failed, if one did."""
-    done, running = {it for it in wanted.names if wanted.is_proved(it)}, {}
+    done, running = {it for it in wanted.names if wanted.is_proved(it)}, dict[str, Proof]()
     processors, most = len(os.sched_getaffinity(0)), jobs_that_fit()
     while len(done) < len(wanted.names):
         ready = [it for it in wanted.names if it not in done and it not in running and done.issuperset(wanted.all.own[it])]
@@ -139,7 +147,7 @@ def prove(wanted, progress, group):
     return None
 
 
-def status(wanted):
+def status(wanted: Wanted) -> int:
     """Prints which program a call of ./pdp8 runs. The status is 0 where it is the proved one."""
     if wanted.is_proved(PROGRAM):
         print(f"./pdp8 runs the proved program ({kit()})")
@@ -151,7 +159,7 @@ def status(wanted):
     return 1
 
 
-def prove_program(wanted):
+def prove_program(wanted: Wanted) -> int:
     """Proves what is not proved yet and builds the program. The exit status."""
     progress = Progress()
     lock(f"{TOP}/build", progress, "another run proves the program: this one waits for it")
@@ -179,7 +187,7 @@ def prove_program(wanted):
     return 0
 
 
-def main(words):
+def main(words: list[str]) -> int:
     if words not in ([], ["--status"]):
         print("prove: usage: ./prove, or ./prove --status", file=sys.stderr)
         return 2

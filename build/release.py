@@ -2,11 +2,21 @@
 """release.py FOLDER: packs the proved program into an archive in a folder, with all that someone without the toolchain needs. Made twice of
 one commit, it has the same bytes: each file has the time of the commit, and no owner.
 """
-import gzip, hashlib, io, os, subprocess, sys, tarfile, tempfile
+import gzip
+import hashlib
+import io
+import os
+import subprocess
+import sys
+import tarfile
+import tempfile
+from typing import IO, cast
 
 sys.dont_write_bytecode = True
-from crates import TOP, kit
-from proved import MADE, PROGRAM, Wanted
+TOP = os.path.dirname(os.path.dirname(os.path.abspath(__file__)))
+sys.path.insert(0, TOP)
+from build.crates import kit
+from build.proved import MADE, PROGRAM, Wanted
 
 TEXT = """{version}: a PDP-8 programming system, proved
 
@@ -25,7 +35,7 @@ The program is proved with {kit}. The sum of all that its proof rests on, the to
 """
 
 
-def commit_time():
+def commit_time() -> int:
     """The time that each file of the archive has, in seconds: that of the commit, or SOURCE_DATE_EPOCH."""
     if os.environ.get("SOURCE_DATE_EPOCH", "").isdigit():
         return int(os.environ["SOURCE_DATE_EPOCH"])
@@ -33,10 +43,12 @@ def commit_time():
     return int(said) if said.isdigit() else 0
 
 
-def pack(folder, root, time):
+def pack(folder: str, root: str, time: int) -> bytes:
     """The bytes of an archive of all files below a folder, under the name `root`."""
     packed = io.BytesIO()
-    with gzip.GzipFile(fileobj=packed, mode="wb", mtime=time, filename="") as stream, tarfile.open(fileobj=stream, mode="w", format=tarfile.USTAR_FORMAT) as archive:
+    with gzip.GzipFile(fileobj=packed, mode="wb", mtime=time, filename="") as stream, tarfile.open(
+        fileobj=cast(IO[bytes], stream), mode="w", format=tarfile.USTAR_FORMAT
+    ) as archive:
         for at, folders, names in os.walk(folder):
             folders.sort()
             for name in sorted(names):
@@ -49,13 +61,13 @@ def pack(folder, root, time):
     return packed.getvalue()
 
 
-def run(words):
+def run(words: list[str]) -> None:
     """Runs a script of this folder. Where it fails, that is the end."""
     if subprocess.run([f"{TOP}/build/{words[0]}", *words[1:]]).returncode:
         sys.exit(70)
 
 
-def main(folder):
+def main(folder: str) -> int:
     wanted = Wanted()
     if not wanted.is_proved(PROGRAM):
         print("release: the program is not proved as its sources stand; ./prove proves it", file=sys.stderr)
@@ -65,7 +77,7 @@ def main(folder):
     with tempfile.TemporaryDirectory() as room:
         made = f"{room}/{root}"
         os.makedirs(f"{room}/scripts")
-        run(["lay", MADE, PROGRAM, f"{room}/scripts", made])
+        run(["lay.sh", MADE, PROGRAM, f"{room}/scripts", made])
         run(["page.py", "--proved", f"{made}/page"])
         with open(f"{made}/README.txt", "w", encoding="utf-8") as text:
             text.write(TEXT.format(version=version, kit=kit(), sum=wanted.sums[PROGRAM]))

@@ -1,68 +1,44 @@
 """The public clauses of the sources, and the definitions that they cite."""
-import glob, os, re
+import functools
+import os
+import re
 
-TOP = os.path.dirname(os.path.dirname(os.path.abspath(__file__)))
-HEAD = re.compile(r"(requires|ensures)\*?\s*\w*\s*\{|\n *\{|;\n|\{\}|\{\n|\bfn ")
-IMPORT = re.compile(r"ghost use Rattle\.(\w+)\.specs\.([\w.]+?)(?:\.\{([^}]*)\}| as (\w+));")
+from tests.rattle_sources import OF_DEFINITIONS, TOP, Source, crate_of, crates, files_of, source
 
-
-def source(path):
-    """A source file without its comments."""
-    return re.sub(r"//.*", "", open(path, encoding="utf-8").read())
+Cited = set[tuple[str, str, str]]
 
 
-def braced(text, at):
-    """The place behind the braces that open at a place."""
-    depth = 0
-    for k in range(at, len(text)):
-        depth += (text[k] == "{") - (text[k] == "}")
-        if not depth:
-            return k + 1
-    return len(text)
-
-
-def shown(crate):
+@functools.cache
+def shown(crate: str) -> tuple[frozenset[str], frozenset[str]]:
     """The names that a crate's root shows, and the modules that it shows whole."""
     root = f"{TOP}/crates/{crate}/src/lib.rt"
-    text = open(root, encoding="utf-8").read() if os.path.isfile(root) else ""
+    text = source(root).code if os.path.isfile(root) else ""
     names = {it.strip() for names in re.findall(r"pub use [\w:]+?(?:::)(?:\{([^}]*)\}|(?:\w+));", text) for it in names.split(",")}
     names |= set(re.findall(r"pub use [\w:]*::(\w+);", text))
-    return names, set(re.findall(r"pub mod (\w+);", text))
+    return frozenset(names), frozenset(re.findall(r"pub mod (\w+);", text))
 
 
-def contract(text, at):
-    """The clauses of the function whose head begins at a place."""
-    found = []
-    while clause := HEAD.search(text, at):
-        if not clause[1]:
-            break
-        at = braced(text, clause.end() - 1)
-        found.append(text[clause.end() : at])
-    return found
-
-
-def clauses(text, names, is_whole, has_views):
-    """The public clauses of a source file, as one text; with the `impl Model` of its types where these are asked for."""
-    found = []
-    for block in re.finditer(r"(?m)^(?:impl(?:<[^{]*?>)? (?:(\w+)(?:<[^{]*?>)? for )?(\w+)[^{]*|pub trait (\w+)[^{]*)\{", text):
-        end = braced(text, block.end() - 1)
-        if (block[2] or block[3]) in names:
-            body = text[block.end() : end]
-            if block[1] and (has_views or block[1] != "Model"):
-                # what the impl of a trait promises
-                found += [body[at.end() - 1 : braced(body, at.end() - 1)] for at in re.finditer(r"(?m)^    ghost \w+ = \{", body)]
-            for head in re.finditer(r"\bpub fn |\bfn " if block[1] or block[3] else r"\bpub fn ", body):
-                found += contract(body, head.end())
-    for head in re.finditer(r"(?m)^pub fn (\w+)", text):
-        if is_whole or head[1] in names:
-            found += contract(text, head.end())
+def clauses(file: Source, names: "set[str] | frozenset[str]", is_whole: bool, has_views: bool) -> str:
+    """The public clauses of a source, as one text; with the `impl Model` of its types where these are asked for."""
+    found: list[str] = []
+    for block in file.blocks:
+        if block.owner not in names:
+            continue
+        if block.trait and (has_views or block.trait != "Model"):
+            found += file.promises(block)
+        for function in file.functions:
+            if block.begin <= function.start < block.end and (function.is_public or block.trait or block.is_trait):
+                found += file.contract(function)
+    for function in file.functions:
+        if not function.indent and function.is_public and (is_whole or function.name in names):
+            found += file.contract(function)
     return "\n".join(found)
 
 
-def cited(path, public):
-    """The definitions that some clauses of a source file cite, each with its crate and module."""
-    ours, found = set(os.listdir(f"{TOP}/crates")), set()
-    for below, module, imported, alias in IMPORT.findall(source(path)):
+def cited(file: Source, public: str) -> Cited:
+    """The definitions that some clauses of a source cite, each with its crate and module."""
+    ours, found = set(crates()), set()
+    for below, module, imported, alias in OF_DEFINITIONS.findall(file.code):
         if below not in ours or module.startswith("declared"):
             continue
         if alias:
@@ -76,11 +52,11 @@ def cited(path, public):
     return found
 
 
-def all_cited():
+def all_cited() -> Cited:
     """The definitions that the public clauses of all crates cite."""
-    found = set()
-    for path in glob.glob(f"{TOP}/crates/*/src/**/*.rt", recursive=True):
-        crate = os.path.relpath(path, f"{TOP}/crates").split("/")[0]
-        names, whole = shown(crate)
-        found |= cited(path, clauses(source(path), names, os.path.basename(path)[:-3] in whole, True))
+    found: Cited = set()
+    for path in files_of("*"):
+        names, whole = shown(crate_of(path))
+        file = source(path)
+        found |= cited(file, clauses(file, names, os.path.basename(path)[:-3] in whole, True))
     return found

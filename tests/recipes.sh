@@ -3,6 +3,7 @@
 # Writes frames: `frames 200 102 000 > T`.
 frames() {
     local frame
+    # shellcheck disable=SC2059  # the octal escape is the frame
     for frame; do printf "\\$(printf %03o $((8#$frame)))"; done
 }
 

@@ -5,8 +5,8 @@ from __future__ import annotations
 from dataclasses import dataclass
 from functools import cache
 from typing import Optional
-from statements import Body, Statement, Stretch, Term, joined, statement_of, stretches
-from words import BLOCK_FRAMES, BLOCK_WORDS, text_of
+from tests.model.statements import Body, Statement, Stretch, Term, joined, statement_of, stretches
+from tests.model.words import BLOCK_FRAMES, BLOCK_WORDS, text_of
 
 PERMANENT = dict(
     AND=0o0000, TAD=0o1000, ISZ=0o2000, DCA=0o3000, JMS=0o4000, JMP=0o5000,
@@ -105,7 +105,7 @@ class Source:
         for term in terms:
             value: Optional[int] = self.place(at) if term.is_here else term.number
             if term.name:
-                value = (self.last_value if is_word else self.value)(term.name, at)
+                value = self.last_value(term.name, at) if is_word else self.value(term.name, at)
             if value is None:
                 return None
             value = value % 4096

@@ -1,10 +1,10 @@
 """Random cases: an image, and a script for it whose jobs' turns fall in any order."""
 from dataclasses import dataclass
 from random import Random
-from edges import cut_off, edge
-from sources import plain_text, source, tape
-from volume import Lot, made_image
-from words import BLOCK_WORDS, packed, parsed_name, stored_text
+from tests.model.edges import cut_off, edge
+from tests.model.sources import plain_text, source, tape
+from tests.model.volume import Lot, made_image
+from tests.model.words import BLOCK_WORDS, packed, parsed_name, stored_text
 
 PAUSING = ["S1.PA", "S2.PA"]
 SOURCES = ["S3.PA", "S4.PA", "S5.PA"]

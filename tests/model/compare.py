@@ -4,10 +4,10 @@ import subprocess
 import tempfile
 from dataclasses import dataclass
 from typing import Callable
-from cases import Case
-from system import Differs, System, Told
-from volume import Unsound, Volume, read_volume
-from words import shown_name
+from tests.model.cases import Case
+from tests.model.system import Differs, System, Told
+from tests.model.volume import Unsound, Volume, read_volume
+from tests.model.words import shown_name
 
 SECONDS = 60
 
@@ -110,8 +110,11 @@ def with_fewer_lines(case: Case, differs: Callable[[Case], bool]) -> Case:
             stored = b"STORE %s %d\n" % (name, len(lines)) + b"".join(lines)
             return Case(case.image, case.entries[:at] + [stored] + case.entries[at + 1 :])
 
+        def still_differs(it: Case, make: Callable[[list[bytes]], Case] = with_lines) -> bool:
+            return differs(make(it.entries))
+
         lines = re.findall(rb"[^\n]*\n", text)
-        fewer = without_some(Case(b"", lines), lambda it, make=with_lines: differs(make(it.entries)))
+        fewer = without_some(Case(b"", lines), still_differs)
         if differs(with_lines(fewer.entries)):
             case = with_lines(fewer.entries)
     return case

@@ -75,7 +75,7 @@ def held_image(random: Random, image: bytes) -> Held:
     return Held(layout, image)
 
 
-def wrong_size(random: Random) -> Optional[tuple[Held, str]]:
+def wrong_size(random: Random) -> tuple[Held, str]:
     """A file of a size that its layout can't have, and the line of that."""
     layout = random.choice(["1", "2", "tape"])
     if layout == "tape":

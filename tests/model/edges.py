@@ -2,8 +2,8 @@
 import re
 from random import Random
 from typing import Iterator
-from script import Entry
-from words import BLOCK_FRAMES
+from tests.model.script import Entry
+from tests.model.words import BLOCK_FRAMES
 
 LIMITS = [0, 1_000_000, 1_000_001]
 HALTING = ["DEPOSIT 30200 7402"]

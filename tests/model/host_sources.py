@@ -3,10 +3,10 @@ from __future__ import annotations
 
 import re
 from dataclasses import dataclass
-from assembler import PERMANENT, Pair, Source
-from statements import Joined, Statement, is_live, joined
-from tape import tape_of
-from words import octal
+from tests.model.assembler import PERMANENT, Pair, Source
+from tests.model.statements import Joined, Statement, is_live, joined
+from tests.model.tape import tape_of
+from tests.model.words import octal
 
 WORDS = dict(
     IC="illegal character", SY="bad statement", NU="bad number", UA="undefined name", DT="duplicate tag", RD="redefinition",
@@ -76,8 +76,10 @@ class HostSources:
 
     def undefined(self, at: int) -> str:
         """The first name of a statement, from the left, that stands for nothing there."""
-        value = self.source.last_value if self.source.is_word(at) else self.source.value
-        return next(it.name for it in self.source.said[at].body.terms if it.name and value(it.name, at) is None)
+        source = self.source
+        names = [it.name for it in source.said[at].body.terms if it.name]
+        is_word = source.is_word(at)
+        return next(it for it in names if (source.last_value(it, at) if is_word else source.value(it, at)) is None)
 
     def first_pass(self) -> Fault | None:
         source = self.source

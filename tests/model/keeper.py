@@ -4,8 +4,8 @@ import fnmatch
 import re
 from dataclasses import dataclass, replace
 from typing import Optional, Union
-from volume import File, Run, Volume
-from words import Name, frames_of, octal, packed, parsed_name, shown_name, shown_word, stored_host_text, text_of
+from tests.model.volume import File, Run, Volume
+from tests.model.words import Name, frames_of, octal, packed, parsed_name, shown_name, shown_word, stored_host_text, text_of
 
 FULL = "? 4.3 DIRECTORY FULL"
 BAD_NAME = "? 4.5 BAD NAME"
@@ -158,7 +158,7 @@ class Keeper:
         self.volumes[image] = volume
         return [f"SQUEEZED {moved}"], 0
 
-    def list(self, image: str) -> Answer:
+    def list_short(self, image: str) -> Answer:
         volume, places = self.volumes[image], self.volumes[image].places
         lines = [f"{shown_name(name)} {file.blocks}" + ("" if can_be_typed(name) else f" AT {places[name]}") for name, file in sorted(volume.files.items())]
         return [*lines, f"FREE {volume.capacity - volume.used}"], 0

@@ -1,6 +1,6 @@
 """The source of a tape from where a program starts, by its definition: each line with its comments, and the empty lines."""
 from typing import Callable, Optional
-from words import octal
+from tests.model.words import octal
 
 FIELD, PAGE = 0o10000, 0o200
 TEXT = {*range(1, 0o33), *range(0o60, 0o72), 0o40, 0o41, 0o54, 0o55, 0o56, 0o77}
@@ -43,8 +43,8 @@ class Listing:
     def statement(self, cell: int) -> str:
         word = self.words[cell]
         if cell not in self.code:
-            named = self.tag(cell // FIELD * FIELD + word) if word else None
-            return named or octal(word, 4)
+            tag = self.tag(cell // FIELD * FIELD + word) if word else None
+            return tag or octal(word, 4)
         named = referred(cell, word)
         if named is None:
             return self.spelled[word] if word >= 0o6000 else octal(word, 4)

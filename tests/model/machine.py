@@ -1,7 +1,7 @@
 """The PDP-8/I with MC8 extended memory and a Teletype, by the tables of the handbook."""
 import json
 from typing import Optional
-from words import octal
+from tests.model.words import octal
 
 HALT, UNASSIGNED, BREAK, LIMIT = "HALT", "UNASSIGNED", "BREAK", "LIMIT"
 

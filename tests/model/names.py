@@ -2,9 +2,9 @@
 import re
 from random import Random
 from typing import Optional
-from assembler import PERMANENT
-from statements import RESERVED
-from words import octal
+from tests.model.assembler import PERMANENT
+from tests.model.statements import RESERVED
+from tests.model.words import octal
 
 Names = dict[int, str]
 """The names of cells."""

@@ -8,9 +8,9 @@ first, and a pool is the list of all that was asked of its page.
 from __future__ import annotations
 
 from dataclasses import dataclass, field, replace
-from typing import Optional, Union
+from typing import Callable, Optional, TypeVar, Union
 
-from assembler import PERMANENT
+from tests.model.assembler import PERMANENT
 
 OPERATIONS = ("AND", "TAD", "ISZ", "DCA", "JMS", "JMP")
 SOFT = dict(
@@ -204,9 +204,9 @@ def name_in(token: Token) -> Optional[str]:
     return token.text[:6] if token.kind == "run" and token.text[0].isalpha() else None
 
 
-def free_name(token: Token) -> Optional[str]:
+def free_name(token: Token) -> str:
     name = name_in(token)
-    return None if name in RESERVED else name
+    return "" if not name or name in RESERVED else name
 
 
 class Reader:
@@ -280,7 +280,10 @@ class Reader:
         return Reference(operation, is_indirect, None)
 
 
-def whole(read, reader: Reader):
+Read = TypeVar("Read")
+
+
+def whole(read: Callable[[], Read], reader: Reader) -> Read:
     """What a reader reads, where nothing is left after it."""
     value = read()
     if reader.tokens:
@@ -329,7 +332,7 @@ def said(statement: Statement, radix: int) -> tuple[list[str], Body]:
     tokens = statement.tokens
     if any(token.kind == "bad" for token in tokens):
         raise Fault("IC")
-    tags, rest = [], tokens
+    tags, rest = list[Token](), tokens
     while len(rest) > 1 and rest[1] == Token("sign", ","):
         tags, rest = tags + [rest[0]], rest[2:]
     names_file = rest and name_in(rest[0]) in ("FILENA", "DEVICE")
@@ -437,8 +440,10 @@ class Source:
         if form in ("DECIMA", "OCTAL"):
             self.radix = 10 if form == "DECIMA" else 8
         elif form == "origin":
+            assert value is not None
             self.location = value
         elif form == "FIELD":
+            assert value is not None
             if value > 7:
                 raise Fault("FD")
             self.field, self.location = value, 0o200
@@ -447,8 +452,9 @@ class Source:
                 raise Fault("PG")
             self.location = -(-self.location // 0o200) * 0o200 if value is None else 0o200 * value
         elif form == "definition":
+            assert value is not None
             self.define(now, value)
-        now.size = {"word": 1, "TEXT": len(now.body.string) // 2 + 1, "ZBLOCK": value}.get(form, 0)
+        now.size = {"word": 1, "TEXT": len(now.body.string) // 2 + 1, "ZBLOCK": value or 0}.get(form, 0)
         self.location += now.size
         if form in ("IFDEF", "IFNDEF"):
             return (self.value_before(now.body.name, now) is not None) == (form == "IFDEF")
@@ -471,7 +477,7 @@ class Source:
                 if now.location >= CORE_END:
                     raise Fault("PF")
                 return now.location
-            found = self.value_before(term, now)
+            found = None if isinstance(term, Literal) else self.value_before(term, now)
             if found is None:
                 raise Fault("UA")
             return found
@@ -494,7 +500,7 @@ class Source:
         return None
 
 
-def sum_of(expression: Expression, of_term) -> int:
+def sum_of(expression: Expression, of_term: Callable[[Term], int]) -> int:
     """All operators have one rank, from left to right from 0, and each step gives twelve bits."""
     total = 0
     for operator, term in expression.parts:
@@ -554,6 +560,7 @@ class Words:
 
     def words_of(self, now: Judged, k: int) -> list[int]:
         if now.body.form == "word":
+            assert now.body.value
             return [self.value(now.body.value, now, k)]
         if now.body.form == "ZBLOCK":
             return [0] * now.size

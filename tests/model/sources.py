@@ -1,7 +1,7 @@
 """Random texts for the files of scripts: PAL III sources that have each fault now and then, plain texts, and tapes."""
 from random import Random
-from tape import TapeFault, meaning_of, tape_of
-from words import BLOCK_FRAMES
+from tests.model.tape import TapeFault, meaning_of, tape_of
+from tests.model.words import BLOCK_FRAMES
 
 VALUES = ["A", "B", "C", "ONE", "COUNT", "LONGNAME"]
 TAGS = ["LOOP", "X1", "NEXT", "END", "BACKWARDS", "T2", "TAGTAG"]

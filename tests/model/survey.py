@@ -1,8 +1,8 @@
 """What `check --all` tells of a directory, sound or not, by its definition: each fault in the order in which it is met, each entry, and the
 blocks that two entries claim; and images whose directories are damaged."""
 from random import Random
-from volume import FIRST_ENTRY, words_of_image
-from words import BLOCK_WORDS, shown_name
+from tests.model.volume import FIRST_ENTRY, words_of_image
+from tests.model.words import BLOCK_WORDS, shown_name
 
 PAST_VOLUME, SAME_NAME = "? DIRECTORY 4 PAST VOLUME", "? DIRECTORY 5 SAME NAME"
 

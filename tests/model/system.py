@@ -5,13 +5,13 @@ from __future__ import annotations
 from collections import Counter
 from dataclasses import dataclass, field
 from typing import Optional
-from assembler import Fault, assembled
-from edges import met_at, met_by
-from machine import Machine
-from script import Entry, entries_of
-from tape import TapeFault, meaning_of, tape_of
-from volume import File, Volume
-from words import BLOCK_FRAMES, Name, frames_of, octal, packed, parsed_name, shown_name, stored_text
+from tests.model.assembler import Fault, assembled
+from tests.model.edges import met_at, met_by
+from tests.model.machine import Machine
+from tests.model.script import Entry, entries_of
+from tests.model.tape import TapeFault, meaning_of, tape_of
+from tests.model.volume import File, Volume
+from tests.model.words import BLOCK_FRAMES, Name, frames_of, octal, packed, parsed_name, shown_name, stored_text
 
 FULL = "? 4.3 DIRECTORY FULL"
 

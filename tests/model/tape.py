@@ -2,7 +2,7 @@
 from __future__ import annotations
 
 from dataclasses import dataclass
-from words import octal
+from tests.model.words import octal
 
 LEADER = [0o200] * 16
 

@@ -1,9 +1,9 @@
 """A machine at a terminal, by the definitions: keys are struck where the program asks for one, and what is printed is shown."""
 from dataclasses import dataclass
 from typing import Iterator, Optional
-from machine import HALT, LIMIT, UNASSIGNED, Machine
-from tape import TapeFault, meaning_of
-from words import octal
+from tests.model.machine import HALT, LIMIT, UNASSIGNED, Machine
+from tests.model.tape import TapeFault, meaning_of
+from tests.model.words import octal
 
 KEYS = "KEYS"
 TENTH_OF_A_SECOND = 30000

@@ -1,7 +1,7 @@
 """The lines of a trace and of a profile, by their definitions: a line for each step of a machine at a terminal, and how often each cell
 was fetched."""
-from terminal import Sitting, begun, start_note, steps
-from words import octal
+from tests.model.terminal import Sitting, begun, start_note, steps
+from tests.model.words import octal
 
 OPERATIONS = ["AND", "TAD", "ISZ", "DCA", "JMS", "JMP"]
 INTERRUPT = "INTERRUPT"

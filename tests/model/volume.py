@@ -3,7 +3,7 @@ import sys
 from array import array
 from dataclasses import dataclass
 from typing import Optional
-from words import BLOCK_WORDS, Name
+from tests.model.words import BLOCK_WORDS, Name
 
 FIRST_ENTRY = 5
 
@@ -161,7 +161,7 @@ class Lot:
 
 def pieces_of(lots: list[Lot], info: int) -> list[list[Lot]]:
     """The lots of each segment, as many as it has words for: where many are free, more than a change may write."""
-    pieces, room = [], 0
+    pieces, room = list[list[Lot]](), 0
     for lot in lots:
         size = 5 + info if lot.name else 2
         if size > room:

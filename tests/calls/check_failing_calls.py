@@ -1,0 +1,239 @@
+#!/usr/bin/env python3
+"""check_failing_calls.py: what the program leaves where a call of the host fails, or something happens just before or after one: another program makes the
+name, the program is killed, the disk refuses. A library that is laid before the host's meets one call of a whole run. The last line is
+'N passed, M failed'.
+
+usage: check_failing_calls.py [--program FILE]
+"""
+import errno
+import os
+import subprocess
+import sys
+import tempfile
+from typing import Callable
+
+HERE = os.path.dirname(os.path.abspath(__file__))
+TOP = os.path.dirname(os.path.dirname(HERE))
+PROGRAM = os.path.abspath(sys.argv[sys.argv.index("--program") + 1] if "--program" in sys.argv else f"{TOP}/crates/pdp8/out/pdp8")
+KILLED = -9
+BUSY = "error: another program works on the image\n? HOST BUSY\n"
+AS_IT_WAS = "error: the image is not written: the file is as it was\n? HOST WRITE\n"
+
+
+class Room:
+    """A folder with the program, and runs in it of which one call is met."""
+
+    def __init__(self, folder: str, library: str) -> None:
+        self.folder, self.library = folder, library
+
+    def sh(self, command: str) -> str:
+        """What a shell says that runs a command here."""
+        run = subprocess.run(["sh", "-c", command], cwd=self.folder, capture_output=True, text=True, timeout=60)
+        return run.stdout + run.stderr
+
+    def pdp8(self, *words: str, call: str = "", number: int = 1, before: str = "", error: int = 0, after: str = "", given: str = "") -> tuple[int, str]:
+        """The status of a run, and what it said on standard error and then on standard output. At the call of this number the command
+        before it is run, then it fails with the error, or else the command after it is run; what that says is in the file `said`."""
+        met = {"CALL": call, "NUMBER": str(number), "BEFORE": before, "ERROR": str(error), "AFTER": after}
+        open(f"{self.folder}.log", "w", encoding="utf-8").close()
+        met |= {"LD_PRELOAD": self.library, "LOG": f"{self.folder}.log"}
+        run = subprocess.run(["./pdp8", *words], cwd=self.folder, env={**os.environ, **met}, input=given, capture_output=True, text=True, timeout=20)
+        return run.returncode, run.stderr + run.stdout
+
+    def calls(self) -> list[str]:
+        """The calls of the last run but those that open a file."""
+        with open(f"{self.folder}.log", encoding="utf-8") as log:
+            return [call for call in log.read().split("\n")[:-1] if not call.startswith("open ")]
+
+    def names(self) -> list[str]:
+        """The names in the folder but the program's."""
+        return sorted(set(os.listdir(self.folder)) - {"pdp8", "said"})
+
+
+Test = Callable[[Room], None]
+CASES: list[Test] = []
+
+
+def case(test: Test) -> Test:
+    CASES.append(test)
+    return test
+
+
+def holds(found: object, wanted: object) -> None:
+    assert found == wanted, f"{found!r}, not {wanted!r}"
+
+
+@case
+def a_name_that_comes_after_the_look_is_not_written_over(room: Room) -> None:
+    other = "./pdp8 create V 30; echo A | ./pdp8 put V - --as A --text"
+    holds(room.pdp8("create", "V", "20", call="realpath", after=other), (1, BUSY))
+    holds(room.sh("./pdp8 get V A --text; stat -c %s V"), "A\n15360\n")
+    holds(room.names(), ["V"])
+
+
+@case
+def a_name_that_comes_before_the_naming_is_not_written_over(room: Room) -> None:
+    holds(room.pdp8("create", "V", "20", call="link", before="./pdp8 create V 30"), (1, BUSY))
+    holds(room.sh("stat -c %s V"), "15360\n")
+    holds(room.names(), ["V"])
+
+
+@case
+def a_tape_is_not_written_over_a_file_that_comes_after_the_look(room: Room) -> None:
+    said = room.pdp8("assemble", "-", "--output", "T", given="1\n$", call="realpath", after="echo mine > T")
+    holds(said, (1, "error: another program works on the tape\n? HOST BUSY\n"))
+    holds(room.sh("cat T"), "mine\n")
+
+
+@case
+def a_link_that_leads_to_no_file_gets_one_whole_or_none(room: Room) -> None:
+    room.sh("mkdir far; ln -s far/next link; ln -s ../V far/next")
+    refused = room.pdp8("create", "link", "20", call="fsync", error=errno.EIO)
+    holds((refused, room.names()), ((1, AS_IT_WAS), ["far", "link"]))
+    holds(room.pdp8("create", "link", "20"), (0, "CREATED 20\n"))
+    holds(room.sh("readlink link; readlink far/next; ls -A far; stat -c %s V"), "far/next\n../V\nnext\n10240\n")
+    holds(room.names(), ["V", "far", "link"])
+
+
+@case
+def a_file_that_comes_where_a_link_leads_is_not_written_over(room: Room) -> None:
+    room.sh("ln -s V link")
+    holds(room.pdp8("create", "link", "20", call="link", before="./pdp8 create V 30"), (1, BUSY))
+    holds(room.sh("stat -c %s V"), "15360\n")
+    holds(room.names(), ["V", "link"])
+
+
+@case
+def links_that_lead_to_each_other_get_no_file(room: Room) -> None:
+    room.sh("ln -s b a; ln -s a b")
+    holds(room.pdp8("create", "a", "20"), (1, AS_IT_WAS))
+    holds(room.names(), ["a", "b"])
+
+
+@case
+def a_second_name_that_a_killed_program_left_is_taken_away(room: Room) -> None:
+    holds(room.pdp8("create", "V", "20", call="link", after="kill -9 $PPID")[0], KILLED)
+    holds(room.names(), [".V.pdp8-000", "V"])
+    was = room.sh("stat -c %i V")
+    holds(room.sh("echo A | ./pdp8 put V - --as A"), "STORED A 1\n")
+    assert room.sh("stat -c %i V") != was, "the image is written in its place"
+    holds(room.names(), ["V"])
+
+
+@case
+def another_file_beside_an_image_stays(room: Room) -> None:
+    room.sh("./pdp8 create V 20; echo mine > .V.pdp8-000; ln V .V.pdp8-001; ln V .V.pdp8-999; ln .V.pdp8-000 mine")
+    holds(room.sh("echo A | ./pdp8 put V - --as A"), "STORED A 1\n")
+    holds(room.names(), [".V.pdp8-000", "V", "mine"])
+
+
+@case
+def a_writer_comes_in_only_once_a_new_image_has_one_name(room: Room) -> None:
+    holds(room.pdp8("create", "V", "20", call="unlink", before="./pdp8 squeeze V"), (0, "CREATED 20\n"))
+    holds(room.sh("cat said"), BUSY)
+    holds(room.names(), ["V"])
+
+
+@case
+def a_file_that_gets_no_number_of_its_own_is_taken_away(room: Room) -> None:
+    holds(room.pdp8("create", "V", "20", call="dup", error=errno.EMFILE), (1, AS_IT_WAS))
+    holds(room.names(), [])
+    room.sh("./pdp8 create V 20; echo A | ./pdp8 put V - --as A")
+    holds(room.pdp8("get", "V", "A", "--into", "F", call="dup", error=errno.EMFILE), (1, "A: ? HOST WRITE\n"))
+    holds(room.sh("ls -A F"), "")
+
+
+@case
+def a_file_system_without_further_names_gets_new_files(room: Room) -> None:
+    said = room.pdp8("create", "V", "20", call="link", before="./pdp8 create V 30", error=errno.EPERM)
+    holds((said, room.sh("stat -c %s V")), ((1, BUSY), "15360\n"))
+    holds(room.pdp8("create", "W", "20", call="link", error=errno.EPERM), (0, "CREATED 20\n"))
+    holds((room.names(), room.sh("stat -c %s W")), (["V", "W"], "10240\n"))
+
+
+@case
+def an_image_that_is_written_is_held_before_anything_is_read(room: Room) -> None:
+    room.sh("./pdp8 create V 20; ./pdp8 create W 20; echo A | ./pdp8 put W - --as A; echo B > B.TX; echo C > C.TX")
+    for call, words in {"B.TX": ("put", "V", "B.TX", "C.TX"), "W": ("copy", "W", "A", "V")}.items():
+        status, _ = room.pdp8(*words, call=f"open {call}", before="./pdp8 delete V A")
+        holds((status, room.sh("cat said")), (0, BUSY))
+    holds(room.sh("./pdp8 list V"), "A 1\nB.TX 1\nC.TX 1\nFREE 10\n")
+
+
+NOT_SYNCED = "note: the image is written, but its folder is not synced: whether a crash keeps it isn't known\n"
+
+
+@case
+def a_new_image_and_its_name_are_on_the_disk_before_that_is_said(room: Room) -> None:
+    room.pdp8("create", "V", "20")
+    holds(room.calls(), ["realpath", "dup", "write", "fsync", "link", "unlink", "fsync folder", "print"])
+    room.pdp8("put", "V", "-", "--as", "A", given="A")
+    holds(room.calls(), ["realpath", "dup", "dup", "dup", "write", "fsync", "rename", "fsync folder", "print"])
+    room.pdp8("run", "--keep", "V", given="STORE B 0\nSTORE C 0\n")
+    saved = ["dup", "write", "fsync", "rename", "fsync folder"]
+    holds(room.calls(), ["realpath", "dup", "dup", *saved, *saved, "print"])
+    room.pdp8("assemble", "-", "--output", "T", given="1\n$")
+    holds(room.calls(), ["realpath", "dup", "write", "fsync", "link", "unlink", "fsync folder"])
+
+
+@case
+def a_folder_that_is_not_synced_is_told(room: Room) -> None:
+    def lost(*words: str, given: str = "", number: int = 1) -> tuple[int, str]:
+        return room.pdp8(*words, given=given, number=number, call="fsync folder", error=errno.EIO)
+
+    holds(lost("create", "V", "20"), (0, f"{NOT_SYNCED}CREATED 20\n"))
+    holds(lost("put", "V", "-", "--as", "A", given="A"), (0, f"{NOT_SYNCED}STORED A 1\n"))
+    holds(lost("run", "--keep", "V", given="STORE B 0\nSTORE C 0\n"), (0, f"{NOT_SYNCED}STORED B 1\nSTORED C 1\n"))
+    holds(room.sh("./pdp8 list V"), "A 1\nB 1\nC 1\nFREE 10\n")
+    words = ("assemble", "-", "--list", "L", "--output", "T")
+    holds(lost(*words, given="1\n$"), (0, NOT_SYNCED.replace("image", "listing")))
+    holds(lost(*words, given="1\n$", number=2), (0, NOT_SYNCED.replace("image", "tape")))
+    room.sh("mkdir blind; mv V blind; chmod 333 blind")
+    holds(lost("assemble", "-", "--output", "T", given="1\n$"), (0, NOT_SYNCED.replace("image", "tape")))
+
+
+TAPE = bytes([0o200, 0o102, 0, 0, 1, 1, 3, 0o200])
+WRITERS = {
+    ("tape",): TAPE, ("source",): TAPE, ("rim",): b"\x80\x42\0\0\1\x80", ("assemble", "-"): b"1\n$",
+    ("teletype", "T"): b"", ("trace", "T"): b"", ("profile", "T"): b"", ("run", "V"): b"DIRECT\n", ("list", "V"): b"", ("list", "V", "--long"): b"",
+    ("check", "V"): b"", ("check", "V", "W"): b"", ("check", "V", "--all"): b"", ("get", "V", "A"): b"", ("get", "V", "--blocks", "1", "1"): b"",
+    ("get", "V", "A", "--into", "F", "--force"): b"", ("put", "V", "-", "--as", "B"): b"B", ("rename", "V", "A", "C"): b"", ("copy", "V", "A", "W"): b"",
+    ("delete", "V", "A"): b"", ("squeeze", "V"): b"", ("create", "N", "8"): b"", ("list", "none"): b"", ("--help",): b"", ("--version",): b"",
+}
+
+
+@case
+def output_that_takes_no_more_is_told_by_all_commands_alike(room: Room) -> None:
+    full, reader_gone = os.open("/dev/full", os.O_WRONLY), os.pipe()
+    os.close(reader_gone[0])
+    found = {}
+    for words, given in WRITERS.items():
+        for output, wanted in ((full, (1, b"? 9 WRITER\n")), (reader_gone[1], (141, b""))):
+            room.sh("rm -f N; ./pdp8 create V 20; echo A | ./pdp8 put V - --as A; ./pdp8 create W 20; ./pdp8 assemble --output T - <<.\nCLA;TAD C;TLS;JMP .-1;C, 301\n$\n.\n")
+            run = subprocess.run(["./pdp8", *words], cwd=room.folder, input=given, stdout=output, stderr=subprocess.PIPE, timeout=20)
+            if (run.returncode, run.stderr) != wanted:
+                found[words, wanted] = (run.returncode, run.stderr)
+    holds(found, {})
+
+
+def main() -> int:
+    passed, failed = 0, 0
+    with tempfile.TemporaryDirectory(prefix="pdp8-calls-") as work:
+        library = f"{work}/meet.so"
+        subprocess.run(["cc", "-shared", "-fPIC", "-o", library, f"{HERE}/meet.c", "-ldl"], check=True)
+        for test in CASES:
+            folder = f"{work}/{test.__name__}"
+            os.mkdir(folder)
+            os.symlink(PROGRAM, f"{folder}/pdp8")
+            try:
+                test(Room(folder, library))
+                passed += 1
+            except AssertionError as fault:
+                failed += 1
+                print(f"{test.__name__}: {fault}")
+    print(f"{passed} passed, {failed} failed")
+    return 1 if failed else 0
+
+
+if __name__ == "__main__":
+    sys.exit(main())

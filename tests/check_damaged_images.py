@@ -1,0 +1,148 @@
+#!/usr/bin/env python3
+"""check_damaged_images.py: what the commands make of damaged images. A volume with files has words changed, blocks exchanged, emptied or copied, is cut or
+goes on; then each command works on it. None breaks off. One that looks, or is refused, leaves each byte as it was; behind one that
+writes, each file that could be got before, and that it doesn't name, is got as before. The last line is 'N passed, M failed', each
+image being one.
+
+usage: check_damaged_images.py [--program FILE] [--images N] [--seed N]
+"""
+import concurrent.futures
+import os
+import random
+import subprocess
+import sys
+import tempfile
+
+TOP = os.path.dirname(os.path.dirname(os.path.abspath(__file__)))
+BLOCK = 512
+
+
+def option(name: str, value: str) -> str:
+    return sys.argv[sys.argv.index(name) + 1] if name in sys.argv else value
+
+
+PROGRAM = os.path.abspath(option("--program", f"{TOP}/crates/pdp8/out/pdp8"))
+IMAGES = int(option("--images", "100"))
+SEED = int(option("--seed", "1"))
+# A script that writes, with the names that it may change.
+SCRIPT = b"DELETE C.TX\nSTORE NEW.TX 2\nONE\nTWO\nSQUEEZE\nFINISH\nDIRECT\n"
+NAMED = {"C.TX", "NEW.TX"}
+
+
+def pdp8(*words: str, given: bytes = b"") -> tuple[int, bytes]:
+    """A command's status and output; one that breaks off or hangs is an exception."""
+    run = subprocess.run([PROGRAM, *words], input=given, stdout=subprocess.PIPE, stderr=subprocess.DEVNULL, timeout=20)
+    if run.returncode not in (0, 1):
+        raise AssertionError(f"{' '.join(words)} ended with status {run.returncode}")
+    return run.returncode, run.stdout
+
+
+def volume(folder: str) -> bytes:
+    """The bytes of a volume with files of several lengths, and gaps."""
+    name = f"{folder}/whole"
+    pdp8("create", name, "80")
+    for k, letter in enumerate("ABCDEFGHIJ"):
+        pdp8("put", name, "-", "--as", f"{letter}.TX", "--text", given=f"{letter} {'.' * 60}\n".encode() * (7 * k + 1))
+    pdp8("run", name, given=b"DELETE B.TX\nDELETE F.TX\n")
+    return open(name, "rb").read()
+
+
+def damage(whole: bytes, chance: random.Random) -> bytes:
+    """The bytes with one to four kinds of damage, half of them in the directory, blocks 1 to 6."""
+    image = bytearray(whole)
+    for _ in range(chance.choice((1, 1, 1, 2, 3, 4))):
+        blocks = max(1, len(image) // BLOCK)
+        at = chance.choice((1, chance.randrange(1, 7), *[chance.randrange(blocks)] * 2)) % blocks * BLOCK
+        kind = chance.randrange(7)
+        if kind == 0:
+            image[at : at + BLOCK] = bytes(BLOCK)
+        elif kind == 1:
+            other = chance.randrange(blocks) * BLOCK
+            image[at : at + BLOCK] = image[other : other + BLOCK].ljust(BLOCK, b"\0")
+        elif kind == 2:
+            del image[chance.randrange(len(image) + 1) :]
+        elif kind == 3:
+            image += bytes(chance.randrange(1, 3 * BLOCK))
+        else:
+            for _ in range(chance.choice((1, 1, 2, 8))):
+                place = at + 2 * chance.choice((*range(5, 12), *[chance.randrange(256)] * 7))
+                if place + 1 < len(image):
+                    image[place : place + 2] = chance.randrange(65536 if kind == 4 else 4096).to_bytes(2, "little")
+    return bytes(image)
+
+
+class Damaged:
+    """A damaged image in a file of its own."""
+
+    def __init__(self, folder: str, number: int, whole: bytes) -> None:
+        self.name = f"{folder}/{number}"
+        self.write(damage(whole, random.Random(f"{SEED} {number}")))
+
+    def write(self, image: bytes) -> None:
+        self.image = image
+        with open(self.name, "wb") as file:
+            file.write(image)
+
+    def frames(self) -> bytes:
+        return open(self.name, "rb").read()
+
+    def looks(self, *words: str, given: bytes = b"") -> tuple[int, bytes]:
+        """What a command prints that is to leave the image alone."""
+        answer = pdp8(*words, given=given)
+        if self.frames() != self.image:
+            raise AssertionError(f"{words[0]} changed the image")
+        return answer
+
+    def held(self) -> dict[str, bytes] | None:
+        """The files that can be got, with their frames, or none where the directory isn't sound."""
+        status, listed = self.looks("list", self.name)
+        if status:
+            return None
+        names = [line.split()[0].decode() for line in listed.splitlines() if not line.startswith(b"FREE")]
+        got = {name: self.looks("get", self.name, "--", name) for name in names}
+        return {name: frames for name, (status, frames) in got.items() if not status}
+
+    def writes(self, named: set[str], *words: str, given: bytes) -> None:
+        """Whether a command that may write keeps what it doesn't name."""
+        before = self.held()
+        status, told = pdp8(*words, given=given)
+        after = self.frames()
+        if (before is None or (words[0] == "put" and status)) and after != self.image:
+            raise AssertionError(f"{words[0]} was refused and changed the image")
+        self.write(after)
+        if before is not None:
+            held = self.held() or {}
+            lost = [name for name, frames in before.items() if name not in named and held.get(name) != frames]
+            if lost:
+                raise AssertionError(f"{words[0]} lost {', '.join(lost)}")
+            if words[0] == "put" and not status and self.looks("get", self.name, "NEW.TX", "--text")[1] != given:
+                raise AssertionError("what was put isn't got")
+
+    def tried(self) -> str | None:
+        """What is wrong with the commands on this image, if something is."""
+        try:
+            self.looks("check", self.name)
+            self.looks("run", self.name, given=b"DIRECT\n")
+            image = self.image
+            self.writes({"NEW.TX"}, "put", self.name, "-", "--as", "NEW.TX", "--text", given=b"new\n" * 50)
+            self.write(image)
+            self.writes(NAMED, "run", self.name, given=SCRIPT)
+        except (AssertionError, subprocess.TimeoutExpired) as fault:
+            return f"{os.path.basename(self.name)}: {fault}"
+        finally:
+            os.remove(self.name)
+        return None
+
+
+def main() -> int:
+    with tempfile.TemporaryDirectory(prefix="pdp8-damaged-") as folder, concurrent.futures.ThreadPoolExecutor() as lanes:
+        whole = volume(folder)
+        faults = [it for it in lanes.map(lambda number: Damaged(folder, number, whole).tried(), range(IMAGES)) if it]
+    for fault in faults:
+        print(f"check_damaged_images: {fault}")
+    print(f"{IMAGES - len(faults)} passed, {len(faults)} failed")
+    return 1 if faults else 0
+
+
+if __name__ == "__main__":
+    sys.exit(main())

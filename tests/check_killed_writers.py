@@ -1,0 +1,187 @@
+#!/usr/bin/env python3
+"""check_killed_writers.py: what killed writers leave. Several programs at once put files on one image and run scripts that store and delete, and some are
+killed at random moments, among them runs that keep. Then the image must be sound, have just the files that were told as stored and not as
+deleted, by a program that keeps also where it was killed then, with their words, and perhaps the one that a killed one was at; and the
+next writer must come in at once. The last line is 'N passed, M failed'; each killed program counts.
+
+usage: check_killed_writers.py [--program FILE] [--kills N] [--seed N]
+"""
+import os
+import random
+import signal
+import subprocess
+import sys
+import tempfile
+import threading
+import time
+from typing import Iterator
+
+TOP = os.path.dirname(os.path.dirname(os.path.abspath(__file__)))
+
+
+def option(name: str, value: str) -> str:
+    return sys.argv[sys.argv.index(name) + 1] if name in sys.argv else value
+
+
+PROGRAM = os.path.abspath(option("--program", f"{TOP}/crates/pdp8/out/pdp8"))
+KILLS = int(option("--kills", "60"))
+BUSY = b"? HOST BUSY\n"
+WRITERS = 3
+# The files that stay on the volume behind each round.
+NEWEST = 40
+
+
+class Image:
+    """An image that many write, with what each file must or may hold."""
+
+    def __init__(self, folder: str, seed: int) -> None:
+        self.name, self.random, self.lock = f"{folder}/V", random.Random(seed), threading.Lock()
+        self.sure: dict[str, bytes] = {}
+        self.doubtful: dict[str, bytes] = {}
+        self.killed, self.kept, self.faults = 0, 0, list[str]()
+        # how much longer than on an idle machine the programs live that are killed
+        self.slowness = 1.0
+        subprocess.run([PROGRAM, "create", self.name, "2000"], check=True, stdout=subprocess.DEVNULL)
+
+    def write(self, name: str, text: bytes, delay: float | None) -> tuple[int, bytes]:
+        """Has a program put a file, until it comes in; one with a delay is killed behind so many seconds."""
+        while True:
+            words = [PROGRAM, "put", self.name, "-", "--as", name, "--text"]
+            run = subprocess.Popen(words, stdin=subprocess.PIPE, stdout=subprocess.PIPE, stderr=subprocess.DEVNULL)
+            if delay is not None:
+                threading.Timer(delay, run.kill).start()
+            try:
+                told, _ = run.communicate(text)
+            except BrokenPipeError:
+                told, _ = b"", run.wait()
+            if told != BUSY:
+                return run.returncode, told
+
+    def text(self, name: str) -> bytes:
+        """A text of random length for a file."""
+        return "".join(f"{name} {line}\n" for line in range(self.random.randrange(1, 120))).encode()
+
+    def keep(self, number: int, delay: float | None) -> None:
+        """Has a run that keeps store three files, each once the one before is told. What it told is sure, also where it is killed."""
+        texts = {name: self.text(name) for name in (f"K{number}.{it}" for it in "ABC")}
+        busy = True
+        while busy:
+            told, status, rest = self.stored(texts, delay)
+            busy = not told and rest == BUSY
+        with self.lock:
+            self.sure.update({name: texts[name] for name in told})
+            self.kept += len(told) * (status == -signal.SIGKILL)
+            left = [name for name in texts if name not in told]
+            if status == -signal.SIGKILL:
+                self.doubtful.update({name: texts[name] for name in left[:1]})
+                self.killed += 1
+            elif left or status:
+                self.faults.append(f"{left}: status {status}, {rest!r}")
+
+    def stored(self, texts: dict[str, bytes], delay: float | None) -> tuple[list[str], int, bytes]:
+        """The files that one run that keeps told as stored, its status, and what it said last."""
+        words, told, line = [PROGRAM, "run", "--keep", self.name], list[str](), b""
+        run = subprocess.Popen(words, bufsize=0, stdin=subprocess.PIPE, stdout=subprocess.PIPE, stderr=subprocess.DEVNULL)
+        assert run.stdin and run.stdout
+        if delay is not None:
+            threading.Timer(delay, run.kill).start()
+        try:
+            for name, text in texts.items():
+                run.stdin.write(b"STORE %s %d\n" % (name.encode(), text.count(b"\n")) + text)
+                run.stdin.flush()
+                line = run.stdout.readline()
+                if line.split()[:2] != [b"STORED", name.encode()]:
+                    break
+                told.append(name)
+            run.stdin.close()
+        except BrokenPipeError:
+            line = run.stdout.readline()
+        return told, run.wait(), line
+
+    def put(self, number: int, delay: float | None) -> None:
+        """Puts a file of random length. What a killed program did is known only if it was told."""
+        name = f"F{number}"
+        text = self.text(name)
+        status, told = self.write(name, text, delay)
+        with self.lock:
+            if told.startswith(b"STORED"):
+                self.sure[name] = text
+            elif status == -signal.SIGKILL:
+                self.doubtful[name] = text
+            else:
+                self.faults.append(f"{name}: status {status}, {told!r}")
+            self.killed += status == -signal.SIGKILL
+
+    def work(self, numbers: range) -> None:
+        """One writer's programs, of which every third is left alone, and every other keeps."""
+        for number in numbers:
+            write, most = (self.keep, 0.06) if number % 2 else (self.put, 0.02)
+            write(number, self.random.uniform(0, most * self.slowness) if number % 3 else None)
+
+    def thin(self) -> None:
+        """Takes all but the newest files out, each once it is seen to be what was put, so that the volume doesn't fill."""
+        for files in (self.sure, self.doubtful):
+            for name in list(files)[:-NEWEST]:
+                text = files.pop(name)
+                if self.get(name) not in ((text,) if files is self.sure else (text, None)):
+                    self.faults.append(f"{name} is lost or another file, and was to be deleted")
+                if subprocess.run([PROGRAM, "run", self.name], input=f"DELETE {name}\n".encode(), capture_output=True).returncode:
+                    self.faults.append(f"{name} is not deleted")
+
+    def get(self, name: str) -> bytes | None:
+        """A file's text, or none."""
+        got = subprocess.run([PROGRAM, "get", self.name, name, "--text"], capture_output=True)
+        return None if got.returncode else got.stdout
+
+    def held(self) -> tuple[bool, dict[str, bytes | None]]:
+        """The files of the image, each as its text, and whether the image is sound."""
+        listed = subprocess.run([PROGRAM, "list", self.name], capture_output=True, text=True)
+        names = [line.split()[0] for line in listed.stdout.splitlines() if not line.startswith("FREE")]
+        return listed.returncode == 0, {name: self.get(name) for name in names}
+
+    def judged(self) -> Iterator[str]:
+        """What is wrong with the image behind all of it."""
+        is_sound, held = self.held()
+        yield from self.faults
+        if not is_sound:
+            yield "the image is not sound"
+        for name, text in self.sure.items():
+            if held.get(name) != text:
+                yield f"{name} was told as stored, and is lost or another file"
+        for name, there in held.items():
+            if self.sure.get(name, self.doubtful.get(name)) != there:
+                yield f"{name} is there and was not put so"
+        begun = time.monotonic()
+        if self.write("LAST", b"last\n", None)[0] or time.monotonic() - begun > 5:
+            yield "the next writer doesn't come in"
+
+
+def main() -> int:
+    with tempfile.TemporaryDirectory(prefix="pdp8-killed-") as folder:
+        image = Image(folder, int(option("--seed", "1")))
+        first = 0
+        while (image.killed < KILLS or not image.kept) and first < 20 * KILLS:
+            count = WRITERS * 3
+            lanes = [threading.Thread(target=image.work, args=(range(first + k, first + count, WRITERS),)) for k in range(WRITERS)]
+            for lane in lanes:
+                lane.start()
+            for lane in lanes:
+                lane.join()
+            first += count
+            image.slowness *= 1 if image.kept else 1.2
+            image.thin()
+        faults = list(image.judged())
+    for fault in faults:
+        print(f"check_killed_writers: {fault}")
+    if not image.kept:
+        faults.append("none kept")
+        print("check_killed_writers: no run that was killed had kept a file")
+    if image.killed < KILLS:
+        faults.append("too few")
+        print(f"check_killed_writers: only {image.killed} programs were killed on their way")
+    print(f"{image.killed} passed, {len(faults)} failed")
+    return 1 if faults else 0
+
+
+if __name__ == "__main__":
+    sys.exit(main())

@@ -1,0 +1,239 @@
+#!/usr/bin/env python3
+"""check_terminal.py [--program FILE]: runs programs at the Teletype through a pseudo-terminal, as a person would, with what ./pdp8 and an installed
+pdp8 do around the program: keys one by one and in bursts, the game played, each end, and each way in which the program or the shell
+around it can be ended; and looks each time that the terminal is as it was, and that no process is left. The last line is
+'N passed, M failed'.
+"""
+import argparse
+import os
+import pty
+import re
+import select
+import shutil
+import signal
+import subprocess
+import sys
+import tempfile
+import termios
+import time
+from typing import Any
+
+sys.dont_write_bytecode = True
+TOP = os.path.dirname(os.path.dirname(os.path.abspath(__file__)))
+sys.path.insert(0, TOP)
+from tests.model.tape import tape_of
+
+PATIENCE = 20
+READY = b"Ctrl-\\ ends it\r\n"
+ECHO = [0o6031, 0o5200, 0o6036, 0o6046, 0o6041, 0o5204, 0o5200]
+# prints a dot for each 4096 looks at the keyboard that find no key, and ends at a key
+DOTS = [0o6031, 0o7410, 0o7402, 0o2210, 0o5200, 0o1211, 0o6046, 0o5212, 0o0000, 0o0256, 0o7200, 0o5200]
+
+
+class Sitting:
+    """A program at a pseudo-terminal."""
+
+    def __init__(self, folder: str, *words: str, more: str = "") -> None:
+        self.said = b""
+        self.status: int | None = None
+        command = f'. {TOP}/build/launch.sh; launch ./pdp8 teletype "$@" {more}'
+        self.shell, self.terminal = pty.fork()
+        if self.shell == 0:
+            # who runs the gate in the background, or behind nohup, has these ignored, and what inherits that isn't ended by them
+            for signalled in (signal.SIGINT, signal.SIGQUIT, signal.SIGHUP):
+                signal.signal(signalled, signal.SIG_DFL)
+            os.chdir(folder)
+            os.execvp("bash", ["bash", "-uc", command, "pdp8", *words])
+        self.before = attributes(self.terminal)
+
+    def waits_for(self, wanted: bytes) -> bool:
+        """Reads until something was said, and answers whether it was."""
+        begun = time.monotonic()
+        while wanted not in self.said and time.monotonic() - begun < PATIENCE and self.read(0.1):
+            pass
+        return wanted in self.said
+
+    def read(self, seconds: float) -> bool:
+        try:
+            if select.select([self.terminal], [], [], seconds)[0]:
+                more = os.read(self.terminal, 4096)
+                self.said += more
+                return bool(more)
+        except OSError:
+            return False
+        return True
+
+    def strikes(self, keys: bytes) -> None:
+        os.write(self.terminal, keys)
+
+    def child(self) -> int:
+        """The number of the program's process."""
+        begun = time.monotonic()
+        while time.monotonic() - begun < PATIENCE:
+            for number in subprocess.run(["pgrep", "-P", str(self.shell)], capture_output=True, text=True).stdout.split():
+                if program_of(int(number)).endswith("/pdp8"):
+                    return int(number)
+            time.sleep(0.02)
+        return 0
+
+    def ends(self) -> int | None:
+        """The status with which the shell ends, and what is wrong behind that."""
+        begun = time.monotonic()
+        while time.monotonic() - begun < PATIENCE:
+            done, status = os.waitpid(self.shell, os.WNOHANG)
+            if done:
+                self.status = os.waitstatus_to_exitcode(status)
+                break
+            self.read(0.02)
+        while self.read(0) and select.select([self.terminal], [], [], 0)[0]:
+            pass
+        return self.status
+
+    def is_as_it_was(self) -> bool:
+        """Whether the terminal gets its settings back, soon."""
+        begun = time.monotonic()
+        while time.monotonic() - begun < PATIENCE:
+            if attributes(self.terminal) == self.before:
+                return True
+            time.sleep(0.02)
+        return False
+
+
+def attributes(terminal: int) -> list[Any]:
+    found = termios.tcgetattr(terminal)
+    return found[:4] + [found[6]]
+
+
+def program_of(number: int) -> str:
+    """The file that a process runs; none where the process has ended."""
+    try:
+        return os.readlink(f"/proc/{number}/exe")
+    except OSError:
+        return ""
+
+
+def is_gone(child: int) -> bool:
+    begun = time.monotonic()
+    while time.monotonic() - begun < PATIENCE:
+        if not os.path.exists(f"/proc/{child}"):
+            return True
+        time.sleep(0.02)
+    return False
+
+
+def ended(sitting: Sitting, child: int, status: int, what: str) -> list[str]:
+    """What is wrong at an end."""
+    got = sitting.ends()
+    told = [] if got == status else [f"{what}: status {got}, and not {status}: {sitting.said!r}"]
+    told += [] if sitting.is_as_it_was() else [f"{what}: the terminal is not as it was"]
+    told += [] if is_gone(child) else [f"{what}: the program is left"]
+    os.close(sitting.terminal)
+    return told
+
+
+def begun(folder: str, *words: str, more: str = "") -> tuple[Sitting, int, list[str]]:
+    sitting = Sitting(folder, *words, more=more)
+    told = [] if sitting.waits_for(READY) else [f"no first line: {sitting.said!r}"]
+    return sitting, sitting.child(), told
+
+
+def game(folder: str) -> list[str]:
+    """The guessing game, each answer once its question stands; a key of the player's name at a time."""
+    sitting, child, told = begun(folder, "guess.bin")
+    for question, keys in ((b"NAME? ", [b"A", b"D", b"A", b"\r"]), (b"GUESS? ", [b"5\x7f50\r"]), (b"TOO LOW", [b"90\r"]), (b"TOO HIGH", [b"7", b"9\r"])):
+        told += [] if sitting.waits_for(question) else [f"no {question!r}: {sitting.said!r}"]
+        for key in keys:
+            sitting.strikes(key)
+    told += [] if sitting.waits_for(b"HALT 00263 AC 0000 L 1\r\n") else [f"no HALT: {sitting.said!r}"]
+    told += [] if b"NAME? ADA\r\r\n" in sitting.said and b"GUESS? 5\\50 TOO LOW" in sitting.said else [f"said {sitting.said!r}"]
+    return told + ended(sitting, child, 0, "the game")
+
+
+def keys(folder: str) -> list[str]:
+    """Keys that a shell would take for itself, and a burst of them; what is shown is what the program prints."""
+    sitting, child, told = begun(folder, "echo.bin")
+    for burst in (b"\x03", b"\x1a", b"\x11\x13", b"\x16\x04", bytes(range(65, 91)) * 40 + b"\r"):
+        before = len(sitting.said)
+        sitting.strikes(burst)
+        sitting.waits_for(burst)
+        told += [] if sitting.said[before:] == burst else [f"struck {burst!r}, and got {sitting.said[before:]!r}"]
+    sitting.strikes(b"\x1c")
+    return told + ended(sitting, child, 131, "Ctrl-\\")
+
+
+def waiting(folder: str) -> list[str]:
+    """A program that waits takes no time of the processor, and one that looks between other work goes on."""
+    sitting, child, told = begun(folder, "echo.bin")
+    sitting.strikes(b"A")
+    told += [] if sitting.waits_for(READY + b"A") else [f"no echo: {sitting.said!r}"]
+    ticks = []
+    for seconds in (0.2, 1):
+        time.sleep(seconds)
+        ticks.append(spent(child))
+    told += [] if ticks[1] - ticks[0] <= 5 else [f"waiting took {ticks[1] - ticks[0]} ticks of a second"]
+    os.kill(sitting.shell, signal.SIGTERM)
+    told += ended(sitting, child, 143, "SIGTERM")
+    sitting, child, more = begun(folder, "dots.bin")
+    sitting.strikes(b"A")
+    more += [] if sitting.waits_for(b"HALT 00203") else [f"no HALT: {sitting.said!r}"]
+    return told + more + ended(sitting, child, 0, "a look in passing")
+
+
+def spent(child: int) -> int:
+    fields = open(f"/proc/{child}/stat", encoding="utf-8").read().rsplit(")", 1)[1].split()
+    return int(fields[11]) + int(fields[12])
+
+
+def killed(folder: str) -> list[str]:
+    """Each way in which the program or the shell around it is ended."""
+    told = []
+    for what, number, whom, status in (
+        ("SIGHUP", signal.SIGHUP, "shell", 129), ("SIGKILL of the program", signal.SIGKILL, "child", 137),
+        ("SIGTERM of the program", signal.SIGTERM, "child", 143), ("SIGKILL of the shell", signal.SIGKILL, "shell", -9),
+    ):  # fmt: skip
+        sitting, child, more = begun(folder, "echo.bin")
+        os.kill(getattr(sitting, whom) if whom == "shell" else child, number)
+        told += more + ended(sitting, child, status, what)
+    return told
+
+
+def streams(folder: str) -> list[str]:
+    """Standard output in a file, and closed."""
+    sitting, child, told = begun(folder, "echo.bin", more="> out")
+    sitting.strikes(b"IN A FILE\r")
+    begin = time.monotonic()
+    while open(f"{folder}/out", "rb").read() != b"IN A FILE\r" and time.monotonic() - begin < PATIENCE:
+        time.sleep(0.02)
+    told += [] if open(f"{folder}/out", "rb").read() == b"IN A FILE\r" else ["standard output is not handed on before a key is waited for"]
+    sitting.strikes(b"\x1c")
+    told += ended(sitting, child, 131, "standard output in a file")
+    sitting = Sitting(folder, "echo.bin", more=">&-")
+    sitting.waits_for(READY)
+    sitting.strikes(b"A")
+    told += [] if sitting.waits_for(b"? 9 WRITER\r\n") else [f"standard output closed: {sitting.said!r}"]
+    return told + ended(sitting, 0, 1, "standard output closed")
+
+
+def main() -> int:
+    words = argparse.ArgumentParser(description=__doc__, formatter_class=argparse.RawDescriptionHelpFormatter)
+    words.add_argument("--program", default=f"{TOP}/crates/pdp8/out/pdp8")
+    program = os.path.abspath(words.parse_args().program)
+    if not os.path.isfile(program):
+        sys.exit(f"check_terminal: there is no program {program}: ./prove builds it")
+    passed = failed = 0
+    with tempfile.TemporaryDirectory(prefix="pdp8-terminal-") as folder:
+        shutil.copy(program, f"{folder}/pdp8")
+        subprocess.run(["./pdp8", "assemble", f"{TOP}/examples/guess.pa", "--output", "guess.bin"], cwd=folder, check=True)
+        for name, it in (("echo", ECHO), ("dots", DOTS)):
+            with open(f"{folder}/{name}.bin", "wb") as file:
+                file.write(bytes(tape_of([(0o200 + k, word) for k, word in enumerate(it)])))
+        for case in (game, keys, waiting, killed, streams):
+            told = case(folder)
+            print(*(f"check_terminal: {line}" for line in told), sep="\n", end="\n" if told else "")
+            passed, failed = passed + (not told), failed + bool(told)
+    print(f"{passed} passed, {failed} failed")
+    return 1 if failed else 0
+
+
+if __name__ == "__main__":
+    sys.exit(main())

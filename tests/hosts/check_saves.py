@@ -1,0 +1,132 @@
+#!/usr/bin/env python3
+"""check_saves.py: what files hold after a save of which a call fails: of a host in memory, call by call; and of the system, with the calls in the order
+in which they were made. The last line is 'N passed, M failed'.
+
+usage: check_saves.py [--program FILE]
+"""
+import errno
+import os
+import subprocess
+import sys
+import tempfile
+from typing import Iterator
+
+sys.dont_write_bytecode = True
+TOP = os.path.dirname(os.path.dirname(os.path.dirname(os.path.abspath(__file__))))
+sys.path.insert(0, TOP)
+from build.unproved import Build, ready
+NAME = "host_trial"
+CALLS = 12
+# What a trial leaves where its call of a number fails, from the number 0 on; where a later one fails, the last row stands.
+UNSAVED, CERTAIN, UNKNOWN = "as it was, file old", "certain, file new", "unknown, file new"
+UNMADE, UNLAID, OLD = "unmade, file none", "not laid, file none", "not laid, file old"
+PART, KEPT = "in part, file part", "in part, file old"
+ROWS = {
+    "save": [UNSAVED] * 8 + [UNKNOWN, CERTAIN],
+    "save over": [UNSAVED, KEPT, PART, PART, CERTAIN],
+    "save mount": [UNSAVED] * 8 + [CERTAIN, KEPT, PART, PART],
+    "make": [UNMADE] * 6 + [CERTAIN, UNKNOWN, CERTAIN],
+    "make unlinked": [UNMADE] * 8 + [UNKNOWN, CERTAIN],
+    "lay": [UNLAID] * 4 + ["laid, file new"],
+    "replace": [OLD] * 4 + ["laid, file new"],
+}
+# The calls of a save of each kind, but those that open, lock and look.
+SAVE = ["realpath", "dup", "dup", "write", "fsync", "rename", "fsync folder", "print"]
+OVER = ["realpath", "dup", "write", "write", "fsync", "print"]
+MAKE = ["dup", "write", "fsync", "link", "unlink", "fsync folder", "print"]
+LAY = ["dup", "write", "rename", "print"]
+
+# A save, the calls that it makes in order, whether the file is there, and whether it is written over.
+Kind = tuple[str, list[str], bool, bool]
+
+
+def program() -> str:
+    """The trial's program, which is built with checks unless one is given."""
+    if "--program" in sys.argv:
+        return os.path.abspath(sys.argv[sys.argv.index("--program") + 1])
+    if ready(NAME):
+        sys.exit(1)
+    return Build(NAME).program
+
+
+def wanted_rows() -> Iterator[str]:
+    for trial, rows in ROWS.items():
+        for number in range(CALLS):
+            # of a mount the eighth call takes away the file beside it
+            is_left = trial == "save mount" and number == 8
+            yield f"{trial} {number}: {rows[min(number, len(rows) - 1)]}, beside {'true' if is_left else 'false'}"
+
+
+class Folder:
+    """A folder with a file F, in which a save is made with a library laid before the system's."""
+
+    def __init__(self, path: str, trial: str, library: str) -> None:
+        self.path, self.trial, self.library = path, trial, library
+        os.mkdir(path)
+
+    def save(self, what: str, name: str, call: str = "", number: int = 1, error: int = 0) -> tuple[str, list[str], str | None]:
+        """What the trial prints, the calls that it makes, and what F holds then; its call of this number may fail."""
+        log = f"{self.path}.log"
+        open(log, "w", encoding="utf-8").close()
+        met = {"CALL": call, "NUMBER": str(number), "ERROR": str(error), "LOG": log, "LD_PRELOAD": self.library}
+        run = subprocess.run([self.trial, what, name], cwd=self.path, env={**os.environ, **met}, input="NEW TEXT", capture_output=True, text=True, timeout=20)
+        with open(log, encoding="utf-8") as lines:
+            calls = [line for line in lines.read().split("\n")[:-1] if not line.startswith("open ")]
+        try:
+            with open(f"{self.path}/F", encoding="utf-8") as file:
+                return run.stdout, calls, file.read()
+        except FileNotFoundError:
+            return run.stdout, calls, None
+
+    def names(self) -> list[str]:
+        return sorted(os.listdir(self.path))
+
+
+def tried(room: str, kind: Kind, number: int | None, trial: str, library: str) -> bool:
+    """Whether a save of a kind makes its calls in order, or leaves the old or the new bytes where one of them fails."""
+    what, calls, is_there, is_over = kind
+    folder = Folder(f"{room}/{what}{is_over}{number}", trial, library)
+    old = "OLD" if is_there else None
+    if old:
+        with open(f"{folder.path}/F", "w", encoding="utf-8") as file:
+            file.write(old)
+    if is_over:
+        os.link(f"{folder.path}/F", f"{folder.path}/G")
+    ended = "unknown\n" if what == "lay" else "certain\n"
+    if number is None:
+        return folder.save(what, "F") == (ended, calls, "NEW TEXT") and folder.names() == (["F", "G"] if is_over else ["F"])
+    call = calls[number]
+    said, _, found = folder.save(what, "F", call, calls[: number + 1].count(call), errno.EIO)
+    if call == "fsync folder":
+        return (said, found) == ("unknown\n", "NEW TEXT")
+    if call == "unlink":
+        return (said, found, folder.names()) == (ended, "NEW TEXT", [".F.pdp8-000", "F"])
+    if call == "print":
+        return (said, found) == ("", "NEW TEXT")
+    is_whole = found in (old, "NEW TEXT") or is_over and call in ("write", "fsync")
+    return said == "fault\n" and is_whole and (is_over or found == old) and folder.names() == (["F", "G"] if is_over else ["F"] if is_there else [])
+
+
+def main() -> int:
+    trial, passed, failed = program(), 0, 0
+    found = subprocess.run([trial], capture_output=True, text=True, timeout=60).stdout.split("\n")
+    for row, wanted in zip(found, wanted_rows()):
+        passed, failed = passed + (row == wanted), failed + (row != wanted)
+        if row != wanted:
+            print(f"{row!r}, not {wanted!r}")
+    failed += len(list(wanted_rows())) + 1 != len(found)
+    with tempfile.TemporaryDirectory(prefix="pdp8-hosts-") as room:
+        library = f"{room}/meet.so"
+        subprocess.run(["cc", "-shared", "-fPIC", "-o", library, f"{TOP}/tests/calls/meet.c", "-ldl"], check=True)
+        for kind in (("save", SAVE, True, False), ("save", OVER, True, True), ("make", MAKE, False, False), ("lay", LAY, True, False)):
+            for number in (None, *range(len(kind[1]))):
+                is_right = tried(room, kind, number, trial, library)
+                passed, failed = passed + is_right, failed + (not is_right)
+                if not is_right:
+                    print(f"{kind[0]}, {kind[1]}: wrong where {'all calls pass' if number is None else kind[1][number] + ' fails'}")
+    print(f"{passed} passed, {failed} failed")
+    return 1 if failed else 0
+
+
+if __name__ == "__main__":
+    sys.exit(main())

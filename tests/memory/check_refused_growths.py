@@ -1,0 +1,209 @@
+#!/usr/bin/env python3
+"""check_refused_growths.py: what refused growths leave, tried at each growth of whole runs. Each script below is run with its Nth growth refused, for every
+N until a run meets no refusal: by the program `short_memory`, which compares the session with one that never met the refusal (files,
+cells, registers, characters) and does the entry again; and by `pdp8` itself, whose last line is then `? 10 MEMORY` behind a front of
+the replies. The last line is 'N passed, M failed'; each run is counted, and the lines before it tell what became of them.
+
+Each kind of run of each script must meet refusals, and few of them may end outside a session or be done without (`EXPECTED`). A session
+that a refusal leaves spoiled, by `short_memory` on purpose, must be told as another one than it was.
+
+usage: check_refused_growths.py [--program FILE] [--short FILE]
+"""
+import os
+import subprocess
+import sys
+import tempfile
+from concurrent.futures import ThreadPoolExecutor
+from typing import Callable, Iterator
+
+HERE = os.path.dirname(os.path.abspath(__file__))
+TOP = os.path.dirname(os.path.dirname(HERE))
+
+
+def option(name: str, value: str) -> str:
+    return sys.argv[sys.argv.index(name) + 1] if name in sys.argv else value
+
+
+PROGRAM = os.path.abspath(option("--program", f"{TOP}/crates/pdp8/out/pdp8"))
+SHORT = os.path.abspath(option("--short", f"{TOP}/crates/short_memory/out/short_memory"))
+
+
+def store(name: str, *lines: str) -> list[str]:
+    return [f"STORE {name} {len(lines)}", *lines]
+
+
+def loaded(*lines: str) -> list[str]:
+    """A source assembled and loaded, each turn an item of its own."""
+    return [*store("S.PA", *lines, "$"), "ASSEMBLE B.BN<S.PA", *["TURN 1"] * 3, "LOAD B.BN", *["TURN 1"] * 2]
+
+
+SCRIPTS = {
+    "a program loaded": [*loaded("*200", "1", "*200", "2"), "EXAMINE 00200"],
+    "jobs over each other": [
+        *store("X.PA", "1"), *store("S.PA", "*200;CLL STA;TAD ONE;HLT;ONE, 1", "$"), "DELETE X.PA", "ASSEMBLE B.BN<S.PA", "TURN 1",
+        "SQUEEZE", "TURN 2", "TURN 1", "TURN 1", "TURN 2", "TURN 2", "LOAD B.BN", "TURN 1", "TURN 1", "EXAMINE 00201", "DIRECT",
+    ],
+    "a full volume": [
+        *[line for k in range(1, 7) for line in store(f"F{k}.PA", *["/"] * 130)], "DELETE F2.PA", "DELETE F4.PA",
+        *store("G.PA", *["/"] * 600), "SQUEEZE", *["TURN 1"] * 5, *store("G.PA", *["/"] * 600), "STORE H.PA 0", "DIRECT",
+    ],
+    "a program run": [
+        *loaded("*200", "CLA;TAD C;TLS;TSF;JMP .-1;HLT;C, 301"), "RUN 00200 100", "PRINTED", "START 00200", "GO 10", "REGISTERS",
+    ],
+}
+
+
+# What the runs of a script may come to, by kind: the words, and the least and the most of them.
+EXPECTED = {
+    "again": {"same": (20, 1000), "outside": (1, 8)},
+    "files": {"same": (20, 1000), "outside": (1, 8)},
+    "pdp8": {"memory": (20, 1000), "done without": (1, 8)},
+}
+
+# The words of each file by those of its name; what a run printed, with the files that it left.
+Files = dict[tuple[int, ...], list[int]]
+Front = tuple[bytes, Files]
+
+
+def unexpected(kind: str, found: dict[str, int]) -> list[str]:
+    """What a kind of runs came to too seldom or too often."""
+    wanted = EXPECTED[kind]
+    return [f"{found.get(what, 0)} {what}, not {low} to {high}" for what, (low, high) in wanted.items() if not low <= found.get(what, 0) <= high]
+
+
+def refused(words: list[str], number: int, text: bytes, library: str) -> tuple[int, bytes, bool]:
+    """The status and the output of a run whose growth of this number is refused, and whether it met the refusal."""
+    env: dict[str, str] = {"LD_PRELOAD": library, "REFUSE": str(number)} if number else {}
+    it = subprocess.run(words, input=text, capture_output=True, env=env)
+    return it.returncode, it.stdout, b"R" in it.stderr
+
+
+def in_session(words: list[str], want: bytes | None, number: int, text: bytes, library: str) -> str | None:
+    """What became of a run by `short_memory`: 'same', 'outside', a fault, or nothing where no growth was refused."""
+    status, out, met = refused(words, number, text, library)
+    if not met:
+        return None
+    if status == 3:
+        return "outside"
+    return "same" if status == 0 and (want is None or out == want) else f"status {status} at growth {number}"
+
+
+def untold(text: bytes, library: str) -> Iterator[str]:
+    """The kinds of runs in which `short_memory` does not tell a session that a refused item leaves spoiled. Where no item is refused, since
+    the session was not yet made or a line was read anew, none is spoiled."""
+    for kind, words in (("again", ["go", "spoilt"]), ("files", ["stop", "it", "spoilt"])):
+        tried = [refused([SHORT, *words], number, text, library) for number in range(1, 65)]
+        found = [status for status, _, met in tried if met]
+        if found.count(4) < 20 or not {0, 3, 4}.issuperset(found):
+            yield f"{kind}: of {len(found)} runs with a spoiled session {found.count(4)} tell it"
+
+
+def files(image: bytes) -> Files:
+    """The files of an image that is sound: the words of each by its name."""
+    words = [low + 256 * high for low, high in zip(image[::2], image[1::2])]
+    found, segment = Files(), 1
+    while segment:
+        count, place, following, _, info = words[256 * segment :][:5]
+        at, info = 256 * segment + 5, -info % 4096
+        for _ in range(-count % 4096):
+            size = 0 if words[at] == 0 else 4 + info
+            length = -words[at + (size or 1)] % 4096
+            if size and length:
+                found[tuple(words[at : at + 4])] = words[256 * place : 256 * (place + length)]
+            at, place = at + (size or 1) + 1, place + length
+        segment = following
+    return found
+
+
+def program_run(image: bytes, text: bytes, number: int = 0, library: str = "") -> tuple[int, bytes, bool, bytes]:
+    """A run of `pdp8` on a copy of an image: its status, its output, whether it met the refusal, and the image behind it."""
+    with tempfile.TemporaryDirectory() as folder:
+        name = f"{folder}/v.img"
+        with open(name, "wb") as file:
+            file.write(image)
+        status, out, met = refused([PROGRAM, "run", name], number, text, library)
+        with open(name, "rb") as file:
+            return status, out, met, file.read()
+
+
+def in_program(image: bytes, fronts: list[Front], number: int, text: bytes, library: str) -> str | None:
+    """What became of a run by `pdp8`: its replies up to the refusal, and then the line of want of memory; its files are those of
+    the front of the script that these replies belong to. A growth that it can do without it may do without."""
+    status, out, met, after = program_run(image, text, number, library)
+    if not met:
+        return None
+    line = b"? 10 MEMORY\n"
+    refusal = status == 1 and out.endswith(line)
+    told = out[: -len(line)] if refusal else out
+    if (refusal or (status == 0 and told == fronts[-1][0])) and (told, files(after)) in fronts:
+        return "memory" if refusal else "done without"
+    return f"status {status} at growth {number}: {out[-40:]!r}"
+
+
+def items(lines: list[str]) -> Iterator[list[str]]:
+    """The items of a script: each STORE with its lines."""
+    at = 0
+    while at < len(lines):
+        words = lines[at].split()
+        size = 1 + int(words[2]) if words[0] == "STORE" else 1
+        yield lines[at : at + size]
+        at += size
+
+
+def told_fronts(image: bytes, lines: list[str]) -> list[Front]:
+    """What `pdp8` writes for each front of the items of a script, and the files that it leaves."""
+    front, found = list[str](), [(b"", files(image))]
+    for item in items(lines):
+        front += item
+        _, out, _, after = program_run(image, "".join(f"{line}\n" for line in front).encode())
+        found.append((out, files(after)))
+    return found
+
+
+def runs(of: Callable[[int], str | None]) -> dict[str, int]:
+    """What became of each run, for each growth in turn until a run meets no refusal."""
+    found, number = dict[str, int](), 1
+    with ThreadPoolExecutor(len(os.sched_getaffinity(0))) as pool:
+        while True:
+            answers = list(pool.map(of, range(number, number + 64)))
+            for answer in answers:
+                if answer is None:
+                    return found
+                found[answer] = found.get(answer, 0) + 1
+            number += 64
+
+
+def main() -> int:
+    passed = failed = 0
+    with tempfile.TemporaryDirectory() as folder:
+        library = f"{folder}/refuse.so"
+        subprocess.run([os.environ.get("CC", "cc"), "-O2", "-shared", "-fPIC", "-o", library, f"{HERE}/refuse.c"], check=True)
+        name = f"{folder}/v.img"
+        subprocess.run([PROGRAM, "create", name, "20"], check=True, capture_output=True)
+        image = open(name, "rb").read()
+        for title, lines in SCRIPTS.items():
+            text = "".join(f"{line}\n" for line in lines).encode()
+            want = subprocess.run([SHORT], input=text, capture_output=True, check=True).stdout
+            fronts = told_fronts(image, lines)
+            tried = {
+                "again": runs(lambda n: in_session([SHORT], want, n, text, library)),
+                "files": runs(lambda n: in_session([SHORT, "stop"], None, n, text, library)),
+                "pdp8": runs(lambda n: in_program(image, fronts, n, text, library)),
+            }
+            for kind, found in tried.items():
+                print(f"{title}, {kind}: " + ", ".join(f"{count} {what}" for what, count in sorted(found.items())))
+                good = sum(count for what, count in found.items() if what in ("same", "outside", "memory", "done without"))
+                passed, failed = passed + good, failed + sum(found.values()) - good
+                for it in unexpected(kind, found):
+                    print(f"{title}, {kind}: {it}")
+                    failed += 1
+        text = "".join(f"{line}\n" for line in SCRIPTS["a program loaded"]).encode()
+        faults = list(untold(text, library))
+        print(*faults, sep="\n", end="\n" * bool(faults))
+        passed, failed = passed + 2 - len(faults), failed + len(faults)
+    print(f"{passed} passed, {failed} failed")
+    return 1 if failed else 0
+
+
+if __name__ == "__main__":
+    sys.exit(main())

@@ -1,0 +1,269 @@
+#!/usr/bin/env python3
+"""compare_archives.py [--program FILE] [--cases N] [--seed S]: does random commands to the files of random images with the program `pdp8`, N times
+twenty, 100 from 1 on where nothing is said: put, get, delete, rename, copy, squeeze and list, of one file and of many, by names, patterns and
+first blocks, on volumes with gaps, with 0 to 10 information words, and with directories that are nearly full or past it, alone in their files,
+on disks and on DECtapes. It compares every byte that comes, and behind each command the files of the images, where they lie, all blocks that
+are no file's, and all bytes beside the volume, with a plain keeper of volumes that is written from the definitions alone. Damaged directories
+are looked at too. The same number is the same case each time. The last line is 'N passed, M failed'.
+"""
+import argparse
+import concurrent.futures
+import os
+import subprocess
+import sys
+import tempfile
+from random import Random
+
+sys.dont_write_bytecode = True
+TOP = os.path.dirname(os.path.dirname(os.path.dirname(os.path.abspath(__file__))))
+sys.path.insert(0, TOP)
+from tests.model.cases import full_image, lots
+from tests.model.compare import outside
+from tests.model.disks import Held, held_image, wrong_size
+from tests.model.keeper import TEXTS, Asked, Keeper, can_be_typed, extension, given_of
+from tests.model.survey import damaged, surveyed
+from tests.model.volume import Unsound, Volume, made_image, read_volume, words_of_image
+from tests.model.words import octal, parsed_name, shown_name
+
+SHOWN = 3
+COMMANDS = 20
+IMAGES = ["V", "W"]
+
+
+def random_image(random: Random) -> bytes:
+    """A volume with files and gaps, and with 0 to 10 information words, or one whose directory is nearly full or past it."""
+    if random.random() < 0.15:
+        return full_image(random)
+    found, first = lots(random, random.randint(0, 9), 2), random.choice([7, 7, 9])
+    blocks = first + sum(lot.blocks for lot in found) + random.choice([0, 1, 3, 8, 20])
+    return made_image(max(blocks, 8), random.randint(0, 10), first, found) + random.choice([b"", b"\1\2" * 256])
+
+
+def random_name(random: Random, volume: Volume) -> bytes:
+    """The name of a file that is there, if one can be typed, or of one that is not, or none."""
+    there = [it for it in map(shown_name, volume.files) if parsed_name(it.encode())]
+    if there and random.random() < 0.8:
+        name = random.choice(there).encode()
+        return name.lower() if random.random() < 0.2 else name
+    return random.choice([b"NEW", b"NEW.TX", b"B.BN", b"Z9", b"LONGER", b"F0", b"F1", b"a-", b"f0", b"new.tx", b"TOOLONG", b"A.PAL", b".X"])
+
+
+def random_asked(random: Random, volume: Volume) -> Asked:
+    """What a file is asked for by: a name, or a block at which mostly one begins."""
+    if random.random() < 0.7:
+        return random_name(random, volume)
+    return random.choice([*volume.places.values(), 0, 7, 8, 4095])
+
+
+def asked_words(asked: Asked) -> list[str]:
+    return ["--at", str(asked)] if isinstance(asked, int) else [asked.decode()]
+
+
+def random_pattern(random: Random, volume: Volume) -> str:
+    name = random_name(random, volume).decode()
+    return random.choice(["*", "*.*", "*.PA", "*.BN", "F?", "S?.P?", "?*.T*", "*.", "*.*.*", "a-*", "f*", "*.pa", f"{name}*", name, "*" * 13])
+
+
+class Case:
+    """Two images in a folder, and what they hold by the plain keeper."""
+
+    def __init__(self, program: str, folder: str, random: Random) -> None:
+        self.program, self.folder, self.random = program, folder, random
+        self.held = {image: held_image(random, random_image(random)) for image in IMAGES}
+        for image, held in self.held.items():
+            write(f"{folder}/{image}", held.data)
+        self.keeper = Keeper({image: read_volume(held.image) for image, held in self.held.items()})
+        self.seen: dict[str, Volume] = {}
+
+    def command(self) -> str:
+        """Does a random command. Tells how the program differs from the keeper, and nothing where it doesn't."""
+        return self.random.choice([self.put, self.get, self.delete, self.rename, self.copy, self.told, self.get_many, self.put_many, self.others])()
+
+    def put(self) -> str:
+        random, image = self.random, self.random.choice(IMAGES)
+        name, given = random_name(random, self.keeper.volumes[image]), random.randbytes(random.choice([0, 1, 383, 384, 385, 2000]))
+        info = [random.randrange(0o10000) for _ in range(random.choice([0, 0, 0, 1, 3, 11]))]
+        words = ["put", image, "-", "--as", name.decode(), *self.held[image].words(), *(it for word in info for it in ("--info", octal(word, 4)))]
+        return self.differs(words, given, self.keeper.put_frames(image, name, given, tuple(info) if info else None))
+
+    def get(self) -> str:
+        random, image = self.random, self.random.choice(IMAGES)
+        asked, is_text = random_asked(random, self.keeper.volumes[image]), random.random() < 0.5
+        words = ["get", image, *asked_words(asked), *self.held[image].words(), *(["--text"] if is_text else [])]
+        data, status = self.keeper.get(image, asked, is_text)
+        return self.differs_in_bytes(words, b"", data, status)
+
+    def delete(self) -> str:
+        random, image = self.random, self.random.choice(IMAGES)
+        asked = [random_asked(random, self.keeper.volumes[image]) for _ in range(random.choice([1, 1, 2, 3]))]
+        asked.sort(key=lambda it: isinstance(it, int))
+        words = ["delete", image, *(word for it in asked for word in asked_words(it)), *self.held[image].words()]
+        return self.differs(words, b"", self.keeper.delete(image, asked))
+
+    def rename(self) -> str:
+        random, image = self.random, self.random.choice(IMAGES)
+        asked, new = random_asked(random, self.keeper.volumes[image]), random_name(random, self.keeper.volumes[image])
+        words = ["rename", image, *asked_words(asked), new.decode(), *self.held[image].words()]
+        return self.differs(words, b"", self.keeper.rename(image, asked, new))
+
+    def copy(self) -> str:
+        random, image, other = self.random, self.random.choice(IMAGES), self.random.choice(IMAGES)
+        asked = random_asked(random, self.keeper.volumes[image])
+        new = random_name(random, self.keeper.volumes[other]) if random.random() < 0.5 else None
+        words = ["copy", image, *asked_words(asked), other, *([new.decode()] if new else [])]
+        words += [*self.held[image].words(), *self.held[other].words("to-")]
+        return self.differs(words, b"", self.keeper.copy(image, asked, other, new))
+
+    def told(self) -> str:
+        random, image = self.random, self.random.choice(IMAGES)
+        kind, where = random.choice(["squeeze", "list", "long"]), self.held[image].words()
+        if kind == "squeeze":
+            return self.differs(["squeeze", image, *where], b"", self.keeper.squeeze(image))
+        if kind == "list":
+            return self.differs(["list", image, *where], b"", self.keeper.list_short(image))
+        return self.differs(["list", image, "--long", *where], b"", self.keeper.list_long(image))
+
+    def get_many(self) -> str:
+        """Gets files to a folder, of which one may hold a file of the name, and looks at them."""
+        random, image = self.random, self.random.choice(IMAGES)
+        volume = self.keeper.volumes[image]
+        asked = [random_pattern(random, volume) for _ in range(random.choice([0, 1, 1, 2]))]
+        places = [f"--at {random_asked(random, volume) if random.random() < 0.5 else 7!r}" for _ in range(random.choice([0, 0, 1]))]
+        places = [it for it in places if it[5:].isdigit()]
+        is_all = not (asked or places) or random.random() < 0.2
+        texts: list[str] = random.choice([[], [], TEXTS, ["PA", "LS"]])
+        options = ["--text"] if texts is TEXTS else ["--text-of", ",".join(texts)] if texts else []
+        words = ["get", image, *asked, *(word for it in places for word in it.split()), *(["--all"] if is_all else []), *options]
+        names, refused = self.keeper.chosen(image, [*asked, *places], is_all)
+        folder = tempfile.mkdtemp(dir=self.folder)
+        files = {self.host_name(image, it): given_of(volume.files[it].words, extension(it) in texts) for it in names}
+        there = random.choice(sorted(files)) if files and random.random() < 0.3 else ""
+        is_forced = random.random() < 0.3
+        if there:
+            write(f"{folder}/{there}", b"older")
+        lines = {self.host_name(image, it): f"GOT {shown_name(it)} {volume.files[it].blocks}" for it in names}
+        if there and not is_forced:
+            lines[there], files[there] = f"{there}: ? HOST EXISTS", b"older"
+        words += ["--into", folder, *self.held[image].words(), *(["--force"] if is_forced else [])]
+        done = self.done(words, b"")
+        status = 1 if refused or there and not is_forced else 0
+        if (sorted(done.stdout.decode("latin-1").splitlines()), done.returncode) != (sorted([*lines.values(), *refused]), status):
+            return f"{' '.join(words)}\n    wanted {[*lines.values(), *refused]} {status}\n    got    {done.stdout!r} {done.returncode}"
+        got = {it: read(f"{folder}/{it}") for it in os.listdir(folder)}
+        return "" if got == files else f"{' '.join(words)}: the folder's files differ: {sorted(got)} in place of {sorted(files)}"
+
+    def host_name(self, image: str, name: tuple[int, int, int, int]) -> str:
+        return shown_name(name) if can_be_typed(name) else f"at-{self.keeper.volumes[image].places[name]}"
+
+    def put_many(self) -> str:
+        """Puts files of the host, mostly of good names, some of which are no texts."""
+        random, image = self.random, self.random.choice(IMAGES)
+        names = random.sample(["new.pa", "S1.PA", "b.bn", "C.BN", "f0", "x.tx", "S1.pa", "notes.text", "T.LS", "a-b"], random.choice([1, 2, 2, 3, 5]))
+        given = [(it.encode(), random.choice([b"", b"HELLO\r\nYOU\r\r\n", b"A\n" * 300, random.randbytes(random.choice([3, 400]))])) for it in names]
+        texts: list[str] = random.choice([[], TEXTS, ["PA"]])
+        options = ["--text"] if texts is TEXTS else ["--text-of", "PA"] if texts else []
+        info = [random.randrange(0o10000) for _ in range(random.choice([0, 0, 2]))]
+        for name, content in given:
+            write(f"{self.folder}/{name.decode()}", content)
+        marks: list[str] = random.choice([[], ["--files"]])
+        words = ["put", image, *marks, *names, *options, *self.held[image].words(), *(it for word in info for it in ("--info", octal(word, 4)))]
+        return self.differs(words, b"", self.keeper.put_all(image, given, texts, tuple(info) if info else None))
+
+    def others(self) -> str:
+        """Looks at blocks, at a damaged directory, or at a file of a wrong size."""
+        random, image = self.random, self.random.choice(IMAGES)
+        kind, held = random.choice(["blocks", "damaged", "size"]), self.held[image]
+        if kind == "size":
+            wrong, line = wrong_size(random)
+            write(f"{self.folder}/X", wrong.data)
+            return self.differs([random.choice(["list", "squeeze", "check"]), "X", *wrong.words()], b"", ([line], 1))
+        whole = Held(held.layout, read(f"{self.folder}/{image}")).image
+        if kind == "damaged":
+            broken = damaged(random, whole)
+            write(f"{self.folder}/X", broken)
+            return self.differs(["check", "--all", "X"], b"", surveyed(broken))
+        count = len(whole) // 512
+        first, some = random.choice([0, 1, 7, count - 1, count]), random.choice([1, 2, count])
+        words = ["get", image, "--blocks", str(first), str(some), *held.words()]
+        if first + some > count:
+            return self.differs(words, b"", ([f"? BLOCKS 1 ONLY {count}"], 1))
+        part = words_of_image(whole[512 * first : 512 * (first + some)])
+        return self.differs_in_bytes(words, b"", given_of(part, False), 0)
+
+    def done(self, words: list[str], given: bytes) -> subprocess.CompletedProcess[bytes]:
+        return subprocess.run([self.program, *words], cwd=self.folder, input=given, stdout=subprocess.PIPE, stderr=subprocess.STDOUT, timeout=60)
+
+    def differs(self, words: list[str], given: bytes, wanted: tuple[list[str], int]) -> str:
+        return self.differs_in_bytes(words, given, "".join(f"{line}\n" for line in wanted[0]).encode("latin-1"), wanted[1])
+
+    def differs_in_bytes(self, words: list[str], given: bytes, wanted: bytes, status: int) -> str:
+        done = self.done(words, given)
+        if (done.stdout, done.returncode) != (wanted, status):
+            return f"{' '.join(words)}\n    wanted {wanted!r} {status}\n    got    {done.stdout!r} {done.returncode}"
+        for image in IMAGES:
+            fault = self.image_fault(image)
+            if fault:
+                return f"{' '.join(words)}: {image}: {fault}"
+        return ""
+
+    def image_fault(self, image: str) -> str:
+        """How an image differs from what the keeper has, or its file from the one before in bytes that no file of it may have."""
+        before, data = self.held[image], read(f"{self.folder}/{image}")
+        if data == before.data and self.keeper.volumes[image] == self.seen.get(image):
+            return ""
+        wanted, now = self.keeper.volumes[image], Held(before.layout, data)
+        try:
+            got = read_volume(now.image)
+        except Unsound as why:
+            return f"the directory is not sound: {why}"
+        fault = before.fault(data)
+        if fault or outside(now.image, wanted) != outside(before.image, wanted):
+            return fault or "a block that the directory does not cover has changed"
+        self.held[image], self.seen[image] = now, wanted
+        return "" if got == wanted else f"the files differ\n    wanted {wanted.runs}\n    got    {got.runs}"
+
+
+def read(path: str) -> bytes:
+    with open(path, "rb") as file:
+        return file.read()
+
+
+def write(path: str, data: bytes) -> None:
+    with open(path, "wb") as file:
+        file.write(data)
+
+
+def tried(program: str, seed: int) -> list[str]:
+    with tempfile.TemporaryDirectory(prefix="pdp8-archives-") as folder:
+        case = Case(program, folder, Random(seed))
+        told = []
+        for _ in range(COMMANDS):
+            try:
+                told.append(case.command())
+            except subprocess.TimeoutExpired:
+                told.append("no end")
+            if told[-1]:
+                break
+        return told
+
+
+def main() -> int:
+    words = argparse.ArgumentParser(description=__doc__, formatter_class=argparse.RawDescriptionHelpFormatter)
+    words.add_argument("--program", default=f"{TOP}/crates/pdp8/out/pdp8")
+    words.add_argument("--cases", type=int, default=100)
+    words.add_argument("--seed", type=int, default=1)
+    given = words.parse_args()
+    program, seeds = os.path.abspath(given.program), range(given.seed, given.seed + given.cases)
+    if not os.path.isfile(program):
+        sys.exit(f"compare_archives: there is no program {program}: ./prove builds it")
+    with concurrent.futures.ProcessPoolExecutor(len(os.sched_getaffinity(0))) as lanes:
+        outcomes = list(lanes.map(tried, [program] * len(seeds), seeds, chunksize=2))
+    failed = [(seed, fault) for seed, told in zip(seeds, outcomes) for fault in told if fault]
+    for seed, fault in failed[:SHOWN]:
+        print(f"case {seed}: {fault}")
+    print(f"{sum(map(len, outcomes)) - len(failed)} passed, {len(failed)} failed")
+    return 1 if failed else 0
+
+
+if __name__ == "__main__":
+    sys.exit(main())

@@ -1,0 +1,197 @@
+#!/usr/bin/env python3
+"""compare_pal8_sources.py [--sources N] [--seed S] [--program FILE]: assembles the worked sources of PAL8, N random ones, 2000 where nothing is said, and
+N that are random bytes nearly, by the program `pal8_asm_bench`, and compares the cells that have words, or the first fault, with the plain
+model's; then the largest: a million literals, brackets within brackets, a line of 10 MB. Conditions aren't taken yet. The same seed makes
+the same sources. The last line is 'N passed, M failed'.
+"""
+import argparse
+import os
+import subprocess
+import sys
+from random import Random
+
+sys.dont_write_bytecode = True
+HERE = os.path.dirname(os.path.abspath(__file__))
+TOP = os.path.dirname(os.path.dirname(HERE))
+sys.path.insert(0, TOP)
+from tests.model import check_pal8_rows
+from tests.model.pal8 import answer
+
+CRATE = f"{os.path.dirname(os.path.dirname(HERE))}/crates/pal8_asm_bench"
+OPERATIONS = ("TAD", "AND", "ISZ", "DCA", "JMS", "JMP", "tad")
+OTHERS = ("CLA", "CLA CLL", "BSW", "CDI 10", "MQL", "HLT", "SKON", "IOT", "TAD")
+NAMES = ("A", "B", "C", "LOOP", "ABCDEFG", "BSW", "IOT", "X1", "CLA", "TAD", "I", "Z", "PAGE")
+OPERATORS = ("+", "-", "!", "&", "^", "%", " ", " + ", " -", "  ")
+PIECES = (*"AZ019+-!&^%=,*.()[]\"/;<>$# \t\n", *"\n\n;;,(([[  ", "TAD ", "TAD I ", "A", "B", "TEXT /", "PAGE ", "ZBLOCK ", "*200", "FIELD ", "A,", "$\n", "XLIST", "DECIMAL")
+
+
+class Maker:
+    """Makes sources of statements that mostly say something."""
+
+    def __init__(self, seed: int) -> None:
+        self.random = Random(seed)
+        self.values = self.random.sample(("A", "B", "C", "BSW", "ABCDEFG"), 2)
+        self.tags = self.random.sample(("LOOP", "X1", "IOT", "END", "T2"), 3)
+        self.left = list(self.tags)
+        self.has_faults = self.random.random() < 0.4
+
+    def rarely(self) -> bool:
+        return self.has_faults and self.random.random() < 0.04
+
+    def name(self, is_early: bool) -> str:
+        if self.rarely():
+            return self.random.choice(NAMES)
+        return self.random.choice(self.values if is_early else self.values + self.tags)
+
+    def number(self) -> str:
+        if self.rarely():
+            return self.random.choice(("8", "10000", "4096", "2A"))
+        return self.random.choice(("0", "1", "5", "7", "20", "177", "200", "277", "377", "400", f"{self.random.randrange(0o10000):o}"))
+
+    def term(self, depth: int) -> str:
+        """A term, which stands in so many literals; below 0 none may stand there."""
+        kind = self.random.randrange(10)
+        if kind < 3 or depth > 3 and kind > 6:
+            return self.number()
+        if kind < 6:
+            return self.name(depth < 0)
+        if kind == 6:
+            return self.random.choice((".", '"A', '"a', '";', '"$', "CLA"))
+        if depth < 0:
+            return self.random.choice(("(5", "[1")) if self.rarely() else self.number()
+        opening = self.random.choice("(([")
+        closing = self.random.choice(("", ")" if opening == "(" else "]", ")" if self.rarely() else ""))
+        return opening + self.value(depth + 1) + closing
+
+    def terms(self, depth: int, has_blanks: bool) -> str:
+        text = self.term(depth)
+        while self.random.random() < 0.25:
+            operator = self.random.choice(OPERATORS if has_blanks or self.rarely() else OPERATORS[:6])
+            text += operator + (self.random.choice("1357") if operator == "%" and not self.rarely() else self.term(depth))
+        return text
+
+    def value(self, depth: int) -> str:
+        if self.random.random() < 0.55 and depth >= 0:
+            operation = self.random.choice(OPERATIONS)
+            if self.random.random() < 0.2:
+                return operation + self.random.choice((" I ", " Z I ")) + self.random.choice(("20", "177", ".", "(7", "[A", "(TAD (3)"))
+            return operation if self.random.random() < 0.1 else operation + self.random.choice((" ", " ", " Z ")) + self.terms(depth, False)
+        if self.random.random() < 0.2:
+            return self.random.choice(OTHERS)
+        if self.rarely():
+            return self.random.choice(("JMS I 20", "TAD 1234", "TAD I 400"))
+        return self.random.choice(("", "", "", "-", "+")) + self.terms(depth, True)
+
+    def argument(self, limit: int) -> str:
+        if self.rarely():
+            return self.terms(-9, True)
+        return f"{self.random.randrange(limit):o}"
+
+    def body(self) -> str:
+        kind = self.random.randrange(30)
+        if kind == 0:
+            return "*" + self.argument(0o10000)
+        if kind == 1:
+            return "*" + self.random.choice(("20", "200", "370", "400", "7600", ".+2", "TAD&370"))
+        if kind < 4:
+            return self.random.choice(self.values) + self.random.choice(("=", " = ")) + self.value(-9)
+        if kind == 4:
+            return self.random.choice(("DECIMAL", "OCTAL", "OCTAL", "OCTAL")) if self.has_faults else "OCTAL"
+        if kind == 5:
+            return "FIELD " + self.argument(9 if self.has_faults else 8)
+        if kind == 6:
+            return self.random.choice(("PAGE", "PAGE", "PAGE " + self.argument(0o41 if self.has_faults else 0o40)))
+        if kind == 7:
+            return "ZBLOCK " + self.argument(5)
+        if kind < 10:
+            mark = self.random.choice("/\"A(")
+            return "TEXT " + mark + "".join(self.random.choices("BCDxyz_ ;$<)", k=self.random.randrange(6))).replace(mark, "") + ("" if self.rarely() else mark)
+        if kind == 10:
+            return self.random.choice(("XLIST", "EJECT ANY $", "", "/ note"))
+        return self.value(0)
+
+    def tag(self) -> str:
+        if self.rarely():
+            return self.random.choice(NAMES) + ","
+        if not self.left or self.random.random() < 0.8:
+            return ""
+        return self.left.pop() + self.random.choice((",", " , "))
+
+    def source(self) -> bytes:
+        lines = [f"{name}={self.number()}" for name in self.values]
+        lines += [self.tag() + self.body() for _ in range(self.random.randint(1, 25))]
+        lines += ["OCTAL", *(f"{tag}, 7" for tag in self.left if not self.rarely())]
+        text = "".join(line + self.random.choice("\n\n\n;") for line in lines)
+        return (text + ("" if self.rarely() else "\n$\n") + ("1 2\n" if self.rarely() else "")).encode("latin1")
+
+
+def nearly_bytes(seed: int) -> bytes:
+    random = Random(-seed)
+    return ("".join(random.choices(PIECES, k=random.randint(1, 40))) + random.choice(("", "\n$\n", "\n$\n"))).encode("latin1")
+
+
+def rows() -> list[tuple[str, bytes, str]]:
+    """The worked sources without conditions."""
+    return [(name, source.encode("latin1"), wanted) for name, source, wanted in check_pal8_rows.rows() if "IF" not in source]
+
+
+def came(program: str, text: bytes) -> str:
+    return subprocess.run([program], input=text, capture_output=True, timeout=300).stdout.decode("latin1")
+
+
+def largest() -> list[tuple[str, bytes, str]]:
+    """Large sources, each with what its answer ends in."""
+    million = 10**6
+    return [
+        ("a million literals", b"*200\n" + b"TAD (1;*200\n" * million + b"$\n", "0 0377 0001\n"),
+        ("a million different literals", b"".join(b"TAD (%o\n*200\n" % (k % 0o200) for k in range(million)) + b"$\n", "? 5 PE 255\n"),
+        ("a thousand brackets within others", b"TAD " + b"(" * 1000 + b"5\n$\n", "? 5 PE 1\n"),
+        ("a hundred brackets within others", b"TAD " + b"(" * 100 + b"5" + b")" * 100 + b"\n$\n", "0 0377 0005\n"),
+        ("a million brackets", b"(" * million + b"5\n$\n", "? 5 PE 1\n"),
+        ("a million brackets of both kinds", b"([" * (million // 2) + b"5" + b"])" * (million // 2) + b"\n$\n", "? 5 ZE 1\n"),
+        ("a million open brackets", b"(" * million + b"\n$\n", "? 5 SY 1\n"),
+        ("a line of 10 MB", b"*200;TAD (7 ;" * (10 * million // 13) + b"$", "0 0377 0007\n"),
+        ("a million terms", b"1" + b"+1" * million + b"\n$\n", f"0 0200 {(million + 1) % 0o10000:04o}\n"),
+        ("a million tags", b"A," * million + b"1\n$\n", "0 0200 0001\n"),
+        ("a string of a million", b"TEXT /" + b"A" * million + b"/\n$\n", "? 5 PF 1\n"),
+        ("a text without its end", b"TEXT /" + b"A" * million, "? 5 NE 1\n"),
+        ("a million lines", b"\n" * million + b"1;$\n", "0 0200 0001\n"),
+    ]
+
+
+def main() -> int:
+    words = argparse.ArgumentParser()
+    words.add_argument("--sources", type=int, default=2000)
+    words.add_argument("--seed", type=int, default=1)
+    words.add_argument("--program", default="")
+    given = words.parse_args()
+    program = given.program or f"{CRATE}/out/pal8_asm_bench"
+    if not given.program and not os.path.exists(program):
+        with open(f"{CRATE}/stdin", "rb") as source:
+            subprocess.run(["rt", "run"], cwd=CRATE, stdin=source, stdout=subprocess.DEVNULL, stderr=subprocess.DEVNULL, check=False)
+    numbers = range(given.seed, given.seed + given.sources)
+    texts = [(name, text, wanted) for name, text, wanted in rows()]
+    texts += [(f"source {k}", Maker(k).source(), "") for k in numbers]
+    texts += [(f"bytes {k}", nearly_bytes(k), "") for k in numbers]
+    passed = failed = 0
+    for name, text, wanted in texts:
+        wanted = wanted or answer(text)
+        found = came(program, text)
+        if found == wanted:
+            passed += 1
+        else:
+            failed += 1
+            print(f"{name}: {text!r}: wanted\n{wanted}came\n{found}", end="")
+    for name, text, end in largest():
+        found = came(program, text)
+        if found.endswith(end):
+            passed += 1
+        else:
+            failed += 1
+            print(f"{name}: wanted .. {end}came .. {found[-40:]}", end="")
+    print(f"{passed} passed, {failed} failed")
+    return 1 if failed or not passed else 0
+
+
+if __name__ == "__main__":
+    sys.exit(main())

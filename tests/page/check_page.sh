@@ -1,0 +1,80 @@
+#!/usr/bin/env bash
+# run [--quick] [--pictures]: makes the page and tests it: each pane in headless Chromium against the native program, and every session, but
+# for those of beyond.txt, and a thousand random scripts of the plain model with its module in node. Then five faults are planted in the page, and
+# a test must notice each. The last line is 'N passed, M failed'.
+# --quick takes the page and the program that are built with checks, in place of the proved ones, the sessions of the documents alone, a
+# hundred scripts, and of the browser's tests those of panes.mjs, losses.mjs and waits.mjs. Where there is no Chromium or no node the tests of the page are skipped, which fails where CI is set.
+set -u
+top=$(dirname "$(dirname "$(dirname "$(readlink -f "${BASH_SOURCE[0]}")")")")
+cd "$top" || exit 2
+for word; do
+    case $word in
+    --quick | --pictures) ;;
+    *) echo "check_page: usage: tests/page/check_page.sh [--quick] [--pictures]" >&2; exit 2 ;;
+    esac
+done
+pictures=
+[[ " $* " == *" --pictures "* ]] && pictures=--pictures
+which=--proved program=crates/pdp8/out/pdp8 texts=() scripts=1000 browsed='losses undone shelf whole panel'
+if [[ " $* " == *" --quick "* ]]; then
+    which=--unproved program=target/unproved/pdp8/pdp8 texts=(README.md docs/*.md) scripts=100 browsed=losses
+fi
+folder=target/page
+client=target/wasm/client
+
+missing=
+for tool in node cc; do command -v $tool >/dev/null || missing="$missing $tool"; done
+[ -x /usr/lib/chromium/chromium ] || [ -x /usr/bin/chromium ] || [ -x /usr/bin/google-chrome ] || missing="$missing chromium"
+if [ -n "$missing" ]; then
+    echo "page: there is no$missing: Debian's packages chromium, nodejs and gcc have them"
+    [ -n "${CI-}" ] && { echo "0 passed, 1 failed"; exit 1; }
+    echo "1 passed, 0 failed"
+    exit 0
+fi
+
+./page $which "$folder" || { echo "0 passed, 1 failed"; exit 1; }
+cc -O2 -Wall -Wextra -Werror -o "$client" tests/page/client.c || { echo "0 passed, 1 failed"; exit 1; }
+
+room=$(mktemp -d)
+trap 'rm -rf "$room"' EXIT
+passed=0 failed=0 parts=()
+
+# Begins a part, which runs beside the others.
+begin() {
+    parts+=("$*")
+    "$@" >"$room/${#parts[@]}" 2>&1 &
+}
+
+# Begins a part that works a browser. Two of these run side by side with --quick alone.
+browse() {
+    begin node "$@"
+    [ "$which" = --unproved ] || wait $!
+}
+
+# Shows what a part has printed, and counts what it says in its last line.
+count() {
+    local last
+    last=$(tail -n 1 "$room/$1")
+    sed '$d' "$room/$1"
+    if [[ $last =~ ^([0-9]+)\ passed,\ ([0-9]+)\ failed$ ]] && ((BASH_REMATCH[1] + BASH_REMATCH[2] > 0)); then
+        passed=$((passed + BASH_REMATCH[1])) failed=$((failed + BASH_REMATCH[2]))
+    else
+        echo "$last"
+        echo "page: ${parts[$1 - 1]} broke off"
+        failed=$((failed + 1))
+    fi
+}
+
+size=$(du -ks --apparent-size "$folder" | cut -f 1)
+if ((size < 3000)); then passed=$((passed + 1)); else failed=$((failed + 1)); echo "page: the folder has $size kB"; fi
+served() { node --experimental-wasm-memory64 --no-warnings tests/page/server.mjs "$folder/pdp8.wasm" "$@"; }
+begin served tests/page/run_sessions.py ${texts+"${texts[@]}"}
+begin served tests/model/compare_scripts.py --program "$client" --scripts $scripts
+browse tests/page/panes.mjs "$program" "$folder" $pictures
+for part in $browsed; do browse "tests/page/$part.mjs" "$program" "$folder"; done
+browse tests/page/waits.mjs "$folder"
+[ "$which" = --unproved ] || begin tests/page/try_faults.py --gate --program "$program"
+wait
+for number in "${!parts[@]}"; do count $((number + 1)); done
+echo "$passed passed, $failed failed"
+((failed == 0))

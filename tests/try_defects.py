@@ -1,0 +1,221 @@
+#!/usr/bin/env python3
+"""try_defects.py [NAME..]: plants the defects of tests/defects/*.defect, or those whose names have NAME, one by one in a copy of the tree. The
+check that a defect names must find it: it must fail with a line that has the wanted text. Before that each check must pass in the copy as
+it stands. The last line is 'N passed, M failed'.
+
+A defect is a text of lines `WORD: REST`. Those that begin with `#` say what is wrong.
+
+    run: WORDS      the check that must find it, with its words
+    needs: COMMAND  the defect is left out where there is no such command, unless CI is set
+    finds: TEXT     what one line of the check's output must have
+    file: FILE      the file that the next lines change
+    old: TEXT       a text that stands there once, and
+    new: TEXT       what stands there in its place
+    add: TEXT       one more line at the file's end; the file is made where there is none
+    drop: REGEX     the first line that REGEX finds is deleted
+    mode: MODE      the file gets these rights, in octal
+    remove:         the file or the folder is deleted
+"""
+import concurrent.futures
+import glob
+import os
+import queue
+import re
+import shutil
+import subprocess
+import sys
+import tempfile
+from dataclasses import dataclass, field
+
+TOP = os.path.dirname(os.path.dirname(os.path.abspath(__file__)))
+# What a check reads of the tree: no built files, nothing of the version control.
+APART = shutil.ignore_patterns(".git", "target", "out", "__pycache__", ".mypy_cache", ".pytest_cache")
+SECONDS = 300
+
+
+class BadDefect(Exception):
+    """Why a defect can't be planted."""
+
+
+@dataclass
+class Defect:
+    """A defect: what is changed, which check must find it, and what that must print."""
+
+    name: str
+    words: list[str] = field(default_factory=list)
+    finds: str = ""
+    needs: str = ""
+    changes: list[tuple[str, str, str]] = field(default_factory=list)
+
+
+def read_defect(path: str) -> Defect:
+    """The defect that a file describes."""
+    defect = Defect(os.path.basename(path).removesuffix(".defect"))
+    file = old = ""
+    with open(path, encoding="utf-8") as lines:
+        for line in lines.read().split("\n"):
+            word, _, rest = line.partition(": ")
+            if word == "run":
+                defect.words = rest.split()
+            elif word == "finds":
+                defect.finds = rest
+            elif word == "needs":
+                defect.needs = rest
+            elif word == "file":
+                file = rest
+            elif word == "old":
+                old = rest
+            elif word == "new":
+                defect.changes.append((file, old, rest))
+            elif word in ("add", "drop", "mode"):
+                defect.changes.append((file, word, rest))
+            elif line == "remove:":
+                defect.changes.append((file, "remove", ""))
+            elif line and not line.startswith("#"):
+                raise BadDefect(f"{path} has a line of no known form: {line}")
+    if not (defect.words and defect.finds and defect.changes):
+        raise BadDefect(f"{path} lacks a line `run:`, `finds:` or one that changes a file")
+    return defect
+
+
+def changed(text: str, how: str, what: str, file: str) -> str:
+    """A file's text after one change."""
+    if how == "mode":
+        return text
+    if how == "add":
+        return f"{text}{what}\n"
+    if how == "drop":
+        lines = text.split("\n")
+        at = next((number for number, line in enumerate(lines) if re.search(what, line)), None)
+        if at is None:
+            raise BadDefect(f"no line of {file} is found by {what}")
+        return "\n".join(lines[:at] + lines[at + 1 :])
+    if text.count(how) != 1:
+        raise BadDefect(f"the old text stands in {file} {text.count(how)} times, and not once: {how}")
+    return text.replace(how, what)
+
+
+class Tree:
+    """A copy of the tree, which shares its files with the first copy. A defect's files are written anew and are put back."""
+
+    def __init__(self, folder: str, first: str) -> None:
+        self.top = folder
+        self.first = first
+        shutil.copytree(first, folder, copy_function=os.link)
+
+    def path(self, file: str) -> str:
+        return f"{self.top}/{file}"
+
+    def plant(self, defect: Defect) -> None:
+        """Makes the changes of a defect."""
+        for file, how, what in defect.changes:
+            path = self.path(file)
+            if how == "remove":
+                if os.path.isdir(path):
+                    shutil.rmtree(path)
+                else:
+                    os.remove(path)
+                continue
+            mode, text = 0o644, ""
+            if os.path.exists(path):
+                mode = os.stat(path).st_mode
+                with open(path, encoding="utf-8") as there:
+                    text = there.read()
+                os.remove(path)  # the first copy has the same file
+            elif how != "add":
+                raise BadDefect(f"there is no file {file}")
+            os.makedirs(os.path.dirname(path), exist_ok=True)
+            with open(path, "w", encoding="utf-8") as laid:
+                laid.write(changed(text, how, what, file))
+            os.chmod(path, int(what, 8) if how == "mode" else mode)
+
+    def mend(self, defect: Defect) -> None:
+        """Puts back what a defect has changed."""
+        for file in {file for file, _, _ in defect.changes}:
+            path, first = self.path(file), f"{self.first}/{file}"
+            if os.path.isdir(first):
+                shutil.rmtree(path, ignore_errors=True)
+                shutil.copytree(first, path, copy_function=os.link)
+                continue
+            if os.path.exists(path):
+                os.remove(path)
+            if os.path.exists(first):
+                os.link(first, path)
+
+    def run(self, words: list[str]) -> tuple[int, str]:
+        """The status of a check in this copy, and what it prints."""
+        env = {**os.environ, "PYTHONDONTWRITEBYTECODE": "1"}
+        ran = subprocess.run(words, cwd=self.top, env=env, timeout=SECONDS, stdin=subprocess.DEVNULL, stdout=subprocess.PIPE, stderr=subprocess.STDOUT)
+        return ran.returncode, ran.stdout.decode(errors="replace")
+
+
+def why_not_sound(tree: Tree, words: list[str]) -> str:
+    """Why a check does not pass in the copy as it stands, or nothing."""
+    try:
+        status, printed = tree.run(words)
+    except (OSError, subprocess.TimeoutExpired) as fault:
+        return f"{' '.join(words)}: {fault}"
+    is_sound = status == 0 and re.search(r"(?m)^[1-9]\d* passed, 0 failed$", printed)
+    return "" if is_sound else f"{' '.join(words)} fails without a defect, with status {status}:\n{printed[-2000:]}"
+
+
+def why_not_found(tree: Tree, defect: Defect) -> str:
+    """Why a check does not find a defect, or nothing."""
+    try:
+        tree.plant(defect)
+        status, printed = tree.run(defect.words)
+    except (BadDefect, OSError, subprocess.TimeoutExpired) as fault:
+        return f"{defect.name}: {fault}"
+    finally:
+        tree.mend(defect)
+    if status == 0 or re.search(r"(?m)^\d+ passed, 0 failed\n\Z", printed):
+        return f"{defect.name}: {' '.join(defect.words)} does not find it: status {status}, {printed[-200:]!r}"
+    if defect.finds not in printed:
+        return f"{defect.name}: {' '.join(defect.words)} fails, but prints no line with {defect.finds!r}:\n{printed[-2000:]}"
+    return ""
+
+
+def defects_of(names: list[str]) -> list[Defect]:
+    """The defects, or those of them whose names have one of these."""
+    every = [read_defect(path) for path in sorted(glob.glob(f"{TOP}/tests/defects/*.defect"))]
+    every = [it for it in every if not it.needs or shutil.which(it.needs) or os.environ.get("CI")]
+    return [it for it in every if not names or any(name in it.name for name in names)]
+
+
+def faults(defects: list[Defect], room: str) -> list[str]:
+    """What is wrong: one text for each check and each defect, empty where it is as it should be."""
+    lanes = len(os.sched_getaffinity(0))
+    shutil.copytree(TOP, f"{room}/first", ignore=APART, symlinks=True)
+    trees: queue.Queue[Tree] = queue.Queue()
+    for number in range(lanes):
+        trees.put(Tree(f"{room}/{number}", f"{room}/first"))
+
+    def tried(work: "list[str] | Defect") -> str:
+        tree = trees.get()
+        try:
+            return why_not_found(tree, work) if isinstance(work, Defect) else why_not_sound(tree, work)
+        finally:
+            trees.put(tree)
+
+    checks = [list(words) for words in dict.fromkeys(tuple(defect.words) for defect in defects)]
+    with concurrent.futures.ThreadPoolExecutor(lanes) as pool:
+        return list(pool.map(tried, [*checks, *defects]))
+
+
+def main(names: list[str]) -> int:
+    try:
+        defects = defects_of(names)
+    except BadDefect as bad:
+        print(f"try_defects: {bad}\n0 passed, 1 failed")
+        return 1
+    with tempfile.TemporaryDirectory(prefix="pdp8-defects-") as room:
+        found = faults(defects, room)
+    for fault in filter(None, found):
+        print(f"try_defects: {fault}")
+    failed = sum(map(bool, found))
+    print(f"{len(found) - failed} passed, {failed} failed")
+    return 1 if failed or not found else 0
+
+
+if __name__ == "__main__":
+    sys.exit(main(sys.argv[1:]))
