@@ -2,6 +2,11 @@
 import { $, made, tell, takeHome, bytesOfFile, elementOf, ids, keepInput, rove } from './dom.js';
 import { ask } from './ask.js';
 import { textOf } from './program.js';
+import { Shown } from './shown.js';
+import { placeOf, tapeOf } from './tapes.js';
+
+// A file of a volume: where the directory is refused it is found by its blocks.
+/** @typedef {{ name: string, first: number, length: number, isByBlocks: boolean }} Entry */
 
 const COLOURS = ['directory', 'file', 'file-2', 'empty', 'outside', 'fault'];
 
@@ -9,11 +14,10 @@ export class Files {
     /** @param {Page} page */
     constructor(page) {
         this.page = page;
-        /** @type {string | null} */
-        this.shown = null;
+        this.shown = new Shown(page);
         /** @type {Set<string>} */
         this.used = new Set();
-        /** @type {{ name: string, first: number, length: number }[]} */
+        /** @type {Entry[]} */
         this.entries = [];
         /** @type {{ kind: string, of: string }[]} */
         this.blocks = [];
@@ -167,7 +171,7 @@ export class Files {
             const bytes = await bytesOfFile(file), kind = await this.#kind(bytes);
             if (kind === 'image') await this.take(file);
             else if (this.name !== '' && !$('files').hidden) await this.#putFiles([file]);
-            else if (kind === 'tape') this.page.teletype.take(file.name, bytes);
+            else if (kind === 'tape') await this.page.teletype.take(file.name, bytes);
             else if (await this.page.source.take(file.name, textOf(bytes))) this.page.tabs.show('source');
         }
     }
@@ -180,7 +184,7 @@ export class Files {
         const { status, out } = await programs.ask(['check', '.asked']);
         store.remove('.asked');
         if (status === 0 || textOf(out).startsWith('? DIRECTORY') || bytes.length > 16777216) return 'image';
-        return bytes.length && (await programs.ask(['tape'], bytes)).status === 0 ? 'tape' : 'text';
+        return bytes.length && (await tapeOf(this.page, bytes)).status === 0 ? 'tape' : 'text';
     }
 
     /** @param {HTMLInputElement} input */
@@ -226,6 +230,7 @@ export class Files {
             const busy = await this.#busy(name);
             if (busy) return tell('files-status', `${name}: ${busy}`, true);
         }
+        this.shown.forget(name);
         this.page.undo.begin(name, `the new volume ${name}`);
         this.page.store.put(name, bytes);
         this.page.undo.end(name);
@@ -273,7 +278,7 @@ export class Files {
         $('volume').value = name;
         this.page.store.note('volume', name);
         tell('files-status', '');
-        this.#show(null, '', '');
+        this.shown.lay(null);
         this.#leave();
         if (name !== '') await this.page.claims.claim(`volume ${name}`);
         this.#tellClaim();
@@ -305,10 +310,11 @@ export class Files {
         const { status, out, said } = await this.page.programs.ask(['check', name]);
         if (turn !== this.turn) return;
         this.entries = [];
-        const lines = textOf(out).trim().split('\n').map(it => it.split(' '));
-        this.refusal = status === 0 ? null : lines.map(it => it.join(' ')).join('\n');
-        if (this.refusal) tell('files-status', `${this.refusal}\n${said}`, true);
-        this.#lay(lines);
+        this.refusal = status === 0 ? null : textOf(out).trim();
+        const all = this.refusal ? textOf((await this.page.programs.ask(['check', name, '--all'])).out) : textOf(out);
+        if (turn !== this.turn) return;
+        if (this.refusal) tell('files-status', `${this.refusal}\n${said}${all.split('\n').filter(it => /^([?] |UNSOUND|TWICE)/.test(it) && it !== this.refusal).join('\n')}`, true);
+        this.#lay(all.trim().split('\n').map(it => it.split(' ')));
         this.#draw();
         this.#rows();
         for (const id of ids('squeeze', 'put')) $(id).disabled = this.refusal !== null;
@@ -319,26 +325,26 @@ export class Files {
     // What each block is, by the lines of `check`. Blocks 0 to 6 are the boot block and those of the directory.
     /** @param {string[][]} lines */
     #lay(lines) {
-        const count = Number(lines.find(it => it[0] === 'BLOCKS')?.[1] ?? 0);
-        this.blocks = Array.from({ length: count }, (_, block) => ({ kind: block === 0 ? 'outside' : 'directory', of: block === 0 ? 'boot block' : 'directory' }));
+        const bytes = this.page.store.files.get(this.name)?.length ?? 0, isByBlocks = this.refusal !== null;
+        const count = isByBlocks ? Math.max(7, Math.floor(bytes / 512)) : Number(lines.find(it => it[0] === 'BLOCKS')?.[1] ?? 0);
+        const others = isByBlocks ? 'of no file that was found' : 'directory';
+        this.blocks = Array.from({ length: count }, (_, block) => ({ kind: block && block < 7 ? 'directory' : 'outside', of: block ? block < 7 ? 'directory' : others : 'boot block' }));
         let turn = 0;
         /** @param {number} first @param {number} length @param {string} kind @param {string} of */
-        const lay = (first, length, kind, of) => { for (let k = 0; k < length; k++) this.blocks[first + k] = { kind, of }; };
+        const lay = (first, length, kind, of) => { for (let k = first; k < Math.min(first + length, count); k++) this.blocks[k] = { kind, of }; };
         for (const [word, ...rest] of lines) {
-            const [first, length] = rest.slice(-2).map(Number);
+            const [first, length] = rest.slice(-2).map(Number), isSound = word !== 'UNSOUND';
             if (word === 'OUTSIDE') lay(first, length, 'outside', 'not covered by the directory');
+            if (word === 'TWICE') lay(first, length, 'fault', 'claimed twice');
             if (word === 'EMPTY') lay(first, length, 'empty', 'empty');
-            if (word !== 'FILE') continue;
-            const name = rest.slice(0, -2).join(' ');
-            this.entries.push({ name, first, length });
-            lay(first, length, turn++ % 2 ? 'file-2' : 'file', name);
+            if (word !== 'FILE' && rest[0] !== 'FILE') continue;
+            const name = rest.slice(isSound ? 0 : 1, -2).join(' ');
+            this.entries.push({ name, first, length, isByBlocks });
+            lay(first, length, isSound ? turn++ % 2 ? 'file-2' : 'file' : 'fault', isSound ? name : `${name}, unsound`);
         }
         if (!this.refusal) return;
         const told = this.refusal.match(/^\? DIRECTORY [12] .* (\d+)$/);
-        const bytes = this.page.store.files.get(this.name)?.length ?? 0;
-        this.blocks = Array.from({ length: Math.max(7, Math.floor(bytes / 512)) }, (_, block) => ({ kind: 'outside', of: 'of a volume that is refused' }));
-        if (told) this.blocks[Number(told[1])] = { kind: 'fault', of: this.refusal };
-        else for (let block = 1; block < 7; block++) this.blocks[block] = { kind: 'fault', of: this.refusal };
+        for (let block = 1; block < 7; block++) if (!told || Number(told[1]) === block) this.blocks[block] = { kind: 'fault', of: this.refusal };
     }
 
     #draw() {
@@ -373,62 +379,32 @@ export class Files {
     #rows() {
         const rows = [...this.entries].sort((a, b) => a.name < b.name ? -1 : 1).map(it => this.#row(it));
         $('directory').tBodies[0].replaceChildren(...rows);
-        $('directory').hidden = this.refusal !== null;
+        $('directory').hidden = this.refusal !== null && !rows.length;
     }
 
-    /** @param {{ name: string, first: number, length: number }} it */
-    #row({ name, first, length }) {
+    /** @param {Entry} it */
+    #row(it) {
+        const { name, first, length, isByBlocks } = it, { shown } = this;
         /** @param {string} text @param {() => void} what @param {string} label */
         const button = (text, what, label) => made('button', { onclick: what, 'aria-label': `${name} ${label}` }, text);
-        const row = made('tr', { 'data-name': name }, made('td', {}, name), made('td', { class: 'n' }, String(length)), made('td', { class: 'n' }, String(first)),
-            made('td', {}, button('text', () => this.show(name, 'text'), 'as a text'), ' ', button('listing', () => this.show(name, 'tape'), 'as the listing of a tape'),
-                ' ', button('source', () => this.show(name, 'source'), 'as the source of a tape')),
-            made('td', {}, button('text', () => this.#home(name, '--text'), 'home as a text'), ' ', button('tape', () => this.#home(name, '--tape'), 'home as a tape'),
-                ' ', button('frames', () => this.#home(name), 'home as frames')),
-            made('td', {}, button('copy', () => this.#copy(name), 'copy'), ' ',
-                button('delete', () => this.#change(`the deletion of ${name}`, `DELETE ${name}`), 'delete')));
-        row.classList.toggle('chosen', this.shown === name);
+        const changes = isByBlocks ? [] : [button('copy', () => this.#copy(it), 'copy'), ' ', button('delete', () => this.#delete(it), 'delete')];
+        const row = made('tr', { 'data-name': name }, made('td', {}, button(name, () => shown.best(it), 'in its best form')), made('td', { class: 'n' }, String(length)), made('td', { class: 'n' }, String(first)),
+            made('td', {}, button('text', () => shown.show(it, 'text'), 'as a text'), ' ', button('listing', () => shown.show(it, 'tape'), 'as the listing of a tape'),
+                ' ', button('source', () => shown.show(it, 'source'), 'as the source of a tape')),
+            made('td', {}, button('text', () => shown.home(it, 'text'), 'home as a text'), ' ', button('tape', () => shown.home(it, 'tape'), 'home as a tape'),
+                ' ', button('frames', () => shown.home(it, 'frames'), 'home as frames')),
+            made('td', {}, ...changes));
+        row.classList.toggle('chosen', shown.entry?.name === name);
         return row;
     }
 
-    /** @param {string} name @param {...string} form */
-    #get(name, ...form) { return this.page.programs.ask(['get', this.name, name, ...form]); }
-
-    // The frames of the tape that a file begins with, or the program's refusal.
-    /** @param {string} name */
-    tape(name) { return this.#get(name, '--tape'); }
-
-    // Shows a file: as a text, or its tape as a listing or as source.
-    /** @param {string} name @param {'text' | 'tape' | 'source'} as */
-    async show(name, as) {
-        const got = await this.#get(name, as === 'text' ? '--text' : '--tape');
-        const given = got.status === 0 && as !== 'text' ? await this.page.programs.ask([as], got.out) : got;
-        if (given.status !== 0) {
-            tell('files-status', `${name}: ${textOf(given.out)}${given.said}`, true);
-            return;
-        }
-        tell('files-status', '');
-        this.#show(name, textOf(given.out), { text: 'text', tape: 'listing of its tape', source: 'source of its tape' }[as]);
-    }
-
-    /** @param {string | null} name @param {string} text @param {string} as */
-    #show(name, text, as) {
-        this.shown = name;
-        $('shown-name').textContent = name ? `${name}, ${as}` : 'No file is shown';
-        $('shown').textContent = text.replaceAll('\r', '');
-        for (const row of $('directory').tBodies[0].rows) row.classList.toggle('chosen', row.dataset.name === name);
-    }
-
-    // Takes a file home under its own name, so that it comes back under that.
-    /** @param {string} name @param {...string} form */
-    async #home(name, ...form) {
-        const { status, out, said } = await this.#get(name, ...form);
-        if (status !== 0) {
-            tell('files-status', `${name}: ${said}`, true);
-            return;
-        }
-        takeHome(name, out);
-        tell('files-status', `${name}: ${out.length} bytes`);
+    // Deletes a file: by a line of a script, or by its place where its name can't be typed.
+    /** @param {Entry} it */
+    async #delete(it) {
+        const [word, at] = placeOf(it), words = `the deletion of ${it.name}`;
+        if (!at) return this.#change(words, `DELETE ${word}`);
+        const { status, out, said } = await this.page.undo.group(this.name, words, () => this.page.programs.ask(['delete', this.name, word, at]));
+        tell('files-status', textOf(out) + said, status !== 0);
     }
 
     /** @param {HTMLInputElement} input */
@@ -476,15 +452,15 @@ export class Files {
     }
 
     // Copies a file to another volume of the page, with its information words, and so its date.
-    /** @param {string} name */
-    async #copy(name) {
-        const { programs, undo } = this.page, others = this.volumes.filter(it => it !== this.name);
+    /** @param {Entry} it */
+    async #copy(it) {
+        const { name } = it, { programs, undo } = this.page, others = this.volumes.filter(it => it !== this.name);
         if (!others.length) return tell('files-status', 'There is no other volume: open one, or make a new one.', true);
         const to = await ask(`Copy ${name} to which volume?`, ...others.map(it => [it, it]), ['', 'Leave it']);
         if (to === '') return;
         await this.#use(to, async () => {
             if (!await this.#mayWrite(to, name)) return tell('files-status', `${name} of ${to} was left as it was`);
-            const { status, out, said } = await undo.group(to, `the copy of ${name} to ${to}`, () => programs.ask(['copy', this.name, name, to]));
+            const { status, out, said } = await undo.group(to, `the copy of ${name} to ${to}`, () => programs.ask(['copy', this.name, ...placeOf(it), to]));
             tell('files-status', status === 0 ? `${to}: ${textOf(out)}` : textOf(out) + said, status !== 0);
         });
     }

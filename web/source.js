@@ -221,17 +221,17 @@ export class Source {
         if (takesCursor && found.length) this.#go(Number(found[0][1]), Number(found[0][2]), false);
     }
 
-    // Puts the cursor at a line of the text.
-    /** @param {number} line @param {boolean} [takesFocus] */
-    goTo(line, takesFocus = true) { this.#go(line, 1, takesFocus); }
+    // Chooses what stands at a place of the text: so many characters, or the rest of the line.
+    /** @param {number} line @param {boolean} [takesFocus] @param {number} [column] @param {number} [length] */
+    goTo(line, takesFocus = true, column = 1, length = 0) { this.#go(line, column, takesFocus, length); }
 
     // Puts the cursor at a place of the text.
-    /** @param {number} line @param {number} column @param {boolean} [takesFocus] */
-    #go(line, column, takesFocus = true) {
+    /** @param {number} line @param {number} column @param {boolean} [takesFocus] @param {number} [length] */
+    #go(line, column, takesFocus = true, length = 0) {
         const lines = $('text').value.split('\n');
         const at = lines.slice(0, line - 1).reduce((sum, it) => sum + it.length + 1, 0) + column - 1;
         if (takesFocus) $('text').focus();
-        $('text').setSelectionRange(at, at + Math.max(1, lines[line - 1].length - column + 1));
+        $('text').setSelectionRange(at, at + (length || Math.max(1, (lines[line - 1] ?? '').length - column + 1)));
         $('text').scrollTop = Math.max(0, (line - 5) * parseFloat(getComputedStyle($('text')).lineHeight));
     }
 

@@ -31,6 +31,10 @@ async function script(page) {
     if (replies !== '00200 7402\nSTEPS 1 HALT 00201\nSTORED A 1\nA 1\nFREE 729\n') throw new Error(`replies ${JSON.stringify(replies)}`);
 }
 
+// What a page must not show where no call of the program can wait for a key.
+const SHOWN = `['#tab-machine', '#machine', '#to-core', '#to-step', '#keys', '#read', '#session', '#entry', '#tty-stop', '[data-run=sort]', '[data-run=lights]']
+    .filter(it => document.querySelector(it).checkVisibility()).join(' ')`;
+
 const tests = {
     'with memory that two threads have, the game, the machine and a session run': async page => {
         const server = await serve(folder, isolated);
@@ -68,11 +72,16 @@ const tests = {
         try {
             await begun(page, `${server.url}?wait=none`);
             await script(page);
-            await page.click('#tab-machine');
-            await isTold(page, 'machine-status', 'can\'t wait');
             await isTold(page, 'kept', 'whole scripts can');
+            await page.look(`location.hash = '#machine'`);
+            for (const pane of ['files', 'source', 'teletype', 'script']) {
+                await page.click(`#tab-${pane}`);
+                const shown = await page.look(SHOWN);
+                if (shown !== '') throw new Error(`shown in ${pane}: ${shown}`);
+            }
             await page.click('#tab-source');
             await page.click('#to-teletype');
+            if (!await page.look(`document.getElementById('reader').checkVisibility()`)) throw new Error('the tape reader is not seen');
             await page.look(`document.getElementById('reader').value = 'ADA\\n50\\n79\\n'`);
             await page.click('#tty-run');
             await isTold(page, 'paper', 'GUESSES: 2');
