@@ -26,6 +26,8 @@ export class Files {
         /** @type {string | null} */
         this.follows = null;
         this.created = '';
+        /** @type {{ by: 'name' | 'first' | 'length', way: number }} */
+        this.order = { by: 'name', way: 1 };
         this.turn = this.across = this.side = 0;
         keepInput(page.store, 'new-name');
         keepInput(page.store, 'new-blocks');
@@ -39,7 +41,10 @@ export class Files {
         $('redo').addEventListener('click', () => this.#undo(true));
         page.undo.addEventListener('change', () => this.#undoable());
         for (const id of ids('changes', 'volume-keys', 'begin')) rove($(id));
-        rove($('directory').tBodies[0]);
+        rove($('directory'));
+        $('find').addEventListener('input', () => this.#rows());
+        $('find').addEventListener('keydown', event => event.key === 'Enter' && this.#showFound());
+        for (const it of $('directory').querySelectorAll('button')) it.addEventListener('click', () => this.#sort(it.dataset.sort ?? ''));
         $('files').addEventListener('keydown', event => this.#key(event));
         $('put').addEventListener('change', () => this.#put($('put')));
         $('blocks').addEventListener('mousemove', event => this.#point(event));
@@ -279,6 +284,7 @@ export class Files {
         this.page.store.note('volume', name);
         tell('files-status', '');
         this.shown.lay(null);
+        $('find').value = '';
         this.#leave();
         if (name !== '') await this.page.claims.claim(`volume ${name}`);
         this.#tellClaim();
@@ -302,6 +308,7 @@ export class Files {
         const name = this.name, turn = ++this.turn;
         $('volume-view').hidden = name === '';
         if (name !== '') $('shelf').open = false;
+        name === '' ? $('files').prepend($('shelf')) : $('files').append($('shelf'));
         if (name === '') {
             this.entries = [];
             this.#tellClaim();
@@ -376,9 +383,32 @@ export class Files {
         $('block-told').textContent = it ? `block ${block}: ${it.of}` : '';
     }
 
+    // The files whose names have what is looked for, in the order that was chosen.
+    get #found() {
+        const { by, way } = this.order, part = $('find').value.trim().toUpperCase();
+        return this.entries.filter(it => it.name.includes(part)).sort((a, b) => way * (a[by] < b[by] ? -1 : a[by] > b[by] ? 1 : a.first - b.first));
+    }
+
+    // Sorts by a column, or by it the other way round. Blocks begin with the most.
+    /** @param {string} column */
+    #sort(column) {
+        const by = /** @type {'name' | 'first' | 'length'} */ (column), own = this.order;
+        this.order = { by, way: own.by === by ? -own.way : by === 'length' ? -1 : 1 };
+        this.#rows();
+    }
+
+    // Shows the first of the files that are found.
+    async #showFound() {
+        const [first] = this.#found;
+        if (first) await this.shown.best(first);
+    }
+
     #rows() {
-        const rows = [...this.entries].sort((a, b) => a.name < b.name ? -1 : 1).map(it => this.#row(it));
+        const { by, way } = this.order, found = this.#found, rows = found.map(it => this.#row(it));
         $('directory').tBodies[0].replaceChildren(...rows);
+        $('found').textContent = $('find').value.trim() === '' ? '' : `${found.length} of ${this.entries.length} files`;
+        for (const it of $('directory').querySelectorAll('button[data-sort]'))
+            it.parentElement?.setAttribute('aria-sort', it.getAttribute('data-sort') !== by ? 'none' : way > 0 ? 'ascending' : 'descending');
         $('directory').hidden = this.refusal !== null && !rows.length;
     }
 

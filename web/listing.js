@@ -87,7 +87,9 @@ export class Listing {
     // Goes to the line of the text that a line of the listing shows: to its statement, where the line has one for each of its words.
     /** @param {HTMLElement} line @param {boolean} takesFocus */
     #goTo(line, takesFocus) {
-        const number = Number(line.dataset.line), all = statementsOf($('text').value.split('\n')[number - 1] ?? '');
+        const number = Number(line.dataset.line), place = this.source.placeOf(number);
+        if (!place.isOpen) return tell('source-status', `That is line ${place.line} of the text ${place.name}.`);
+        const all = statementsOf($('text').value.split('\n')[number - 1] ?? '');
         const isEach = all.length > 1 && all.length === $('listing').querySelectorAll(`[data-line="${number}"]`).length;
         const { at, text } = all[isEach ? Number(line.dataset.word) : -1] ?? { at: 0, text: '' };
         this.source.goTo(number, takesFocus, at + 1, text.length);

@@ -1,5 +1,5 @@
 // The Machine pane: a `run` that lives, to whose console each key of the panel gives a line, and whose replies the lamps show.
-import { $, ids, made, tell, keepInput } from './dom.js';
+import { $, ids, made, rove, tell, keepInput } from './dom.js';
 import { Lines, canLive, textOf } from './program.js';
 import { helpAt, helpOf } from './help.js';
 import { Panel } from './panel.js';
@@ -55,6 +55,7 @@ export class Machine {
         $('power').addEventListener('click', () => this.renew());
         $('step-over').addEventListener('click', () => this.stepOver());
         $('watch').addEventListener('change', () => this.#watch());
+        rove($('code'));
         helpAt($('code'), $('code-help'), it => helpOf(it.closest('.l')?.textContent ?? ''));
         $('core-tape').addEventListener('change', () => this.#chosen($('core-tape')));
         $('core-from').addEventListener('change', () => this.#core());
@@ -223,7 +224,7 @@ export class Machine {
     // What the lamps show: the registers, and in PC the address that was loaded, until the machine goes from there.
     get #lit() {
         const { registers, panel: { address } } = this;
-        return this.isLoaded && registers ? { ...registers, if: String(address >> 12), pc: octal(address & 0o7777, 4) } : registers;
+        return this.isLoaded && registers ? { ...registers, if: String(address >> 12), df: String(address >> 12), pc: octal(address & 0o7777, 4) } : registers;
     }
 
     // The cell behind one, in its field.

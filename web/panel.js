@@ -1,6 +1,6 @@
 // The front panel as a picture that works: lamps that show what `REGISTERS` told, switches, and keys that give lines. While the machine goes a
 // lamp glows by the share of the time that it is lit. The lamps stand alone too, where a step of a trace is shown.
-import { made } from './dom.js';
+import { made, rove } from './dom.js';
 import { helpAt } from './help.js';
 
 /** @type {[string, string, number][]} */
@@ -131,6 +131,7 @@ export class Panel extends Lamps {
         keys.append(this.addressShown);
         const help = made('p', { class: 'help', id: 'panel-help' });
         element.append(keys, help);
+        for (const it of [keys, .../** @type {NodeListOf<HTMLElement>} */ (element.querySelectorAll('.switches .bits'))]) rove(it);
         helpAt(keys, help, it => it.closest('button')?.title ?? '');
     }
 

@@ -52,6 +52,26 @@ await run('disks', {
         await isShown(page, 'NOTE.TX, text');
         same('A NOTE\n', await shown(page), 'the text');
     },
+    'a file is found by a part of its name, and the directory is sorted': async (page, url) => {
+        await page.go(url);
+        laid('V', { 'BIG.DA': Buffer.alloc(2000), 'ADD.BN': ADD, 'NOTE.TX': 'A NOTE\n', 'ADDED.TX': 'ADDED\n' });
+        await opens(page, 'V');
+        const rows = () => page.look(`[...document.querySelectorAll('#directory tbody tr')].map(it => it.dataset.name).join()`);
+        await page.until(`document.querySelectorAll('#directory tbody tr').length === 4`);
+        same('ADD.BN,ADDED.TX,BIG.DA,NOTE.TX', await rows(), 'by name');
+        await page.click('[data-sort="length"]');
+        same('BIG.DA', (await rows()).split(',')[0], 'the longest');
+        same('descending', await page.look(`document.querySelector('[data-sort="length"]').parentElement.getAttribute('aria-sort')`), 'the order that is told');
+        await page.click('[data-sort="first"]');
+        same('BIG.DA,ADD.BN,NOTE.TX,ADDED.TX', await rows(), 'by the first block');
+        await page.click('[data-sort="first"]');
+        same('ADDED.TX,NOTE.TX,ADD.BN,BIG.DA', await rows(), 'by the first block, from the last');
+        await page.fill('#find', 'add');
+        same('ADDED.TX,ADD.BN', await rows(), 'what is found');
+        same('2 of 4 files', await page.text('found'), 'the count');
+        await page.key('Enter');
+        await isTold(page, 'shown', 'ADDED');
+    },
     'a source has starts and names, which are kept with the volume': async (page, url) => {
         await page.go(url);
         laid('V', { 'ADD.BN': ADD });

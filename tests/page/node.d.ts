@@ -11,7 +11,7 @@ declare var process: {
 declare var console: { log(...them: unknown[]): void };
 declare function setTimeout(body: (...them: any[]) => void, milliseconds?: number): number;
 declare function clearTimeout(timer: number | undefined): void;
-declare class URL { constructor(path: string, base?: string); pathname: string; origin: string }
+declare class URL { constructor(path: string, base?: string); pathname: string; origin: string; href: string }
 
 interface Pipe { write(text: string): void; setEncoding(form: string): Pipe; on(event: string, body: (part: string) => void): Pipe }
 interface Child { stdio: Pipe[]; once(event: string, body: (it: unknown) => void): void; kill(signal: string): void }
@@ -49,5 +49,5 @@ declare module 'node:path' {
     export function normalize(path: string): string;
     export function resolve(...parts: string[]): string;
 }
-declare module 'node:url' { export function fileURLToPath(url: string): string; }
+declare module 'node:url' { export function fileURLToPath(url: string): string; export function pathToFileURL(path: string): URL; }
 interface ImportMeta { url: string }

@@ -51,7 +51,7 @@ const FAINT = `(() => { ${RATIO}
     const behind = it => { for (let at = it.parentElement; at; at = at.parentElement) { if (at.id === 'panel') return 'rgb(74, 51, 32)';
         const colour = getComputedStyle(at).backgroundColor; if (!isClear(colour)) return colour; } return 'rgb(255, 255, 255)'; };
     return [...document.querySelectorAll('button:not(:disabled), .button, input, select, textarea, pre')].filter(it => it.checkVisibility()
-        && !it.matches('.hidden, #code button, #text, #faults button, [role=tab], [type=checkbox]')).map(it => {
+        && !it.matches('.hidden, #code button, td:first-child button, th button, #text, #faults button, [role=tab], [type=checkbox]')).map(it => {
         const style = getComputedStyle(it), around = behind(it);
         return { it, most: Math.max(ratio(style.borderTopColor, around), isClear(style.backgroundColor) ? 1 : ratio(style.backgroundColor, around)) };
     }).filter(({ most }) => most < 3).map(({ it, most }) => (it.id || it.textContent) + ' ' + most.toFixed(1)).join('; ');

@@ -1,8 +1,8 @@
 // shelf.mjs PROGRAM FOLDER [PART]: what a visitor plays with at once: the shelf, links, what is dropped, and the keys of editor, panes and panel.
 // As losses.mjs otherwise.
 import { readFileSync, writeFileSync } from 'node:fs';
-import { dirname, join } from 'node:path';
-import { fileURLToPath } from 'node:url';
+import { dirname, join, resolve } from 'node:path';
+import { fileURLToPath, pathToFileURL } from 'node:url';
 import { file, holds, image, isTold, native, pane, run, same, setSource, volume } from './tools.mjs';
 
 const examples = join(dirname(dirname(dirname(fileURLToPath(import.meta.url)))), 'examples');
@@ -216,6 +216,29 @@ await run('shelf', {
         await page.click('#switch-register .switch');
         same(0o4007, await switches(), 'the switch that was clicked');
     },
+    'each pane has a link of its own': async (page, url) => {
+        await page.go(url);
+        for (const [k, name] of ['script', 'machine', 'teletype', 'source', 'files'].entries()) {
+            await page.go(`${url}?${k}#${name}`);
+            holds(await page.look(`!document.getElementById('${name}').hidden && document.getElementById('tab-${name}').getAttribute('aria-selected') === 'true'`), name);
+        }
+        await pane(page, 'teletype');
+        same('#teletype', await page.look('location.hash'), 'the address');
+    },
+    'a page from a file says in words what to do': async page => {
+        await page.call('Page.navigate', { url: pathToFileURL(join(resolve(process.argv[3]), 'index.html')).href });
+        await page.until(`document.getElementById('trouble')?.hidden === false`);
+        await isTold(page, 'trouble', 'python3 -m http.server --bind 127.0.0.1 8008');
+    },
+    'the page can be installed as a program': async (page, url) => {
+        await page.go(url);
+        await page.until(`navigator.serviceWorker.ready.then(it => !!it.active)`);
+        const { errors, data, url: from } = await page.call('Page.getAppManifest'), manifest = JSON.parse(data);
+        same('[]', JSON.stringify(errors), 'what is wrong in the manifest');
+        holds(from.startsWith(url) && manifest.name && manifest.display === 'standalone' && manifest.icons.length > 0, data);
+        const { installabilityErrors } = await page.call('Page.getInstallabilityErrors');
+        same('', installabilityErrors.map(it => it.errorId).filter(it => it !== 'in-incognito').join(), 'why it can\'t be installed');
+    },
     'the page works without a network once it was seen': async (page, url) => {
         await page.go(url);
         await page.until(`navigator.serviceWorker.ready.then(it => !!it.active)`);
@@ -229,12 +252,29 @@ await run('shelf', {
         await page.go(url);
         await press(page, 'disk');
         await page.until(`document.querySelectorAll('#directory tbody tr').length === 8`);
-        await page.look(`document.activeElement.blur(); scrollTo(0, 0)`);
-        let stops = 0;
-        for (; stops < 40 && await page.look(`document.activeElement.id !== 'shown'`); stops++) await page.key('Tab');
-        holds(stops <= 13, `${stops} stops of Tab`);
-        await page.look(`document.querySelector('#directory tbody button').focus()`);
-        await page.key('ArrowDown');
+        await setSource(page, SORT);
+        await page.click('#assemble');
+        await isTold(page, 'source-status', 'assembled');
+        const told = [];
+        for (const [name, wanted] of [['files', 'shown'], ['source', 'text'], ['machine', 'console'], ['teletype', 'paper'], ['script', 'lines']]) {
+            await pane(page, name);
+            await page.look(`document.querySelector('.skip').focus()`);
+            const stops = ['skip'];
+            for (let k = 0; k < 40 && stops.at(-1) !== wanted; k++) {
+                await page.key('Tab');
+                stops.push(await page.look(`document.activeElement.id || document.activeElement.className || document.activeElement.textContent`));
+            }
+            if (stops.length - 1 > 12 || stops.at(-1) !== wanted) told.push(`${name}: ${stops.length - 1} stops of Tab: ${stops}`);
+        }
+        same('', told.join('; '), 'the stops of Tab');
+        await pane(page, 'machine');
+        await page.look(`document.querySelector('#switch-register .switch').focus()`);
+        await page.key('ArrowRight');
+        same('switch 1', await page.look(`document.activeElement.getAttribute('aria-label')`), 'the switch');
+        await pane(page, 'files');
+        await page.look(`document.querySelector('#directory button').focus()`);
+        same('Name', await page.look(`document.activeElement.textContent`), 'the head');
+        for (let k = 0; k < 2; k++) await page.key('ArrowDown');
         await page.key('ArrowRight');
         same('GUESS.PA as a text', await page.look(`document.activeElement.getAttribute('aria-label')`), 'the button');
     },
