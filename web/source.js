@@ -103,7 +103,8 @@ export class Source {
 
     // The open text goes on in others, by their names; that is kept with it.
     #goesOn() {
-        this.page.store.note(`further ${this.texts.name}`, $('further').value);
+        const { store } = this.page, key = `further ${this.texts.name}`, names = $('further').value;
+        if (names !== '' || store.notes.has(key)) store.note(key, names);
         this.#changed();
     }
 

@@ -41,6 +41,10 @@ declare module 'node:http' {
     interface Response { writeHead(status: number, headers?: Record<string, string>): Response; end(it?: Uint8Array): void }
     export function createServer(answer: (request: Request, response: Response) => void): { listen(port: number, host: string, body: () => void): void; address(): { port: number }; close(): void };
 }
+declare module 'node:net' {
+    interface Socket { on(event: 'data', body: (part: Buffer) => void): Socket; write(text: string): void; destroy(): void }
+    export function connect(port: number, host: string): Socket;
+}
 declare module 'node:os' { export function tmpdir(): string; }
 declare module 'node:path' {
     export function dirname(path: string): string;
