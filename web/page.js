@@ -107,6 +107,7 @@ async function begin() {
         $('kept').append(' Without promises in WebAssembly calls (JSPI) or an isolated page, the Machine, and programs that wait for a key, '
             + 'can\'t run here; whole scripts can.');
     document.body.append(made('span', { id: 'ready', hidden: true }));
+    performance.mark('ready');
     globalThis.geivottu = page;
     await page.shelf.follow();
 }
