@@ -99,6 +99,7 @@ export class Listing {
     #doings(words, ...rows) {
         $('doings').replaceChildren(words, ...rows);
         $('to-step').disabled = $('at-step').hidden = true;
+        $('listing').classList.remove('counted');
         this.at = null;
         for (const it of /** @type {NodeListOf<HTMLElement>} */ ($('listing').querySelectorAll('[style]'))) {
             it.removeAttribute('style');
@@ -146,6 +147,7 @@ export class Listing {
         this.#doings(`${lines.join('\n')}\n`);
         const counts = lines.map(it => /^([0-7]{5}) (\d+)$/.exec(it)).flatMap(it => it ? [{ cell: it[1], count: Number(it[2]) }] : []);
         const most = Math.max(...counts.map(it => it.count), 1);
+        $('listing').classList.add('counted');
         for (const { cell, count } of counts) {
             const share = Math.round(100 * Math.log1p(count) / Math.log1p(most));
             const line = this.cells.get(cell);

@@ -14,7 +14,7 @@ export class Source {
         this.page = page;
         /** @type {Map<number, string>} */
         this.faulty = new Map();
-        this.numbered = 0;
+        this.numbered = this.here = 0;
         this.looking = 0;
         this.follows = false;
         this.assembled = '';
@@ -174,6 +174,7 @@ export class Source {
     }
 
     #changed() {
+        this.here = 0;
         if (this.faulty.size) {
             this.faulty.clear();
             $('faults').replaceChildren();
@@ -218,10 +219,10 @@ export class Source {
     // The numbers of the lines, with a mark at those that have a fault.
     #number() {
         const count = $('text').value.split('\n').length;
-        if (this.numbered === count && !this.faulty.size && !$('gutter').querySelector('.bad')) return;
+        if (this.numbered === count && !this.here && !this.faulty.size && !$('gutter').querySelector('.bad, .at')) return;
         this.numbered = count;
         $('gutter').replaceChildren(...Array.from({ length: count }, (_, k) => this.faulty.has(k + 1)
-            ? made('span', { class: 'bad' }, `${this.faulty.get(k + 1)} ${k + 1}\n`) : `${k + 1}\n`), '\n\n\n');
+            ? made('span', { class: 'bad' }, `${this.faulty.get(k + 1)} ${k + 1}\n`) : k + 1 === this.here ? made('span', { class: 'at' }, `${k + 1}\n`) : `${k + 1}\n`), '\n\n\n');
         $('gutter').scrollTop = $('text').scrollTop;
     }
 
@@ -280,7 +281,11 @@ export class Source {
 
     // Chooses what stands at a place of the text: so many characters, or the rest of the line.
     /** @param {number} line @param {boolean} [takesFocus] @param {number} [column] @param {number} [length] */
-    goTo(line, takesFocus = true, column = 1, length = 0) { this.#go(line, column, takesFocus, length); }
+    goTo(line, takesFocus = true, column = 1, length = 0) {
+        this.here = line;
+        this.#number();
+        this.#go(line, column, takesFocus, length);
+    }
 
     // Puts the cursor at a place of the text.
     /** @param {number} line @param {number} column @param {boolean} [takesFocus] @param {number} [length] */

@@ -154,6 +154,7 @@ await run('shelf', {
         same(native(['trace', 'it.bin']).toString(), await page.text('doings'), 'the trace');
         await page.look(`document.querySelectorAll('#doings [data-step]')[1].click()`);
         same('00201', await page.look(`document.querySelector('#listing .at').dataset.cell`), 'the line of the step');
+        same('2', await page.look(`document.querySelector('#gutter .at').textContent.trim()`), 'the line of the text');
         await page.until(`document.querySelector('[data-at-step="ac"] .word').textContent === '0003' && document.querySelector('[data-at-step="pc"] .word').textContent === '0202'`);
         same('002011203', await page.text('step-cells'), 'the cell of the step');
         same('TAD A', await page.look(`document.querySelectorAll('#doings [data-step]')[1].dataset.own`), 'the statement beside the step');
