@@ -1,4 +1,4 @@
-// waits.mjs FOLDER: the page where calls of WebAssembly can't be left: with memory that two threads have, from a server whose headers allow
+// waits.mjs PROGRAM FOLDER [PART..]: the page where calls of WebAssembly can't be left: with memory that two threads have, from a server whose headers allow
 // it, and with neither, where whole scripts are what it can. The last line is 'N passed, M failed'.
 import { readFileSync } from 'node:fs';
 import { dirname, join } from 'node:path';
@@ -6,7 +6,7 @@ import { fileURLToPath } from 'node:url';
 import { Browser, serve } from './browser.mjs';
 
 const top = dirname(dirname(dirname(fileURLToPath(import.meta.url))));
-const folder = process.argv[2];
+const folder = process.argv[3], only = process.argv.slice(4);
 const isolated = { 'cross-origin-opener-policy': 'same-origin', 'cross-origin-embedder-policy': 'require-corp' };
 const isTold = (page, id, part) => page.until(`document.getElementById('${id}').textContent.includes(${JSON.stringify(part)})`);
 
@@ -92,12 +92,13 @@ const tests = {
 };
 
 let passed = 0, failed = 0;
-for (const [name, body] of Object.entries(tests)) {
+for (const [name, body] of Object.entries(tests).filter(([it]) => !only.length || only.some(part => it.includes(part)))) {
     const page = await Browser.open();
     try {
         await body(page);
         if (page.errors.length) throw new Error(page.errors.join('; '));
         passed++;
+        console.log(`waits: ${name}`);
     } catch (error) {
         failed++;
         console.log(`waits: NOT ${name}: ${error instanceof Error ? error.message : error}`);
