@@ -12,6 +12,9 @@ export function made(tag, attributes = {}, ...children) {
     return it;
 }
 
+/** @param {number} number @param {number} digits */
+export const octal = (number, digits) => number.toString(8).padStart(digits, '0');
+
 // The element that an event came to.
 /** @param {Event} event */
 export const elementOf = event => /** @type {HTMLElement} */ (event.target);

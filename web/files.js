@@ -1,14 +1,13 @@
 // The Files pane: each thing that it shows is a reply of `check`, `get`, `tape` or `source`, and each change `create`, `put` or a script.
 import { $, made, tell, takeHome, bytesOfFile, elementOf, ids, keepInput, rove } from './dom.js';
 import { ask } from './ask.js';
+import { Blocks } from './blocks.js';
 import { textOf } from './program.js';
 import { Shown } from './shown.js';
 import { placeOf, tapeOf } from './tapes.js';
 
 // A file of a volume: where the directory is refused it is found by its blocks.
 /** @typedef {{ name: string, first: number, length: number, isByBlocks: boolean }} Entry */
-
-const COLOURS = ['directory', 'file', 'file-2', 'empty', 'outside', 'fault'];
 
 export class Files {
     /** @param {Page} page */
@@ -19,8 +18,7 @@ export class Files {
         this.used = new Set();
         /** @type {Entry[]} */
         this.entries = [];
-        /** @type {{ kind: string, of: string }[]} */
-        this.blocks = [];
+        this.blocks = new Blocks();
         /** @type {string | null} */
         this.refusal = null;
         /** @type {string | null} */
@@ -28,7 +26,7 @@ export class Files {
         this.created = '';
         /** @type {{ by: 'name' | 'first' | 'length', way: number }} */
         this.order = { by: 'name', way: 1 };
-        this.turn = this.across = this.side = 0;
+        this.turn = 0;
         keepInput(page.store, 'new-name');
         keepInput(page.store, 'new-blocks');
         $('image').addEventListener('change', () => this.#opened($('image')));
@@ -47,10 +45,6 @@ export class Files {
         for (const it of $('directory').querySelectorAll('button')) it.addEventListener('click', () => this.#sort(it.dataset.sort ?? ''));
         $('files').addEventListener('keydown', event => this.#key(event));
         $('put').addEventListener('change', () => this.#put($('put')));
-        $('blocks').addEventListener('mousemove', event => this.#point(event));
-        $('blocks').addEventListener('mouseleave', () => { $('block-told').textContent = ''; });
-        new ResizeObserver(() => this.blocks.length && this.#draw()).observe($('blocks'));
-        matchMedia('(prefers-color-scheme: dark)').addEventListener('change', () => this.blocks.length && this.#draw());
         this.#drops();
         page.store.addEventListener('file', ({ detail }) => detail === this.name ? this.#again() : detail.startsWith('.') || this.#list());
         page.store.addEventListener('kept', () => this.#list());
@@ -321,66 +315,11 @@ export class Files {
         const all = this.refusal ? textOf((await this.page.programs.ask(['check', name, '--all'])).out) : textOf(out);
         if (turn !== this.turn) return;
         if (this.refusal) tell('files-status', `${this.refusal}\n${said}${all.split('\n').filter(it => /^([?] |UNSOUND|TWICE)/.test(it) && it !== this.refusal).join('\n')}`, true);
-        this.#lay(all.trim().split('\n').map(it => it.split(' ')));
-        this.#draw();
+        this.entries = this.blocks.lay(all.trim().split('\n').map(it => it.split(' ')), this.page.store.files.get(name)?.length ?? 0, this.refusal);
         this.#rows();
         for (const id of ids('squeeze', 'put')) $(id).disabled = this.refusal !== null;
         $('put-row').hidden = this.refusal !== null;
         this.page.store.dispatchEvent(new Event('volume'));
-    }
-
-    // What each block is, by the lines of `check`. Blocks 0 to 6 are the boot block and those of the directory.
-    /** @param {string[][]} lines */
-    #lay(lines) {
-        const bytes = this.page.store.files.get(this.name)?.length ?? 0, isByBlocks = this.refusal !== null;
-        const count = isByBlocks ? Math.max(7, Math.floor(bytes / 512)) : Number(lines.find(it => it[0] === 'BLOCKS')?.[1] ?? 0);
-        const others = isByBlocks ? 'of no file that was found' : 'directory';
-        this.blocks = Array.from({ length: count }, (_, block) => ({ kind: block && block < 7 ? 'directory' : 'outside', of: block ? block < 7 ? 'directory' : others : 'boot block' }));
-        let turn = 0;
-        /** @param {number} first @param {number} length @param {string} kind @param {string} of */
-        const lay = (first, length, kind, of) => { for (let k = first; k < Math.min(first + length, count); k++) this.blocks[k] = { kind, of }; };
-        for (const [word, ...rest] of lines) {
-            const [first, length] = rest.slice(-2).map(Number), isSound = word !== 'UNSOUND';
-            if (word === 'OUTSIDE') lay(first, length, 'outside', 'not covered by the directory');
-            if (word === 'TWICE') lay(first, length, 'fault', 'claimed twice');
-            if (word === 'EMPTY') lay(first, length, 'empty', 'empty');
-            if (word !== 'FILE' && rest[0] !== 'FILE') continue;
-            const name = rest.slice(isSound ? 0 : 1, -2).join(' ');
-            this.entries.push({ name, first, length, isByBlocks });
-            lay(first, length, isSound ? turn++ % 2 ? 'file-2' : 'file' : 'fault', isSound ? name : `${name}, unsound`);
-        }
-        if (!this.refusal) return;
-        const told = this.refusal.match(/^\? DIRECTORY [12] .* (\d+)$/);
-        for (let block = 1; block < 7; block++) if (!told || Number(told[1]) === block) this.blocks[block] = { kind: 'fault', of: this.refusal };
-    }
-
-    #draw() {
-        const canvas = $('blocks'), style = getComputedStyle(canvas), width = Math.max(200, canvas.clientWidth);
-        const count = this.blocks.length, across = Math.max(32, Math.min(Math.floor(width / 6), Math.ceil(Math.sqrt(count * 6))));
-        const side = Math.floor(width / across), down = Math.ceil(count / across), scale = devicePixelRatio || 1;
-        this.across = width / across;
-        canvas.width = width * scale;
-        canvas.height = down * side * scale;
-        canvas.style.height = `${down * side}px`;
-        this.side = side;
-        const colours = Object.fromEntries(COLOURS.map(it => [it, colourOf(style, `--${it}`)]));
-        const brush = /** @type {CanvasRenderingContext2D} */ (canvas.getContext('2d'));
-        brush.scale(scale, scale);
-        this.blocks.forEach(({ kind }, block) => {
-            const x = block % across * this.across, y = Math.floor(block / across) * side;
-            brush.fillStyle = colours[kind];
-            brush.fillRect(x, y, this.across - (side > 4 ? 1 : 0), side - (side > 4 ? 1 : 0));
-        });
-        const free = this.blocks.filter(it => it.kind === 'empty').length;
-        canvas.setAttribute('aria-label', this.refusal ? `Volume of ${count} blocks, refused: ${this.refusal}`
-            : `Volume of ${count} blocks: ${this.entries.length} files, ${free} blocks empty`);
-    }
-
-    /** @param {MouseEvent} event */
-    #point(event) {
-        const column = Math.floor(event.offsetX / this.across), row = Math.floor(event.offsetY / this.side);
-        const block = row * Math.round($('blocks').clientWidth / this.across) + column, it = this.blocks[block];
-        $('block-told').textContent = it ? `block ${block}: ${it.of}` : '';
     }
 
     // The files whose names have what is looked for, in the order that was chosen.
@@ -511,14 +450,4 @@ function nameOf(path) {
     const name = path.toUpperCase().replace(/ ?\(\d+\)(?=\.|$)/, '').replace(/^([A-Z0-9]{1,6}\.[A-Z0-9]{1,2})\.(TXT|BIN)$/, '$1');
     const [first, ...rest] = name.split('.');
     return rest.length ? `${first.slice(0, 6)}.${rest[rest.length - 1].slice(0, 2)}` : first.slice(0, 6);
-}
-
-// A colour of the style, light or dark, as a canvas takes it.
-/** @param {CSSStyleDeclaration} style @param {string} name */
-function colourOf(style, name) {
-    const probe = made('span', { style: `color: var(${name})` });
-    $('blocks').after(probe);
-    const colour = getComputedStyle(probe).color;
-    probe.remove();
-    return colour;
 }

@@ -1,8 +1,7 @@
 // The listing beside the text, line by line: the line of the cursor and its words are marked in both, and what a run of the tape does is
 // shown at them, by `trace` and `profile`.
-import { $, elementOf, ids, made, tell } from './dom.js';
+import { $, elementOf, ids, made, octal, tell } from './dom.js';
 import { helpAt, helpOf } from './help.js';
-import { octal } from './machine.js';
 import { Lamps } from './panel.js';
 import { textOf } from './program.js';
 import { depositsOf, linesOf, stepOf } from './replay.js';

@@ -1,17 +1,15 @@
 // The Machine pane: a `run` that lives, to whose console each key of the panel gives a line, and whose replies the lamps show.
-import { $, ids, made, rove, tell, keepInput } from './dom.js';
+import { $, ids, made, octal, rove, tell, keepInput } from './dom.js';
 import { Lines, canLive, textOf } from './program.js';
 import { helpAt, helpOf } from './help.js';
 import { Panel } from './panel.js';
 import { Paper, keyOf } from './paper.js';
+import { settingOf } from './replay.js';
 import { tapeIn } from './tapes.js';
 
 // What a PDP-8/I does in a millisecond, about; and how long its printer takes for a character, in milliseconds.
 const STEPS = 300, CHARACTER = 100;
 const MOST = 1000000, LOOKS = 8, PICTURE = 11, CORE = 0o100000, LISTED = 6000;
-
-/** @param {number} number @param {number} digits */
-export const octal = (number, digits) => number.toString(8).padStart(digits, '0');
 
 export class Machine {
     /** @type {Promise<Lines> | null} */
@@ -486,17 +484,6 @@ export class Machine {
         event.preventDefault();
         this.keys.push((key.toUpperCase().charCodeAt(0) & 0o177) | 0o200);
     }
-}
-
-// The lines that give a new machine these registers: its own instructions do, in eight cells at the end of the field, whose words it gets back.
-/** @param {Registers | null | undefined} registers @param {(cell: number) => number} wordAt */
-function settingOf(registers, wordAt) {
-    if (!registers?.pc) return [];
-    const field = Number(registers.if), at = (/** @type {number} */ address) => octal(field * 0o10000 + address, 5), free = 0o7770;
-    const words = [registers.l === '1' ? '7020' : '7000', '1375', `62${registers.df}1`, registers.ion ? '6001' : '7000', '5776', registers.ac, registers.pc];
-    const laid = words.map((word, k) => `DEPOSIT ${at(free + k)} ${word}`);
-    const back = words.map((_, k) => `DEPOSIT ${at(free + k)} ${octal(wordAt(field * 0o10000 + free + k), 4)}`);
-    return [...laid, `START ${at(free)}`, 'STEP 5', ...back];
 }
 
 // About so many steps, never twice the same number, so that what the lamps are seen at is no part of a program's own beat.

@@ -1,5 +1,6 @@
-// A step of a trace, run again: lines of a script by which a machine makes the steps of that run. As `trace` has it, the printer ends its
+// A step of a trace, run again, and registers that are set: lines of a script by which a machine does that. As `trace` has it, the printer ends its
 // character before the next step, and a key is struck where the program asks for one: before a KSF, where none is unread.
+import { octal } from './dom.js';
 import { textOf } from './program.js';
 
 const STEP = /^([0-7]{5}) ([0-7]{4})\t[^\t]*\tAC ([0-7]{4}) L ([01])((?:\t[^\t]*)*)$/;
@@ -45,4 +46,15 @@ export function linesOf(lines, keys) {
 export async function depositsOf(page, tape) {
     const { out } = await page.programs.ask(['tape'], tape);
     return textOf(out).trim().split('\n').filter(it => it).map(it => it.split(' ')).map(([field, address, word]) => `DEPOSIT ${field}${address} ${word}`);
+}
+
+// The lines that give a new machine these registers: its own instructions do, in eight cells at the end of the field, whose words it gets back.
+/** @param {Registers | null | undefined} registers @param {(cell: number) => number} wordAt */
+export function settingOf(registers, wordAt) {
+    if (!registers?.pc) return [];
+    const field = Number(registers.if), at = (/** @type {number} */ address) => octal(field * 0o10000 + address, 5), free = 0o7770;
+    const words = [registers.l === '1' ? '7020' : '7000', '1375', `62${registers.df}1`, registers.ion ? '6001' : '7000', '5776', registers.ac, registers.pc];
+    const laid = words.map((word, k) => `DEPOSIT ${at(free + k)} ${word}`);
+    const back = words.map((_, k) => `DEPOSIT ${at(free + k)} ${octal(wordAt(field * 0o10000 + free + k), 4)}`);
+    return [...laid, `START ${at(free)}`, 'STEP 5', ...back];
 }

@@ -172,8 +172,8 @@ await run('disks', {
         await isTold(page, 'files-status', '? DIRECTORY 1 BAD LINK 1');
         const rows = await page.look(`[...document.querySelectorAll('#directory tbody tr')].map(it => [...it.cells].slice(0, 3).map(one => one.textContent).join(' ')).join('; ')`);
         same('ADD.BN 1 8; H.TX 1 7', rows, 'the rows');
-        same('H.TX', await page.look(`geivottu.files.blocks[7].of`), 'the picture');
-        same('fault', await page.look(`geivottu.files.blocks[1].kind`), 'the directory in the picture');
+        same('H.TX', await page.look(`geivottu.files.blocks.all[7].of`), 'the picture');
+        same('fault', await page.look(`geivottu.files.blocks.all[1].kind`), 'the directory in the picture');
         const { bytes } = await page.home('button[aria-label="H.TX home as a text"]');
         same('HELLO\n', bytes.toString(), 'the text');
         same(native(['get', 'V', '--blocks', '8', '1']), (await page.home('button[aria-label="ADD.BN home as frames"]')).bytes, 'the frames');

@@ -88,11 +88,10 @@ await run('figures', {
         await page.give('#image', file('RK05'));
         await page.until(`document.getElementById('volume').value === 'RK05'`);
         const before = await memory(page);
-        await page.look(`(async () => { const { programs, undo } = geivottu, noise = new Uint8Array(550000);
-            for (let k = 0; k < 50; k++) {
+        for (let k = 0; k < 50; k++)
+            await page.look(`(async () => { const { programs, undo } = geivottu, noise = new Uint8Array(550000);
                 for (let at = 0; at < noise.length; at += 50000) crypto.getRandomValues(noise.subarray(at, at + 50000));
-                await undo.group('RK05', 'a change', () => programs.ask(['put', 'RK05', '-', '--as', 'A.DA'], noise));
-            } })()`);
+                await undo.group('RK05', 'a change', () => programs.ask(['put', 'RK05', '-', '--as', 'A.DA'], noise)); })()`);
         holds(await page.look(`geivottu.undo.count === 50`), `${await page.look('geivottu.undo.count')} changes can be undone`);
         const took = await memory(page);
         holds(took < 200, `it takes ${Math.round(took)} MB`);
