@@ -10,8 +10,8 @@ const ADD = readFileSync(join(examples, 'add-one.bin'));
 const shown = page => page.text('shown');
 const plain = text => text.toString('latin1').replaceAll('\r', '');
 const isShown = (page, name) => page.until(`document.getElementById('shown-name').textContent.startsWith(${JSON.stringify(name)})`);
-// The core control block of one page at 00400, which starts there.
-const CORE = [0o7777, 0o6203, 0o400, 0, 0o400, 0o100];
+// The core control block of one page at 00400, whose program starts at 00401.
+const CORE = [0o7777, 0o6203, 0o401, 0, 0o400, 0o100];
 
 // The frames of blocks with these words each: three in two words.
 function blocks(...all) {
@@ -136,7 +136,7 @@ await run('disks', {
     'core images and RIM tapes are taken wherever a tape is': async (page, url) => {
         await page.go(url);
         const rim = Buffer.from([0o200, 0o200, 0o104, 0o000, 0o72, 0o1, 0o104, 0o001, 0o74, 0o2, 0o200, 0o200]);
-        laid('V', { 'A.SV': blocks(CORE, [0o7201, 0o7402]), 'B.RM': rim });
+        laid('V', { 'A.SV': blocks(CORE, [0o7402, 0o7201, 0o7402]), 'B.RM': rim });
         holds(native(['get', 'V', 'A.SV', '--bin']).length > 8, 'the core image is none');
         await opens(page, 'V');
         await page.click('button[aria-label="A.SV in its best form"]');
@@ -148,10 +148,10 @@ await run('disks', {
         same(plain(native(['source'], native(['rim', '--bin'], rim))), await shown(page), 'the source of the RIM tape');
         await pane(page, 'machine');
         await page.choose('#core-tape', 'file A.SV');
-        await isTold(page, 'machine-status', 'START begins at 00400');
+        await isTold(page, 'machine-status', 'START begins at 00401');
         await page.click('#key-start');
-        await isTold(page, 'machine-status', 'HALT 00402');
-        for (const [name, cell] of [['A.SV', '00402'], ['B.RM', '00402']]) {
+        await isTold(page, 'machine-status', 'HALT 00403');
+        for (const [name, cell] of [['A.SV', '00403'], ['B.RM', '00402']]) {
             await pane(page, 'teletype');
             await page.choose('#tape', `file ${name}`);
             await page.click('#tty-run');
