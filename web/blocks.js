@@ -1,7 +1,7 @@
 // The picture of a volume: a square for each block, by the lines of `check`.
 import { $, made } from './dom.js';
 
-const COLOURS = ['directory', 'file', 'file-2', 'empty', 'outside', 'fault'];
+const COLOURS = ['directory', 'file', 'file-2', 'empty', 'outside', 'fault', 'paper'];
 
 /** @typedef {import('./files.js').Entry} Entry */
 
@@ -74,6 +74,8 @@ export class Blocks {
             const x = block % across * this.across, y = Math.floor(block / across) * side;
             brush.fillStyle = colours[kind];
             brush.fillRect(x, y, this.across - (side > 4 ? 1 : 0), side - (side > 4 ? 1 : 0));
+            brush.fillStyle = brush.strokeStyle = colours.paper;
+            if (side > 4) mark(brush, kind, x, y, this.across - 1, side - 1);
         });
         const free = this.all.filter(it => it.kind === 'empty').length;
         canvas.setAttribute('aria-label', this.refusal ? `Volume of ${count} blocks, refused: ${this.refusal}`
@@ -86,6 +88,21 @@ export class Blocks {
         const block = row * Math.round($('blocks').clientWidth / this.across) + column, it = this.all[block];
         $('block-told').textContent = it ? `block ${block}: ${it.of}` : '';
     }
+}
+
+// A mark in a square, so that no kind is told by its colour alone: a bar, a hole, or a cross.
+/** @param {CanvasRenderingContext2D} brush @param {string} kind @param {number} x @param {number} y @param {number} width @param {number} height */
+function mark(brush, kind, x, y, width, height) {
+    if (kind === 'directory') brush.fillRect(x, y + height * 0.4, width, height * 0.2);
+    if (kind === 'outside') brush.fillRect(x + width * 0.3, y + height * 0.3, width * 0.4, height * 0.4);
+    if (kind !== 'fault') return;
+    brush.lineWidth = Math.max(1, width / 6);
+    brush.beginPath();
+    brush.moveTo(x, y);
+    brush.lineTo(x + width, y + height);
+    brush.moveTo(x + width, y);
+    brush.lineTo(x, y + height);
+    brush.stroke();
 }
 
 // A colour of the style, light or dark, as a canvas takes it.

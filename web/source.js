@@ -56,7 +56,7 @@ export class Source {
     // Another tab has left the text to this one: it is kept, as this tab has it.
     #claimed() {
         const { store } = this.page;
-        const own = [...store.notes.keys()].filter(it => it === 'text' || it === 'source-name' || it.startsWith('text '));
+        const own = [...store.notes.keys()].filter(it => it === 'text' || it === 'source-name' || /^(text|further) /.test(it));
         if (this.follows) for (const it of own) store.note(it, store.notes.get(it));
         this.#tellClaim();
     }
@@ -64,7 +64,7 @@ export class Source {
     // Says whether another tab has the text, and closes what changes it.
     #tellClaim() {
         this.follows = !this.page.claims.has('text');
-        $('text').readOnly = $('source-name').readOnly = this.follows;
+        $('text').readOnly = $('source-name').readOnly = $('further').readOnly = this.follows;
         for (const id of ids('source-file', 'example', 'texts', 'text-new', 'text-drop')) $(id).disabled = this.follows;
         $('text-follows').textContent = this.follows ? 'Another tab has the text. Here it is only looked at, and follows that tab. It can be '
             + 'changed here once that tab is closed.' : '';
@@ -76,6 +76,7 @@ export class Source {
     #followed(note) {
         const value = this.page.store.notes.get(note) ?? '';
         if (note === 'source-name') this.texts.follow();
+        $('further').value = this.#furtherOf(this.texts.name);
         if (note !== 'text' || value === $('text').value) return;
         $('text').value = value;
         this.#changed();

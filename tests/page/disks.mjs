@@ -182,6 +182,34 @@ await run('disks', {
         same(plain(native(['source'], ADD)), await shown(page), 'the source');
         holds(!await page.look(`!!document.querySelector('button[aria-label="H.TX delete"]')`), 'a file can be deleted');
     },
+    'no kind of a block, and no state, is told by colour alone': async (page, url) => {
+        await page.go(url);
+        laid('V', { 'H.TX': 'HELLO\n'.repeat(400), 'ADD.BN': ADD });
+        change('V', 258, 7);
+        await opens(page, 'V');
+        await isTold(page, 'files-status', '? DIRECTORY 1 BAD LINK 1');
+        // The light of a square at its middle, at a corner, and left of the middle, by halves: a bar, a hole, a cross, or none of these.
+        const marks = await page.look(`(() => { const canvas = document.getElementById('blocks'), brush = canvas.getContext('2d'), { blocks } = geivottu.files;
+            const light = (x, y) => { const [r, g, b] = brush.getImageData(x, y, 1, 1).data; return r + g + b > 600 ? 'light' : 'dark'; };
+            const across = blocks.across, columns = Math.round(canvas.clientWidth / across), found = {};
+            blocks.all.forEach(({ kind }, k) => { const x = k % columns * across, y = Math.floor(k / columns) * blocks.side, w = across - 1, h = blocks.side - 1;
+                found[kind] ??= [light(x + w / 2, y + h / 2), light(x + 1.5, y + 1.5), light(x + 1.5, y + h / 2)].join(' '); });
+            return found; })()`);
+        same('dark dark dark', marks.file, 'a file');
+        same('light dark dark', marks.outside, 'what is not covered');
+        same('light dark light', marks.directory, 'the directory');
+        same('light light dark', marks.fault, 'a fault');
+        same('light light light', marks.empty, 'what is empty');
+        await assemble(page, 'IT', '*200\n\tCLA IAC\n\tHLT\n$\n');
+        await page.click('#to-core');
+        await isTold(page, 'machine-status', 'words are in core');
+        const hole = () => page.look(`getComputedStyle(document.querySelector('#code [data-cell="00201"] button'), '::before').backgroundColor`);
+        same('rgba(0, 0, 0, 0)', await hole(), 'a place for a break is a ring');
+        await page.click('#code [data-cell="00201"] button');
+        await isTold(page, 'machine-status', 'BREAK 00201 ON');
+        holds(await hole() !== 'rgba(0, 0, 0, 0)', 'a break is no disc');
+        same('break at 00201: 00201 7402 HLT', await page.look(`document.querySelector('#code [data-cell="00201"] button').getAttribute('aria-label')`), 'its name');
+    },
     'a file whose name can\'t be typed is worked by its place': async (page, url) => {
         await page.go(url);
         laid('V', { 'HI.TX': 'HELLO\n' });
