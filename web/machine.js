@@ -9,7 +9,7 @@ import { tapeIn } from './tapes.js';
 
 // What a PDP-8/I does in a millisecond, about; and how long its printer takes for a character, in milliseconds.
 const STEPS = 300, CHARACTER = 100;
-const MOST = 1000000, LOOKS = 8, PICTURE = 11, CORE = 0o100000, LISTED = 6000;
+const LEAST = 20000, MOST = 1000000, LOOKS = 8, PICTURE = 11, CORE = 0o100000, LISTED = 6000;
 
 export class Machine {
     /** @type {Promise<Lines> | null} */
@@ -32,7 +32,7 @@ export class Machine {
     /** @type {number | null} */
     steps = null;
     isGoing = false;
-    many = 20000;
+    many = LEAST;
     /** @type {Set<string>} */
     breaks = new Set();
     /** @type {number[]} */
@@ -374,7 +374,7 @@ export class Machine {
             why = await this.#slice('GO', count);
             left -= this.total - before;
             const took = performance.now() - begun;
-            if (took > 4) this.many = Math.max(1000, this.many / 2 | 0);
+            if (took > 4) this.many = Math.max(LEAST, this.many / 2 | 0);
             else if (took < 2 && about === this.many) this.many = Math.min(MOST, this.many * 2);
         } while (this.isGoing && why === 'LIMIT' && left > 0 && performance.now() < until);
         this.#show();
