@@ -12,6 +12,9 @@ export function made(tag, attributes = {}, ...children) {
     return it;
 }
 
+/** @param {number} number @param {number} digits */
+export const octal = (number, digits) => number.toString(8).padStart(digits, '0');
+
 // The element that an event came to.
 /** @param {Event} event */
 export const elementOf = event => /** @type {HTMLElement} */ (event.target);
@@ -59,20 +62,23 @@ export function follow(it, text) {
     if (isAtEnd) it.scrollTop = it.scrollHeight;
 }
 
-// Buttons of which one is a stop of Tab, and arrows go among them: left and right to the next, up and down to the next row of a table.
+// Buttons of which one is a stop of Tab, and arrows go among them: left and right to the next, up and down to the next row of a table, or to
+// the next where there is none.
+const ROVED = 'button:not(:disabled), input[type="file"]:not(:disabled)';
+
 /** @param {Element} box */
 export function rove(box) {
-    const all = () => /** @type {HTMLButtonElement[]} */ ([...box.querySelectorAll('button:not(:disabled)')]);
+    const all = () => /** @type {HTMLElement[]} */ ([...box.querySelectorAll(ROVED)]);
     /** @param {Element} it */
     const stop = it => all().forEach(one => { one.tabIndex = one === it ? 0 : -1; });
     const settle = () => { if (all().filter(it => it.tabIndex === 0).length !== 1) stop(all()[0]); };
-    box.addEventListener('focusin', event => elementOf(event).matches('button') && stop(elementOf(event)));
+    box.addEventListener('focusin', event => elementOf(event).matches(ROVED) && stop(elementOf(event)));
     /** @type {HTMLElement} */ (box).addEventListener('keydown', event => {
-        const own = elementOf(event).closest('button');
+        const own = elementOf(event).closest(ROVED);
         if (!own) return;
         /** @type {Record<string, () => Element | null | undefined>} */
-        const keys = { ArrowRight: () => next(all(), own, 1), ArrowLeft: () => next(all(), own, -1), ArrowDown: () => below(own, 'nextElementSibling'),
-            ArrowUp: () => below(own, 'previousElementSibling'), Home: () => all()[0], End: () => all().at(-1) }, to = keys[event.key]?.();
+        const keys = { ArrowRight: () => next(all(), own, 1), ArrowLeft: () => next(all(), own, -1), ArrowDown: () => below(all(), own, 'nextElementSibling'),
+            ArrowUp: () => below(all(), own, 'previousElementSibling'), Home: () => all()[0], End: () => all().at(-1) }, to = keys[event.key]?.();
         if (!(to instanceof HTMLElement)) return;
         event.preventDefault();
         to.focus();
@@ -84,8 +90,11 @@ export function rove(box) {
 /** @param {Element[]} all @param {Element} own @param {number} by */
 function next(all, own, by) { return all[all.indexOf(own) + by]; }
 
-/** @param {Element} own @param {'nextElementSibling' | 'previousElementSibling'} way */
-function below(own, way) {
-    const row = own.closest('tr'), column = row ? [...row.querySelectorAll('button')].findIndex(it => it === own) : 0;
-    return row?.[way]?.querySelectorAll('button')[column];
+/** @param {Element[]} all @param {Element} own @param {'nextElementSibling' | 'previousElementSibling'} way */
+function below(all, own, way) {
+    const row = own.closest('tr'), by = way === 'nextElementSibling' ? 1 : -1;
+    if (!row) return next(all, own, by);
+    const rows = [...row.closest('table')?.rows ?? []].filter(it => !it.hidden), column = [...row.querySelectorAll(ROVED)].indexOf(own);
+    const there = [...rows[rows.indexOf(row) + by]?.querySelectorAll(ROVED) ?? []];
+    return there[Math.min(column, there.length - 1)];
 }

@@ -1,28 +1,32 @@
 // The Files pane: each thing that it shows is a reply of `check`, `get`, `tape` or `source`, and each change `create`, `put` or a script.
 import { $, made, tell, takeHome, bytesOfFile, elementOf, ids, keepInput, rove } from './dom.js';
 import { ask } from './ask.js';
+import { Blocks } from './blocks.js';
 import { textOf } from './program.js';
+import { Shown } from './shown.js';
+import { placeOf, tapeOf } from './tapes.js';
 
-const COLOURS = ['directory', 'file', 'file-2', 'empty', 'outside', 'fault'];
+// A file of a volume: where the directory is refused it is found by its blocks.
+/** @typedef {{ name: string, first: number, length: number, isByBlocks: boolean }} Entry */
 
 export class Files {
     /** @param {Page} page */
     constructor(page) {
         this.page = page;
-        /** @type {string | null} */
-        this.shown = null;
+        this.shown = new Shown(page);
         /** @type {Set<string>} */
         this.used = new Set();
-        /** @type {{ name: string, first: number, length: number }[]} */
+        /** @type {Entry[]} */
         this.entries = [];
-        /** @type {{ kind: string, of: string }[]} */
-        this.blocks = [];
+        this.blocks = new Blocks();
         /** @type {string | null} */
         this.refusal = null;
         /** @type {string | null} */
         this.follows = null;
         this.created = '';
-        this.turn = this.across = this.side = 0;
+        /** @type {{ by: 'name' | 'first' | 'length', way: number }} */
+        this.order = { by: 'name', way: 1 };
+        this.turn = 0;
         keepInput(page.store, 'new-name');
         keepInput(page.store, 'new-blocks');
         $('image').addEventListener('change', () => this.#opened($('image')));
@@ -35,13 +39,12 @@ export class Files {
         $('redo').addEventListener('click', () => this.#undo(true));
         page.undo.addEventListener('change', () => this.#undoable());
         for (const id of ids('changes', 'volume-keys', 'begin')) rove($(id));
-        rove($('directory').tBodies[0]);
+        rove($('directory'));
+        $('find').addEventListener('input', () => this.#rows());
+        $('find').addEventListener('keydown', event => event.key === 'Enter' && this.#showFound());
+        for (const it of $('directory').querySelectorAll('button')) it.addEventListener('click', () => this.#sort(it.dataset.sort ?? ''));
         $('files').addEventListener('keydown', event => this.#key(event));
         $('put').addEventListener('change', () => this.#put($('put')));
-        $('blocks').addEventListener('mousemove', event => this.#point(event));
-        $('blocks').addEventListener('mouseleave', () => { $('block-told').textContent = ''; });
-        new ResizeObserver(() => this.blocks.length && this.#draw()).observe($('blocks'));
-        matchMedia('(prefers-color-scheme: dark)').addEventListener('change', () => this.blocks.length && this.#draw());
         this.#drops();
         page.store.addEventListener('file', ({ detail }) => detail === this.name ? this.#again() : detail.startsWith('.') || this.#list());
         page.store.addEventListener('kept', () => this.#list());
@@ -167,7 +170,7 @@ export class Files {
             const bytes = await bytesOfFile(file), kind = await this.#kind(bytes);
             if (kind === 'image') await this.take(file);
             else if (this.name !== '' && !$('files').hidden) await this.#putFiles([file]);
-            else if (kind === 'tape') this.page.teletype.take(file.name, bytes);
+            else if (kind === 'tape') await this.page.teletype.take(file.name, bytes);
             else if (await this.page.source.take(file.name, textOf(bytes))) this.page.tabs.show('source');
         }
     }
@@ -180,7 +183,7 @@ export class Files {
         const { status, out } = await programs.ask(['check', '.asked']);
         store.remove('.asked');
         if (status === 0 || textOf(out).startsWith('? DIRECTORY') || bytes.length > 16777216) return 'image';
-        return bytes.length && (await programs.ask(['tape'], bytes)).status === 0 ? 'tape' : 'text';
+        return bytes.length && (await tapeOf(this.page, bytes)).status === 0 ? 'tape' : 'text';
     }
 
     /** @param {HTMLInputElement} input */
@@ -226,6 +229,7 @@ export class Files {
             const busy = await this.#busy(name);
             if (busy) return tell('files-status', `${name}: ${busy}`, true);
         }
+        this.shown.forget(name);
         this.page.undo.begin(name, `the new volume ${name}`);
         this.page.store.put(name, bytes);
         this.page.undo.end(name);
@@ -273,7 +277,8 @@ export class Files {
         $('volume').value = name;
         this.page.store.note('volume', name);
         tell('files-status', '');
-        this.#show(null, '', '');
+        this.shown.lay(null);
+        $('find').value = '';
         this.#leave();
         if (name !== '') await this.page.claims.claim(`volume ${name}`);
         this.#tellClaim();
@@ -297,6 +302,7 @@ export class Files {
         const name = this.name, turn = ++this.turn;
         $('volume-view').hidden = name === '';
         if (name !== '') $('shelf').open = false;
+        name === '' ? $('files').prepend($('shelf')) : $('files').append($('shelf'));
         if (name === '') {
             this.entries = [];
             this.#tellClaim();
@@ -305,130 +311,69 @@ export class Files {
         const { status, out, said } = await this.page.programs.ask(['check', name]);
         if (turn !== this.turn) return;
         this.entries = [];
-        const lines = textOf(out).trim().split('\n').map(it => it.split(' '));
-        this.refusal = status === 0 ? null : lines.map(it => it.join(' ')).join('\n');
-        if (this.refusal) tell('files-status', `${this.refusal}\n${said}`, true);
-        this.#lay(lines);
-        this.#draw();
+        this.refusal = status === 0 ? null : textOf(out).trim();
+        const all = this.refusal ? textOf((await this.page.programs.ask(['check', name, '--all'])).out) : textOf(out);
+        if (turn !== this.turn) return;
+        if (this.refusal) tell('files-status', `${this.refusal}\n${said}${all.split('\n').filter(it => /^([?] |UNSOUND|TWICE)/.test(it) && it !== this.refusal).join('\n')}`, true);
+        this.entries = this.blocks.lay(all.trim().split('\n').map(it => it.split(' ')), this.page.store.files.get(name)?.length ?? 0, this.refusal);
         this.#rows();
         for (const id of ids('squeeze', 'put')) $(id).disabled = this.refusal !== null;
         $('put-row').hidden = this.refusal !== null;
         this.page.store.dispatchEvent(new Event('volume'));
     }
 
-    // What each block is, by the lines of `check`. Blocks 0 to 6 are the boot block and those of the directory.
-    /** @param {string[][]} lines */
-    #lay(lines) {
-        const count = Number(lines.find(it => it[0] === 'BLOCKS')?.[1] ?? 0);
-        this.blocks = Array.from({ length: count }, (_, block) => ({ kind: block === 0 ? 'outside' : 'directory', of: block === 0 ? 'boot block' : 'directory' }));
-        let turn = 0;
-        /** @param {number} first @param {number} length @param {string} kind @param {string} of */
-        const lay = (first, length, kind, of) => { for (let k = 0; k < length; k++) this.blocks[first + k] = { kind, of }; };
-        for (const [word, ...rest] of lines) {
-            const [first, length] = rest.slice(-2).map(Number);
-            if (word === 'OUTSIDE') lay(first, length, 'outside', 'not covered by the directory');
-            if (word === 'EMPTY') lay(first, length, 'empty', 'empty');
-            if (word !== 'FILE') continue;
-            const name = rest.slice(0, -2).join(' ');
-            this.entries.push({ name, first, length });
-            lay(first, length, turn++ % 2 ? 'file-2' : 'file', name);
-        }
-        if (!this.refusal) return;
-        const told = this.refusal.match(/^\? DIRECTORY [12] .* (\d+)$/);
-        const bytes = this.page.store.files.get(this.name)?.length ?? 0;
-        this.blocks = Array.from({ length: Math.max(7, Math.floor(bytes / 512)) }, (_, block) => ({ kind: 'outside', of: 'of a volume that is refused' }));
-        if (told) this.blocks[Number(told[1])] = { kind: 'fault', of: this.refusal };
-        else for (let block = 1; block < 7; block++) this.blocks[block] = { kind: 'fault', of: this.refusal };
+    // The files whose names have what is looked for, in the order that was chosen.
+    get #found() {
+        const { by, way } = this.order, part = $('find').value.trim().toUpperCase();
+        return this.entries.filter(it => it.name.includes(part)).sort((a, b) => way * (a[by] < b[by] ? -1 : a[by] > b[by] ? 1 : a.first - b.first));
     }
 
-    #draw() {
-        const canvas = $('blocks'), style = getComputedStyle(canvas), width = Math.max(200, canvas.clientWidth);
-        const count = this.blocks.length, across = Math.max(32, Math.min(Math.floor(width / 6), Math.ceil(Math.sqrt(count * 6))));
-        const side = Math.floor(width / across), down = Math.ceil(count / across), scale = devicePixelRatio || 1;
-        this.across = width / across;
-        canvas.width = width * scale;
-        canvas.height = down * side * scale;
-        canvas.style.height = `${down * side}px`;
-        this.side = side;
-        const colours = Object.fromEntries(COLOURS.map(it => [it, colourOf(style, `--${it}`)]));
-        const brush = /** @type {CanvasRenderingContext2D} */ (canvas.getContext('2d'));
-        brush.scale(scale, scale);
-        this.blocks.forEach(({ kind }, block) => {
-            const x = block % across * this.across, y = Math.floor(block / across) * side;
-            brush.fillStyle = colours[kind];
-            brush.fillRect(x, y, this.across - (side > 4 ? 1 : 0), side - (side > 4 ? 1 : 0));
-        });
-        const free = this.blocks.filter(it => it.kind === 'empty').length;
-        canvas.setAttribute('aria-label', this.refusal ? `Volume of ${count} blocks, refused: ${this.refusal}`
-            : `Volume of ${count} blocks: ${this.entries.length} files, ${free} blocks empty`);
+    // Sorts by a column, or by it the other way round. Blocks begin with the most.
+    /** @param {string} column */
+    #sort(column) {
+        const by = /** @type {'name' | 'first' | 'length'} */ (column), own = this.order;
+        this.order = { by, way: own.by === by ? -own.way : by === 'length' ? -1 : 1 };
+        this.#rows();
     }
 
-    /** @param {MouseEvent} event */
-    #point(event) {
-        const column = Math.floor(event.offsetX / this.across), row = Math.floor(event.offsetY / this.side);
-        const block = row * Math.round($('blocks').clientWidth / this.across) + column, it = this.blocks[block];
-        $('block-told').textContent = it ? `block ${block}: ${it.of}` : '';
+    // Shows the first of the files that are found.
+    async #showFound() {
+        const [first] = this.#found;
+        if (first) await this.shown.best(first);
     }
 
     #rows() {
-        const rows = [...this.entries].sort((a, b) => a.name < b.name ? -1 : 1).map(it => this.#row(it));
+        const { by, way } = this.order, found = this.#found, rows = found.map(it => this.#row(it));
         $('directory').tBodies[0].replaceChildren(...rows);
-        $('directory').hidden = this.refusal !== null;
+        $('found').textContent = $('find').value.trim() === '' ? '' : `${found.length} of ${this.entries.length} files`;
+        for (const it of $('directory').querySelectorAll('button[data-sort]'))
+            it.parentElement?.setAttribute('aria-sort', it.getAttribute('data-sort') !== by ? 'none' : way > 0 ? 'ascending' : 'descending');
+        $('directory').hidden = this.refusal !== null && !rows.length;
     }
 
-    /** @param {{ name: string, first: number, length: number }} it */
-    #row({ name, first, length }) {
+    /** @param {Entry} it */
+    #row(it) {
+        const { name, first, length, isByBlocks } = it, { shown } = this;
         /** @param {string} text @param {() => void} what @param {string} label */
         const button = (text, what, label) => made('button', { onclick: what, 'aria-label': `${name} ${label}` }, text);
-        const row = made('tr', { 'data-name': name }, made('td', {}, name), made('td', { class: 'n' }, String(length)), made('td', { class: 'n' }, String(first)),
-            made('td', {}, button('text', () => this.show(name, 'text'), 'as a text'), ' ', button('listing', () => this.show(name, 'tape'), 'as the listing of a tape'),
-                ' ', button('source', () => this.show(name, 'source'), 'as the source of a tape')),
-            made('td', {}, button('text', () => this.#home(name, '--text'), 'home as a text'), ' ', button('tape', () => this.#home(name, '--tape'), 'home as a tape'),
-                ' ', button('frames', () => this.#home(name), 'home as frames')),
-            made('td', {}, button('copy', () => this.#copy(name), 'copy'), ' ',
-                button('delete', () => this.#change(`the deletion of ${name}`, `DELETE ${name}`), 'delete')));
-        row.classList.toggle('chosen', this.shown === name);
+        const changes = isByBlocks ? [] : [button('copy', () => this.#copy(it), 'copy'), ' ', button('delete', () => this.#delete(it), 'delete')];
+        const row = made('tr', { 'data-name': name }, made('td', {}, button(name, () => shown.best(it), 'in its best form')), made('td', { class: 'n' }, String(length)), made('td', { class: 'n' }, String(first)),
+            made('td', {}, button('text', () => shown.show(it, 'text'), 'as a text'), ' ', button('listing', () => shown.show(it, 'tape'), 'as the listing of a tape'),
+                ' ', button('source', () => shown.show(it, 'source'), 'as the source of a tape')),
+            made('td', {}, button('text', () => shown.home(it, 'text'), 'home as a text'), ' ', button('tape', () => shown.home(it, 'tape'), 'home as a tape'),
+                ' ', button('frames', () => shown.home(it, 'frames'), 'home as frames')),
+            made('td', {}, ...changes));
+        row.classList.toggle('chosen', shown.entry?.name === name);
         return row;
     }
 
-    /** @param {string} name @param {...string} form */
-    #get(name, ...form) { return this.page.programs.ask(['get', this.name, name, ...form]); }
-
-    // The frames of the tape that a file begins with, or the program's refusal.
-    /** @param {string} name */
-    tape(name) { return this.#get(name, '--tape'); }
-
-    // Shows a file: as a text, or its tape as a listing or as source.
-    /** @param {string} name @param {'text' | 'tape' | 'source'} as */
-    async show(name, as) {
-        const got = await this.#get(name, as === 'text' ? '--text' : '--tape');
-        const given = got.status === 0 && as !== 'text' ? await this.page.programs.ask([as], got.out) : got;
-        if (given.status !== 0) {
-            tell('files-status', `${name}: ${textOf(given.out)}${given.said}`, true);
-            return;
-        }
-        tell('files-status', '');
-        this.#show(name, textOf(given.out), { text: 'text', tape: 'listing of its tape', source: 'source of its tape' }[as]);
-    }
-
-    /** @param {string | null} name @param {string} text @param {string} as */
-    #show(name, text, as) {
-        this.shown = name;
-        $('shown-name').textContent = name ? `${name}, ${as}` : 'No file is shown';
-        $('shown').textContent = text.replaceAll('\r', '');
-        for (const row of $('directory').tBodies[0].rows) row.classList.toggle('chosen', row.dataset.name === name);
-    }
-
-    // Takes a file home under its own name, so that it comes back under that.
-    /** @param {string} name @param {...string} form */
-    async #home(name, ...form) {
-        const { status, out, said } = await this.#get(name, ...form);
-        if (status !== 0) {
-            tell('files-status', `${name}: ${said}`, true);
-            return;
-        }
-        takeHome(name, out);
-        tell('files-status', `${name}: ${out.length} bytes`);
+    // Deletes a file: by a line of a script, or by its place where its name can't be typed.
+    /** @param {Entry} it */
+    async #delete(it) {
+        const [word, at] = placeOf(it), words = `the deletion of ${it.name}`;
+        if (!at) return this.#change(words, `DELETE ${word}`);
+        const { status, out, said } = await this.page.undo.group(this.name, words, () => this.page.programs.ask(['delete', this.name, word, at]));
+        tell('files-status', textOf(out) + said, status !== 0);
     }
 
     /** @param {HTMLInputElement} input */
@@ -476,15 +421,15 @@ export class Files {
     }
 
     // Copies a file to another volume of the page, with its information words, and so its date.
-    /** @param {string} name */
-    async #copy(name) {
-        const { programs, undo } = this.page, others = this.volumes.filter(it => it !== this.name);
+    /** @param {Entry} it */
+    async #copy(it) {
+        const { name } = it, { programs, undo } = this.page, others = this.volumes.filter(it => it !== this.name);
         if (!others.length) return tell('files-status', 'There is no other volume: open one, or make a new one.', true);
         const to = await ask(`Copy ${name} to which volume?`, ...others.map(it => [it, it]), ['', 'Leave it']);
         if (to === '') return;
         await this.#use(to, async () => {
             if (!await this.#mayWrite(to, name)) return tell('files-status', `${name} of ${to} was left as it was`);
-            const { status, out, said } = await undo.group(to, `the copy of ${name} to ${to}`, () => programs.ask(['copy', this.name, name, to]));
+            const { status, out, said } = await undo.group(to, `the copy of ${name} to ${to}`, () => programs.ask(['copy', this.name, ...placeOf(it), to]));
             tell('files-status', status === 0 ? `${to}: ${textOf(out)}` : textOf(out) + said, status !== 0);
         });
     }
@@ -505,14 +450,4 @@ function nameOf(path) {
     const name = path.toUpperCase().replace(/ ?\(\d+\)(?=\.|$)/, '').replace(/^([A-Z0-9]{1,6}\.[A-Z0-9]{1,2})\.(TXT|BIN)$/, '$1');
     const [first, ...rest] = name.split('.');
     return rest.length ? `${first.slice(0, 6)}.${rest[rest.length - 1].slice(0, 2)}` : first.slice(0, 6);
-}
-
-// A colour of the style, light or dark, as a canvas takes it.
-/** @param {CSSStyleDeclaration} style @param {string} name */
-function colourOf(style, name) {
-    const probe = made('span', { style: `color: var(${name})` });
-    $('blocks').after(probe);
-    const colour = getComputedStyle(probe).color;
-    probe.remove();
-    return colour;
 }

@@ -1,8 +1,10 @@
 // The listing beside the text, line by line: the line of the cursor and its words are marked in both, and what a run of the tape does is
 // shown at them, by `trace` and `profile`.
-import { $, elementOf, ids, made, tell } from './dom.js';
+import { $, elementOf, ids, made, octal, tell } from './dom.js';
 import { helpAt, helpOf } from './help.js';
-import { canLive, textOf } from './program.js';
+import { Lamps } from './panel.js';
+import { textOf } from './program.js';
+import { depositsOf, linesOf, stepOf } from './replay.js';
 
 const STEPS = 1000, MOST = 8000;
 
@@ -13,9 +15,13 @@ export class Listing {
         this.source = source;
         /** @type {Map<string, HTMLElement>} */
         this.cells = new Map();
+        /** @type {Map<string, string>} */
+        this.statements = new Map();
         /** @type {number | null} */
         this.at = null;
-        this.start = '';
+        this.start = this.keys = '';
+        this.switches = this.turn = 0;
+        this.lamps = new Lamps($('step-panel'), [['pc', 'Program counter', 12], ['ac', 'Accumulator', 12]], 'data-at-step');
         $('listing').addEventListener('click', event => this.#chosen(elementOf(event).closest('[data-line]')));
         $('text').addEventListener('click', () => this.#follow());
         for (const id of ids('listing', 'doings')) helpAt($(id), $('listing-help'), it => helpOf(it.closest('.l')?.textContent ?? ''));
@@ -31,29 +37,40 @@ export class Listing {
     /** @param {string} text */
     show(text) {
         const lines = text.match(/[^\n]*\n|[^\n]+$/g) ?? [];
-        let number = 0;
+        let number = 0, word = 0, own = '';
         this.cells = new Map();
+        this.statements = new Map();
         $('listing').replaceChildren(...lines.slice(0, MOST).map(it => {
-            const cell = /^([0-7]{5})  [0-7]{4}/.exec(it)?.[1];
-            if (!/^[0-7]{5}  [0-7]{4}$/.test(it.trimEnd())) number++;
-            const line = made('span', { class: 'l', 'data-line': String(number), 'data-cell': cell ?? null }, it);
-            if (cell) this.cells.set(cell, line);
+            const cell = /^([0-7]{5})  [0-7]{4}/.exec(it)?.[1], isFurther = /^[0-7]{5}  [0-7]{4}$/.test(it.trimEnd());
+            if (!isFurther) [number, word, own] = [number + 1, 0, it.slice(16)];
+            const line = made('span', { class: 'l', 'data-line': String(number), 'data-word': String(word), 'data-cell': cell ?? null }, it);
+            if (cell) this.#cell(cell, line, own, word++);
             return line;
         }), lines.slice(MOST).join(''));
         this.#doings('');
         this.#follow();
     }
 
-    // Marks the words of the line that the cursor is in.
+    // Notes the line of a cell, and the statement that gives its word.
+    /** @param {string} cell @param {HTMLElement} line @param {string} text @param {number} word */
+    #cell(cell, line, text, word) {
+        this.cells.set(cell, line);
+        this.statements.set(cell, (statementsOf(text)[word] ?? { text: text.replace(/\/.*/s, '').trim() }).text);
+    }
+
+    // Marks the words of the line that the cursor is in, and the one of its statement.
     #follow() {
-        const text = $('text'), line = text.value.slice(0, text.selectionStart).split('\n').length;
-        $('listing-help').textContent = helpOf(text.value.split('\n')[line - 1]);
-        this.#mark(this.source.isOld ? [] : $('listing').querySelectorAll(`[data-line="${line}"]`));
+        const text = $('text'), before = text.value.slice(0, text.selectionStart).split('\n'), line = before.length, own = text.value.split('\n')[line - 1];
+        $('listing-help').textContent = helpOf(own);
+        const lines = /** @type {HTMLElement[]} */ (this.source.isOld ? [] : [...$('listing').querySelectorAll(`[data-line="${line}"]`)]);
+        this.#mark(lines);
+        const all = statementsOf(own), column = before[line - 1].length;
+        if (all.length === lines.length && lines.length > 1) lines[all.filter(it => it.at <= column).length - 1]?.classList.add('own');
     }
 
     /** @param {ArrayLike<Element> & Iterable<Element>} lines */
     #mark(lines) {
-        for (const it of $('listing').querySelectorAll('.at')) it.classList.remove('at');
+        for (const it of $('listing').querySelectorAll('.at')) it.classList.remove('at', 'own');
         for (const it of lines) it.classList.add('at');
         lines[0]?.scrollIntoView({ block: 'nearest' });
     }
@@ -62,16 +79,31 @@ export class Listing {
     /** @param {HTMLElement | null} line */
     #chosen(line) {
         if (!line || this.source.isOld) return;
-        this.source.goTo(Number(line.dataset.line));
+        this.#goTo(line, true);
         this.#mark([line]);
+    }
+
+    // Goes to the line of the text that a line of the listing shows: to its statement, where the line has one for each of its words.
+    /** @param {HTMLElement} line @param {boolean} takesFocus */
+    #goTo(line, takesFocus) {
+        const number = Number(line.dataset.line), place = this.source.placeOf(number);
+        if (!place.isOpen) return tell('source-status', `That is line ${place.line} of the text ${place.name}.`);
+        const all = statementsOf($('text').value.split('\n')[number - 1] ?? '');
+        const isEach = all.length > 1 && all.length === $('listing').querySelectorAll(`[data-line="${number}"]`).length;
+        const { at, text } = all[isEach ? Number(line.dataset.word) : -1] ?? { at: 0, text: '' };
+        this.source.goTo(number, takesFocus, at + 1, text.length);
     }
 
     /** @param {string} words @param {...(string | Node)} rows */
     #doings(words, ...rows) {
         $('doings').replaceChildren(words, ...rows);
-        $('to-step').disabled = true;
+        $('to-step').disabled = $('at-step').hidden = true;
+        $('listing').classList.remove('counted');
         this.at = null;
-        for (const it of $('listing').querySelectorAll('[style]')) it.removeAttribute('style');
+        for (const it of /** @type {NodeListOf<HTMLElement>} */ ($('listing').querySelectorAll('[style]'))) {
+            it.removeAttribute('style');
+            delete it.dataset.count;
+        }
     }
 
     // The cell that a run starts at: 00200 where the tape has it, else that of its first word, as the Machine starts it.
@@ -85,9 +117,10 @@ export class Listing {
     /** @param {string} word @param {...string} more */
     async #run(word, ...more) {
         if (!await (this.source.tape ? this.source.renew() : this.source.assemble())) return null;
-        const keys = $('doing-keys').value;
+        this.keys = $('doing-keys').value.replaceAll('\\r', '\r');
+        this.switches = this.page.machine.panel.switches;
         this.start = await this.#start();
-        const words = [word, '.source.bin', '--start', this.start, ...more, ...(keys ? ['--keys', keys.replaceAll('\\r', '\r')] : [])];
+        const words = [word, '.source.bin', '--start', this.start, '--switches', octal(this.switches, 4), ...more, ...(this.keys ? [`--keys=${this.keys}`] : [])];
         const { status, out, said } = await this.page.programs.ask(words);
         tell('source-status', said, status !== 0);
         return textOf(out).replace(/\n$/, '').split('\n');
@@ -96,7 +129,14 @@ export class Listing {
     async #trace() {
         const lines = await this.#run('trace', '--steps', String(STEPS));
         if (!lines) return;
-        this.#doings('', ...lines.map((it, k) => /^[0-7]{5} [0-7]{4}\t/.test(it) ? made('span', { class: 'l', 'data-step': String(k), tabindex: k ? '-1' : '0' }, `${it}\n`) : `${it}\n`));
+        this.#doings('', ...lines.map((it, k) => k < lines.length - 1 ? this.#row(it, k) : `${it}\n`));
+    }
+
+    // A line of the trace, with the statement of the source that its word is of.
+    /** @param {string} line @param {number} k */
+    #row(line, k) {
+        const own = this.statements.get(line.slice(0, 5)) ?? null;
+        return made('span', { class: 'l', 'data-step': String(k), 'data-own': own, tabindex: k ? '-1' : '0' }, `${line}\n`);
     }
 
     // The profile as colour behind the lines of the listing, the dearest the darkest.
@@ -106,9 +146,12 @@ export class Listing {
         this.#doings(`${lines.join('\n')}\n`);
         const counts = lines.map(it => /^([0-7]{5}) (\d+)$/.exec(it)).flatMap(it => it ? [{ cell: it[1], count: Number(it[2]) }] : []);
         const most = Math.max(...counts.map(it => it.count), 1);
+        $('listing').classList.add('counted');
         for (const { cell, count } of counts) {
             const share = Math.round(100 * Math.log1p(count) / Math.log1p(most));
-            this.cells.get(cell)?.setAttribute('style', `background: color-mix(in srgb, var(--mark) ${share}%, transparent)`);
+            const line = this.cells.get(cell);
+            line?.setAttribute('style', `background: color-mix(in srgb, var(--mark) ${share}%, transparent)`);
+            line?.setAttribute('data-count', String(count));
         }
     }
 
@@ -121,19 +164,47 @@ export class Listing {
         this.at = Number(row.dataset.step);
         const line = this.cells.get(row.textContent.slice(0, 5));
         if (line) {
-            this.source.goTo(Number(line.dataset.line), false);
+            this.#goTo(line, false);
             this.#mark([line]);
         }
-        $('to-step').disabled = !canLive || $('doing-keys').value !== '';
+        $('to-step').disabled = false;
+        this.#again(stepOf(row.textContent.trimEnd()));
     }
 
-    // Runs the tape again, on a new machine, to the step that was chosen, and shows the panel as it was after it.
+    // The lines of the trace up to the step that was chosen.
+    get #steps() { return $('doings').textContent.split('\n').slice(0, (this.at ?? 0) + 1); }
+
+    // Runs the tape again to the step that was chosen, and shows the panel, and the step's cells, as they were after it.
+    /** @param {import('./replay.js').Traced | null} step */
+    async #again(step) {
+        const { programs, machine } = this.page, turn = ++this.turn, { tape } = this.source;
+        if (!tape) return;
+        const cells = step ? [step.cell, ...step.cells] : [];
+        const script = [...await depositsOf(this.page, tape), `SWITCHES ${octal(this.switches, 4)}`, `START ${this.start}`, ...linesOf(this.#steps, this.keys),
+            ...cells.map(it => `EXAMINE ${it}`), 'REGISTERS'];
+        const { out } = await programs.ask(['run', '--look', await machine.image()], `${script.join('\n')}\n`), replies = textOf(out).trim().split('\n');
+        if (turn !== this.turn || this.at === null) return;
+        const told = /** @type {Registers} */ (JSON.parse(replies.pop() ?? 'null'));
+        this.lamps.show(told, null, null);
+        $('step-cells').replaceChildren(...replies.slice(replies.length - cells.length).map(it => made('div', {}, made('dt', {}, it.slice(0, 5)), made('dd', {}, it.slice(6)))));
+        const isSame = !step || (told.ac === step.ac && told.l === step.l);
+        $('step-told').textContent = isSame ? `after step ${this.at + 1}` : 'This run came to another AC than the trace: its program reads more than keys.';
+        $('at-step').hidden = false;
+    }
+
+    // Runs the tape again, on the Machine made new, to the step that was chosen, from where it can go on.
     async #toStep() {
-        const { machine, tabs } = this.page, steps = (this.at ?? 0) + 1, { tape } = this.source;
+        const { machine, tabs } = this.page, lines = this.#steps, { tape } = this.source;
         tabs.show('machine');
         await machine.renew();
         if (!tape || !await machine.load(tape, `the tape of ${$('source-name').value || 'the source'}`)) return;
         machine.list($('listing').textContent, $('symbols').textContent);
-        await machine.runTo(Number.parseInt(this.start, 8), steps);
+        await machine.runTo(Number.parseInt(this.start, 8), this.switches, linesOf(lines, this.keys), lines.length);
     }
+}
+
+// The statements of a line, and where each begins; a comment is none.
+/** @param {string} line */
+function statementsOf(line) {
+    return [...line.replace(/\/.*/s, '').matchAll(/[^;]+/g)].map(it => ({ at: (it.index ?? 0) + it[0].length - it[0].trimStart().length, text: it[0].trim() })).filter(({ text }) => text !== '');
 }

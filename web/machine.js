@@ -1,16 +1,15 @@
 // The Machine pane: a `run` that lives, to whose console each key of the panel gives a line, and whose replies the lamps show.
-import { $, ids, made, tell, keepInput } from './dom.js';
+import { $, ids, made, octal, rove, tell, keepInput } from './dom.js';
 import { Lines, canLive, textOf } from './program.js';
 import { helpAt, helpOf } from './help.js';
 import { Panel } from './panel.js';
 import { Paper, keyOf } from './paper.js';
+import { settingOf } from './replay.js';
+import { tapeIn } from './tapes.js';
 
 // What a PDP-8/I does in a millisecond, about; and how long its printer takes for a character, in milliseconds.
 const STEPS = 300, CHARACTER = 100;
-const MOST = 1000000, LOOKS = 8, PICTURE = 11, CORE = 0o100000, LISTED = 6000;
-
-/** @param {number} number @param {number} digits */
-export const octal = (number, digits) => number.toString(8).padStart(digits, '0');
+const LEAST = 20000, MOST = 1000000, LOOKS = 8, PICTURE = 11, CORE = 0o100000, LISTED = 6000;
 
 export class Machine {
     /** @type {Promise<Lines> | null} */
@@ -30,8 +29,10 @@ export class Machine {
     /** @type {Map<string, string>} */
     names = new Map();
     keeping = 0;
+    /** @type {number | null} */
+    steps = null;
     isGoing = false;
-    many = 20000;
+    many = LEAST;
     /** @type {Set<string>} */
     breaks = new Set();
     /** @type {number[]} */
@@ -45,13 +46,14 @@ export class Machine {
         this.panel = new Panel($('panel'), {
             switches: word => this.#ask(`SWITCHES ${octal(word, 4)}`).then(() => page.store.note('switches', word)),
             load: () => this.#loadAddress(), examine: () => this.#examine(), deposit: () => this.#deposit(),
-            start: () => this.start(), stop: () => this.stop(), go: () => this.go(), step: () => this.step(),
+            start: () => this.start(), stop: () => this.stop(), go: () => this.goOn(), step: () => this.step(),
         });
         this.paper = new Paper($('console'), { sound: page.sound });
         for (const id of ids('speed', 'printer', 'core-from', 'watch')) keepInput(page.store, id);
         $('power').addEventListener('click', () => this.renew());
         $('step-over').addEventListener('click', () => this.stepOver());
         $('watch').addEventListener('change', () => this.#watch());
+        rove($('code'));
         helpAt($('code'), $('code-help'), it => helpOf(it.closest('.l')?.textContent ?? ''));
         $('core-tape').addEventListener('change', () => this.#chosen($('core-tape')));
         $('core-from').addEventListener('change', () => this.#core());
@@ -61,9 +63,7 @@ export class Machine {
         $('machine').addEventListener('shown', () => this.#refresh());
         this.panel.address = page.store.notes.get('address') ?? 0o200;
         this.panel.switches = page.store.notes.get('switches') ?? 0;
-        if (!canLive) tell('machine-status', 'This browser can\'t wait in a call of WebAssembly: the machine can\'t run here.', true);
-        this.panel.enable(canLive);
-        $('step-over').disabled = !canLive;
+        this.#count(page.store.notes.get('steps') ?? null);
         this.breaks = new Set(page.store.notes.get('breaks'));
         this.list(page.store.notes.get('listing') ?? '', page.store.notes.get('names') ?? '');
     }
@@ -74,10 +74,16 @@ export class Machine {
         return this.lines;
     }
 
-    async #begin() {
+    // The name of a small volume, over which a machine's run looks.
+    async image() {
         const { programs, store } = this.page;
         if (!store.files.has('.machine')) await programs.ask(['create', '.machine', '8']);
-        const lines = await Lines.begin(programs, ['run', '--look', '.machine'], { ended: (status, said) => this.#ended(status, said) });
+        return '.machine';
+    }
+
+    async #begin() {
+        const { programs, store } = this.page;
+        const lines = await Lines.begin(programs, ['run', '--look', await this.image()], { ended: (status, said) => this.#ended(status, said) });
         this.printed = 0;
         /** @type {string[]} */
         const given = [], core = /** @type {Uint16Array} */ (store.notes.get('core') ?? new Uint16Array(0));
@@ -106,6 +112,7 @@ export class Machine {
         this.lines = null;
         this.page.store.note('core', new Uint16Array(0));
         this.page.store.note('registers', null);
+        this.#count(null);
         this.breaks.clear();
         this.#keepBreaks();
         this.isLoaded = false;
@@ -115,9 +122,9 @@ export class Machine {
         await this.#refresh();
     }
 
-    // Lays the words of a tape over core, one by one as `tape` lists them.
-    /** @param {Uint8Array} tape @param {string} name */
-    async load(tape, name) {
+    // Lays the words of a tape over core, one by one as `tape` lists them. A core image says where its program starts.
+    /** @param {Uint8Array} tape @param {string} name @param {string | null} [start] */
+    async load(tape, name, start = null) {
         const { status, out, said } = await this.page.programs.ask(['tape'], tape);
         if (status !== 0) {
             tell('machine-status', `${name}: ${textOf(out)}${said}`, true);
@@ -126,8 +133,9 @@ export class Machine {
         this.isGoing = false;
         const words = textOf(out).trim().split('\n').filter(it => it).map(it => it.split(' '));
         await this.#ask(...words.map(([field, address, word]) => `DEPOSIT ${field}${address} ${word}`));
-        const first = words[0] ? Number.parseInt(words[0][0] + words[0][1], 8) : 0o200;
-        this.#point(words.some(([field, address]) => field + address === '00200') ? 0o200 : first);
+        const first = words[0] ? Number.parseInt(words[0][0] + words[0][1], 8) : 0o200, isStart = start !== null && /^[0-7]{5}$/.test(start);
+        this.#point(isStart ? Number.parseInt(start, 8) : words.some(([field, address]) => field + address === '00200') ? 0o200 : first);
+        this.isLoaded = true;
         tell('machine-status', `${name}: ${words.length} words are in core; START begins at ${octal(this.panel.address, 5)}`);
         this.#changed();
         await this.#refresh();
@@ -142,7 +150,7 @@ export class Machine {
 
     /** @param {HTMLSelectElement} select */
     async #chosen(select) {
-        const { files, source, programs } = this.page, name = select.value;
+        const { files, source } = this.page, name = select.value;
         select.value = '';
         if (name === '') return;
         if (name === 'source') {
@@ -150,11 +158,13 @@ export class Machine {
             if (source.tape && await this.load(source.tape, 'the source\'s tape')) this.list($('listing').textContent, $('symbols').textContent);
             return;
         }
-        const { status, out, said } = await files.tape(name.slice(5));
-        if (status !== 0) return tell('machine-status', `${name.slice(5)}: ${said}`, true);
-        if (!await this.load(out, name.slice(5))) return;
-        const text = await programs.ask(['source'], out);
-        this.list(textOf(text.out).replaceAll('\r', ''));
+        const entry = files.entries.find(it => it.name === name.slice(5));
+        if (!entry) return;
+        const tape = await tapeIn(this.page, files.name, entry);
+        if (tape.status !== 0) return tell('machine-status', `${entry.name}: ${tape.said}`, true);
+        if (!await this.load(tape.out, entry.name, tape.start)) return;
+        const text = await files.shown.source(entry, tape);
+        this.list(textOf(text.out).replaceAll('\r', ''), files.shown.symbolsOf(entry));
     }
 
     #tapes() {
@@ -166,7 +176,7 @@ export class Machine {
     // Shows a listing, whose cells are buttons for breaks; `symbols` has its names with their values.
     /** @param {string} text @param {string} [symbols] */
     list(text, symbols = '') {
-        this.names = new Map([...symbols.matchAll(/^([A-Z][A-Z0-9]*) +([0-7]{4})/gm)].map(it => [it[1], `0${it[2]}`]));
+        this.names = new Map([...symbols.matchAll(/^([A-Z][A-Z0-9]*) +([0-7]{4,5})\b/gm)].map(it => [it[1], it[2].padStart(5, '0')]));
         this.page.store.note('names', symbols);
         this.cells.clear();
         const lines = text.split('\n'), shown = lines.slice(0, LISTED).map(it => this.#line(it));
@@ -174,6 +184,7 @@ export class Machine {
         $('code').replaceChildren(...shown);
         this.page.store.note('listing', text);
         this.#mark();
+        if (this.lines) this.#watch();
     }
 
     // A line begins with its cell, or ends with it and its word in a comment, as `assemble --list` and `source` write them.
@@ -205,7 +216,13 @@ export class Machine {
         this.isLoaded = true;
         this.#point(this.panel.fieldSwitches * 0o10000 + this.panel.switches);
         tell('machine-status', `address ${octal(this.panel.address, 5)}`);
-        this.panel.show(this.registers, this.panel.address, null);
+        this.panel.show(this.#lit, this.panel.address, null);
+    }
+
+    // What the lamps show: the registers, and in PC the address that was loaded, until the machine goes from there.
+    get #lit() {
+        const { registers, panel: { address } } = this;
+        return this.isLoaded && registers ? { ...registers, if: String(address >> 12), df: String(address >> 12), pc: octal(address & 0o7777, 4) } : registers;
     }
 
     // The cell behind one, in its field.
@@ -224,23 +241,42 @@ export class Machine {
     async #cell(line) {
         const [reply] = await this.#ask(line) ?? [''], [cell, word] = reply.split(' ');
         tell('machine-status', reply);
-        this.panel.show(this.registers, Number.parseInt(cell, 8), Number.parseInt(word, 8));
         this.#point(this.#next(this.panel.address));
+        this.panel.show(this.#lit, Number.parseInt(cell, 8), Number.parseInt(word, 8));
     }
 
     async start() {
         this.isGoing = this.isLoaded = false;
-        const [reply] = await this.#ask(`START ${octal(this.panel.address, 5)}`) ?? [''];
+        const [reply] = await this.#begun(this.panel.address) ?? [''];
         tell('machine-status', reply);
         await this.go();
     }
 
-    // Starts at a cell, and makes so many steps.
-    /** @param {number} cell @param {number} steps */
-    async runTo(cell, steps) {
+    // Has the machine start at a cell. Its steps are counted from here.
+    /** @param {number} cell */
+    #begun(cell) {
+        this.#count(0);
+        return this.#ask(`START ${octal(cell, 5)}`);
+    }
+
+    // Shows how many steps were made since START, null where that is not known.
+    /** @param {number | null} steps */
+    #count(steps) {
+        this.steps = steps;
+        $('steps').textContent = steps === null ? '' : `${steps} ${steps === 1 ? 'step' : 'steps'} since START`;
+    }
+
+    // Starts at a cell with these switches, and makes so many steps by these lines.
+    /** @param {number} cell @param {number} switches @param {string[]} lines @param {number} steps */
+    async runTo(cell, switches, lines, steps) {
         this.#point(cell);
-        await this.#ask(`START ${octal(cell, 5)}`);
-        await this.#slice('GO', steps);
+        this.isLoaded = false;
+        this.panel.switches = switches;
+        this.page.store.note('switches', switches);
+        await this.#ask(`SWITCHES ${octal(switches, 4)}`);
+        await this.#begun(cell);
+        this.reply = (await this.#ask(...lines))?.filter(it => it.startsWith('STEPS')).at(-1) ?? '';
+        this.#count(steps);
         tell('machine-status', `after step ${steps}: ${this.reply}`);
         await this.#stopped();
     }
@@ -258,8 +294,15 @@ export class Machine {
 
     // Starts at the address that was loaded, if one was since the machine last went.
     async #startLoaded() {
-        if (this.isLoaded) await this.#ask(`START ${octal(this.panel.address, 5)}`);
+        if (this.isLoaded) await this.#begun(this.panel.address);
         this.isLoaded = false;
+    }
+
+    // Goes on: from the address that was loaded, if one was since the machine last went, else from where it is.
+    async goOn() {
+        if (this.isGoing) return;
+        await this.#startLoaded();
+        await this.go();
     }
 
     // One step, but a subroutine that a JMS calls is done as a whole: until the next instruction but for it, or the one after that, is reached.
@@ -331,7 +374,7 @@ export class Machine {
             why = await this.#slice('GO', count);
             left -= this.total - before;
             const took = performance.now() - begun;
-            if (took > 4) this.many = Math.max(1000, this.many / 2 | 0);
+            if (took > 4) this.many = Math.max(LEAST, this.many / 2 | 0);
             else if (took < 2 && about === this.many) this.many = Math.min(MOST, this.many * 2);
         } while (this.isGoing && why === 'LIMIT' && left > 0 && performance.now() < until);
         this.#show();
@@ -361,6 +404,7 @@ export class Machine {
         if (registers.busy) this.isPrinting = true;
         const [, steps, why] = this.reply.split(' ');
         this.total += Number(steps);
+        if (this.steps !== null) this.steps += Number(steps);
         this.panel.see(registers, Number(steps));
         return why;
     }
@@ -391,7 +435,8 @@ export class Machine {
     }
 
     #show() {
-        this.panel.show(this.registers, null, null, this.isGoing);
+        this.panel.show(this.#lit, null, null, this.isGoing);
+        this.#count(this.steps);
         if (this.isGoing && performance.now() - this.listedAt < 100) return;
         this.listedAt = performance.now();
         $('registers').replaceChildren(...Object.entries(this.registers ?? {}).map(([name, value]) => made('div', {}, made('dt', {}, name), made('dd', {}, String(value)))));
@@ -428,6 +473,7 @@ export class Machine {
         const replies = await this.#ask('REGISTERS', ...Array.from({ length: CORE }, (_, cell) => `EXAMINE ${octal(cell, 5)}`));
         if (!replies) return;
         this.page.store.note('registers', JSON.parse(replies.shift() ?? ''));
+        this.page.store.note('steps', this.steps);
         this.page.store.note('core', Uint16Array.from(replies, it => Number.parseInt(it.slice(6), 8)));
     }
 
@@ -438,17 +484,6 @@ export class Machine {
         event.preventDefault();
         this.keys.push((key.toUpperCase().charCodeAt(0) & 0o177) | 0o200);
     }
-}
-
-// The lines that give a new machine these registers: its own instructions do, in eight cells at the end of the field, whose words it gets back.
-/** @param {Registers | null | undefined} registers @param {(cell: number) => number} wordAt */
-function settingOf(registers, wordAt) {
-    if (!registers?.pc) return [];
-    const field = Number(registers.if), at = (/** @type {number} */ address) => octal(field * 0o10000 + address, 5), free = 0o7770;
-    const words = [registers.l === '1' ? '7020' : '7000', '1375', `62${registers.df}1`, registers.ion ? '6001' : '7000', '5776', registers.ac, registers.pc];
-    const laid = words.map((word, k) => `DEPOSIT ${at(free + k)} ${word}`);
-    const back = words.map((_, k) => `DEPOSIT ${at(free + k)} ${octal(wordAt(field * 0o10000 + free + k), 4)}`);
-    return [...laid, `START ${at(free)}`, 'STEP 5', ...back];
 }
 
 // About so many steps, never twice the same number, so that what the lamps are seen at is no part of a program's own beat.

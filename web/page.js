@@ -13,8 +13,10 @@ import { Undo } from './undo.js';
 import { Shelf } from './shelf.js';
 import { Sound } from './sound.js';
 
-const PANES = /** @type {const} */ (['files', 'source', 'machine', 'teletype', 'script']);
-/** @typedef {typeof PANES[number]} Pane */
+const ALL = /** @type {const} */ (['files', 'source', 'machine', 'teletype', 'script']);
+/** @typedef {typeof ALL[number]} Pane */
+// The panes that this browser can have: the Machine lives, and waits for its keys.
+const PANES = ALL.filter(it => canLive || it !== 'machine');
 
 const isPane = (/** @type {string} */ it) => PANES.some(name => name === it);
 
@@ -38,7 +40,8 @@ export class Tabs {
             tab.addEventListener('keydown', event => this.#key(event, PANES.indexOf(name)));
         }
         const asked = /** @type {Pane} */ (location.hash.slice(1));
-        this.show(isPane(asked) ? asked : store.notes.get('pane') ?? 'files');
+        const last = store.notes.get('pane') ?? '';
+        this.show(isPane(asked) ? asked : isPane(last) ? last : 'files');
         const first = this.shown ?? 'files';
         addEventListener('hashchange', () => {
             const name = /** @type {Pane} */ (location.hash.slice(1) || first);
@@ -61,7 +64,7 @@ export class Tabs {
     show(name, isNew = true) {
         if (isNew && this.shown !== undefined && this.shown !== name) history.pushState(null, '', `#${name}`);
         this.shown = name;
-        for (const it of PANES) {
+        for (const it of ALL) {
             $(it).hidden = it !== name;
             $(`tab-${it}`).setAttribute('aria-selected', String(it === name));
             $(`tab-${it}`).tabIndex = it === name ? 0 : -1;
@@ -71,12 +74,20 @@ export class Tabs {
     }
 }
 
+// What this browser can't do isn't shown: what waits for a key, where no call of the program can. The keys are then in the tape reader.
+function hideUnable() {
+    for (const it of /** @type {NodeListOf<HTMLElement>} */ (document.querySelectorAll('[data-live]'))) it.hidden = true;
+    $('reading').open = true;
+}
+
 async function begin() {
     if (!hasWideMemory) {
+        document.body.classList.add('bare');
         trouble('This browser has no WebAssembly memory of 64 bits, which the program needs. Chromium, Chrome and Edge from version 133 '
             + 'and Firefox from version 134 have it.');
         return;
     }
+    if (!canLive) hideUnable();
     const claims = new Claims(), store = await Store.open(claims);
     const programs = new Programs(await load('pdp8.wasm'), store);
     const page = /** @type {Page} */ ({ store, claims, programs, undo: new Undo(store), sound: new Sound(store), tell: trouble });
@@ -96,6 +107,7 @@ async function begin() {
         $('kept').append(' Without promises in WebAssembly calls (JSPI) or an isolated page, the Machine, and programs that wait for a key, '
             + 'can\'t run here; whole scripts can.');
     document.body.append(made('span', { id: 'ready', hidden: true }));
+    performance.mark('ready');
     globalThis.geivottu = page;
     await page.shelf.follow();
 }

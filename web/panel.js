@@ -1,6 +1,6 @@
 // The front panel as a picture that works: lamps that show what `REGISTERS` told, switches, and keys that give lines. While the machine goes a
-// lamp glows by the share of the time that it is lit.
-import { made } from './dom.js';
+// lamp glows by the share of the time that it is lit. The lamps stand alone too, where a step of a trace is shown.
+import { made, rove } from './dom.js';
 import { helpAt } from './help.js';
 
 /** @type {[string, string, number][]} */
@@ -11,12 +11,13 @@ const ROWS = [
 const SMALL = [['l', 'Link', 1], ['if', 'Inst field', 3], ['df', 'Data field', 3], ['run', 'Run', 1], ['ion', 'Ion', 1]];
 /** @type {[Exclude<keyof Doings, 'switches'>, string, string][]} */
 const KEYS = [
-    ['start', 'Start', 'starts at the address, with AC and L clear'], ['load', 'Load add', 'takes the address from the switches'],
+    ['start', 'Start', 'starts at the address, with AC and L clear'], ['load', 'Load add', 'takes the address from the switches, into PC'],
     ['deposit', 'Dep', 'deposits the switches at the address'], ['examine', 'Exam', 'shows the word at the address'],
-    ['go', 'Cont', 'goes on'], ['stop', 'Stop', 'stops'], ['step', 'Sing step', 'makes one step'],
+    ['go', 'Cont', 'goes on, or from the address that was loaded'], ['stop', 'Stop', 'stops'], ['step', 'Sing step', 'makes one step, from the address where one was loaded'],
 ];
 
-export class Panel {
+// Rows of lamps, by their names, each with its word in octal beside it.
+export class Lamps {
     /** @type {Record<string, Element[]>} */
     #lamps = {};
     /** @type {Record<string, number | null>} */
@@ -27,6 +28,81 @@ export class Panel {
     #seen = 0;
     /** @type {Record<string, Element>} */
     #words = {};
+
+    // `mark` is the attribute that has each row's name.
+    /** @param {Element} element @param {[string, string, number][]} rows @param {string} [mark] */
+    constructor(element, rows, mark = 'data-row') {
+        for (const row of rows) element.append(this.#row(row, mark));
+        const small = made('div', { class: 'small' });
+        for (const row of SMALL) small.append(this.#row(row, mark));
+        element.append(small);
+    }
+
+    /** @param {[string, string, number]} it @param {string} mark */
+    #row([name, text, bits], mark) {
+        const lamps = Array.from({ length: bits }, () => made('span', { class: 'lamp' }));
+        this.#lamps[name] = lamps;
+        this.#lit[name] = lamps.map(() => 0);
+        const word = this.#words[name] = made('span', { class: 'word' });
+        const row = made('div', { class: 'bits' }, ...threes(lamps));
+        return made('div', { class: 'lamps', role: 'img', [mark]: name, 'aria-label': text }, made('span', { class: 'name' }, text), row, word);
+    }
+
+    // Sees registers that the machine had for so many steps, of which the next picture shows how long each lamp was lit.
+    /** @param {Registers} registers @param {number} steps */
+    see(registers, steps) {
+        this.#seen += steps;
+        for (const [name, word] of Object.entries(wordsOf(registers))) {
+            const lit = this.#lit[name];
+            for (let bit = lit.length - 1, rest = word; rest; bit--, rest >>= 1) if (rest & 1) lit[bit] += steps;
+        }
+    }
+
+    // Lets each lamp glow by its share of the time, while the machine goes.
+    #glow() {
+        for (const [name, lit] of Object.entries(this.#lit)) {
+            if (name === 'run' || name === 'ma' || name === 'mb') continue;
+            this.#lamps[name].forEach((lamp, bit) => /** @type {HTMLElement} */ (lamp).style.setProperty('--glow', (lit[bit] / this.#seen).toFixed(2)));
+            lit.fill(0);
+        }
+        this.#seen = 0;
+    }
+
+    // All lamps are lit as they are, or dark.
+    #settle() {
+        for (const lamps of Object.values(this.#lamps)) for (const lamp of lamps) /** @type {HTMLElement} */ (lamp).style.removeProperty('--glow');
+        for (const lit of Object.values(this.#lit)) lit.fill(0);
+        this.#seen = 0;
+    }
+
+    // Shows the registers, and the address and the word that were last examined; where these are not known, their lamps are dark.
+    /** @param {Registers | null} registers @param {number | null} address @param {number | null} word @param {boolean} [isGoing] */
+    show(registers, address, word, isGoing = false) {
+        if (!registers) return;
+        for (const [name, word] of Object.entries(wordsOf(registers))) this.#light(name, word, name === 'ion' ? '' : undefined);
+        this.#light('run', Number(isGoing), '');
+        if (isGoing && this.#seen) this.#glow();
+        else if (!isGoing) this.#settle();
+        this.#light('ma', address === null ? null : address & 0o7777);
+        this.#light('mb', word);
+    }
+
+    /** @param {string} name @param {number | null} word @param {string} [shown] */
+    #light(name, word, shown) {
+        const lamps = this.#lamps[name], bits = lamps?.length;
+        if (!lamps) return;
+        const text = shown ?? (word === null ? '' : word.toString(8).padStart(Math.ceil(bits / 3), '0'));
+        if (this.#shown[name] === word) return;
+        this.#shown[name] = word;
+        lamps.forEach((it, bit) => it.classList.toggle('on', word !== null && (word >> (bits - 1 - bit) & 1) === 1));
+        this.#words[name].textContent = text;
+        const row = /** @type {Element} */ (this.#words[name].parentNode);
+        row.querySelector('.bits')?.classList.toggle('dark', word === null);
+        row.setAttribute('aria-label', `${row.querySelector('.name')?.textContent} ${word === null ? 'not known' : bits === 1 ? (word ? 'on' : 'off') : text}`);
+    }
+}
+
+export class Panel extends Lamps {
     /** @type {Record<string, HTMLButtonElement>} */
     #keys = {};
     /** @type {Element[]} */
@@ -42,12 +118,10 @@ export class Panel {
     // `does` has what each key does, and `switches` what a change of the switches does.
     /** @param {Element} element @param {Doings} does */
     constructor(element, does) {
-        this.does = does;
         element.append(made('div', { class: 'brand' }, made('span', {}, 'programmed data processor'), made('span', {}, '8/I')));
-        for (const row of ROWS) element.append(this.#row(row));
-        const small = made('div', { class: 'small' });
-        for (const row of SMALL) small.append(this.#row(row));
-        element.append(small, this.#switches());
+        super(element, ROWS);
+        this.does = does;
+        element.append(this.#switches());
         const keys = made('div', { class: 'keys' });
         for (const [what, text, title] of KEYS) {
             this.#keys[what] = made('button', { title: `${text} ${title}`, id: `key-${what}`, onclick: () => does[what]() }, text);
@@ -57,17 +131,8 @@ export class Panel {
         keys.append(this.addressShown);
         const help = made('p', { class: 'help', id: 'panel-help' });
         element.append(keys, help);
+        for (const it of [keys, .../** @type {NodeListOf<HTMLElement>} */ (element.querySelectorAll('.switches .bits'))]) rove(it);
         helpAt(keys, help, it => it.closest('button')?.title ?? '');
-    }
-
-    /** @param {[string, string, number]} it */
-    #row([name, text, bits]) {
-        const lamps = Array.from({ length: bits }, () => made('span', { class: 'lamp' }));
-        this.#lamps[name] = lamps;
-        this.#lit[name] = lamps.map(() => 0);
-        const word = this.#words[name] = made('span', { class: 'word' });
-        const row = made('div', { class: 'bits' }, ...threes(lamps));
-        return made('div', { class: 'lamps', role: 'img', 'data-row': name, 'aria-label': text }, made('span', { class: 'name' }, text), row, word);
     }
 
     #switches() {
@@ -140,65 +205,10 @@ export class Panel {
         this.addressShown.textContent = `address ${cell.toString(8).padStart(5, '0')}`;
     }
 
-    /** @param {boolean} isAble */
-    enable(isAble) { for (const it of Object.values(this.#keys)) it.disabled = !isAble; }
-
     /** @param {boolean} isGoing */
     runs(isGoing) {
         this.#keys.stop.disabled = !isGoing;
         for (const name of ['go', 'step', 'load', 'deposit', 'examine']) this.#keys[name].disabled = isGoing;
-    }
-
-    // Sees registers that the machine had for so many steps, of which the next picture shows how long each lamp was lit.
-    /** @param {Registers} registers @param {number} steps */
-    see(registers, steps) {
-        this.#seen += steps;
-        for (const [name, word] of Object.entries(wordsOf(registers))) {
-            const lit = this.#lit[name];
-            for (let bit = lit.length - 1, rest = word; rest; bit--, rest >>= 1) if (rest & 1) lit[bit] += steps;
-        }
-    }
-
-    // Lets each lamp glow by its share of the time, while the machine goes.
-    #glow() {
-        for (const [name, lit] of Object.entries(this.#lit)) {
-            if (name === 'run' || name === 'ma' || name === 'mb') continue;
-            this.#lamps[name].forEach((lamp, bit) => /** @type {HTMLElement} */ (lamp).style.setProperty('--glow', (lit[bit] / this.#seen).toFixed(2)));
-            lit.fill(0);
-        }
-        this.#seen = 0;
-    }
-
-    // All lamps are lit as they are, or dark.
-    #settle() {
-        for (const lamps of Object.values(this.#lamps)) for (const lamp of lamps) /** @type {HTMLElement} */ (lamp).style.removeProperty('--glow');
-        for (const lit of Object.values(this.#lit)) lit.fill(0);
-        this.#seen = 0;
-    }
-
-    // Shows the registers, and the address and the word that were last examined; where these are not known, their lamps are dark.
-    /** @param {Registers | null} registers @param {number | null} address @param {number | null} word @param {boolean} [isGoing] */
-    show(registers, address, word, isGoing = false) {
-        if (!registers) return;
-        for (const [name, word] of Object.entries(wordsOf(registers))) this.#light(name, word, name === 'ion' ? '' : undefined);
-        this.#light('run', Number(isGoing), '');
-        if (isGoing && this.#seen) this.#glow();
-        else if (!isGoing) this.#settle();
-        this.#light('ma', address === null ? null : address & 0o7777);
-        this.#light('mb', word);
-    }
-
-    /** @param {string} name @param {number | null} word @param {string} [shown] */
-    #light(name, word, shown) {
-        const lamps = this.#lamps[name], bits = lamps.length;
-        const text = shown ?? (word === null ? '' : word.toString(8).padStart(Math.ceil(bits / 3), '0'));
-        if (this.#shown[name] === word) return;
-        this.#shown[name] = word;
-        lamps.forEach((it, bit) => it.classList.toggle('on', word !== null && (word >> (bits - 1 - bit) & 1) === 1));
-        this.#words[name].textContent = text;
-        const row = /** @type {Element} */ (this.#words[name].parentNode);
-        row.querySelector('.bits')?.classList.toggle('dark', word === null);
-        row.setAttribute('aria-label', `${row.querySelector('.name')?.textContent} ${word === null ? 'not known' : bits === 1 ? (word ? 'on' : 'off') : text}`);
     }
 }
 

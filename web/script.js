@@ -20,7 +20,6 @@ export class Script {
         $('script-stop').addEventListener('click', () => this.run?.stop());
         $('session').addEventListener('click', () => this.#session());
         $('entry').addEventListener('submit', event => this.#enter(event));
-        $('session').disabled = !canLive;
     }
 
     #words() {

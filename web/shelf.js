@@ -10,9 +10,7 @@ export class Shelf {
     constructor(page) {
         this.page = page;
         for (const it of $('shelf').querySelectorAll('button')) {
-            const name = it.dataset.run ?? '';
-            it.addEventListener('click', () => this.run(name));
-            it.disabled = !canLive && (name === 'sort' || name === 'lights');
+            it.addEventListener('click', () => this.run(it.dataset.run ?? ''));
         }
         $('link').addEventListener('click', () => this.#copyLink());
         addEventListener('hashchange', () => this.follow());
@@ -32,7 +30,7 @@ export class Shelf {
     /** @param {string} name */
     async run(name) {
         if (name === 'disk') return this.#disk();
-        if (!TEXTS.includes(name)) return;
+        if (!TEXTS.includes(name) || (!canLive && (name === 'sort' || name === 'lights'))) return;
         const { source, teletype, tabs } = this.page;
         if (!await source.takeExample(`${name}.pa`) || !await source.assemble()) return;
         if (name === 'sort' || name === 'lights') return this.#atPanel(name);

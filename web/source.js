@@ -1,10 +1,10 @@
 // The Source pane: `assemble` over the text, its faults at their lines, its listing and symbols, and where the tape goes.
-import { $, bytesOfFile, ids, made, takeHome, tell } from './dom.js';
+import { $, bytesOfFile, ids, made, rove, takeHome, tell } from './dom.js';
 import { bytesOf, textOf } from './program.js';
 import { Texts } from './texts.js';
 import { Listing } from './listing.js';
 
-const SOURCE = 'source.pa', TAPE = '.source.bin', LISTING = '.source.lst';
+const TAPE = '.source.bin', LISTING = '.source.lst';
 // How long no key is struck before the text is looked at for faults, in milliseconds.
 const QUIET = 400;
 
@@ -14,7 +14,7 @@ export class Source {
         this.page = page;
         /** @type {Map<number, string>} */
         this.faulty = new Map();
-        this.numbered = 0;
+        this.numbered = this.here = 0;
         this.looking = 0;
         this.follows = false;
         this.assembled = '';
@@ -24,8 +24,11 @@ export class Source {
         this.listing = new Listing(page, this);
         this.texts.addEventListener('open', ({ detail }) => this.#opens(detail));
         $('source-name').value = this.texts.name;
+        $('further').value = this.#furtherOf(this.texts.name);
         $('text').value = page.store.notes.get('text') ?? '';
         this.#restore();
+        for (const id of ids('source-keys', 'text-keys')) rove($(id));
+        for (const id of ids('further', 'source-name')) $(id).addEventListener('change', () => this.#goesOn());
         $('text').addEventListener('input', () => this.#edited());
         $('text').addEventListener('scroll', () => { $('gutter').scrollTop = $('text').scrollTop; });
         $('text').addEventListener('keydown', event => this.#key(event));
@@ -53,7 +56,7 @@ export class Source {
     // Another tab has left the text to this one: it is kept, as this tab has it.
     #claimed() {
         const { store } = this.page;
-        const own = [...store.notes.keys()].filter(it => it === 'text' || it === 'source-name' || it.startsWith('text '));
+        const own = [...store.notes.keys()].filter(it => it === 'text' || it === 'source-name' || /^(text|further) /.test(it));
         if (this.follows) for (const it of own) store.note(it, store.notes.get(it));
         this.#tellClaim();
     }
@@ -61,7 +64,7 @@ export class Source {
     // Says whether another tab has the text, and closes what changes it.
     #tellClaim() {
         this.follows = !this.page.claims.has('text');
-        $('text').readOnly = $('source-name').readOnly = this.follows;
+        $('text').readOnly = $('source-name').readOnly = $('further').readOnly = this.follows;
         for (const id of ids('source-file', 'example', 'texts', 'text-new', 'text-drop')) $(id).disabled = this.follows;
         $('text-follows').textContent = this.follows ? 'Another tab has the text. Here it is only looked at, and follows that tab. It can be '
             + 'changed here once that tab is closed.' : '';
@@ -73,6 +76,7 @@ export class Source {
     #followed(note) {
         const value = this.page.store.notes.get(note) ?? '';
         if (note === 'source-name') this.texts.follow();
+        $('further').value = this.#furtherOf(this.texts.name);
         if (note !== 'text' || value === $('text').value) return;
         $('text').value = value;
         this.#changed();
@@ -83,8 +87,51 @@ export class Source {
 
     get tape() { return this.page.store.files.get(TAPE) ?? null; }
 
+    // The texts that are assembled as one: the open one, and those in which it goes on.
+    get parts() {
+        const { notes } = this.page.store, names = $('further').value.toUpperCase().match(/[A-Z0-9]+/g) ?? [];
+        return [{ name: this.#name, text: $('text').value }, ...names.map(name => ({ name, text: /** @type {string | undefined} */ (notes.get(`text ${name}`)) }))];
+    }
+
+    // All that the tape is assembled of.
+    get #whole() { return this.parts.map(it => it.text).join('\f'); }
+
     // Whether the text has changed since the tape was assembled of it.
-    get isOld() { return this.tape !== null && this.assembled !== $('text').value; }
+    get isOld() { return this.tape !== null && this.assembled !== this.#whole; }
+
+    /** @param {string} name @returns {string} */
+    #furtherOf(name) { return this.page.store.notes.get(`further ${name}`) ?? ''; }
+
+    // The open text goes on in others, by their names; that is kept with it.
+    #goesOn() {
+        const { store } = this.page, key = `further ${this.texts.name}`, names = $('further').value;
+        if (names !== '' || store.notes.has(key)) store.note(key, names);
+        this.#changed();
+    }
+
+    // Lays the texts as files for the program. Their names, null where one of the texts isn't there.
+    /** @param {string} name */
+    #laid(name) {
+        const { parts } = this, missing = parts.find(it => it.text === undefined);
+        if (missing) return tell('source-status', `There is no text ${missing.name} that waits: the open one goes on in texts of the list.`, true);
+        return parts.map(({ text }, k) => {
+            const path = k ? `.${name}-${k + 1}.pa` : `.${name}.pa`;
+            this.page.store.put(path, new TextEncoder().encode(text));
+            return path;
+        });
+    }
+
+    // The text, and the line of it, that a line of the whole listing shows.
+    /** @param {number} number */
+    placeOf(number) {
+        let line = number;
+        for (const { name, text = '' } of this.parts) {
+            const count = text.split('\n').length - Number(text.endsWith('\n'));
+            if (line <= count) return { name, line, isOpen: line === number };
+            line -= count;
+        }
+        return { name: this.#name, line: number, isOpen: true };
+    }
 
     // Assembles an old tape anew. Whether there is a tape of the text as it stands.
     async renew() { return this.isOld ? await this.assemble() : this.tape !== null; }
@@ -93,6 +140,7 @@ export class Source {
     /** @param {string} text */
     #opens(text) {
         $('text').value = text;
+        $('further').value = this.#furtherOf(this.texts.name);
         $('text').scrollTop = 0;
         tell('source-status', '');
         this.#changed();
@@ -117,15 +165,17 @@ export class Source {
 
     // Marks the faults of a text at which no one types for a while. The tape stays as it is.
     async #look() {
-        const { store, programs } = this.page, text = $('text').value;
-        if (this.follows || text.trim() === '' || text === this.assembled || programs.isAsked) return;
-        store.put('.look.pa', new TextEncoder().encode(text));
-        const { status, said } = await programs.ask(['assemble', '.look.pa', '--output', '.look.bin']);
-        for (const it of ['.look.pa', '.look.bin']) store.remove(it);
-        if (text === $('text').value && text !== this.assembled) this.#tellFaults(status === 0 ? '' : said, false);
+        const { store, programs } = this.page, whole = this.#whole;
+        if (this.follows || $('text').value.trim() === '' || whole === this.assembled || programs.isAsked) return;
+        const paths = this.#laid('look');
+        if (!paths) return;
+        const { status, said } = await programs.ask(['assemble', ...paths, '--output', '.look.bin']);
+        for (const it of [...paths, '.look.bin']) store.remove(it);
+        if (whole === this.#whole && whole !== this.assembled) this.#tellFaults(status === 0 ? '' : said, false);
     }
 
     #changed() {
+        this.here = 0;
         if (this.faulty.size) {
             this.faulty.clear();
             $('faults').replaceChildren();
@@ -170,10 +220,10 @@ export class Source {
     // The numbers of the lines, with a mark at those that have a fault.
     #number() {
         const count = $('text').value.split('\n').length;
-        if (this.numbered === count && !this.faulty.size && !$('gutter').querySelector('.bad')) return;
+        if (this.numbered === count && !this.here && !this.faulty.size && !$('gutter').querySelector('.bad, .at')) return;
         this.numbered = count;
         $('gutter').replaceChildren(...Array.from({ length: count }, (_, k) => this.faulty.has(k + 1)
-            ? made('span', { class: 'bad' }, `${this.faulty.get(k + 1)} ${k + 1}\n`) : `${k + 1}\n`), '\n\n\n');
+            ? made('span', { class: 'bad' }, `${this.faulty.get(k + 1)} ${k + 1}\n`) : k + 1 === this.here ? made('span', { class: 'at' }, `${k + 1}\n`) : `${k + 1}\n`), '\n\n\n');
         $('gutter').scrollTop = $('text').scrollTop;
     }
 
@@ -183,12 +233,13 @@ export class Source {
     }
 
     async assemble() {
-        const { store, programs } = this.page, text = $('text').value;
+        const { store, programs } = this.page, text = this.#whole;
         for (const it of [TAPE, LISTING]) store.files.delete(it);
         tell('source-status', '');
         this.#buttons();
-        store.put(`.${SOURCE}`, new TextEncoder().encode(text));
-        const { status, said } = await programs.ask(['assemble', `.${SOURCE}`, '--output', TAPE, '--list', LISTING, '--cross']);
+        const paths = this.#laid('source');
+        if (!paths) return false;
+        const { status, said } = await programs.ask(['assemble', ...paths, '--output', TAPE, '--list', LISTING, '--cross']);
         this.assembled = text;
         this.#show(store.files.get(LISTING));
         store.note('tape', status === 0 ? { text, tape: this.tape, listing: store.files.get(LISTING) } : null);
@@ -204,7 +255,7 @@ export class Source {
     /** @param {Uint8Array | null | undefined} listing */
     #show(listing) {
         const text = listing ? textOf(listing).replaceAll('\r', '') : '';
-        const split = /\n\n((?:[A-Z][A-Z0-9]* +[0-7]{4}[ \d]*\n)+)$/.exec(text);
+        const split = /\n\n((?:[A-Z][A-Z0-9]* +[0-7]{4}[ \d:]*\n)+)$/.exec(text);
         this.listing.show(split ? text.slice(0, split.index) : text);
         $('symbols').textContent = split ? split[1] : '';
     }
@@ -213,25 +264,37 @@ export class Source {
     /** @param {string} said @param {boolean} [takesCursor] */
     #tellFaults(said, takesCursor = true) {
         this.faulty.clear();
-        const found = [...said.matchAll(/^\S+?:(\d+):(\d+): ([A-Z]{2}): (.*)$/gm)];
-        for (const [, line, , code] of found) this.faulty.set(Number(line), code);
-        $('faults').replaceChildren(...found.map(([, line, column, code, words]) =>
-            made('li', {}, made('button', { onclick: () => this.#go(Number(line), Number(column)) }, `line ${line}, column ${column}: ${code}: ${words}`))));
+        const found = [...said.matchAll(/^\S+?(-\d)?\.pa:(\d+):(\d+): ([A-Z]{2}): (.*)$/gm)].map(([, part, line, column, code, words]) =>
+            ({ name: part ? this.parts[Number(part.slice(1)) - 1]?.name ?? null : null, line: Number(line), column: Number(column), code, words }));
+        for (const { line, code } of found.filter(it => it.name === null)) this.faulty.set(line, code);
+        $('faults').replaceChildren(...found.map(({ name, line, column, code, words }) =>
+            made('li', {}, made('button', { onclick: () => this.#open(name, line, column) }, `${name ? `${name}, ` : ''}line ${line}, column ${column}: ${code}: ${words}`))));
         this.#number();
-        if (takesCursor && found.length) this.#go(Number(found[0][1]), Number(found[0][2]), false);
+        if (takesCursor && found.length && found[0].name === null) this.#go(found[0].line, found[0].column, false);
     }
 
-    // Puts the cursor at a line of the text.
-    /** @param {number} line @param {boolean} [takesFocus] */
-    goTo(line, takesFocus = true) { this.#go(line, 1, takesFocus); }
+    // Goes to a place of the open text, or of another one, which is opened.
+    /** @param {string | null} name @param {number} line @param {number} column */
+    #open(name, line, column) {
+        if (name !== null) this.texts.open(name);
+        this.#go(line, column);
+    }
+
+    // Chooses what stands at a place of the text: so many characters, or the rest of the line.
+    /** @param {number} line @param {boolean} [takesFocus] @param {number} [column] @param {number} [length] */
+    goTo(line, takesFocus = true, column = 1, length = 0) {
+        this.here = line;
+        this.#number();
+        this.#go(line, column, takesFocus, length);
+    }
 
     // Puts the cursor at a place of the text.
-    /** @param {number} line @param {number} column @param {boolean} [takesFocus] */
-    #go(line, column, takesFocus = true) {
+    /** @param {number} line @param {number} column @param {boolean} [takesFocus] @param {number} [length] */
+    #go(line, column, takesFocus = true, length = 0) {
         const lines = $('text').value.split('\n');
         const at = lines.slice(0, line - 1).reduce((sum, it) => sum + it.length + 1, 0) + column - 1;
         if (takesFocus) $('text').focus();
-        $('text').setSelectionRange(at, at + Math.max(1, lines[line - 1].length - column + 1));
+        $('text').setSelectionRange(at, at + (length || Math.max(1, (lines[line - 1] ?? '').length - column + 1)));
         $('text').scrollTop = Math.max(0, (line - 5) * parseFloat(getComputedStyle($('text')).lineHeight));
     }
 
@@ -262,7 +325,8 @@ export class Source {
             $('source-name').focus();
             return tell('source-status', 'The text has no name yet: give it one, and its files will have that.', true);
         }
-        for (const { name, bytes, form } of [{ name: `${this.#name}.PA`, bytes: bytesOf(this.assembled), form: 'text' }, { name: `${this.#name}.BN`, bytes: this.tape, form: 'frames' }]) {
+        const texts = this.parts.map(({ name, text = '' }) => ({ name: `${name}.PA`, bytes: bytesOf(text), form: 'text' }));
+        for (const { name, bytes, form } of [...texts, { name: `${this.#name}.BN`, bytes: this.tape, form: 'frames' }]) {
             const { status, out, said } = await files.put(name, bytes, form);
             told.push(textOf(out) + said);
             isBad ||= status !== 0;

@@ -2,6 +2,7 @@
 import { $, bytesOfFile, ids, keepInput, made, tell } from './dom.js';
 import { canLive, textOf } from './program.js';
 import { Paper, keyOf } from './paper.js';
+import { isCore, placeOf, tapeIn, tapeOf } from './tapes.js';
 
 export class Teletype {
     /** @param {Page} page */
@@ -57,26 +58,38 @@ export class Teletype {
     async #opened(input) {
         const [file] = input.files ?? [];
         input.value = '';
-        if (file) this.take(file.name, await bytesOfFile(file));
+        if (file) await this.take(file.name, await bytesOfFile(file));
     }
 
     // Takes a tape of the host.
     /** @param {string} name @param {Uint8Array} tape */
-    take(name, tape) {
-        this.page.store.put('.tape.bin', tape);
+    async take(name, tape) {
+        const { status, out } = await tapeOf(this.page, tape);
+        this.page.store.put('.tape.bin', status === 0 ? out : tape);
         this.own = name;
         this.choose('own');
         this.page.tabs.show('teletype');
     }
 
-    #words() {
+    /** @param {string[] | null} [instead] */
+    #words(instead = null) {
         const tape = $('tape').value, words = ['teletype', '--live'];
-        if (tape === 'source') words.push('.source.bin');
+        if (instead) words.push(...instead);
+        else if (tape === 'source') words.push('.source.bin');
         else if (tape === 'own') words.push('.tape.bin');
         else words.push(this.page.files.name, tape.slice(5));
         if ($('tty-start').value.trim()) words.push('--start', $('tty-start').value.trim());
         if ($('tty-switches').value.trim()) words.push('--switches', $('tty-switches').value.trim());
         return words;
+    }
+
+    // Makes a tape of a file of the volume that is a RIM tape, which the Teletype's program doesn't take by itself.
+    async #madeOfRim() {
+        const { files, programs, store } = this.page, entry = files.entries.find(it => `file ${it.name}` === $('tape').value);
+        if (!entry || isCore(entry) || (await programs.ask(['get', files.name, ...placeOf(entry), '--tape'])).status === 0) return false;
+        const { status, out } = await tapeIn(this.page, files.name, entry);
+        if (status === 0) store.put('.rim.bin', out);
+        return status === 0;
     }
 
     async begin() {
@@ -86,7 +99,7 @@ export class Teletype {
         this.#buttons();
         if ($('tape').value === 'source' && !await this.page.source.renew())
             return this.#ended(1, `The source has no tape: ${$('source-status').textContent}`);
-        const words = this.#words();
+        const words = await this.#madeOfRim() ? this.#words(['.rim.bin']) : this.#words();
         if (!canLive) words.splice(1, 1);
         let said = '';
         /** @type {How} */

@@ -20,6 +20,9 @@ export class Undo extends EventTarget {
         store.addEventListener('change', ({ detail }) => this.#changed(detail));
     }
 
+    // How many changes can be undone.
+    get count() { return this.#past.length; }
+
     // What would be undone next, and what would be done again, in words; null for none.
     get next() { return this.step(false)?.words ?? null; }
 
@@ -103,14 +106,24 @@ function stepOf(slot, key, before, after, words) {
     const was = before === undefined ? null : bytesOf(before), is = after === undefined ? null : bytesOf(after);
     const isText = typeof (before ?? after) === 'string', step = { slot, key, words, isText };
     if (!was || !is) return was || is ? { ...step, was, is, size: (was ?? is)?.length ?? 0 } : null;
-    const parts = [], most = Math.max(was.length, is.length);
-    for (let at = 0; at < most; at += BLOCK) {
-        const old = was.subarray(at, at + BLOCK), fresh = is.subarray(at, at + BLOCK);
-        if (!isSame(old, fresh)) parts.push({ at, old: old.slice(), fresh: fresh.slice() });
-    }
+    const parts = stretchesOf(was, is).map(({ at, end }) => ({ at, old: was.slice(at, end), fresh: is.slice(at, end) }));
     if (!parts.length) return null;
     const size = parts.reduce((sum, it) => sum + it.old.length + it.fresh.length, 0);
     return { ...step, parts, lengths: [was.length, is.length], size };
+}
+
+// The stretches of blocks in which two values differ, each as long as it can be, so that few parts are kept.
+/** @param {Uint8Array} was @param {Uint8Array} is */
+function stretchesOf(was, is) {
+    /** @type {{ at: number, end: number }[]} */
+    const all = [], most = Math.max(was.length, is.length);
+    for (let at = 0; at < most; at += BLOCK) {
+        if (isSame(was.subarray(at, at + BLOCK), is.subarray(at, at + BLOCK))) continue;
+        const last = all.at(-1);
+        if (last?.end === at) last.end += BLOCK;
+        else all.push({ at, end: at + BLOCK });
+    }
+    return all;
 }
 
 // A value with a step undone, or done again: undefined for none. Null where it isn't what the step left.

@@ -6,7 +6,8 @@ import { tmpdir } from 'node:os';
 import { extname, join, normalize } from 'node:path';
 
 /** @type {Record<string, string>} */
-const TYPES = { '.html': 'text/html', '.css': 'text/css', '.js': 'text/javascript', '.wasm': 'application/wasm' };
+const TYPES = { '.html': 'text/html', '.css': 'text/css', '.js': 'text/javascript', '.wasm': 'application/wasm', '.svg': 'image/svg+xml',
+    '.webmanifest': 'application/manifest+json' };
 // How long a test waits for what must come, in milliseconds.
 const PATIENCE = Number(process.env.PATIENCE ?? 60000);
 /** @param {number} milliseconds */

@@ -1,9 +1,10 @@
 #!/usr/bin/env bash
-# run [--quick] [--pictures]: makes the page and tests it: each pane in headless Chromium against the native program, and every session, but
-# for those of beyond.txt, and a thousand random scripts of the plain model with its module in node. Then five faults are planted in the page, and
-# a test must notice each. The last line is 'N passed, M failed'.
+# check_page.sh [--quick] [--pictures]: makes the page and tests it: each pane in headless Chromium, and in Firefox where there is one, against the native
+# program, and every session, but for those of beyond.txt, and a thousand random scripts of the plain model with its module in node. Then five
+# faults are planted in the page, and a test must notice each. The last line is 'N passed, M failed'.
 # --quick takes the page and the program that are built with checks, in place of the proved ones, the sessions of the documents alone, a
-# hundred scripts, and of the browser's tests those of panes.mjs, losses.mjs and waits.mjs. Where there is no Chromium or no node the tests of the page are skipped, which fails where CI is set.
+# hundred scripts, and of the browser's tests those of panes.mjs, losses.mjs and waits.mjs. Where there is no Chromium or no node the tests of the
+# page are skipped, which fails where CI is set.
 set -u
 top=$(dirname "$(dirname "$(dirname "$(readlink -f "${BASH_SOURCE[0]}")")")")
 cd "$top" || exit 2
@@ -15,7 +16,7 @@ for word; do
 done
 pictures=
 [[ " $* " == *" --pictures "* ]] && pictures=--pictures
-which=--proved program=crates/pdp8/out/pdp8 texts=() scripts=1000 browsed='losses undone shelf whole panel'
+which=--proved program=crates/pdp8/out/pdp8 texts=() scripts=1000 browsed='losses undone shelf whole panel disks figures'
 if [[ " $* " == *" --quick "* ]]; then
     which=--unproved program=target/unproved/pdp8/pdp8 texts=(README.md docs/*.md) scripts=100 browsed=losses
 fi
@@ -70,9 +71,10 @@ if ((size < 3000)); then passed=$((passed + 1)); else failed=$((failed + 1)); ec
 served() { node --experimental-wasm-memory64 --no-warnings tests/page/server.mjs "$folder/pdp8.wasm" "$@"; }
 begin served tests/page/run_sessions.py ${texts+"${texts[@]}"}
 begin served tests/model/compare_scripts.py --program "$client" --scripts $scripts
+[ "$which" = --unproved ] || begin node tests/page/firefox.mjs "$program" "$folder"
 browse tests/page/panes.mjs "$program" "$folder" $pictures
 for part in $browsed; do browse "tests/page/$part.mjs" "$program" "$folder"; done
-browse tests/page/waits.mjs "$folder"
+browse tests/page/waits.mjs "$program" "$folder"
 [ "$which" = --unproved ] || begin tests/page/try_faults.py --gate --program "$program"
 wait
 for number in "${!parts[@]}"; do count $((number + 1)); done

@@ -24,7 +24,7 @@ PARTS: list[tuple[str, list[str], list[str]]] = [
     ("es2022,webworker", [], [f"{WEB}/worker.js", f"{WEB}/worker.d.ts"]),
     ("es2022,webworker", [], [f"{WEB}/sw.js"]),
     ("es2022", [], [f"{HERE}/browser.mjs", f"{HERE}/tools.mjs", f"{HERE}/node.d.ts"]),
-    ("es2022", ["--noImplicitAny", "false"], [*(f"{HERE}/{it}.mjs" for it in "losses panel panes shelf speeds undone waits whole".split()), f"{HERE}/node.d.ts"]),
+    ("es2022", ["--noImplicitAny", "false"], [*(f"{HERE}/{it}.mjs" for it in "disks figures firefox losses panel panes shelf speeds undone waits whole".split()), f"{HERE}/node.d.ts"]),
 ]
 
 

@@ -11,7 +11,7 @@ declare var process: {
 declare var console: { log(...them: unknown[]): void };
 declare function setTimeout(body: (...them: any[]) => void, milliseconds?: number): number;
 declare function clearTimeout(timer: number | undefined): void;
-declare class URL { constructor(path: string, base?: string); pathname: string; origin: string }
+declare class URL { constructor(path: string, base?: string); pathname: string; origin: string; href: string }
 
 interface Pipe { write(text: string): void; setEncoding(form: string): Pipe; on(event: string, body: (part: string) => void): Pipe }
 interface Child { stdio: Pipe[]; once(event: string, body: (it: unknown) => void): void; kill(signal: string): void }
@@ -41,6 +41,10 @@ declare module 'node:http' {
     interface Response { writeHead(status: number, headers?: Record<string, string>): Response; end(it?: Uint8Array): void }
     export function createServer(answer: (request: Request, response: Response) => void): { listen(port: number, host: string, body: () => void): void; address(): { port: number }; close(): void };
 }
+declare module 'node:net' {
+    interface Socket { on(event: 'data', body: (part: Buffer) => void): Socket; write(text: string): void; destroy(): void }
+    export function connect(port: number, host: string): Socket;
+}
 declare module 'node:os' { export function tmpdir(): string; }
 declare module 'node:path' {
     export function dirname(path: string): string;
@@ -49,5 +53,5 @@ declare module 'node:path' {
     export function normalize(path: string): string;
     export function resolve(...parts: string[]): string;
 }
-declare module 'node:url' { export function fileURLToPath(url: string): string; }
+declare module 'node:url' { export function fileURLToPath(url: string): string; export function pathToFileURL(path: string): URL; }
 interface ImportMeta { url: string }

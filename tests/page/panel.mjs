@@ -1,6 +1,7 @@
 // panel.mjs PROGRAM FOLDER [PART..]: the panel and the paper as things: how lamps glow, what is printed over, what sounds, what helps, and that all
 // of it can be seen and hit. As losses.mjs otherwise.
-import { assemble, holds, isTold, pane, run, same } from './tools.mjs';
+import { writeFileSync } from 'node:fs';
+import { assemble, file, holds, isTold, native, pane, run, same } from './tools.mjs';
 
 // Prints AB, a return alone, C, a line feed and the bell.
 const PRINTS = '*200\nA,\tCLA\n\tTAD I P\n\tSNA\n\tHLT\n\tTLS\n\tTSF\n\tJMP .-1\n\tISZ P\n\tJMP A\nP,\t300\n*300\n301;302;215;303;212;304;215;212;207;0\n$\n';
@@ -50,7 +51,7 @@ const FAINT = `(() => { ${RATIO}
     const behind = it => { for (let at = it.parentElement; at; at = at.parentElement) { if (at.id === 'panel') return 'rgb(74, 51, 32)';
         const colour = getComputedStyle(at).backgroundColor; if (!isClear(colour)) return colour; } return 'rgb(255, 255, 255)'; };
     return [...document.querySelectorAll('button:not(:disabled), .button, input, select, textarea, pre')].filter(it => it.checkVisibility()
-        && !it.matches('.hidden, #code button, #text, #faults button, [role=tab], [type=checkbox]')).map(it => {
+        && !it.matches('.hidden, #code button, td:first-child button, th button, #text, #faults button, [role=tab], [type=checkbox]')).map(it => {
         const style = getComputedStyle(it), around = behind(it);
         return { it, most: Math.max(ratio(style.borderTopColor, around), isClear(style.backgroundColor) ? 1 : ratio(style.backgroundColor, around)) };
     }).filter(({ most }) => most < 3).map(({ it, most }) => (it.id || it.textContent) + ' ' + most.toFixed(1)).join('; ');
@@ -147,6 +148,66 @@ await run('panel', {
         await page.look('geivottu.store.settled()');
         await page.go(`${url}?again`);
         await page.until(`document.getElementById('watched').textContent.startsWith('COUNT')`);
+    },
+    'steps are counted since START': async (page, url) => {
+        await page.go(url);
+        await toCore(page, '*200\n\tCLA CLL\nA,\tISZ B\n\tJMP A\n\tHLT\nB,\t0\n$\n');
+        await page.choose('#speed', 'full');
+        writeFileSync(file('it.pa'), '*200\n\tCLA CLL\nA,\tISZ B\n\tJMP A\n\tHLT\nB,\t0\n$\n');
+        native(['assemble', 'it.pa', '--output', 'it.bin']);
+        const [, count] = native(['profile', 'it.bin']).toString().trim().split('\n').at(-1)?.split(' ') ?? [];
+        await page.click('#key-start');
+        await isTold(page, 'machine-status', 'HALT 00204');
+        await page.until(`document.getElementById('steps').textContent === '${count} steps since START'`);
+        await page.until(`geivottu.store.notes.get('steps') === ${count}`);
+        await page.look('geivottu.store.settled()');
+        await page.go(`${url}?again`);
+        same(`${count} steps since START`, await page.text('steps'), 'the count after a reload');
+        await page.fill('#switches-shown', '0200');
+        await page.key('Tab');
+        await page.click('#key-load');
+        for (const wanted of ['1 step since START', '2 steps since START']) {
+            await page.click('#key-step');
+            await page.until(`document.getElementById('steps').textContent === '${wanted}'`);
+        }
+        await page.click('#power');
+        await page.until(`document.getElementById('steps').textContent === ''`);
+    },
+    'LOAD ADD shows the address in PC, EXAM the next one, and CONT goes from there': async (page, url) => {
+        await page.go(url);
+        await toCore(page, '*200\n\tHLT\n*400\n\tCLA IAC\n\tHLT\n$\n');
+        const pc = () => page.look(`document.querySelector('[data-row=pc] .word').textContent`);
+        same('0200', await pc(), 'PC where a tape was laid');
+        await page.fill('#switches-shown', '0400');
+        await page.key('Tab');
+        await page.click('[aria-label="field switch 0"]');
+        await page.click('#key-load');
+        await page.until(`document.querySelector('[data-row=pc] .word').textContent === '0400'`);
+        same('1', await page.look(`document.querySelector('[data-row=if] .word').textContent`), 'IF');
+        await page.click('[aria-label="field switch 0"]');
+        await page.click('#key-load');
+        await page.until(`document.querySelector('[data-row=if] .word').textContent === '0'`);
+        await page.click('#key-examine');
+        await page.until(`document.querySelector('[data-row=mb] .word').textContent === '7201'`);
+        same('0401', await pc(), 'PC after EXAM');
+        await page.click('#key-load');
+        await page.click('#key-go');
+        await isTold(page, 'machine-status', 'HALT 00402');
+        await page.until(`document.querySelector('[data-row=pc] .word').textContent === '0402'`);
+        same('0001', await page.look(`document.querySelector('[data-row=ac] .word').textContent`), 'AC');
+    },
+    'the Teletype is beside the panel on a wide window, and below it on a narrow one': async (page, url) => {
+        await page.go(url);
+        await pane(page, 'machine');
+        const places = () => page.look(`Object.fromEntries(['panel', 'console'].map(it => [it, document.getElementById(it).getBoundingClientRect().toJSON()]))`);
+        for (const width of [1040, 1200, 1600]) {
+            await page.size(width, 900);
+            const { panel, console } = await places();
+            holds(console.left >= panel.right && console.top < panel.bottom && console.bottom <= panel.bottom + 2 && console.width > 250, `${width} wide: ${JSON.stringify({ panel, console })}`);
+        }
+        await page.size(900, 900);
+        const { panel, console } = await places();
+        holds(console.top >= panel.bottom && console.width > 500, `900 wide: ${JSON.stringify({ panel, console })}`);
     },
     'what is watched shows while the machine goes': async (page, url) => {
         await page.go(url);

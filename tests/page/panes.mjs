@@ -510,6 +510,7 @@ test('a browser without wide memories is told so in words', async (page, server)
     const { identifier } = await page.call('Page.addScriptToEvaluateOnNewDocument', { source: 'WebAssembly.validate = () => false;' });
     await page.go(`${server.url}?narrow`);
     await isTold(page, 'trouble', 'no WebAssembly memory of 64 bits');
+    same('', await page.look(`[...document.querySelectorAll('button, input, select, textarea, #kept')].filter(it => it.checkVisibility()).map(it => it.id).join(' ')`), 'what is shown');
     await page.call('Page.removeScriptToEvaluateOnNewDocument', { identifier });
 });
 

@@ -1,13 +1,16 @@
 // shelf.mjs PROGRAM FOLDER [PART]: what a visitor plays with at once: the shelf, links, what is dropped, and the keys of editor, panes and panel.
 // As losses.mjs otherwise.
 import { readFileSync, writeFileSync } from 'node:fs';
-import { dirname, join } from 'node:path';
-import { fileURLToPath } from 'node:url';
+import { dirname, join, resolve } from 'node:path';
+import { fileURLToPath, pathToFileURL } from 'node:url';
 import { file, holds, image, isTold, native, pane, run, same, setSource, volume } from './tools.mjs';
 
 const examples = join(dirname(dirname(dirname(fileURLToPath(import.meta.url)))), 'examples');
 const example = name => readFileSync(join(examples, name));
 const ONE = '*200\n\tCLA IAC\n\tHLT\n$\n';
+const BUSY = '*200\n\tCLA\nA,\tISZ B\n\tJMP A\n\tHLT\nB,\t7700\n$\n';
+// Waits for the printer by its flag, and so would take more steps with one that isn't quick.
+const ECHO = '*200\nA,\tKSF\n\tJMP A\n\tKRB\n\tTLS\n\tTSF\n\tJMP .-1\n\tJMP A\n$\n';
 const SORT = '*200\n\tCLA; TAD A\n\tHLT\nA,\t3\n$\n';
 const lit = (page, row) => page.look(`[...document.querySelectorAll('[data-row="${row}"] .lamp')].map(it => it.classList.contains('on') ? 1 : 0).join('')`);
 const press = (page, name) => page.click(`button[data-run="${name}"]`);
@@ -133,8 +136,11 @@ await run('shelf', {
         await page.click('#assemble');
         await isTold(page, 'source-status', 'assembled');
         const marked = () => page.look(`[...document.querySelectorAll('#listing .at')].map(it => it.dataset.cell).join()`);
-        await page.look(`(() => { const it = document.getElementById('text'); it.focus(); it.setSelectionRange(9, 9); it.dispatchEvent(new Event('keyup')); })()`);
+        await page.look(`(() => { const it = document.getElementById('text'); it.focus(); it.setSelectionRange(11, 11); it.dispatchEvent(new Event('keyup')); })()`);
         same('00200,00201', await marked(), 'the words of the second line');
+        same('00201', await page.look(`document.querySelector('#listing .own').dataset.cell`), 'the word of the statement');
+        await page.look(`document.querySelector('#listing [data-cell="00201"]').click()`);
+        same('TAD A', await page.look(`(() => { const it = document.getElementById('text'); return it.value.slice(it.selectionStart, it.selectionEnd); })()`), 'the statement that is chosen');
         await page.look(`document.querySelector('#listing [data-cell="00202"]').click()`);
         same('\tHLT', await page.look(`(() => { const it = document.getElementById('text'); return it.value.slice(it.selectionStart, it.selectionEnd); })()`), 'the line that is chosen');
     },
@@ -148,14 +154,47 @@ await run('shelf', {
         same(native(['trace', 'it.bin']).toString(), await page.text('doings'), 'the trace');
         await page.look(`document.querySelectorAll('#doings [data-step]')[1].click()`);
         same('00201', await page.look(`document.querySelector('#listing .at').dataset.cell`), 'the line of the step');
+        same('2', await page.look(`document.querySelector('#gutter .at').textContent.trim()`), 'the line of the text');
+        await page.until(`document.querySelector('[data-at-step="ac"] .word').textContent === '0003' && document.querySelector('[data-at-step="pc"] .word').textContent === '0202'`);
+        same('002011203', await page.text('step-cells'), 'the cell of the step');
+        same('TAD A', await page.look(`document.querySelectorAll('#doings [data-step]')[1].dataset.own`), 'the statement beside the step');
         await page.click('#to-step');
         await isTold(page, 'machine-status', 'after step 2');
         same('0003', await page.look(`geivottu.machine.registers.ac`), 'the accumulator');
+        same('2 steps since START', await page.text('steps'), 'the count');
         await pane(page, 'source');
         await page.click('#profile');
         await isTold(page, 'doings', 'NEVER 00203');
         same(native(['profile', 'it.bin']).toString(), await page.text('doings'), 'the profile');
         holds(await page.look(`!!document.querySelector('#listing [data-cell="00200"]').style.background`), 'the colour');
+        same('1', await page.look(`document.querySelector('#listing [data-cell="00200"]').dataset.count`), 'the count, which is no colour');
+        await page.fill('#text', BUSY);
+        await page.click('#profile');
+        await isTold(page, 'doings', '00201 64');
+        const share = cell => page.look(`Number(/(\\d+)%/.exec(document.querySelector('#listing [data-cell="${cell}"]').getAttribute('style'))[1])`);
+        same(100, await share('00201'), 'the colour of the dearest');
+        holds(await share('00200') < 50, 'the colour of the cheapest');
+    },
+    'each line of a trace shows the panel as it was there, with keys and a printer': async (page, url) => {
+        await page.go(url);
+        await setSource(page, ECHO);
+        await page.fill('#doing-keys', 'AB');
+        await page.click('#trace');
+        await isTold(page, 'doings', 'KEYS');
+        writeFileSync(file('it.pa'), ECHO);
+        native(['assemble', 'it.pa', '--output', 'it.bin']);
+        const lines = native(['trace', 'it.bin', '--keys', 'AB']).toString().trim().split('\n');
+        same(`${lines.join('\n')}\n`, await page.text('doings'), 'the trace');
+        for (const [k, line] of lines.slice(0, -1).entries()) {
+            await page.look(`document.querySelectorAll('#doings [data-step]')[${k}].click()`);
+            await page.until(`document.getElementById('step-told').textContent === 'after step ${k + 1}'`);
+            const word = row => page.look(`document.querySelector('[data-at-step="${row}"] .word').textContent`);
+            same(/AC (\d+)/.exec(line)?.[1], await word('ac'), `AC after step ${k + 1}`);
+            same((lines[k + 1].startsWith('STEPS') ? lines[k + 1].slice(-4) : lines[k + 1].slice(1, 5)), await word('pc'), `PC after step ${k + 1}`);
+        }
+        await page.click('#to-step');
+        await isTold(page, 'machine-status', `after step ${lines.length - 1}`);
+        await isTold(page, 'console', 'AB');
     },
     'switches are moved by typed octal, and by a drag': async (page, url) => {
         await page.go(url);
@@ -178,6 +217,29 @@ await run('shelf', {
         await page.click('#switch-register .switch');
         same(0o4007, await switches(), 'the switch that was clicked');
     },
+    'each pane has a link of its own': async (page, url) => {
+        await page.go(url);
+        for (const [k, name] of ['script', 'machine', 'teletype', 'source', 'files'].entries()) {
+            await page.go(`${url}?${k}#${name}`);
+            holds(await page.look(`!document.getElementById('${name}').hidden && document.getElementById('tab-${name}').getAttribute('aria-selected') === 'true'`), name);
+        }
+        await pane(page, 'teletype');
+        same('#teletype', await page.look('location.hash'), 'the address');
+    },
+    'a page from a file says in words what to do': async page => {
+        await page.call('Page.navigate', { url: pathToFileURL(join(resolve(process.argv[3]), 'index.html')).href });
+        await page.until(`document.getElementById('trouble')?.hidden === false`);
+        await isTold(page, 'trouble', 'python3 -m http.server --bind 127.0.0.1 8008');
+    },
+    'the page can be installed as a program': async (page, url) => {
+        await page.go(url);
+        await page.until(`navigator.serviceWorker.ready.then(it => !!it.active)`);
+        const { errors, data, url: from } = await page.call('Page.getAppManifest'), manifest = JSON.parse(data);
+        same('[]', JSON.stringify(errors), 'what is wrong in the manifest');
+        holds(from.startsWith(url) && manifest.name && manifest.display === 'standalone' && manifest.icons.length > 0, data);
+        const { installabilityErrors } = await page.call('Page.getInstallabilityErrors');
+        same('', installabilityErrors.map(it => it.errorId).filter(it => it !== 'in-incognito').join(), 'why it can\'t be installed');
+    },
     'the page works without a network once it was seen': async (page, url) => {
         await page.go(url);
         await page.until(`navigator.serviceWorker.ready.then(it => !!it.active)`);
@@ -191,13 +253,30 @@ await run('shelf', {
         await page.go(url);
         await press(page, 'disk');
         await page.until(`document.querySelectorAll('#directory tbody tr').length === 8`);
-        await page.look(`document.activeElement.blur(); scrollTo(0, 0)`);
-        let stops = 0;
-        for (; stops < 40 && await page.look(`document.activeElement.id !== 'shown'`); stops++) await page.key('Tab');
-        holds(stops <= 13, `${stops} stops of Tab`);
-        await page.look(`document.querySelector('#directory tbody button').focus()`);
-        await page.key('ArrowDown');
+        await setSource(page, SORT);
+        await page.click('#assemble');
+        await isTold(page, 'source-status', 'assembled');
+        const told = [];
+        for (const [name, wanted] of [['files', 'shown'], ['source', 'text'], ['machine', 'console'], ['teletype', 'paper'], ['script', 'lines']]) {
+            await pane(page, name);
+            await page.look(`document.querySelector('.skip').focus()`);
+            const stops = ['skip'];
+            for (let k = 0; k < 40 && stops.at(-1) !== wanted; k++) {
+                await page.key('Tab');
+                stops.push(await page.look(`document.activeElement.id || document.activeElement.className || document.activeElement.textContent`));
+            }
+            if (stops.length - 1 > 12 || stops.at(-1) !== wanted) told.push(`${name}: ${stops.length - 1} stops of Tab: ${stops}`);
+        }
+        same('', told.join('; '), 'the stops of Tab');
+        await pane(page, 'machine');
+        await page.look(`document.querySelector('#switch-register .switch').focus()`);
         await page.key('ArrowRight');
-        same('GUESS.PA as the listing of a tape', await page.look(`document.activeElement.getAttribute('aria-label')`), 'the button');
+        same('switch 1', await page.look(`document.activeElement.getAttribute('aria-label')`), 'the switch');
+        await pane(page, 'files');
+        await page.look(`document.querySelector('#directory button').focus()`);
+        same('Name', await page.look(`document.activeElement.textContent`), 'the head');
+        for (let k = 0; k < 2; k++) await page.key('ArrowDown');
+        await page.key('ArrowRight');
+        same('GUESS.PA as a text', await page.look(`document.activeElement.getAttribute('aria-label')`), 'the button');
     },
 });

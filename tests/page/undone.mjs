@@ -275,6 +275,48 @@ await run('undone', {
         holds(await page.look(`!document.getElementById('tape-home').disabled && document.getElementById('listing').textContent.includes('7320')`), 'the tape and its listing');
         same('Listing', await page.text('listing-name'), 'the tape is not old');
     },
+    'several texts are one source, which goes on where the first has PAUSE': async (page, url) => {
+        const first = '*200\nA,\tCLA; TAD B\n\tPAUSE\nNOT READ\n', second = '\tTAD A\n\tHLT\nB,\t5\n$\n', bad = '\tTAD LIEN\n\tHLT\nB,\t5\n$\n';
+        await page.go(url);
+        await create(page, 'DISK');
+        await setSource(page, bad);
+        await page.fill('#source-name', 'TWO');
+        await page.key('Tab');
+        await page.click('#text-new');
+        await setSource(page, first);
+        await page.fill('#source-name', 'ONE');
+        await page.fill('#further', 'two');
+        await page.click('#assemble');
+        await isTold(page, 'faults', 'TWO, line 1, column 2: UA');
+        await page.click('#faults button');
+        same(bad, await page.look(`document.getElementById('text').value`), 'the text with the fault');
+        same('', await page.look(`document.getElementById('further').value`), 'the second goes on in none');
+        await page.fill('#text', second);
+        await page.choose('#texts', 'ONE');
+        same('two', await page.look(`document.getElementById('further').value`), 'what the first goes on in');
+        await page.click('#assemble');
+        await isTold(page, 'source-status', 'assembled');
+        for (const [name, text] of [['one.pa', first], ['two.pa', second]]) writeFileSync(file(name), text);
+        native(['assemble', 'one.pa', 'two.pa', '--output', 'one.bin', '--list', 'one.lst', '--cross']);
+        same(readFileSync(file('one.lst'), 'latin1').replaceAll('\r', ''), `${await page.text('listing')}\n\n${await page.text('symbols')}`, 'the listing');
+        same(readFileSync(file('one.bin')), (await page.home('#tape-home')).bytes, 'the tape');
+        await page.look(`document.querySelector('#listing [data-cell="00203"]').click()`);
+        await isTold(page, 'source-status', 'That is line 2 of the text TWO');
+        await page.click('#to-volume');
+        await isTold(page, 'source-status', 'STORED ONE.BN');
+        for (const it of ['one', 'two']) native(['put', 'DISK', '-', '--as', `${it.toUpperCase()}.PA`, '--text'], readFileSync(file(`${it}.pa`)));
+        native(['put', 'DISK', '-', '--as', 'ONE.BN'], readFileSync(file('one.bin')));
+        await pane(page, 'files');
+        same(readFileSync(file('DISK')), await image(page), 'the image');
+        await page.look('geivottu.store.settled()');
+        await page.go(`${url}?again`);
+        same('two', await page.look(`document.getElementById('further').value`), 'what it goes on in after a reload');
+        same('Listing', await page.text('listing-name'), 'the tape is not old');
+        await pane(page, 'source');
+        await page.fill('#further', 'none');
+        await page.click('#assemble');
+        await isTold(page, 'source-status', 'There is no text NONE');
+    },
     'faults show as one types, and the tape stays': async (page, url) => {
         await page.go(url);
         await setSource(page, ONE);

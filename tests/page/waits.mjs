@@ -1,4 +1,4 @@
-// waits.mjs FOLDER: the page where calls of WebAssembly can't be left: with memory that two threads have, from a server whose headers allow
+// waits.mjs PROGRAM FOLDER [PART..]: the page where calls of WebAssembly can't be left: with memory that two threads have, from a server whose headers allow
 // it, and with neither, where whole scripts are what it can. The last line is 'N passed, M failed'.
 import { readFileSync } from 'node:fs';
 import { dirname, join } from 'node:path';
@@ -6,7 +6,7 @@ import { fileURLToPath } from 'node:url';
 import { Browser, serve } from './browser.mjs';
 
 const top = dirname(dirname(dirname(fileURLToPath(import.meta.url))));
-const folder = process.argv[2];
+const folder = process.argv[3], only = process.argv.slice(4);
 const isolated = { 'cross-origin-opener-policy': 'same-origin', 'cross-origin-embedder-policy': 'require-corp' };
 const isTold = (page, id, part) => page.until(`document.getElementById('${id}').textContent.includes(${JSON.stringify(part)})`);
 
@@ -30,6 +30,10 @@ async function script(page) {
     const replies = await page.text('replies');
     if (replies !== '00200 7402\nSTEPS 1 HALT 00201\nSTORED A 1\nA 1\nFREE 729\n') throw new Error(`replies ${JSON.stringify(replies)}`);
 }
+
+// What a page must not show where no call of the program can wait for a key.
+const SHOWN = `['#tab-machine', '#machine', '#to-core', '#to-step', '#keys', '#read', '#session', '#entry', '#tty-stop', '[data-run=sort]', '[data-run=lights]']
+    .filter(it => document.querySelector(it).checkVisibility()).join(' ')`;
 
 const tests = {
     'with memory that two threads have, the game, the machine and a session run': async page => {
@@ -68,11 +72,16 @@ const tests = {
         try {
             await begun(page, `${server.url}?wait=none`);
             await script(page);
-            await page.click('#tab-machine');
-            await isTold(page, 'machine-status', 'can\'t wait');
             await isTold(page, 'kept', 'whole scripts can');
+            await page.look(`location.hash = '#machine'`);
+            for (const pane of ['files', 'source', 'teletype', 'script']) {
+                await page.click(`#tab-${pane}`);
+                const shown = await page.look(SHOWN);
+                if (shown !== '') throw new Error(`shown in ${pane}: ${shown}`);
+            }
             await page.click('#tab-source');
             await page.click('#to-teletype');
+            if (!await page.look(`document.getElementById('reader').checkVisibility()`)) throw new Error('the tape reader is not seen');
             await page.look(`document.getElementById('reader').value = 'ADA\\n50\\n79\\n'`);
             await page.click('#tty-run');
             await isTold(page, 'paper', 'GUESSES: 2');
@@ -83,12 +92,13 @@ const tests = {
 };
 
 let passed = 0, failed = 0;
-for (const [name, body] of Object.entries(tests)) {
+for (const [name, body] of Object.entries(tests).filter(([it]) => !only.length || only.some(part => it.includes(part)))) {
     const page = await Browser.open();
     try {
         await body(page);
         if (page.errors.length) throw new Error(page.errors.join('; '));
         passed++;
+        console.log(`waits: ${name}`);
     } catch (error) {
         failed++;
         console.log(`waits: NOT ${name}: ${error instanceof Error ? error.message : error}`);

@@ -1,0 +1,116 @@
+// The picture of a volume: a square for each block, by the lines of `check`.
+import { $, made } from './dom.js';
+
+const COLOURS = ['directory', 'file', 'file-2', 'empty', 'outside', 'fault', 'paper'];
+
+/** @typedef {import('./files.js').Entry} Entry */
+
+export class Blocks {
+    /** @type {{ kind: string, of: string }[]} */
+    all = [];
+    /** @type {string | null} */
+    refusal = null;
+    files = 0;
+    across = 0;
+    side = 0;
+
+    constructor() {
+        $('blocks').addEventListener('mousemove', event => this.#point(event));
+        $('blocks').addEventListener('mouseleave', () => { $('block-told').textContent = ''; });
+        new ResizeObserver(() => this.#draw()).observe($('blocks'));
+        matchMedia('(prefers-color-scheme: dark)').addEventListener('change', () => this.#draw());
+    }
+
+    // Shows what each block is, and gives the files. Blocks 0 to 6 are the boot block and those of the directory. Where that is refused the lines
+    // are of `check --all`, and its files are found by their blocks.
+    /** @param {string[][]} lines @param {number} bytes @param {string | null} refusal @returns {Entry[]} */
+    lay(lines, bytes, refusal) {
+        const isByBlocks = refusal !== null, others = isByBlocks ? 'of no file that was found' : 'directory';
+        const count = isByBlocks ? Math.max(7, Math.floor(bytes / 512)) : Number(lines.find(it => it[0] === 'BLOCKS')?.[1] ?? 0);
+        /** @type {Entry[]} */
+        const entries = [];
+        this.all = Array.from({ length: count }, (_, block) => ({ kind: block && block < 7 ? 'directory' : 'outside', of: block ? block < 7 ? 'directory' : others : 'boot block' }));
+        this.refusal = refusal;
+        for (const line of lines) {
+            const entry = this.#line(line, entries.length);
+            if (entry) entries.push({ ...entry, isByBlocks });
+        }
+        const told = refusal?.match(/^\? DIRECTORY [12] .* (\d+)$/);
+        if (refusal !== null) for (let block = 1; block < 7; block++) if (!told || Number(told[1]) === block) this.all[block] = { kind: 'fault', of: refusal };
+        this.files = entries.length;
+        this.#draw();
+        return entries;
+    }
+
+    // What a line says of some blocks, and the file that it is of, if it is of one.
+    /** @param {string[]} line @param {number} turn */
+    #line([word, ...rest], turn) {
+        const [first, length] = rest.slice(-2).map(Number), isSound = word !== 'UNSOUND';
+        /** @param {string} kind @param {string} of */
+        const lay = (kind, of) => { for (let k = first; k < Math.min(first + length, this.all.length); k++) this.all[k] = { kind, of }; };
+        if (word === 'OUTSIDE') lay('outside', 'not covered by the directory');
+        if (word === 'TWICE') lay('fault', 'claimed twice');
+        if (word === 'EMPTY') lay('empty', 'empty');
+        if (word !== 'FILE' && rest[0] !== 'FILE') return null;
+        const name = rest.slice(isSound ? 0 : 1, -2).join(' ');
+        lay(isSound ? turn % 2 ? 'file-2' : 'file' : 'fault', isSound ? name : `${name}, unsound`);
+        return { name, first, length };
+    }
+
+    #draw() {
+        if (!this.all.length) return;
+        const canvas = $('blocks'), style = getComputedStyle(canvas), width = Math.max(200, canvas.clientWidth);
+        const count = this.all.length, across = Math.max(32, Math.min(Math.floor(width / 6), Math.ceil(Math.sqrt(count * 6))));
+        const side = Math.floor(width / across), down = Math.ceil(count / across), scale = devicePixelRatio || 1;
+        this.across = width / across;
+        canvas.width = width * scale;
+        canvas.height = down * side * scale;
+        canvas.style.height = `${down * side}px`;
+        this.side = side;
+        const colours = Object.fromEntries(COLOURS.map(it => [it, colourOf(style, `--${it}`)]));
+        const brush = /** @type {CanvasRenderingContext2D} */ (canvas.getContext('2d'));
+        brush.scale(scale, scale);
+        this.all.forEach(({ kind }, block) => {
+            const x = block % across * this.across, y = Math.floor(block / across) * side;
+            brush.fillStyle = colours[kind];
+            brush.fillRect(x, y, this.across - (side > 4 ? 1 : 0), side - (side > 4 ? 1 : 0));
+            brush.fillStyle = brush.strokeStyle = colours.paper;
+            if (side > 4) mark(brush, kind, x, y, this.across - 1, side - 1);
+        });
+        const free = this.all.filter(it => it.kind === 'empty').length;
+        canvas.setAttribute('aria-label', this.refusal ? `Volume of ${count} blocks, refused: ${this.refusal}`
+            : `Volume of ${count} blocks: ${this.files} files, ${free} blocks empty`);
+    }
+
+    /** @param {MouseEvent} event */
+    #point(event) {
+        const column = Math.floor(event.offsetX / this.across), row = Math.floor(event.offsetY / this.side);
+        const block = row * Math.round($('blocks').clientWidth / this.across) + column, it = this.all[block];
+        $('block-told').textContent = it ? `block ${block}: ${it.of}` : '';
+    }
+}
+
+// A mark in a square, so that no kind is told by its colour alone: a bar, a hole, or a cross.
+/** @param {CanvasRenderingContext2D} brush @param {string} kind @param {number} x @param {number} y @param {number} width @param {number} height */
+function mark(brush, kind, x, y, width, height) {
+    if (kind === 'directory') brush.fillRect(x, y + height * 0.4, width, height * 0.2);
+    if (kind === 'outside') brush.fillRect(x + width * 0.3, y + height * 0.3, width * 0.4, height * 0.4);
+    if (kind !== 'fault') return;
+    brush.lineWidth = Math.max(1, width / 6);
+    brush.beginPath();
+    brush.moveTo(x, y);
+    brush.lineTo(x + width, y + height);
+    brush.moveTo(x + width, y);
+    brush.lineTo(x, y + height);
+    brush.stroke();
+}
+
+// A colour of the style, light or dark, as a canvas takes it.
+/** @param {CSSStyleDeclaration} style @param {string} name */
+function colourOf(style, name) {
+    const probe = made('span', { style: `color: var(${name})` });
+    $('blocks').after(probe);
+    const colour = getComputedStyle(probe).color;
+    probe.remove();
+    return colour;
+}

@@ -1,0 +1,126 @@
+// The file that is shown beside the directory: as a text, as the listing of its tape, or as source, from where its program starts and with
+// names of its cells, which are kept with the volume; and what its program does.
+import { $, made, takeHome, tell } from './dom.js';
+import { bytesOf, textOf } from './program.js';
+import { got, isCore, placeOf, tapeIn } from './tapes.js';
+
+/** @typedef {import('./files.js').Entry} Entry */
+/** @typedef {'text' | 'tape' | 'source' | 'trace' | 'profile'} Form */
+/** @type {Record<Form, string>} */
+const WORDS = { text: 'text', tape: 'listing of its tape', source: 'source of its tape', trace: 'trace of its first steps', profile: 'count of what runs' };
+
+export class Shown {
+    /** @type {Entry | null} */
+    entry = null;
+    /** @type {Form} */
+    form = 'text';
+
+    /** @param {Page} page */
+    constructor(page) {
+        this.page = page;
+        for (const it of [$('starts'), $('cell-names')]) it.addEventListener('change', () => this.#changed());
+        for (const form of /** @type {const} */ (['trace', 'profile'])) $(`shown-${form}`).addEventListener('click', () => this.entry && this.show(this.entry, form));
+    }
+
+    get #volume() { return this.page.files.name; }
+
+    // The note that keeps starts and names of a file's cells.
+    /** @param {Entry} entry */
+    #note({ name, first }) { return `as ${this.#volume}/${placeOf({ name, first, length: 0, isByBlocks: false }).join(' ')}`; }
+
+    // Where the program of a file starts, and its cells' names, as they were given: texts, as `source` takes them.
+    /** @param {Entry} entry @returns {{ starts: string, names: string }} */
+    hintsOf(entry) { return this.page.store.notes.get(this.#note(entry)) ?? { starts: '', names: '' }; }
+
+    // Forgets what was given for the files of a volume, in whose place another comes.
+    /** @param {string} volume */
+    forget(volume) {
+        for (const it of [...this.page.store.notes.keys()]) if (it.startsWith(`as ${volume}/`)) this.page.store.forget(it);
+    }
+
+    #changed() {
+        if (!this.entry) return;
+        this.page.store.note(this.#note(this.entry), { starts: $('starts').value, names: $('cell-names').value });
+        this.show(this.entry, this.form === 'text' || this.form === 'tape' ? 'source' : this.form);
+    }
+
+    // The source of a file's tape, from its starts and with its names.
+    /** @param {Entry} entry @param {Answer} tape */
+    async source(entry, tape) {
+        const { programs, store } = this.page, { starts, names } = this.hintsOf(entry);
+        const words = ['source', ...(starts.match(/\S+/g) ?? []).flatMap(it => ['--start', it])];
+        if (names.trim() !== '') {
+            store.put('.names', bytesOf(names.endsWith('\n') ? names : `${names}\n`));
+            words.push('--names', '.names');
+        }
+        const given = await (isCore(entry) ? programs.ask([...words, this.#volume, entry.name]) : programs.ask(words, tape.out));
+        store.remove('.names');
+        return given;
+    }
+
+    // The names of a file's cells as a listing has its symbols: NAME FAAAA.
+    /** @param {Entry} entry */
+    symbolsOf(entry) { return this.hintsOf(entry).names.replace(/^\s*([0-7]{5})[ \t]+([A-Z][A-Z0-9]*).*$/gm, '$2 $1'); }
+
+    // Shows a file in its best form: a program as source, any other as a text.
+    /** @param {Entry} entry */
+    async best(entry) {
+        const isProgram = (await tapeIn(this.page, this.#volume, entry)).status === 0;
+        await this.show(entry, isProgram ? 'source' : 'text');
+    }
+
+    // What a form of a file is, as the program gives it.
+    /** @param {Entry} entry @param {Form} form @returns {Promise<Answer>} */
+    async #given(entry, form) {
+        const { programs, store } = this.page, volume = this.#volume;
+        if (form === 'text') return got(this.page, volume, entry, '--text');
+        const tape = await tapeIn(this.page, volume, entry);
+        if (tape.status !== 0) return tape;
+        if (form === 'source') return this.source(entry, tape);
+        if (form === 'tape') return programs.ask(['tape'], tape.out);
+        const [start] = this.hintsOf(entry).starts.match(/\S+/g) ?? (tape.start ? [tape.start] : []);
+        store.put('.shown.bin', tape.out);
+        const answer = await programs.ask([form, '.shown.bin', ...(start ? ['--start', start] : [])]);
+        store.remove('.shown.bin');
+        return answer;
+    }
+
+    /** @param {Entry} entry @param {Form} form */
+    async show(entry, form) {
+        const given = await this.#given(entry, form);
+        if (given.status !== 0) return tell('files-status', `${entry.name}: ${textOf(given.out)}${given.said}`, true);
+        tell('files-status', '');
+        this.lay(entry, textOf(given.out), form);
+    }
+
+    // Lays out a text of a file, or nothing.
+    /** @param {Entry | null} entry @param {string} [text] @param {Form} [form] */
+    lay(entry, text = '', form = 'text') {
+        this.entry = entry;
+        this.form = form;
+        $('shown-name').textContent = entry ? `${entry.name}, ${WORDS[form]}` : 'No file is shown';
+        const plain = text.replaceAll('\r', '');
+        $('shown').replaceChildren(...(entry && (form === 'trace' || form === 'profile') ? this.#named(entry, plain) : [plain]));
+        $('shown-how').hidden = !entry || form === 'text' || form === 'tape';
+        if (entry) [$('starts').value, $('cell-names').value] = [this.hintsOf(entry).starts, this.hintsOf(entry).names];
+        for (const row of $('directory').tBodies[0].rows) row.classList.toggle('chosen', row.dataset.name === entry?.name);
+    }
+
+    // The lines of a trace or a profile, each with the name of its cell.
+    /** @param {Entry} entry @param {string} text */
+    #named(entry, text) {
+        const names = new Map([...this.symbolsOf(entry).matchAll(/^(\w+) ([0-7]{5})$/gm)].map(([, name, cell]) => [cell, name]));
+        return (text.match(/[^\n]*\n|[^\n]+$/g) ?? []).map(it => made('span', { class: 'l', 'data-own': names.get(it.slice(0, 5)) ?? null }, it));
+    }
+
+    // Takes a file home under its own name, so that it comes back under that. One whose name can't be typed is named by its place.
+    /** @param {Entry} entry @param {'text' | 'tape' | 'frames'} form */
+    async home(entry, form) {
+        const { status, out, said } = await (form === 'tape' ? tapeIn(this.page, this.#volume, entry) : got(this.page, this.#volume, entry, ...(form === 'text' ? ['--text'] : [])));
+        if (status !== 0) return tell('files-status', `${entry.name}: ${said}`, true);
+        const [word, at] = placeOf({ ...entry, isByBlocks: false });
+        takeHome(at ? `at-${at}` : word, out);
+        tell('files-status', `${entry.name}: ${out.length} bytes`);
+    }
+}
+

@@ -1,0 +1,44 @@
+// Tapes as the program takes them wherever one is wanted: a BIN tape, a RIM tape, or the core image of a file of a volume.
+import { textOf } from './program.js';
+
+/** @typedef {import('./files.js').Entry} Entry */
+
+// The BIN tape that frames are, or that `rim` makes of them; else the program's refusal.
+/** @param {Page} page @param {Uint8Array} frames @returns {Promise<Answer>} */
+export async function tapeOf({ programs }, frames) {
+    const asked = await programs.ask(['tape'], frames);
+    if (asked.status === 0) return { ...asked, out: frames };
+    const rim = await programs.ask(['rim', '--bin'], frames);
+    return rim.status === 0 ? rim : asked;
+}
+
+// Whether a file is a core image, by its name.
+/** @param {Entry} it */
+export const isCore = ({ name, isByBlocks }) => name.endsWith('.SV') && !isByBlocks;
+
+// The words by which the program finds a file of a volume: its name, its first block where the name can't be typed, or its blocks where the
+// directory is refused.
+/** @param {Entry} it */
+export function placeOf({ name, first, length, isByBlocks }) {
+    if (isByBlocks) return ['--blocks', String(first), String(length)];
+    return /^[A-Z0-9]{1,6}(\.[A-Z0-9]{1,2})?$/.test(name) ? [name] : ['--at', String(first)];
+}
+
+// What `get` gives of a file of a volume.
+/** @param {Page} page @param {string} volume @param {Entry} entry @param {...string} form */
+export function got({ programs }, volume, entry, ...form) { return programs.ask(['get', volume, ...placeOf(entry), ...form]); }
+
+// The BIN tape of a file of a volume, as itself, of a RIM tape, or of a core image, and where that starts.
+/** @param {Page} page @param {string} volume @param {Entry} entry @returns {Promise<Answer & { start?: string }>} */
+export async function tapeIn(page, volume, entry) {
+    if (isCore(entry)) {
+        const image = await got(page, volume, entry, '--bin');
+        if (image.status !== 0) return image;
+        const traced = await page.programs.ask(['trace', volume, entry.name, '--steps', '1']);
+        return { ...image, start: textOf(traced.out).slice(0, 5) };
+    }
+    const asked = entry.isByBlocks ? null : await got(page, volume, entry, '--tape');
+    if (asked?.status === 0) return asked;
+    const frames = await got(page, volume, entry), tape = frames.status === 0 ? await tapeOf(page, frames.out) : frames;
+    return tape.status === 0 || !asked ? tape : asked;
+}
