@@ -10,7 +10,7 @@ use Rattle.pal8_values.specs.declared.faults.ValueFault.TheVariants.{UA, PF, DZ,
 
 -- A fault is this one; want of memory may come in its place.
 abbrev pub IsFault : {A : Type 0} → Result A ValueFault → ValueFault → Type 0
-IsFault whole UA = whole ≡ Err UA
+IsFault whole (UA name) = whole ≡ Err (UA name)
 IsFault whole PF = whole ≡ Err PF
 IsFault whole DZ = whole ≡ Err DZ
 IsFault whole IR = whole ≡ Err IR
