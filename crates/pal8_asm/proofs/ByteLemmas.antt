@@ -1,5 +1,5 @@
 -- One byte more of a text.
-use Rattle.std.proofs.Common.{◌≡◌, ℕ, Bool, true, false, if◌then◌else◌, Option, Some, None, Result, Ok, Err, length, List, ◌∷◌, refl, sym, ap, subst, ◌∙◌}
+use Rattle.std.proofs.Common.{◌≡◌, ℕ, true, false, if◌then◌else◌, Option, Some, None, Ok, Err, length, List, ◌∷◌, sym, ap, ◌∙◌}
 use Rattle.pal_lex.specs.Text.{limit}
 use Rattle.pal8_lex.specs.Reading as lex
 use Rattle.pal8_lex.specs.Reading.{shown, shown_by}
@@ -7,7 +7,7 @@ use Rattle.pal8_lex.specs.Text.{as_read, live}
 use Rattle.pal8_lex.specs.Statements as lex_statements
 use Rattle.pal8_lex.specs.Statements.{is_string, statement_of}
 use Rattle.pal8_lex.specs.declared.rules.End.{End}
-use Rattle.pal8_asm.specs.Sources.{Source, Statement, at_place, ended_at, is_dollar, is_ended, last_place, passed, source_in, statements, with_next}
+use Rattle.pal8_asm.specs.Sources.{Statement, at_place, ended_at, is_dollar, is_ended, last_place, passed, source_in, statements, with_next}
 use Rattle.pal8_asm.specs.Steps.{FailsAt, HasEnded, HasTaken, Pushes}
 use Rattle.pal8_asm.specs.Assembling.{Progress, left_in}
 use Rattle.pal8_asm.specs.declared.faults.Code.{Code}

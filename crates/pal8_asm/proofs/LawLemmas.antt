@@ -1,9 +1,9 @@
 -- Why the laws hold.
-use Rattle.std.proofs.Common.{◌≡◌, ℕ, ◌+◌, ◌<◌, nat_eq, arith, Bool, true, false, inl, inr, Option, Some, None, Result, Ok, Err, length, if◌then◌else◌, List, [], ◌∷◌, ◌++◌, refl, sym, ap, subst, ◌∙◌}
+use Rattle.std.proofs.Common.{◌≡◌, ℕ, ◌+◌, ◌<◌, nat_eq, arith, Bool, true, false, inl, inr, Option, Some, None, Result, Ok, Err, length, if◌then◌else◌, List, [], ◌∷◌, ◌++◌, refl, ap, subst, ◌∙◌}
 use Rattle.std.proofs.lemmas.List.{append-nil}
 use Rattle.std.proofs.lemmas.Bool.Decides.{nat_tests}
 use Rattle.pal_sym.specs.Values.{if_none}
-use Rattle.pal8_pools.specs.Asks.{Ask, IsAsked, cell_in}
+use Rattle.pal8_pools.specs.Asks.{cell_in}
 use Rattle.pal8_pools.specs.Cells.{ArePairs, IsIn, IsPair, RiseFrom}
 use Rattle.pal8_clash.specs.Clashes.{lowest_clash}
 use Rattle.pal8_clash.specs.Laws.{NoClashIsApart}
@@ -17,8 +17,7 @@ use Rattle.pal8_grammar.specs.declared.steps.Step.{Step}
 use Rattle.pal8_asm.specs.Places.{Standing, stands, with_body_if, with_statement, with_tags}
 use Rattle.pal8_asm.specs.Sources.{Entry, Left, Passed, Statement, is_close, left_of, number, passed, with_next, with_phrase, with_said}
 use Rattle.pal8_asm.specs.Tapes.{Made, cleared, cleared_by, made_of, spot_of, with_entries, with_entry, with_word}
-use Rattle.pal8_asm.specs.Assembled.{assembled, has_words, judged, judged_by, made_by}
-use Rattle.pal8_asm.specs.Assembling.{IsAssembled}
+use Rattle.pal8_asm.specs.Assembled.{has_words, judged, judged_by, made_by}
 use Rattle.pal8_asm.specs.Laws.{Apart, NoPoolNoChange, PlacesStay, ValueIsFound, meaning, passed_zero, read_zero, standing_in, zero_phrase, zero_said}
 use Rattle.pal8_asm.specs.declared.faults.Fault.{Fault}
 use Rattle.pal8_asm.specs.declared.faults.Code.{Code}

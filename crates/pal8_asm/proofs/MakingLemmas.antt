@@ -5,7 +5,7 @@ use Rattle.std.proofs.Math.Seq.{take-length}
 use Rattle.word12.specs.declared.sizes.TheConstants.{PAGE}
 use Rattle.pal8_pools.specs.Asks.{Ask}
 use Rattle.pal8_pools.specs.Cells.{ArePairs}
-use Rattle.pal8_pools.specs.Pooled.{Holds, PoolTable}
+use Rattle.pal8_pools.specs.Pooled.{PoolTable}
 use Rattle.pal8_clash.specs.Clashes.{AreMarks, OthersStay, lowest_clash}
 use Rattle.pal8_grammar.specs.declared.steps.Step.{Step}
 use Rattle.pal8_values.specs.Sums.{Known}

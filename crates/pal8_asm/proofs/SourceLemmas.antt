@@ -2,8 +2,7 @@
 use Rattle.std.proofs.Common.{◌≡◌, ℕ, ◌-◌, ◌≤◌, suc, Bool, true, false, if◌then◌else◌, Option, Some, None, Result, Ok, Err, length, take, drop, List, [], ◌∷◌, ◌++◌, refl, sym, ap, subst, ◌∙◌, arith}
 use Rattle.std.specs.Prelude.{slice_index}
 use Rattle.std.proofs.lemmas.List.{append_assoc, take_all}
-use Rattle.std.specs.Prelude.{◌+◌, min}
-use Rattle.std.specs.declared.alloc.AllocError.{AllocError}
+use Rattle.std.specs.Prelude.{◌+◌}
 use Rattle.pal_lex.specs.Text.{limit, text_from, text_of}
 use Rattle.pal8_lex.specs.Reading as lex
 use Rattle.pal8_lex.specs.Reading.{HasRead}
@@ -77,10 +76,9 @@ byte_ends_none here b is = by_drop (is_dropped b) is
     by_drop true is = refl
     by_drop false is = by_end (ends (pieces (live here)) (as_read b)) is
 
-pub pushes : (here : List ℕ) (b : ℕ) (r : Result Bool AllocError) (new : lex.Progress) → lex.Answers here b r new → Pushes here b r new
-pushes here b (Ok true) new it = (it.0, byte_ends_one here b (statement_of (as_read b) (live here)) it.1, it.2)
-pushes here b (Ok false) new it = (byte_ends_none here b it.0, it.1)
-pushes here b (Err refused) new it = tt
+pub pushes : (here : List ℕ) (b : ℕ) (ends : Bool) (new : lex.Progress) → lex.Answers here b (Ok ends) new → Pushes here b (Ok ends) new
+pushes here b true new it = (it.0, byte_ends_one here b (statement_of (as_read b) (live here)) it.1, it.2)
+pushes here b false new it = (byte_ends_none here b it.0, it.1)
 
 -- ## What follows
 

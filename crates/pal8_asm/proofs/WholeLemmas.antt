@@ -1,15 +1,14 @@
 -- What a text comes to, by what its parts do.
-use Rattle.std.proofs.Common.{◌≡◌, ℕ, Bool, true, false, Result, Ok, Err, List, [], ◌∷◌, ◌++◌, sym, ap, subst, ◌∙◌}
+use Rattle.std.proofs.Common.{◌≡◌, ℕ, true, false, Result, Ok, Err, List, ◌++◌, sym, ap, ◌∙◌}
 use Rattle.pal_sym.specs.Values.{symbol_value}
 use Rattle.pal8_pools.specs.Pooled.{PoolTable}
 use Rattle.pal8_asm.specs.Places.{stands}
-use Rattle.pal8_asm.specs.Sources.{at_place, last_place, left_of, source_of}
+use Rattle.pal8_asm.specs.Sources.{at_place}
 use Rattle.pal8_asm.specs.Tapes.{Made, cleared, made_of}
 use Rattle.pal8_asm.specs.Assembled.{assembled, has_words, judged, judged_by, made_by}
-use Rattle.pal8_asm.specs.Assembling.{IsAssembled, IsMade, MakesWords, Progress, ReadsText, left_in}
+use Rattle.pal8_asm.specs.Assembling.{IsAssembled, IsMade, MakesWords, Progress, ReadsText}
 use Rattle.pal8_asm.specs.Steps.{AddsPool}
-use Rattle.pal8_asm.specs.declared.faults.AsmFault.{AsmFault}
-use Rattle.pal8_asm.specs.declared.faults.AsmFault.TheVariants.{At, Memory}
+use Rattle.pal8_asm.specs.declared.faults.AsmFault.TheVariants.{At}
 use Rattle.pal8_asm.specs.declared.faults.Code.TheVariants as code
 use Rattle.pal8_asm.specs.declared.faults.Fault.{Fault}
 use Rattle.pal8_asm.specs.declared.faults.Place.{Place}

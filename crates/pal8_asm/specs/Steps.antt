@@ -1,7 +1,6 @@
 -- What the small steps of a pass come to, for private clauses.
 use Rattle.pal8_asm.specs.Assembling.{Progress, ReadsText, left_in, standing}
 use Rattle.std.specs.Prelude.{◌≡◌, ℕ, ◌-◌, ◌%◌, Bool, true, false, length, Option, Some, None, Result, Ok, Err, List, ◌∷◌, ◌++◌}
-use Rattle.std.specs.declared.alloc.AllocError.{AllocError}
 use Rattle.pal_sym.specs.SymbolTable.{SymbolTable}
 use Rattle.pal_sym.specs.Values.{symbol_value}
 use Rattle.pal_lex.specs.Text.{limit, text_from}
@@ -67,12 +66,13 @@ TakesBody whole place body steps string before old (Err asm.Memory) table new = 
 -- ## Texts
 
 -- what a byte after others is answered: whether it ends a statement, which is then shown
-abbrev pub Pushes : List ℕ → ℕ → Result Bool AllocError → lex.Progress → Type 0
+abbrev pub Pushes : List ℕ → ℕ → Result Bool AsmFault → lex.Progress → Type 0
 Pushes here b (Ok true) new =
     (shown new ≡ Some (statement_of (as_read b) (live here)))
     × (statements (b ∷ here) ≡ ended_at (limit (length here)) (statement_of (as_read b) (live here)) ∷ statements here) × HasRead new (b ∷ here)
 Pushes here b (Ok false) new = (statements (b ∷ here) ≡ statements here) × HasRead new (b ∷ here)
-Pushes here b (Err refused) new = Unit {0}
+Pushes here b (Err (asm.At code place)) new = ⊥
+Pushes here b (Err asm.Memory) new = Unit {0}
 
 -- The first fault of a source, which is the newest statement's: no `$` ended one before it.
 pub record FailsAt (source : Source) (fault : Fault) : Type 0 where

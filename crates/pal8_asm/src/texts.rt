@@ -16,7 +16,7 @@ use pal8_clash::WordCells;
 use pal8_lex::{End, Lexer};
 use pal8_pools::Pools;
 use pal8_values::Frames;
-use std::alloc::{AllocError, Global};
+use std::alloc::Global;
 use word12::{Cell, Word};
 
 /// Whether a `$` ended a statement.
@@ -38,10 +38,11 @@ fn next_line(lexer: &Lexer) -> u64
 }
 
 /// Takes the next byte of a text, and answers whether it ends a statement.
-fn push(lexer: &mut Lexer, byte: u8) -> Result<bool, AllocError>
+fn push(lexer: &mut Lexer, byte: u8) -> Result<bool, AsmFault>
     ensures { (here : List ℕ) → HasRead lexer.old here → Pushes here byte result lexer.new }
 {
-    lexer.push(byte)
+    let ends = lexer.push(byte)?;
+    Ok(ends)
 }
 
 impl Assembler {
@@ -52,7 +53,7 @@ impl Assembler {
     {
         let ends = match push(lexer, byte) {
             Ok(ends) => ends,
-            Err(_) => return Err(AsmFault::Memory),
+            Err(fault) => return Err(fault),
         };
         if !ends {
             return Ok(None);

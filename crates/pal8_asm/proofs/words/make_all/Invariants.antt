@@ -1,4 +1,4 @@
-use Rattle.std.proofs.Common.{◌≡◌, ◌≤◌, Result, length}
+use Rattle.std.proofs.Common.{◌≤◌, Result, length}
 use Rattle.pal8_sym.specs.Symbols.{value_of}
 use Rattle.pal8_asm.specs.Kept.{cut, total}
 use Rattle.pal8_asm.specs.Tapes.{Made, with_entries}

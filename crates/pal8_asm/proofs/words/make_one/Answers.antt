@@ -1,7 +1,6 @@
-use Rattle.std.proofs.Common.{◌∙◌, ◌++◌, ◌∷◌, [], ◌/◌, ◌%◌, Ok, Err, sym, ap, subst}
+use Rattle.std.proofs.Common.{◌∙◌, ◌++◌, ◌∷◌, [], ◌/◌, Err, sym, ap, subst}
 use Rattle.pal8_sym.specs.Symbols.{value_of}
 use Rattle.pal8_pools.specs.Asks.{count}
-use Rattle.pal8_clash.specs.Clashes.{OthersStay}
 use Rattle.pal8_values.specs.Answering.{IsAsked}
 use Rattle.pal8_values.specs.Words.{word_value}
 use Rattle.pal8_asm.specs.Steps.{GivesAt, IsMaking}
