@@ -1,9 +1,9 @@
 -- Words on pools' cells.
-use Rattle.std.proofs.Common.{◌≡◌, ℕ, ◌+◌, ◌-◌, ◌*◌, ◌/◌, ◌%◌, ◌<◌, ◌≤◌, ◌↔◌, ◌&&◌, ◌||◌, ◌⊎◌, inl, inr, nat_eq, nat_lt, Bool, true, false, if◌then◌else◌, Option, Some, None, length, List, [], ◌∷◌, ◌++◌, slice_index_or, slice_set, replicate, zero, suc, refl, sym, ap, subst, ◌∙◌, arith}
+use Rattle.std.proofs.Common.{◌≡◌, ℕ, ◌+◌, ◌*◌, ◌<◌, ◌≤◌, ◌↔◌, ◌&&◌, ◌||◌, ◌⊎◌, inl, inr, nat_eq, nat_lt, Bool, true, false, if◌then◌else◌, Option, Some, None, length, List, [], ◌∷◌, ◌++◌, slice_index_or, slice_set, replicate, zero, suc, refl, sym, ap, subst, ◌∙◌, arith}
 use Rattle.std.proofs.lemmas.Bool.{eqb-true, eqb-false}
 use Rattle.std.proofs.lemmas.Bool.Decides.{nat_tests}
 use Rattle.std.proofs.lemmas.List.{get_or-set_same, get_or-set_other}
-use Rattle.pal8_pools.specs.Asks.{Ask, IsAsked, asked_of, cell_in, count, distinct, end}
+use Rattle.pal8_pools.specs.Asks.{Ask, IsAsked, cell_in, count, distinct, end}
 use Rattle.pal8_pools.specs.Cells.{IsTaken}
 use Rattle.pal8_pools.specs.Laws.{IsPoolCell, PoolIsPageEnd}
 use Rattle.pal8_pools.specs.Pooled.{Holds, PoolTable, is_cell_of}
