@@ -1,7 +1,7 @@
 #!/usr/bin/env python3
 """compare_pal8_sources.py [--sources N] [--seed S] [--program FILE]: assembles the worked sources of PAL8, N random ones, 2000 where nothing is said, and
-N that are random bytes nearly, by the program `pal8_asm_bench`, and compares the cells that have words, or the first fault, with the plain
-model's; then the largest: a million literals, brackets within brackets, a line of 10 MB. Conditions aren't taken yet. The same seed makes
+N that are random bytes nearly, by the program `pal8_asm_bench`, and compares the cells that have words, or the first fault with its place, with
+the plain model's; then the largest: a million literals, brackets within brackets, a line of 10 MB. Conditions aren't taken yet. The same seed makes
 the same sources. The last line is 'N passed, M failed'.
 """
 import argparse
@@ -15,14 +15,14 @@ HERE = os.path.dirname(os.path.abspath(__file__))
 TOP = os.path.dirname(os.path.dirname(HERE))
 sys.path.insert(0, TOP)
 from tests.model import check_pal8_rows
-from tests.model.pal8 import answer
+from tests.model.pal8 import placed_answer
 
 CRATE = f"{os.path.dirname(os.path.dirname(HERE))}/crates/pal8_asm_bench"
 OPERATIONS = ("TAD", "AND", "ISZ", "DCA", "JMS", "JMP", "tad")
 OTHERS = ("CLA", "CLA CLL", "BSW", "CDI 10", "MQL", "HLT", "SKON", "IOT", "TAD")
 NAMES = ("A", "B", "C", "LOOP", "ABCDEFG", "BSW", "IOT", "X1", "CLA", "TAD", "I", "Z", "PAGE")
 OPERATORS = ("+", "-", "!", "&", "^", "%", " ", " + ", " -", "  ")
-PIECES = (*"AZ019+-!&^%=,*.()[]\"/;<>$# \t\n", *"\n\n;;,(([[  ", "TAD ", "TAD I ", "A", "B", "TEXT /", "PAGE ", "ZBLOCK ", "*200", "FIELD ", "A,", "$\n", "XLIST", "DECIMAL")
+PIECES = (*"AZ019+-!&^%=,*.()[]\"/;<>$# \t\n", *"\n\n;;,(([[  ", "TAD ", "TAD I ", "A", "B", "TEXT /", "PAGE ", "ZBLOCK ", "*200", "FIELD ", "A,", "$\n", "XLIST", "DECIMAL", "\r\n", "\f", "\0")
 
 
 class Maker:
@@ -144,17 +144,17 @@ def largest() -> list[tuple[str, bytes, str]]:
     million = 10**6
     return [
         ("a million literals", b"*200\n" + b"TAD (1;*200\n" * million + b"$\n", "0 0377 0001\n"),
-        ("a million different literals", b"".join(b"TAD (%o\n*200\n" % (k % 0o200) for k in range(million)) + b"$\n", "? 5 PE 255\n"),
-        ("a thousand brackets within others", b"TAD " + b"(" * 1000 + b"5\n$\n", "? 5 PE 1\n"),
+        ("a million different literals", b"".join(b"TAD (%o\n*200\n" % (k % 0o200) for k in range(million)) + b"$\n", "? 5 PE 255 1706 200\n"),
+        ("a thousand brackets within others", b"TAD " + b"(" * 1000 + b"5\n$\n", "? 5 PE 1 0\n"),
         ("a hundred brackets within others", b"TAD " + b"(" * 100 + b"5" + b")" * 100 + b"\n$\n", "0 0377 0005\n"),
-        ("a million brackets", b"(" * million + b"5\n$\n", "? 5 PE 1\n"),
-        ("a million brackets of both kinds", b"([" * (million // 2) + b"5" + b"])" * (million // 2) + b"\n$\n", "? 5 ZE 1\n"),
-        ("a million open brackets", b"(" * million + b"\n$\n", "? 5 SY 1\n"),
+        ("a million brackets", b"(" * million + b"5\n$\n", "? 5 PE 1 0\n"),
+        ("a million brackets of both kinds", b"([" * (million // 2) + b"5" + b"])" * (million // 2) + b"\n$\n", "? 5 ZE 1 0\n"),
+        ("a million open brackets", b"(" * million + b"\n$\n", "? 5 SY 1 0\n"),
         ("a line of 10 MB", b"*200;TAD (7 ;" * (10 * million // 13) + b"$", "0 0377 0007\n"),
         ("a million terms", b"1" + b"+1" * million + b"\n$\n", f"0 0200 {(million + 1) % 0o10000:04o}\n"),
         ("a million tags", b"A," * million + b"1\n$\n", "0 0200 0001\n"),
-        ("a string of a million", b"TEXT /" + b"A" * million + b"/\n$\n", "? 5 PF 1\n"),
-        ("a text without its end", b"TEXT /" + b"A" * million, "? 5 NE 1\n"),
+        ("a string of a million", b"TEXT /" + b"A" * million + b"/\n$\n", "? 5 PF 1 0\n"),
+        ("a text without its end", b"TEXT /" + b"A" * million, "? 5 NE 1 1000006\n"),
         ("a million lines", b"\n" * million + b"1;$\n", "0 0200 0001\n"),
     ]
 
@@ -175,13 +175,13 @@ def main() -> int:
     texts += [(f"bytes {k}", nearly_bytes(k), "") for k in numbers]
     passed = failed = 0
     for name, text, wanted in texts:
-        wanted = wanted or answer(text)
         found = came(program, text)
-        if found == wanted:
+        answer = placed_answer(text)
+        if found == answer and (" ".join(found.split()[:4]) + "\n" == wanted or found == wanted or not wanted):
             passed += 1
         else:
             failed += 1
-            print(f"{name}: {text!r}: wanted\n{wanted}came\n{found}", end="")
+            print(f"{name}: {text!r}: wanted\n{wanted}{answer}came\n{found}", end="")
     for name, text, end in largest():
         found = came(program, text)
         if found.endswith(end):

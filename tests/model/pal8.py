@@ -34,11 +34,12 @@ CORE_END = 0o10000
 
 
 class Fault(Exception):
-    """A code, with the line of its statement."""
+    """A code, with the line of its statement, and where that begins among the characters that are there; and the number of the name or the
+    cell that it is about."""
 
-    def __init__(self, code: str, line: int = 0) -> None:
-        super().__init__(code, line)
-        self.code, self.line = code, line
+    def __init__(self, code: str, line: int = 0, start: int = 0, about: Optional[int] = None) -> None:
+        super().__init__(code, line, start, about)
+        self.code, self.line, self.start, self.about = code, line, start, about
 
 
 @dataclass(frozen=True)
@@ -58,6 +59,8 @@ class Statement:
     tokens: list[Token]
     end: str
     is_cut: bool = False
+    start: int = field(default=0, compare=False)
+    at: int = field(default=0, compare=False)
 
 
 # Terms and values
@@ -108,6 +111,19 @@ class Body:
 def live_text(text: bytes) -> str:
     """The characters that are there: CR, FF, NUL and rubout are not, and LF is CR."""
     return "".join(chr(b) for b in text if b not in b"\r\f\0\x7f").replace("\n", "\r")
+
+
+def place_in(text: bytes, at: int) -> int:
+    """The place in a text of the character of this place among those that are there."""
+    return [k for k, b in enumerate(text) if b not in b"\r\f\0\x7f"][at] if at < len(live_text(text)) else len(text)
+
+
+def name_number(name: str) -> int:
+    """The number that the sixbit codes of a name make."""
+    number = 0
+    for c in (name + 6 * "@")[:6]:
+        number = 0o100 * number + ord(c) % 0o100
+    return number
 
 
 def is_coded(c: str) -> bool:
@@ -163,7 +179,8 @@ def statement_at(text: str, at: int) -> tuple[Optional[Statement], int]:
             while at < len(text) and text[at] not in ";\r":
                 at += 1
         elif text[at] in ENDS:
-            return Statement(line, meaningful(tokens), text[at], is_cut), at + 1
+            start = next((token.start for token in tokens if token.kind != "blank"), at)
+            return Statement(line, meaningful(tokens), text[at], is_cut, start, at), at + 1
         else:
             start = at
             token, at = token_at(text, at)
@@ -360,6 +377,7 @@ class Judged:
     location: int
     in_field: int
     size: int = 0
+    start: int = 0
     definitions: list[tuple[str, int]] = field(default_factory=list)
 
 
@@ -375,10 +393,10 @@ class Source:
         self.judged: list[Judged] = []
         self.brackets: list[bool] = []
         self.radix, self.location, self.field = 8, 0o200, 0
-        self.last_line = self.first_faults()
+        self.last_line, self.last_place = self.first_faults()
 
-    def first_faults(self) -> int:
-        """Judges the statements up to the first selected `$`, and gives the line of that."""
+    def first_faults(self) -> tuple[int, int]:
+        """Judges the statements up to the first selected `$`, and gives the line and the place of that."""
         for statement in statements(self.text):
             is_selected = all(self.brackets)
             holds = False
@@ -388,16 +406,16 @@ class Source:
                 if statement.end == ">" and not self.brackets:
                     raise Fault("PH")
             except Fault as fault:
-                raise Fault(fault.code, statement.line)
+                raise Fault(fault.code, statement.line, statement.start, fault.about)
             if statement.end == ">":
                 self.brackets.pop()
             elif statement.end == "<":
                 self.brackets.append(is_selected and holds)
             elif statement.end == "$" and is_selected:
                 if self.brackets:
-                    raise Fault("PH", statement.line)
-                return statement.line
-        raise Fault("PH" if self.brackets else "NE", 1 + self.text.count("\r"))
+                    raise Fault("PH", statement.line, statement.at)
+                return statement.line, statement.at
+        raise Fault("PH" if self.brackets else "NE", 1 + self.text.count("\r"), len(self.text))
 
     def definition_before(self, name: str, before: list[Judged]) -> Optional[int]:
         """The last definition of a name in these statements."""
@@ -417,7 +435,7 @@ class Source:
     def judge(self, statement: Statement) -> bool:
         """Judges a selected statement, and answers whether its condition holds."""
         tags, body = said(statement, self.radix)
-        now = Judged(statement.line, tags, body, self.location, self.field)
+        now = Judged(statement.line, tags, body, self.location, self.field, start=statement.start)
         for tag in tags:
             if now.location >= CORE_END:
                 raise Fault("PF")
@@ -477,9 +495,10 @@ class Source:
                 if now.location >= CORE_END:
                     raise Fault("PF")
                 return now.location
-            found = None if isinstance(term, Literal) else self.value_before(term, now)
+            assert isinstance(term, str), "no literal stands in such a value"
+            found = self.value_before(term, now)
             if found is None:
-                raise Fault("UA")
+                raise Fault("UA", about=name_number(term))
             return found
 
         if isinstance(value, Expression):
@@ -539,24 +558,24 @@ class Words:
             try:
                 words = self.words_of(now, k)
             except Fault as fault:
-                raise Fault(fault.code, now.line)
+                raise Fault(fault.code, now.line, now.start, fault.about)
             cell = 0o10000 * now.in_field + now.location
             self.words += [(cell + n, word) for n, word in enumerate(words)]
-            self.clashes = self.clashes or self.clash(now.line)
+            self.clashes = self.clashes or self.clash(now)
         if self.clashes:
             raise self.clashes
         if not self.words:
-            raise Fault("NW", source.last_line)
+            raise Fault("NW", source.last_line, source.last_place)
 
     def cell(self, ask: Ask) -> int:
         return 0o10000 * ask[0] + 0o200 * ask[1] + 0o177 - rank(self.asks, ask)
 
-    def clash(self, line: int) -> Optional[Fault]:
+    def clash(self, now: Judged) -> Optional[Fault]:
         """That a word's cell is a pool's, by what there is so far."""
         both = {cell for cell, _ in self.words} & {self.cell(ask) for ask in self.asks}
         if not both:
             return None
-        return Fault("ZE" if min(both) % 0o10000 < 0o200 else "PE", line)
+        return Fault("ZE" if min(both) % 0o10000 < 0o200 else "PE", now.line, now.start, min(both))
 
     def words_of(self, now: Judged, k: int) -> list[int]:
         if now.body.form == "word":
@@ -577,7 +596,7 @@ class Words:
         for value in (before(name, judged[:k]), before(name, judged), permanent(name)):
             if value is not None:
                 return value
-        raise Fault("UA")
+        raise Fault("UA", about=name_number(name))
 
     def value(self, value: Value, now: Judged, k: int) -> int:
         def of_term(term: Term) -> int:
@@ -617,10 +636,23 @@ def pairs(text: bytes) -> list[tuple[int, int]]:
     return words.words + words.pool()
 
 
+def lines_of(meaning: dict[int, int]) -> str:
+    return "".join(f"{cell // 0o10000} {cell % 0o10000:04o} {meaning[cell]:04o}\n" for cell in sorted(meaning))
+
+
+def placed_answer(text: bytes) -> str:
+    """The answer, and of a fault the byte at which its statement begins, and the name or the cell that it is about."""
+    try:
+        return lines_of(dict(pairs(text)))
+    except Fault as fault:
+        about = "" if fault.about is None else f" {fault.about:o}"
+        return f"? 5 {fault.code} {fault.line} {place_in(text, fault.start)}{about}\n"
+
+
 def answer(text: bytes) -> str:
     """The cells that have words, each with the last one, a line each, or the line of the first fault."""
     try:
         meaning = dict(pairs(text))
     except Fault as fault:
         return f"? 5 {fault.code} {fault.line}\n"
-    return "".join(f"{cell // 0o10000} {cell % 0o10000:04o} {meaning[cell]:04o}\n" for cell in sorted(meaning))
+    return lines_of(meaning)

@@ -1,41 +1,108 @@
 -- Entries, one after the other.
-use Rattle.std.proofs.Common.{◌≡◌, ℕ, ◌+◌, ◌≤◌, suc, Result, Ok, Err, length, get_or, take, drop, List, [], ◌∷◌, ◌++◌, refl, sym, ap, ◌∙◌, arith}
-use Rattle.std.proofs.lemmas.List.{length-append, length-drop, take-append-le, drop-append-le}
+use Rattle.std.proofs.Common.{◌≡◌, ℕ, ◌+◌, ◌/◌, ◌≤◌, suc, Bool, Option, Some, None, Result, Ok, Err, length, get_or, take, drop, List, [], ◌∷◌, ◌++◌, refl, sym, ap, subst, ◌∙◌, arith}
+use Rattle.std.proofs.lemmas.List.{append_assoc, append-nil, length-append, length-drop, take-append-le, drop-append-le}
 use Rattle.std.proofs.Math.Seq.{take-length}
-use Rattle.pal8_pools.specs.Pooled.{Holds, PoolTable}
+use Rattle.word12.specs.declared.sizes.TheConstants.{PAGE}
+use Rattle.pal8_pools.specs.Asks.{Ask}
+use Rattle.pal8_pools.specs.Cells.{ArePairs}
+use Rattle.pal8_pools.specs.Pooled.{PoolTable}
+use Rattle.pal8_clash.specs.Clashes.{AreMarks, OthersStay, lowest_clash}
 use Rattle.pal8_grammar.specs.declared.steps.Step.{Step}
 use Rattle.pal8_values.specs.Sums.{Known}
+use Rattle.pal8_values.specs.Words.{Asked, word_value}
+use Rattle.pal8_values.specs.Answering.{IsAsked}
+use Rattle.pal8_values.specs.Laws.{GoesNear, WordsAskNear}
+use Rattle.pal8_values.specs.declared.sums.Spot.{Spot}
 use Rattle.pal8_asm.specs.Kept.{cut, total}
-use Rattle.pal8_asm.specs.Sources.{Entry, Fault, resolved}
-use Rattle.pal8_asm.specs.Tapes.{Made, with_entries, with_entry}
-use Rattle.pal8_asm.specs.Steps.{Makes}
+use Rattle.pal8_asm.specs.Sources.{Entry, resolved}
+use Rattle.pal8_asm.specs.Tapes.{Made, clash_fault, first_of, spot_of, with_entries, with_entry, with_word}
+use Rattle.pal8_asm.specs.Steps.{AddsPool, GivesAt, IsMaking, Makes, coded_at}
+use Rattle.pal8_asm.specs.declared.faults.Fault.{Fault}
+use Rattle.pal8_asm.specs.declared.faults.Place.{Place}
 use Rattle.pal8_asm.specs.declared.entries.Head.{Head}
 use Rattle.pal8_asm.specs.declared.faults.AsmFault.{AsmFault}
 use Rattle.pal8_asm.specs.declared.faults.AsmFault.TheVariants.{At, Memory}
 
 -- The rest of the entries comes to what all of them come to.
-pub record IsOnTheWay (last : Known) (whole : Result Made Fault) (heads : List Head) (steps : List Step) (pools : PoolTable) (pairs : List (ℕ × ℕ)) : Type 0 where
-  pub made : Made
-  pub same : with_entries last (cut heads steps) (Ok made) ≡ whole
-  pub words : pairs ≡ made.words
-  pub holds : Holds pools made.asks made.asks
+pub record IsOnTheWay (last : Known) (whole : Result Made Fault) (heads : List Head) (steps : List Step) (pools : PoolTable) (marks : List Bool) (clash : Option Fault)
+    (pairs : List (ℕ × ℕ)) : Type 0 where
+  pub so_far : Result Made Fault
+  pub same : with_entries last (cut heads steps) so_far ≡ whole
+  pub making : IsMaking so_far pools marks clash pairs
 
 entries_stay : (last : Known) (entries : List Entry) (fault : Fault) → with_entries last entries (Err fault) ≡ Err fault
 entries_stay last [] fault = refl
 entries_stay last (e ∷ others) fault = entries_stay last others fault
 
 abbrev entry : Head → List Step → Entry
-entry h steps = record { line = h.line; cell = h.cell; steps = take h.count steps }
+entry h steps = record { place = h.place; cell = h.cell; steps = take h.count steps }
 
 -- an entry that fails makes all fail
-pub entry_fails : (last : Known) (whole : Result Made Fault) (heads : List Head) (h : Head) (steps : List Step) (pools pools' : PoolTable) (pairs pairs' : List (ℕ × ℕ))
-    (fault : AsmFault) → 1 ≤ length heads → h ≡ get_or heads 0 h → (way : IsOnTheWay last whole heads steps pools pairs)
-    → Makes (with_entry last (entry h steps) (Ok way.made)) (Err fault) pools' pairs' → Makes whole (Err fault) pools' pairs'
-entry_fails last whole [] h steps pools pools' pairs pairs' fault long first way fails = absurd (omega (arith, long))
-entry_fails last whole (x ∷ others) h steps pools pools' pairs pairs' (At code line) long first way fails =
-    sym way.same ∙ ap (λ e. with_entries last (cut others (drop x.count steps)) (with_entry last (entry e steps) (Ok way.made))) (sym first)
+pub entry_fails : (last : Known) (whole : Result Made Fault) (heads : List Head) (h : Head) (steps : List Step) (pools pools' : PoolTable) (marks marks' : List Bool)
+    (clash clash' : Option Fault) (pairs pairs' : List (ℕ × ℕ)) (fault : AsmFault) → 1 ≤ length heads → h ≡ get_or heads 0 h
+    → (way : IsOnTheWay last whole heads steps pools marks clash pairs) → Makes (with_entry last (entry h steps) way.so_far) (Err fault) pools' marks' clash' pairs'
+    → Makes whole (Err fault) pools' marks' clash' pairs'
+entry_fails last whole [] h steps pools pools' marks marks' clash clash' pairs pairs' fault long first way fails = absurd (omega (arith, long))
+entry_fails last whole (x ∷ others) h steps pools pools' marks marks' clash clash' pairs pairs' (At code place) long first way fails =
+    sym way.same ∙ ap (λ e. with_entries last (cut others (drop x.count steps)) (with_entry last (entry e steps) way.so_far)) (sym first)
     ∙ ap (with_entries last (cut others (drop x.count steps))) fails ∙ entries_stay last (cut others (drop x.count steps)) _
-entry_fails last whole (x ∷ others) h steps pools pools' pairs pairs' Memory long first way fails = tt
+entry_fails last whole (x ∷ others) h steps pools pools' marks marks' clash clash' pairs pairs' Memory long first way fails = tt
+
+-- ## One word more
+
+abbrev fault_or : {A : Type 0} → Fault → Result A Fault → Fault
+fault_or other (Err fault) = fault
+fault_or other (Ok a) = other
+
+coded_word : (e : Entry) (made : Made) (whole : Asked) (fault : Fault) → coded_at e.place whole ≡ Err fault → with_word e made whole ≡ Err fault
+coded_word e made (Err why) fault is = ap Err (ap (fault_or fault) is)
+coded_word e made (Ok asked) fault is = absurd cc
+
+-- a word that fails
+pub word_fails : (last : Known) (e : Entry) (whole : Result Made Fault) (pools pools' : PoolTable) (marks marks' : List Bool) (clash clash' : Option Fault)
+    (pairs pairs' : List (ℕ × ℕ)) (fault : AsmFault) (making : IsMaking whole pools marks clash pairs)
+    → GivesAt e.place (word_value last (spot_of e.cell) e.steps making.made.asks) (Err fault) pools' → Makes (with_entry last e whole) (Err fault) pools' marks' clash' pairs'
+word_fails last e whole pools pools' marks marks' clash clash' pairs pairs' (At code place) making gives =
+    ap (with_entry last e) making.is_whole ∙ coded_word e making.made _ _ gives
+word_fails last e whole pools pools' marks marks' clash clash' pairs pairs' Memory making gives = tt
+
+none_or : (clash : Option Fault) (place : Place) (found lowest : Option ℕ) → (clash ≡ None → found ≡ lowest) → first_of clash (clash_fault place found) ≡ first_of clash (clash_fault place lowest)
+none_or None place found lowest is = ap (clash_fault place) (is refl)
+none_or (Some fault) place found lowest is = refl
+
+-- no fault of a clash is no clash
+pub free_by : (clash : Option Fault) (place : Place) (lowest : Option ℕ) → first_of clash (clash_fault place lowest) ≡ None → lowest ≡ None
+free_by None place None is = refl
+free_by None place (Some c) is = absurd cc
+free_by (Some fault) place lowest is = absurd cc
+
+-- a word that was made, and put at its cell
+pub word_goes_on : (last : Known) (e : Entry) (whole : Result Made Fault) (pools pools' : PoolTable) (marks marks' : List Bool) (clash : Option Fault)
+    (pairs pairs' : List (ℕ × ℕ)) (word : ℕ) (found : Option ℕ) (making : IsMaking whole pools marks clash pairs)
+    → (asked : IsAsked (word_value last (spot_of e.cell) e.steps making.made.asks) word pools') → pairs' ≡ pairs ++ (e.cell, word) ∷ []
+    → AreMarks marks' (making.made.words ++ (e.cell, word) ∷ [])
+    → (lowest_clash making.made.asks making.made.words ≡ None → found ≡ lowest_clash asked.asks (making.made.words ++ (e.cell, word) ∷ []))
+    → IsMaking (with_entry last e whole) pools' marks' (first_of clash (clash_fault e.place found)) pairs'
+word_goes_on last e whole pools pools' marks marks' clash pairs pairs' word found making asked are marked lowest = record {
+  made = record {
+    words = making.made.words ++ (e.cell, word) ∷ [];
+    asks = asked.asks;
+    clash = first_of making.made.clash (clash_fault e.place (lowest_clash asked.asks (making.made.words ++ (e.cell, word) ∷ [])));
+  };
+  is_whole = ap (with_entry last e) making.is_whole ∙ ap (with_word e making.made) asked.is_whole;
+  words = are ∙ ap (λ l. l ++ (e.cell, word) ∷ []) making.words;
+  holds = asked.holds;
+  marked = marked;
+  clashes =
+      ap (λ o. first_of o (clash_fault e.place found)) making.clashes
+      ∙ none_or making.made.clash e.place found _ (λ none. lowest (making.free none));
+  free = free_by making.made.clash e.place _;
+}
+
+-- the asks of a word leave those of far pages
+pub others_stay : WordsAskNear → (last : Known) (spot : Spot) (steps : List Step) (asks : List Ask) (word : ℕ) (pools : PoolTable)
+    → (asked : IsAsked (word_value last spot steps asks) word pools) → OthersStay spot.field (spot.location / PAGE) asks asked.asks
+others_stay law last spot steps asks word pools asked = (subst (λ r. GoesNear spot asks r) asked.is_whole (law last spot steps asks)).others
 
 -- ## One entry more
 
@@ -45,13 +112,13 @@ total_more (x ∷ heads) h = ap (λ n. x.count + n) (total_more heads h) ∙ ome
 
 -- a head more, and its own steps after the others
 pub cut_more : (heads : List Head) (steps own : List Step) (h : Head) → total heads ≡ length steps → h.count ≡ length own
-    → cut (heads ++ h ∷ []) (steps ++ own) ≡ cut heads steps ++ record { line = h.line; cell = h.cell; steps = own } ∷ []
+    → cut (heads ++ h ∷ []) (steps ++ own) ≡ cut heads steps ++ record { place = h.place; cell = h.cell; steps = own } ∷ []
 cut_more [] [] own h fits count =
-    ap (λ l. record { line = h.line; cell = h.cell; steps = l } ∷ []) (ap (λ n. take n own) count ∙ take-length own)
+    ap (λ l. record { place = h.place; cell = h.cell; steps = l } ∷ []) (ap (λ n. take n own) count ∙ take-length own)
 cut_more [] (s ∷ steps) own h fits count = absurd (omega (arith, fits))
 cut_more (x ∷ heads) steps own h fits count =
     let long : x.count ≤ length steps = omega (arith, fits) in
-    ap (λ l. record { line = x.line; cell = x.cell; steps = l } ∷ cut (heads ++ h ∷ []) (drop x.count (steps ++ own))) (take-append-le x.count steps own long)
+    ap (λ l. record { place = x.place; cell = x.cell; steps = l } ∷ cut (heads ++ h ∷ []) (drop x.count (steps ++ own))) (take-append-le x.count steps own long)
     ∙ ap (λ l. entry x steps ∷ cut (heads ++ h ∷ []) l) (drop-append-le x.count steps own long)
     ∙ ap (λ l. entry x steps ∷ l) (cut_more heads (drop x.count steps) own h (rest_fits x.count (total heads) steps fits) count)
   where
@@ -69,8 +136,34 @@ module _ (heads heads1 heads2 : List Head) (steps steps1 steps2 own : List Step)
       ap total (heads_are ∙ ap (λ l. l ++ h ∷ []) heads_stay) ∙ total_more heads h
       ∙ omega (arith, fits, count, resolved_length kept own, length-append steps (resolved kept own), ap length (steps_are ∙ ap (λ l. l ++ resolved kept own) steps_stay))
 
-  pub one_more : cut heads2 steps2 ≡ cut heads steps ++ record { line = h.line; cell = h.cell; steps = resolved kept own } ∷ []
+  pub one_more : cut heads2 steps2 ≡ cut heads steps ++ record { place = h.place; cell = h.cell; steps = resolved kept own } ∷ []
   one_more =
       ap (λ l. cut l steps2) (heads_are ∙ ap (λ l. l ++ h ∷ []) heads_stay)
       ∙ ap (cut (heads ++ h ∷ [])) (steps_are ∙ ap (λ l. l ++ resolved kept own) steps_stay)
       ∙ cut_more heads steps (resolved kept own) h fits (count ∙ sym (resolved_length kept own))
+
+-- ## Pools
+
+-- The cells that are left come after those that were put.
+pub record IsAdding (asks : List Ask) (old pairs left : List (ℕ × ℕ)) : Type 0 where
+  pub pool : List (ℕ × ℕ)
+  pub is_pool : ArePairs asks asks pool
+  pub same : pairs ++ left ≡ old ++ pool
+
+pub adds_none : (asks : List Ask) (old left : List (ℕ × ℕ)) → ArePairs asks asks left → IsAdding asks old old left
+adds_none asks old left are = record { pool = left; is_pool = are; same = refl }
+
+pub adds_one : (asks : List Ask) (old pairs pairs' left left' : List (ℕ × ℕ)) (pair : ℕ × ℕ) → IsAdding asks old pairs left → left ≡ pair ∷ left' → pairs' ≡ pairs ++ pair ∷ []
+    → IsAdding asks old pairs' left'
+adds_one asks old pairs pairs' left left' pair adding is are = record {
+  pool = adding.pool;
+  is_pool = adding.is_pool;
+  same = ap (λ l. l ++ left') are ∙ append_assoc pairs (pair ∷ []) left' ∙ ap (λ l. pairs ++ l) (sym is) ∙ adding.same;
+}
+
+pub adds_all : (asks : List Ask) (old pairs left : List (ℕ × ℕ)) → IsAdding asks old pairs left → left ≡ [] → AddsPool asks old pairs
+adds_all asks old pairs left adding none = record {
+  pool = adding.pool;
+  are = sym (append-nil pairs) ∙ ap (λ l. pairs ++ l) (sym none) ∙ adding.same;
+  is_pool = adding.is_pool;
+}

@@ -1,14 +1,15 @@
 -- Worked sources: what the definitions give for them, by computing.
 use Rattle.std.proofs.Common.{◌≡◌, ℕ, Result, Ok, Err, List, [], ◌∷◌, ◌++◌, refl}
 use Rattle.std.specs.Prelude.{codes}
+use Rattle.word12.specs.Sixbit.{name_number}
 use Rattle.pal_lex.specs.Text.{text_of}
 use Rattle.pal_sym.specs.Permanent.{permanent}
 use Rattle.pal8_pools.specs.Asks.{Ask, cell_in}
-use Rattle.pal8_asm.specs.Sources.{Fault}
+use Rattle.pal8_asm.specs.declared.faults.Fault.{Fault}
 use Rattle.pal8_asm.specs.Tapes.{Made}
 use Rattle.pal8_asm.specs.Assembled.{assembled}
 use Rattle.pal8_asm.specs.declared.faults.Code.{Code}
-use Rattle.pal8_asm.specs.declared.faults.Code.TheVariants.{IC, SY, NU, UA, DT, RD, IR, II, FD, PG, PF, DZ, PE, ZE, PH, NE, NW}
+use Rattle.pal8_asm.specs.declared.faults.Code.TheVariants.{IC, SY, NU, UA, DT, RD, IR, II, FD, PG, PF, DZ, PageClash, ZeroClash, PH, NE, NW}
 
 -- each ask with its cell, the oldest first
 abbrev cells : List Ask → List Ask → List (ℕ × ℕ)
@@ -16,7 +17,7 @@ cells asks [] = []
 cells asks (a ∷ older) = cells asks older ++ (cell_in asks a, a.value) ∷ []
 
 abbrev brief : Result Made Fault → Result (List (ℕ × ℕ) × List (ℕ × ℕ)) (Code × ℕ)
-brief (Err fault) = Err (fault.code, fault.line)
+brief (Err fault) = Err (fault.code, fault.place.line)
 brief (Ok made) = Ok (made.words, cells made.asks made.asks)
 
 abbrev read : List ℕ → Result (List (ℕ × ℕ) × List (ℕ × ℕ)) (Code × ℕ)
@@ -127,7 +128,7 @@ unfolding permanent
 order_nw = refl
 
 -- the fault of a later word comes before that
-order_ua_pe : read (codes "*377" ++ 10 ∷ codes "TAD (1" ++ 10 ∷ codes "TAD XX" ++ 10 ∷ codes "$" ++ 10 ∷ []) ≡ Err (UA, 3)
+order_ua_pe : read (codes "*377" ++ 10 ∷ codes "TAD (1" ++ 10 ∷ codes "TAD XX" ++ 10 ∷ codes "$" ++ 10 ∷ []) ≡ Err (UA (name_number (codes "XX")), 3)
 unfolding permanent
 order_ua_pe = refl
 
@@ -136,7 +137,7 @@ unfolding permanent
 page = refl
 
 -- a word may lie on a cell that was asked for long before
-pe_later_word : read (codes "*200" ++ 10 ∷ codes "TAD (1" ++ 10 ∷ codes "*400" ++ 10 ∷ codes "1" ++ 10 ∷ codes "*377" ++ 10 ∷ codes "2" ++ 10 ∷ codes "$" ++ 10 ∷ []) ≡ Err (PE, 6)
+pe_later_word : read (codes "*200" ++ 10 ∷ codes "TAD (1" ++ 10 ∷ codes "*400" ++ 10 ∷ codes "1" ++ 10 ∷ codes "*377" ++ 10 ∷ codes "2" ++ 10 ∷ codes "$" ++ 10 ∷ []) ≡ Err (PageClash 0o377, 6)
 unfolding permanent
 pe_later_word = refl
 
@@ -179,11 +180,11 @@ text : read (codes "*200" ++ 10 ∷ codes "TEXT /AB/" ++ 10 ∷ codes "A, TEXT \
 unfolding permanent
 text = refl
 
-ua_zblock : read (codes "*200" ++ 10 ∷ codes "ZBLOCK A" ++ 10 ∷ codes "1" ++ 10 ∷ codes "A=2" ++ 10 ∷ codes "$" ++ 10 ∷ []) ≡ Err (UA, 2)
+ua_zblock : read (codes "*200" ++ 10 ∷ codes "ZBLOCK A" ++ 10 ∷ codes "1" ++ 10 ∷ codes "A=2" ++ 10 ∷ codes "$" ++ 10 ∷ []) ≡ Err (UA (name_number (codes "A")), 2)
 unfolding permanent
 ua_zblock = refl
 
-ua : read (codes "*200" ++ 10 ∷ codes "TAD (XX" ++ 10 ∷ codes "1" ++ 10 ∷ codes "$" ++ 10 ∷ []) ≡ Err (UA, 2)
+ua : read (codes "*200" ++ 10 ∷ codes "TAD (XX" ++ 10 ∷ codes "1" ++ 10 ∷ codes "$" ++ 10 ∷ []) ≡ Err (UA (name_number (codes "XX")), 2)
 unfolding permanent
 ua = refl
 
@@ -191,6 +192,36 @@ zblock : read (codes "A=2" ++ 10 ∷ codes "ZBLOCK A" ++ 10 ∷ codes "1" ++ 10 
 unfolding permanent
 zblock = refl
 
-ze : read (codes "*177" ++ 10 ∷ codes "2" ++ 10 ∷ codes "*200" ++ 10 ∷ codes "TAD [1" ++ 10 ∷ codes "$" ++ 10 ∷ []) ≡ Err (ZE, 4)
+ze : read (codes "*177" ++ 10 ∷ codes "2" ++ 10 ∷ codes "*200" ++ 10 ∷ codes "TAD [1" ++ 10 ∷ codes "$" ++ 10 ∷ []) ≡ Err (ZeroClash 0o177, 4)
 unfolding permanent
 ze = refl
+
+-- ## Places: the line, and the byte in the text as it stands
+
+abbrev place : Result Made Fault → Result (List (ℕ × ℕ)) (Code × ℕ × ℕ)
+place (Err fault) = Err (fault.code, fault.place.line, fault.place.start)
+place (Ok made) = Ok made.words
+
+-- at the first token, blanks and dropped bytes counted
+place_of_token : place (assembled (text_of (codes "1" ++ 13 ∷ 10 ∷ codes "2;  3#" ++ 10 ∷ codes "$" ++ 10 ∷ []))) ≡ Err (IC, 2, 7)
+unfolding permanent
+place_of_token = refl
+
+-- an empty statement at the byte that ends it
+place_of_close : place (assembled (text_of (codes "1; >" ++ 10 ∷ codes "$" ++ 10 ∷ []))) ≡ Err (PH, 1, 3)
+unfolding permanent
+place_of_close = refl
+
+-- no word at the `$`, no end after the last byte
+place_of_dollar : place (assembled (text_of (codes "A=1;A=2 $" ++ 10 ∷ []))) ≡ Err (NW, 1, 8)
+unfolding permanent
+place_of_dollar = refl
+
+place_of_end : place (assembled (text_of (codes "1" ++ 10 ∷ codes "2" ++ []))) ≡ Err (NE, 2, 3)
+unfolding permanent
+place_of_end = refl
+
+-- the lowest of two cells that clash at once, at the later of two statements
+place_of_clash : place (assembled (text_of (codes "*177;1;*377;2;*200;(TAD [1)" ++ 10 ∷ codes "$" ++ 10 ∷ []))) ≡ Err (ZeroClash 0o177, 1, 19)
+unfolding permanent
+place_of_clash = refl

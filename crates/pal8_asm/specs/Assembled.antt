@@ -1,27 +1,27 @@
 -- What a text makes, or its first fault (PAL8, in this project's profile).
-use Rattle.std.specs.Prelude.{ℕ, Bool, true, false, Option, Some, None, Result, Ok, Err, List, [], ◌∷◌}
+use Rattle.std.specs.Prelude.{ℕ, Bool, true, false, Result, Ok, Err, List, [], ◌∷◌}
 use Rattle.pal8_asm.specs.Places.{stands}
-use Rattle.pal8_asm.specs.Sources.{Fault, Passed, at_line, last_line, left_of, source_of}
+use Rattle.pal8_asm.specs.Sources.{Passed, at_place, last_place, left_of, source_of}
+use Rattle.pal8_asm.specs.declared.faults.Fault.{Fault}
 use Rattle.pal8_asm.specs.declared.faults.Code.TheVariants as code
-use Rattle.pal8_asm.specs.Tapes.{Made, made_of}
+use Rattle.pal8_asm.specs.Tapes.{Made, cleared, made_of}
 
 abbrev pub has_words : List (ℕ × ℕ) → Bool
 has_words [] = false
 has_words (word ∷ others) = true
 
-abbrev pub judged_by : List ℕ → Made → Option Fault → Bool → Result Made Fault
-judged_by text made (Some fault) has = Err fault
-judged_by text made None true = Ok made
-judged_by text made None false = Err (at_line (last_line (source_of text)) code.NW)
+abbrev pub judged_by : List ℕ → Made → Bool → Result Made Fault
+judged_by text made true = Ok made
+judged_by text made false = Err (at_place (last_place (source_of text)) code.NW)
 
--- no word lies on a pool's cell, and there is a word
+-- there is a word
 abbrev pub judged : List ℕ → Result Made Fault → Result Made Fault
 judged text (Err fault) = Err fault
-judged text (Ok made) = judged_by text made made.clash (has_words made.words)
+judged text (Ok made) = judged_by text made (has_words made.words)
 
 abbrev pub made_by : List ℕ → Passed → Result Made Fault
 made_by text (Err fault) = Err fault
-made_by text (Ok left) = judged text (made_of (stands left.standing.kept) left.entries)
+made_by text (Ok left) = judged text (cleared (made_of (stands left.standing.kept) left.entries))
 
 -- what a text makes, or its first fault: of places and names; of its end; of words; of words on pools' cells; that there is no word
 abbrev pub assembled : List ℕ → Result Made Fault

@@ -1,12 +1,16 @@
 -- What the answers of an assembler come to.
-use Rattle.std.specs.Prelude.{◌≡◌, ℕ, Result, Ok, Err, List}
+use Rattle.std.specs.Prelude.{◌≡◌, ℕ, Result, Ok, Err, List, ◌++◌}
 use Rattle.pal_sym.specs.SymbolTable.{SymbolTable}
 use Rattle.pal_sym.specs.Values.{is_fixed, symbol_value}
 use Rattle.std.specs.Global.{Vec}
+use Rattle.pal8_pools.specs.Cells.{ArePairs}
 use Rattle.pal8_pools.specs.Pooled.{Holds, PoolTable}
 use Rattle.pal8_asm.specs.Places.{Standing}
 use Rattle.pal8_asm.specs.Tapes.{Made}
-use Rattle.pal8_asm.specs.Sources.{Entry, Fault, Left, Passed, at_line, last_line, left_of, source_of}
+use Rattle.pal8_asm.specs.Assembled.{assembled}
+use Rattle.pal8_asm.specs.Sources.{Entry, Left, Passed, at_place, last_place, left_of, source_of}
+use Rattle.pal8_asm.specs.declared.faults.Fault.{Fault}
+use Rattle.pal8_asm.specs.declared.faults.Place.{Place}
 use Rattle.pal8_asm.specs.declared.faults.AsmFault.{AsmFault}
 use Rattle.pal8_asm.specs.declared.faults.AsmFault.TheVariants as asm
 use Rattle.pal8_asm.specs.declared.faults.Code.{Code}
@@ -37,13 +41,13 @@ left_in a = record { standing = standing a.table a.position; entries = a.entries
 -- a statement is taken, or its fault is answered; or memory ran out
 abbrev pub Takes : Passed → Result (Unit {0}) AsmFault → Progress → Type 0
 Takes whole (Ok nothing) new = whole ≡ Ok (left_in new)
-Takes whole (Err (asm.At code line)) new = whole ≡ Err (at_line line code)
+Takes whole (Err (asm.At code place)) new = whole ≡ Err (at_place place code)
 Takes whole (Err asm.Memory) new = Unit {0}
 
--- what a text leaves to be made was taken, and its `$` has this line; or its fault; or memory ran out
-abbrev pub ReadsText : List ℕ → Result ℕ AsmFault → Progress → Type 0
-ReadsText text (Ok line) a = (left_of text ≡ Ok (left_in a)) × (last_line (source_of text) ≡ line)
-ReadsText text (Err (asm.At code line)) a = left_of text ≡ Err (at_line line code)
+-- what a text leaves to be made was taken, and its `$` has this place; or its fault; or memory ran out
+abbrev pub ReadsText : List ℕ → Result Place AsmFault → Progress → Type 0
+ReadsText text (Ok place) a = (left_of text ≡ Ok (left_in a)) × (last_place (source_of text) ≡ place)
+ReadsText text (Err (asm.At code place)) a = left_of text ≡ Err (at_place place code)
 ReadsText text (Err asm.Memory) a = Unit {0}
 
 -- Entries were made, after others: these are the words so far, and the pools hold what was asked.
@@ -56,5 +60,19 @@ pub record IsMade (whole : Result Made Fault) (pools : PoolTable) (pairs : List 
 -- the words are answered, and the pools hold what they asked; or the first fault of a word; or memory ran out
 abbrev pub MakesWords : Result Made Fault → Result (Vec (ℕ × ℕ)) AsmFault → PoolTable → Type 0
 MakesWords whole (Ok pairs) pools = IsMade whole pools pairs.items
-MakesWords whole (Err (asm.At code line)) pools = whole ≡ Err (at_line line code)
+MakesWords whole (Err (asm.At code place)) pools = whole ≡ Err (at_place place code)
 MakesWords whole (Err asm.Memory) pools = Unit {0}
+
+-- The pairs are the words of what was made, and then each pool's cell with its value, by rising cell.
+pub record IsAssembled (whole : Result Made Fault) (pairs : List (ℕ × ℕ)) : Type 0 where
+  pub made : Made
+  pub is_whole : whole ≡ Ok made
+  pub pool : List (ℕ × ℕ)
+  pub are : pairs ≡ made.words ++ pool
+  pub is_pool : ArePairs made.asks made.asks pool
+
+-- a text is assembled, or its first fault is answered; or memory ran out
+abbrev pub Assembles : List ℕ → Result (Vec (ℕ × ℕ)) AsmFault → Type 0
+Assembles text (Ok pairs) = IsAssembled (assembled text) pairs.items
+Assembles text (Err (asm.At code place)) = assembled text ≡ Err (at_place place code)
+Assembles text (Err asm.Memory) = Unit {0}

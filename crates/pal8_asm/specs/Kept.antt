@@ -12,4 +12,4 @@ total (h ∷ others) = h.count + total others
 -- each head with its own steps
 abbrev pub cut : List Head → List Step → List Entry
 cut [] steps = []
-cut (h ∷ others) steps = record { line = h.line; cell = h.cell; steps = take h.count steps } ∷ cut others (drop h.count steps)
+cut (h ∷ others) steps = record { place = h.place; cell = h.cell; steps = take h.count steps } ∷ cut others (drop h.count steps)

@@ -1,7 +1,77 @@
--- What holds of the faults of each text.
-use Rattle.std.specs.Prelude.{◌≡◌, ℕ, Err, List, ◌++◌}
-use Rattle.pal8_asm.specs.Sources.{Fault, left_of, passed, source_of}
+-- What holds of each text.
+use Rattle.std.specs.Prelude.{◌≡◌, ℕ, nat_eq, true, false, if◌then◌else◌, Option, Some, None, Result, Ok, Err, List, [], ◌∷◌, ◌++◌}
+use Rattle.pal_sym.specs.Values.{if_none}
+use Rattle.pal8_pools.specs.Asks.{Ask, IsAsked, cell_in}
+use Rattle.pal8_pools.specs.Pooled.{is_cell_of}
+use Rattle.pal8_clash.specs.Clashes.{has_word}
+use Rattle.pal8_asm.specs.Assembled.{assembled}
+use Rattle.pal8_asm.specs.Assembling.{IsAssembled}
+use Rattle.pal8_asm.specs.Tapes.{Made}
+use Rattle.pal8_grammar.specs.Bodies.{Phrase, said_by}
+use Rattle.pal8_grammar.specs.declared.bodies.Body.TheVariants as body
+use Rattle.pal8_grammar.specs.declared.faults.GrammarFault.{GrammarFault}
+use Rattle.pal8_asm.specs.Places.{Standing}
+use Rattle.pal8_asm.specs.Sources.{Passed, Source, Statement, first_left, left_of, number, passed, source_of, with_said}
+use Rattle.pal8_asm.specs.declared.faults.Fault.{Fault}
 
 -- the first fault of the statements of a text is that of the text, whatever follows
 abbrev pub FaultStays : Type 0
 FaultStays = (later text : List ℕ) (fault : Fault) → passed (source_of text) ≡ Err fault → left_of (later ++ text) ≡ Err fault
+
+-- in a text without a fault no cell of a word is a pool's cell
+abbrev pub Apart : Type 0
+Apart = (text : List ℕ) (made : Made) → assembled text ≡ Ok made → (c : ℕ) → has_word made.words c ≡ true → is_cell_of made.asks made.asks c ≡ false
+
+-- the pairs of a text that asks nothing are its words
+abbrev pub NoPoolNoChange : Type 0
+NoPoolNoChange = (text : List ℕ) (pairs : List (ℕ × ℕ)) → (whole : IsAssembled (assembled text) pairs) → whole.made.asks ≡ [] → pairs ≡ whole.made.words
+
+-- what pairs give a cell: the word of the last of them at that cell
+abbrev pub meaning : List (ℕ × ℕ) → ℕ → Option ℕ
+meaning [] c = None
+meaning (pair ∷ later) c = if_none (meaning later c) (if nat_eq pair.0 c then Some pair.1 else None)
+
+-- in a text without a fault the cell that a literal or a link is asked for holds its value
+abbrev pub ValueIsFound : Type 0
+ValueIsFound =
+    (text : List ℕ) (pairs : List (ℕ × ℕ)) → (whole : IsAssembled (assembled text) pairs) → (a : Ask) → IsAsked whole.made.asks a
+    → meaning pairs (cell_in whole.made.asks a) ≡ Some a.value
+
+-- ## Places rest on no word
+
+-- what a statement says, but that a word is the word 0
+abbrev pub zero_phrase : Phrase → Phrase
+zero_phrase (body.Nothing, steps) = (body.Nothing, steps)
+zero_phrase (body.Origin, steps) = (body.Origin, steps)
+zero_phrase (body.Define name, steps) = (body.Define name, steps)
+zero_phrase (body.Decimal, steps) = (body.Decimal, steps)
+zero_phrase (body.Octal, steps) = (body.Octal, steps)
+zero_phrase (body.Field, steps) = (body.Field, steps)
+zero_phrase (body.NextPage, steps) = (body.NextPage, steps)
+zero_phrase (body.Page, steps) = (body.Page, steps)
+zero_phrase (body.Zeros, steps) = (body.Zeros, steps)
+zero_phrase (body.Text, steps) = (body.Text, steps)
+zero_phrase (body.Listing, steps) = (body.Listing, steps)
+zero_phrase (body.Word, steps) = (body.Word, number 0)
+
+abbrev pub zero_said : Result Phrase GrammarFault → Result Phrase GrammarFault
+zero_said (Err fault) = Err fault
+zero_said (Ok phrase) = Ok (zero_phrase phrase)
+
+abbrev pub read_zero : Statement → Passed → Passed
+read_zero s (Err fault) = Err fault
+read_zero s (Ok left) = with_said s left (zero_said (said_by left.standing.position.radix s.tokens s.is_cut s.end))
+
+-- what the statements of a source leave, where each word is read as the word 0
+abbrev pub passed_zero : Source → Passed
+passed_zero [] = Ok first_left
+passed_zero (s ∷ older) = read_zero s (passed_zero older)
+
+-- the places, the field and the names that are left
+abbrev pub standing_in : Passed → Result Standing Fault
+standing_in (Err fault) = Err fault
+standing_in (Ok left) = Ok left.standing
+
+-- each place, field and name, and each fault of theirs, is that of the source with each word read as the word 0
+abbrev pub PlacesStay : Type 0
+PlacesStay = (source : Source) → standing_in (passed_zero source) ≡ standing_in (passed source)

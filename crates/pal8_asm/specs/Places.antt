@@ -108,14 +108,14 @@ text_size length = length / 2 + 1
 
 -- (no value asks for memory, or a pool)
 abbrev pub code_of : ValueFault → Code
-code_of value.UA = code.UA
+code_of (value.UA name) = code.UA name
 code_of value.PF = code.PF
 code_of value.DZ = code.DZ
 code_of value.IR = code.IR
 code_of value.II = code.II
 code_of value.PE = code.PE
 code_of value.ZE = code.ZE
-code_of value.Memory = code.UA
+code_of value.Memory = code.SY
 
 abbrev pub coded : Result ℕ ValueFault → Result ℕ Code
 coded (Err fault) = Err (code_of fault)

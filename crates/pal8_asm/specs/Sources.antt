@@ -3,8 +3,12 @@
 use Rattle.std.specs.Prelude.{ℕ, ◌+◌, ◌-◌, ◌*◌, ◌%◌, Bool, true, false, if◌then◌else◌, is_some, Option, Some, None, Result, Ok, Err, length, replicate, List, [], ◌∷◌, ◌++◌}
 use Rattle.word12.specs.declared.sizes.TheConstants.{FIELD}
 use Rattle.pal_sym.specs.Permanent as old
+use Rattle.pal_lex.specs.Text.{limit}
 use Rattle.pal8_lex.specs.Text.{line_after, live}
-use Rattle.pal8_lex.specs.Statements.{Statement, statements}
+use Rattle.pal8_lex.specs.Pieces.{ends, pieces}
+use Rattle.pal8_lex.specs.Statements as lex
+use Rattle.pal8_lex.specs.Statements.{statement_of}
+use Rattle.pal8_lex.specs.declared.tokens.Token.{Token}
 use Rattle.pal8_lex.specs.declared.rules.End.{End}
 use Rattle.pal8_lex.specs.declared.rules.End.TheVariants as end
 use Rattle.pal8_lex.specs.declared.judging.Radix.TheVariants as radix
@@ -17,21 +21,47 @@ use Rattle.pal8_grammar.specs.declared.faults.GrammarFault.{GrammarFault}
 use Rattle.pal8_grammar.specs.declared.faults.GrammarFault.TheVariants as grammar
 use Rattle.pal8_values.specs.Sums.{Known}
 use Rattle.pal8_asm.specs.Places.{Standing, with_statement}
+use Rattle.pal8_asm.specs.declared.faults.Place.{Place}
+use Rattle.pal8_asm.specs.declared.faults.Fault.{Fault}
 use Rattle.pal8_asm.specs.declared.faults.Code.{Code}
 use Rattle.pal8_asm.specs.declared.faults.Code.TheVariants as code
 use Rattle.pal8_asm.specs.declared.places.TheConstants.{FIRST_PLACE}
 
+-- A statement of a text, with the byte that ends it.
+pub record Statement : Type 0 where
+  pub line : ℕ
+  pub at : ℕ
+  pub tokens : List Token
+  pub string : List ℕ
+  pub is_cut : Bool
+  pub end : End
+
 abbrev pub Source : Type 0
 Source = List Statement
 
--- a fault, with its line
-pub record Fault : Type 0 where
-  pub code : Code
-  pub line : ℕ
+abbrev pub ended_at : ℕ → lex.Statement → Statement
+ended_at at s = record { line = s.line; at = at; tokens = s.tokens; string = s.string; is_cut = s.is_cut; end = s.end }
 
--- A word that is to be made: the line of its statement, its cell, and the steps of its value.
+-- the statements of the bytes that are there, the newest first
+abbrev pub statements_of : List (ℕ × ℕ) → Source
+statements_of [] = []
+statements_of (x ∷ older) = if ends (pieces older) x.0 then ended_at (limit x.1) (statement_of x.0 older) ∷ statements_of older else statements_of older
+
+-- the statements of a text, the newest first
+abbrev pub statements : List ℕ → Source
+statements text = statements_of (live text)
+
+-- where a statement begins: at its first token, or, if it has none, at the byte that ends it
+abbrev pub start_of : ℕ → List Token → ℕ
+start_of at [] = at
+start_of at (t ∷ others) = t.start
+
+abbrev pub place_of : Statement → Place
+place_of s = record { line = s.line; start = start_of s.at s.tokens }
+
+-- A word that is to be made: the place of its statement, its cell, and the steps of its value.
 pub record Entry : Type 0 where
-  pub line : ℕ
+  pub place : Place
   pub cell : ℕ
   pub steps : List Step
 
@@ -101,10 +131,10 @@ words_in body.Listing kept steps string size = []
 words_in body.Word kept steps string size = resolved kept steps ∷ []
 
 -- words from an address on, after others (no word that has a fault is kept, so none is past 7777)
-abbrev pub with_entries : ℕ → ℕ → ℕ → List (List Step) → List Entry → List Entry
-with_entries line field address [] entries = entries
-with_entries line field address (steps ∷ others) entries =
-    with_entries line field ((address + 1) % 0o10000) others (entries ++ record { line = line; cell = FIELD * field + address; steps = steps } ∷ [])
+abbrev pub with_entries : Place → ℕ → ℕ → List (List Step) → List Entry → List Entry
+with_entries place field address [] entries = entries
+with_entries place field address (steps ∷ others) entries =
+    with_entries place field ((address + 1) % 0o10000) others (entries ++ record { place = place; cell = FIELD * field + address; steps = steps } ∷ [])
 
 -- ## Statements
 
@@ -114,8 +144,8 @@ code_of grammar.NU = code.NU
 code_of grammar.SY = code.SY
 code_of grammar.Memory = code.SY
 
-abbrev pub at_line : ℕ → Code → Fault
-at_line line code = record { code = code; line = line }
+abbrev pub at_place : Place → Code → Fault
+at_place place code = record { code = code; place = place }
 
 abbrev pub is_close : End → Bool
 is_close end.Semicolon = false
@@ -126,18 +156,18 @@ is_close end.Dollar = false
 
 -- no bracket is open, so `>` closes none
 abbrev pub closed : Statement → Left → Passed
-closed s left = if is_close s.end then Err (at_line s.line code.PH) else Ok left
+closed s left = if is_close s.end then Err (at_place (place_of s) code.PH) else Ok left
 
 abbrev pub with_phrase : Statement → Phrase → Left → Result Standing Code → Passed
-with_phrase s phrase left (Err fault) = Err (at_line s.line fault)
+with_phrase s phrase left (Err fault) = Err (at_place (place_of s) fault)
 with_phrase s phrase left (Ok standing) = closed s record {
   standing = standing;
-  entries = with_entries s.line left.standing.position.field (left.standing.position.location % 0o10000)
+  entries = with_entries (place_of s) left.standing.position.field (left.standing.position.location % 0o10000)
       (words_in phrase.0 standing.kept phrase.1 s.string (standing.position.location - left.standing.position.location)) left.entries;
 }
 
 abbrev pub with_said : Statement → Left → Result Phrase GrammarFault → Passed
-with_said s left (Err fault) = Err (at_line s.line (code_of fault))
+with_said s left (Err fault) = Err (at_place (place_of s) (code_of fault))
 with_said s left (Ok phrase) = with_phrase s phrase left (with_statement s.tokens phrase.0 phrase.1 (length s.string) left.standing)
 
 abbrev pub with_next : Statement → Passed → Passed
@@ -172,15 +202,19 @@ source_in (s ∷ older) = if is_ended older then source_in older else s ∷ olde
 abbrev pub source_of : List ℕ → Source
 source_of text = source_in (statements text)
 
--- the line of the last statement, which is that of the `$`
-abbrev pub last_line : Source → ℕ
-last_line [] = 1
-last_line (s ∷ older) = s.line
+-- the place of what ends the last statement, which is the `$`
+abbrev pub last_place : Source → Place
+last_place [] = record { line = 1; start = 0 }
+last_place (s ∷ older) = record { line = s.line; start = s.at }
+
+-- the place after a text
+abbrev pub place_after : List ℕ → Place
+place_after text = record { line = line_after (live text); start = limit (length text) }
 
 abbrev pub if_ended : List ℕ → Bool → Passed → Passed
 if_ended text ended (Err fault) = Err fault
 if_ended text true (Ok left) = Ok left
-if_ended text false (Ok left) = Err (at_line (line_after (live text)) code.NE)
+if_ended text false (Ok left) = Err (at_place (place_after text) code.NE)
 
 -- what a text leaves to be made, or its first fault but for those of words
 abbrev pub left_of : List ℕ → Passed

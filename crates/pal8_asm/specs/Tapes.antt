@@ -1,13 +1,16 @@
 -- The words of a source with their cells, and what its pools hold (PAL8, in this project's profile).
-use Rattle.std.specs.Prelude.{ℕ, ◌/◌, ◌%◌, nat_lt, Bool, true, false, ◌&&◌, ◌||◌, Option, Some, None, Result, Ok, Err, List, [], ◌∷◌, ◌++◌}
+use Rattle.std.specs.Prelude.{ℕ, ◌/◌, ◌%◌, nat_lt, Bool, if◌then◌else◌, Option, Some, None, Result, Ok, Err, List, [], ◌∷◌, ◌++◌}
 use Rattle.word12.specs.declared.sizes.TheConstants.{FIELD, PAGE}
 use Rattle.pal8_pools.specs.Asks.{Ask}
-use Rattle.pal8_pools.specs.Pooled.{is_cell_of}
+use Rattle.pal8_clash.specs.Clashes.{lowest_clash}
 use Rattle.pal8_values.specs.Sums.{Known}
 use Rattle.pal8_values.specs.Words.{Asked, word_value}
 use Rattle.pal8_values.specs.declared.sums.Spot.{Spot}
 use Rattle.pal8_asm.specs.Places.{code_of}
-use Rattle.pal8_asm.specs.Sources.{Entry, Fault, at_line}
+use Rattle.pal8_asm.specs.Sources.{Entry, at_place}
+use Rattle.pal8_asm.specs.declared.faults.Place.{Place}
+use Rattle.pal8_asm.specs.declared.faults.Fault.{Fault}
+use Rattle.pal8_asm.specs.declared.faults.Code.{Code}
 use Rattle.pal8_asm.specs.declared.faults.Code.TheVariants as code
 
 -- What entries make: their words with their cells, in the order of the source; what they asked, the newest first; and the first fault of a word
@@ -24,31 +27,24 @@ spot_of cell = record { field = cell / FIELD; location = cell % FIELD }
 abbrev pub is_on_zero : ℕ → Bool
 is_on_zero c = nat_lt (c % FIELD) PAGE
 
--- one of these words lies on a pool's cell, here on a page zero or else on another page
-abbrev pub has_clash : Bool → List Ask → List (ℕ × ℕ) → Bool
-has_clash zero asks [] = false
-has_clash true asks (word ∷ others) = (is_on_zero word.0 && is_cell_of asks asks word.0) || has_clash true asks others
-has_clash false asks (word ∷ others) = is_cell_of asks asks word.0 || has_clash false asks others
+abbrev pub clash_code : ℕ → Code
+clash_code c = if is_on_zero c then code.ZeroClash c else code.PageClash c
 
-abbrev pub clash_by : ℕ → Bool → Bool → Option Fault
-clash_by line true clash = Some (at_line line code.ZE)
-clash_by line false true = Some (at_line line code.PE)
-clash_by line false false = None
-
--- a word's cell is a pool's, of words up to this one and asks up to it
-abbrev pub clash_of : ℕ → List Ask → List (ℕ × ℕ) → Option Fault
-clash_of line asks words = clash_by line (has_clash true asks words) (has_clash false asks words)
+-- the fault of the lowest of the cells of words that is a pool's, if one is
+abbrev pub clash_fault : Place → Option ℕ → Option Fault
+clash_fault place None = None
+clash_fault place (Some c) = Some (at_place place (clash_code c))
 
 abbrev pub first_of : Option Fault → Option Fault → Option Fault
 first_of None later = later
 first_of (Some fault) later = Some fault
 
 abbrev pub with_word : Entry → Made → Asked → Result Made Fault
-with_word e made (Err fault) = Err (at_line e.line (code_of fault))
+with_word e made (Err fault) = Err (at_place e.place (code_of fault))
 with_word e made (Ok (word, asks)) = Ok record {
   words = made.words ++ (e.cell, word) ∷ [];
   asks = asks;
-  clash = first_of made.clash (clash_of e.line asks (made.words ++ (e.cell, word) ∷ []));
+  clash = first_of made.clash (clash_fault e.place (lowest_clash asks (made.words ++ (e.cell, word) ∷ [])));
 }
 
 abbrev pub with_entry : Known → Entry → Result Made Fault → Result Made Fault
@@ -63,3 +59,12 @@ with_entries last (e ∷ others) made = with_entries last others (with_entry las
 -- what entries make, by what names stand for at last; or the first fault of a word
 abbrev pub made_of : Known → List Entry → Result Made Fault
 made_of last entries = with_entries last entries (Ok record { words = []; asks = []; clash = None })
+
+abbrev pub cleared_by : Made → Option Fault → Result Made Fault
+cleared_by made (Some fault) = Err fault
+cleared_by made None = Ok made
+
+-- no word lies on a pool's cell
+abbrev pub cleared : Result Made Fault → Result Made Fault
+cleared (Err fault) = Err fault
+cleared (Ok made) = cleared_by made made.clash

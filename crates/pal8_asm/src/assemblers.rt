@@ -1,13 +1,13 @@
 ghost use Rattle.std.specs.Prelude.{◌≡◌, ◌<◌, ◌≤◌, IfOk, Ok, length};
 ghost use Rattle.pal8_asm.specs.Places.{with_statement};
-ghost use Rattle.pal8_asm.specs.Sources.{first_left, is_close, with_next};
+ghost use Rattle.pal8_asm.specs.Sources.{first_left, is_close, start_of, with_next};
 ghost use Rattle.pal8_asm.specs.Steps.{TakesBody, TakesStatement};
 ghost use Rattle.pal8_asm.specs.Assembling.{Takes, left_in, standing};
 
 use crate::entries::Entries;
 use crate::places::{Position, first_position};
 use crate::tags::pass_statement;
-use crate::{AsmFault, Code, Stop};
+use crate::{AsmFault, Code, Place, Stop};
 use pal8_grammar::{Body, GrammarFault, Reader, Step};
 use pal8_lex::{End, Token};
 use pal8_sym::Symbols;
@@ -46,12 +46,22 @@ fn is_close(end: End) -> bool
     matches!(end, End::Close)
 }
 
+/// Where a statement begins that a byte ends.
+fn start_of(at: u64, tokens: &[Token]) -> u64
+    ensures { result ≡ start_of at tokens.now }
+{
+    match tokens {
+        [first, ..] => first.start,
+        [] => at,
+    }
+}
+
 /// Takes a statement that says this, with the steps of its value.
 fn take_body(
     symbols: &mut Symbols,
     entries: &mut Entries,
     position: Position,
-    line: u64,
+    place: Place,
     tokens: &[Token],
     string: &[u8],
     body: Body,
@@ -59,7 +69,7 @@ fn take_body(
 ) -> Result<Position, AsmFault>
     requires place { position.location ≤ 0o10000 }
     requires field { position.field < 8 }
-    ensures takes { TakesBody (with_statement tokens.now body steps.now (length string.now) (standing symbols.old position)) line body
+    ensures takes { TakesBody (with_statement tokens.now body steps.now (length string.now) (standing symbols.old position)) place body
         steps.now string.now position entries.old result symbols.new entries.new }
     ensures range { IfOk result (λ p. (p.location ≤ 0o10000) × (p.field < 8)) }
 {
@@ -67,14 +77,14 @@ fn take_body(
     let again = body;
     let next = match pass_statement(symbols, tokens, body, steps, string.len(), position) {
         Ok(next) => next,
-        Err(Stop::At(code)) => return Err(AsmFault::At(code, line)),
+        Err(Stop::At(code)) => return Err(AsmFault::At(code, place)),
         Err(Stop::Memory) => return Err(AsmFault::Memory),
     };
     let size = next.location.saturating_sub(before.location);
     let address = Word::low(before.location);
     entries.push_body(
         symbols,
-        line,
+        place,
         before.field,
         address,
         again,
@@ -92,6 +102,7 @@ fn take_statement(
     reader: &mut Reader,
     position: Position,
     line: u64,
+    at: u64,
     tokens: &[Token],
     string: &[u8],
     is_cut: bool,
@@ -99,27 +110,31 @@ fn take_statement(
 ) -> Result<Position, AsmFault>
     requires place { position.location ≤ 0o10000 }
     requires field { position.field < 8 }
-    ensures takes { TakesStatement (with_next (record { line = line; tokens = tokens.now; string = string.now; is_cut = is_cut; end = end })
+    ensures takes { TakesStatement (with_next (record { line = line; at = at; tokens = tokens.now; string = string.now; is_cut = is_cut; end = end })
         (Ok (record { standing = standing symbols.old position; entries = entries.old }))) result symbols.new entries.new }
     ensures range { IfOk result (λ p. (p.location ≤ 0o10000) × (p.field < 8)) }
 {
+    let place = Place {
+        line,
+        start: start_of(at, tokens),
+    };
     let again = end;
     let body = match reader.read_statement(tokens, is_cut, end, position.radix) {
         Ok(body) => body,
-        Err(GrammarFault::IC) => return Err(AsmFault::At(Code::IC, line)),
-        Err(GrammarFault::NU) => return Err(AsmFault::At(Code::NU, line)),
-        Err(GrammarFault::SY) => return Err(AsmFault::At(Code::SY, line)),
+        Err(GrammarFault::IC) => return Err(AsmFault::At(Code::IC, place)),
+        Err(GrammarFault::NU) => return Err(AsmFault::At(Code::NU, place)),
+        Err(GrammarFault::SY) => return Err(AsmFault::At(Code::SY, place)),
         Err(GrammarFault::Memory) => return Err(AsmFault::Memory),
     };
     let steps = reader.steps();
     let next = match take_body(
-        symbols, entries, position, line, tokens, string, body, steps,
+        symbols, entries, position, place, tokens, string, body, steps,
     ) {
         Ok(next) => next,
         Err(fault) => return Err(fault),
     };
     if is_close(again) {
-        return Err(AsmFault::At(Code::PH, line));
+        return Err(AsmFault::At(Code::PH, place));
     }
     Ok(next)
 }
@@ -137,7 +152,7 @@ impl Assembler {
         }
     }
 
-    /// Takes the next statement of the source: its line, its tokens, its string and whether an end cuts that, and what ended it. Its tags and
+    /// Takes the next statement of the source: its line, the place of the byte that ends it, its tokens, its string and whether an end cuts that, and what ended it. Its tags and
     /// its body define names, and set the position of the next one; its words stay to be made.
     ///
     /// Its fault is the first of these: IC, NU, SY; of each tag PF and DT; of a value that a place or a name rests on UA, PF, DZ and IR;
@@ -146,12 +161,13 @@ impl Assembler {
     pub fn take(
         &mut self,
         line: u64,
+        at: u64,
         tokens: &[Token],
         string: &[u8],
         is_cut: bool,
         end: End,
     ) -> Result<(), AsmFault>
-        ensures { Takes (with_next (record { line = line; tokens = tokens.now; string = string.now; is_cut = is_cut; end = end })
+        ensures { Takes (with_next (record { line = line; at = at; tokens = tokens.now; string = string.now; is_cut = is_cut; end = end })
             (Ok (left_in self.old))) result self.new }
     {
         match take_statement(
@@ -160,6 +176,7 @@ impl Assembler {
             &mut self.reader,
             self.position,
             line,
+            at,
             tokens,
             string,
             is_cut,

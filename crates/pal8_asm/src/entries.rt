@@ -1,16 +1,17 @@
-ghost use Rattle.std.specs.Prelude.{◌≡◌, ◌+◌, ◌*◌, ◌<◌, ◌≤◌, ◌++◌, [], ◌∷◌, OnOk, Ok, length, replicate, vec_len, vec_capacity};
+ghost use Rattle.std.specs.Prelude.{◌≡◌, ◌+◌, ◌*◌, ◌<◌, ◌≤◌, ◌++◌, [], ◌∷◌, OnOk, Ok, Result, length, replicate, vec_len, vec_capacity};
 ghost use Rattle.word12.specs.declared.sizes.TheConstants.{FIELD, CORE};
 ghost use Rattle.pal_sym.specs.Values.{symbol_value};
 ghost use Rattle.pal8_sym.specs.Symbols.{value_of};
-ghost use Rattle.pal8_pools.specs.Pooled.{Holds};
 ghost use Rattle.pal8_asm.specs.Tapes.{Made, with_entries as with_entries_made};
-ghost use Rattle.pal8_asm.specs.Steps.{Makes};
+ghost use Rattle.pal8_asm.specs.Steps.{IsMaking, Makes};
+ghost use Rattle.pal8_asm.specs.declared.faults.Fault.{Fault};
 ghost use Rattle.pal8_grammar.specs.declared.steps.Step.{Step};
 ghost use Rattle.pal8_asm.specs.Places.{text_size};
 ghost use Rattle.pal8_asm.specs.Sources.{Entry, number, resolved, resolved_step, text_words, with_entries, words_in};
 
-use crate::AsmFault;
 use crate::words::make_all;
+use crate::{AsmFault, Fault, Place};
+use pal8_clash::WordCells;
 use pal8_grammar::{Body, Step};
 use pal8_pools::Pools;
 use pal8_sym::Symbols;
@@ -19,10 +20,10 @@ use std::alloc::{AllocError, Global};
 use std::marker::Model;
 use word12::{Cell, Word};
 
-/// A word that is to be made: the line of its statement, its cell, and how many steps its value has.
+/// A word that is to be made: the place of its statement, its cell, and how many steps its value has.
 #[derive(Clone, Copy)]
 pub struct Head {
-    pub line: u64,
+    pub place: Place,
     pub cell: Cell,
     pub count: usize,
 }
@@ -88,12 +89,12 @@ impl Entries {
     fn push(
         &mut self,
         symbols: &Symbols,
-        line: u64,
+        place: Place,
         cell: Cell,
         steps: &[Step],
     ) -> Result<(), AllocError>
         ensures { OnOk result (self.new ≡ self.old ++ record {
-          line = line;
+          place = place;
           cell = cell;
           steps = resolved (symbol_value symbols.now) steps.now;
         } ∷ []) }
@@ -102,7 +103,7 @@ impl Entries {
         self.steps.reserve(steps.len())?;
         put_steps(&mut self.steps, symbols, steps);
         self.heads.push_reserved(Head {
-            line,
+            place,
             cell,
             count: steps.len(),
         });
@@ -113,31 +114,31 @@ impl Entries {
     fn push_number(
         &mut self,
         symbols: &Symbols,
-        line: u64,
+        place: Place,
         cell: Cell,
         word: Word,
     ) -> Result<(), AllocError>
-        ensures { OnOk result (self.new ≡ self.old ++ record { line = line; cell = cell; steps = number word } ∷ []) }
+        ensures { OnOk result (self.new ≡ self.old ++ record { place = place; cell = cell; steps = number word } ∷ []) }
     {
-        self.push(symbols, line, cell, &[Step::Number(word)])
+        self.push(symbols, place, cell, &[Step::Number(word)])
     }
 
     /// Puts so many zeros after the others.
     fn push_zeros(
         &mut self,
         symbols: &Symbols,
-        line: u64,
+        place: Place,
         field: u8,
         address: Word,
         count: u16,
     ) -> Result<(), AllocError>
         requires { field < 8 }
-        ensures { OnOk result (self.new ≡ with_entries line field address (replicate count (number 0)) self.old) }
+        ensures { OnOk result (self.new ≡ with_entries place field address (replicate count (number 0)) self.old) }
     {
         let mut at = address;
         let mut left = count;
         while left > 0 {
-            self.push_number(symbols, line, Cell::at(field, at), Word::ZERO)?;
+            self.push_number(symbols, place, Cell::at(field, at), Word::ZERO)?;
             at = at.plus(Word::ONE);
             left -= 1;
         }
@@ -148,19 +149,19 @@ impl Entries {
     fn push_text(
         &mut self,
         symbols: &Symbols,
-        line: u64,
+        place: Place,
         field: u8,
         address: Word,
         string: &[u8],
     ) -> Result<(), AllocError>
         requires { field < 8 }
-        ensures { OnOk result (self.new ≡ with_entries line field address (text_words string.now) self.old) }
+        ensures { OnOk result (self.new ≡ with_entries place field address (text_words string.now) self.old) }
     {
         let mut at = address;
         let mut rest = string;
         while let [first, second, others @ ..] = rest {
             let word = Word::low(0o100 * u16::from(*first % 0o100) + u16::from(*second % 0o100));
-            self.push_number(symbols, line, Cell::at(field, at), word)?;
+            self.push_number(symbols, place, Cell::at(field, at), word)?;
             at = at.plus(Word::ONE);
             rest = others;
         }
@@ -168,14 +169,14 @@ impl Entries {
             [first, ..] => Word::low(0o100 * u16::from(*first % 0o100)),
             [] => Word::ZERO,
         };
-        self.push_number(symbols, line, Cell::at(field, at), word)
+        self.push_number(symbols, place, Cell::at(field, at), word)
     }
 
     /// Puts the words of a statement's body after the others, from an address on: of a value, of so many zeros, or of a string.
     pub(crate) fn push_body(
         &mut self,
         symbols: &Symbols,
-        line: u64,
+        place: Place,
         field: u8,
         address: Word,
         body: Body,
@@ -184,13 +185,13 @@ impl Entries {
         size: u16,
     ) -> Result<(), AllocError>
         requires { field < 8 }
-        ensures { OnOk result (self.new ≡ with_entries line field address
+        ensures { OnOk result (self.new ≡ with_entries place field address
             (words_in body (symbol_value symbols.now) steps.now string.now size) self.old) }
     {
         match body {
-            Body::Word => self.push(symbols, line, Cell::at(field, address), steps),
-            Body::Zeros => self.push_zeros(symbols, line, field, address, size),
-            Body::Text => self.push_text(symbols, line, field, address, string),
+            Body::Word => self.push(symbols, place, Cell::at(field, address), steps),
+            Body::Zeros => self.push_zeros(symbols, place, field, address, size),
+            Body::Text => self.push_text(symbols, place, field, address, string),
             Body::Nothing | Body::Origin | Body::Define(_) | Body::Decimal | Body::Octal => Ok(()),
             Body::Field | Body::NextPage | Body::Page | Body::Listing => Ok(()),
         }
@@ -203,16 +204,20 @@ impl Entries {
         pools: &mut Pools,
         alloc: Global,
         symbols: &Symbols,
+        cells: &mut WordCells,
+        clash: &mut Option<Fault>,
         pairs: &mut Vec<(Cell, Word)>,
     ) -> Result<(), AsmFault>
-        ensures { (made : Made) → pairs.old.items ≡ made.words → Holds pools.old made.asks made.asks
-            → Makes (with_entries_made (value_of symbols.now) self.now (Ok made)) result pools.new pairs.new.items }
+        ensures { (whole : Result Made Fault) → IsMaking whole pools.old cells.old clash.old pairs.old.items
+            → Makes (with_entries_made (value_of symbols.now) self.now whole) result pools.new cells.new clash.new pairs.new.items }
     {
         make_all(
             frames,
             pools,
             alloc,
             symbols,
+            cells,
+            clash,
             pairs,
             &self.heads,
             &self.steps,

@@ -4,6 +4,7 @@ ghost use Rattle.pal8_asm.specs.declared.faults.Stop.TheVariants.{Memory};
 
 use std::alloc::AllocError;
 use thiserror::Error;
+use word12::Cell;
 
 /// What is wrong with a statement or a source.
 #[derive(Clone, Copy, PartialEq, Eq, Debug, Error)]
@@ -14,9 +15,10 @@ pub enum Code {
     SY,
     #[error("bad number")]
     NU,
-    /// A name that no statement defines, or, where a place or a name rests on it, none before it.
+    /// A name that no statement defines, or, where a place or a name rests on it, none before it: the first of its statement, by the number
+    /// that its six sixbit codes make.
     #[error("undefined name")]
-    UA,
+    UA(u64),
     /// A tag whose name is permanent or defined with another value.
     #[error("duplicate tag")]
     DT,
@@ -40,12 +42,18 @@ pub enum Code {
     PF,
     #[error("division by zero")]
     DZ,
-    /// A page with no cell left for a literal or a link, or with a word on a cell of its pool.
+    /// A page with no cell left for a literal or a link.
     #[error("page exceeded")]
     PE,
     /// Such a page zero.
     #[error("page zero exceeded")]
     ZE,
+    /// A word on a cell of a page's pool: the lowest one. Its letters are PE.
+    #[error("page exceeded")]
+    PageClash(Cell),
+    /// A word on a cell of a page zero's pool. Its letters are ZE.
+    #[error("page zero exceeded")]
+    ZeroClash(Cell),
     /// `<` or `>` without the other.
     #[error("unmatched bracket")]
     PH,
@@ -73,11 +81,29 @@ impl From<AllocError> for Stop {
     }
 }
 
-/// Why a source isn't assembled: a code with the line at which it is found, 1 and up; or memory ran out.
+/// Where a statement begins, or what else has a fault.
+#[derive(Clone, Copy, PartialEq, Eq, Debug)]
+pub struct Place {
+    /// Its line, 1 and up.
+    pub line: u64,
+    /// Its first byte in the text, from 0: that of its first token, or, of an empty statement, that which ends it. Each is 2^64 - 1 where it
+    /// would be more.
+    pub start: u64,
+}
+
+/// What is wrong, and where.
+#[derive(Clone, Copy, PartialEq, Eq, Debug)]
+pub struct Fault {
+    pub code: Code,
+    pub place: Place,
+}
+
+/// Why a source isn't assembled: a code with the place of its statement; of NE with that of the text's end, and of NW with that of the `$`. Or
+/// memory ran out.
 #[derive(Clone, Copy, PartialEq, Eq, Debug, Error)]
 pub enum AsmFault {
-    #[error("{0} in line {1}")]
-    At(Code, u64),
+    #[error("{code} in line {line}", code = .0, line = .1.line)]
+    At(Code, Place),
 
     #[error("out of memory")]
     Memory,

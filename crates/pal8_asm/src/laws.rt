@@ -1,12 +1,33 @@
-//! Laws about the faults of a text, which hold whatever assembles it. A call of one does nothing, and lets its caller use it.
+//! Laws about what a text comes to, which hold whatever assembles it. A call of one does nothing, and lets its caller use it.
 
-ghost use Rattle.pal8_asm.specs.Laws.{FaultStays};
+ghost use Rattle.pal8_asm.specs.Laws.{Apart, FaultStays, NoPoolNoChange, PlacesStay, ValueIsFound};
 
-use pal8_lex::laws::statements_stay;
+use pal8_clash::laws::no_clash_is_apart;
 
 /// The first fault of a text's statements is that of the text, whatever follows.
 pub fn fault_stays()
     ensures { FaultStays }
+{}
+
+/// In a text without a fault no cell of a word is a pool's cell.
+pub fn apart()
+    ensures { Apart }
 {
-    statements_stay();
+    no_clash_is_apart();
 }
+
+/// The pairs of a text that asks nothing are its words.
+pub fn no_pool_no_change()
+    ensures { NoPoolNoChange }
+{}
+
+/// In a text without a fault the cell that a literal or a link is asked for holds its value: it is the last word that the pairs give that cell.
+pub fn value_is_found()
+    ensures { ValueIsFound }
+{}
+
+/// Each place, field and name, and each fault of theirs, is that of the source with each word read as the word 0: none rests on a literal or a
+/// link.
+pub fn places_stay()
+    ensures { PlacesStay }
+{}

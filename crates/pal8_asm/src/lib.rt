@@ -3,6 +3,7 @@
 #![tactic(auto)]
 
 mod assemblers;
+mod assembling;
 mod entries;
 mod faults;
 pub mod laws;
@@ -12,7 +13,8 @@ mod texts;
 mod words;
 
 pub use assemblers::Assembler;
+pub use assembling::assemble;
 pub use entries::{Entries, Head};
-pub use faults::{AsmFault, Code, Stop};
+pub use faults::{AsmFault, Code, Fault, Place, Stop};
 pub use places::{FIRST_PLACE, Position, first_position};
 pub use tags::pass_statement;

@@ -87,7 +87,7 @@ fn value_at(symbols: &Symbols, location: u16, steps: &[Step]) -> Result<Word, St
 {
     match early_value(symbols, location, steps) {
         Ok(value) => Ok(value),
-        Err(ValueFault::UA) => Err(Stop::At(Code::UA)),
+        Err(ValueFault::UA(name)) => Err(Stop::At(Code::UA(name))),
         Err(ValueFault::PF) => Err(Stop::At(Code::PF)),
         Err(ValueFault::DZ) => Err(Stop::At(Code::DZ)),
         Err(ValueFault::IR) => Err(Stop::At(Code::IR)),

@@ -1,48 +1,31 @@
 //! Assembles a PAL8 source on standard input by `pal8_asm`, to hold it to the plain model: it prints each cell that has a word, as field,
-//! address and word in octal, or the code of the first fault with its line. Where a word lies on a pool's cell it looks by itself.
+//! address and word in octal; or the code of the first fault with its line, the byte at which its statement begins, and the name or the cell
+//! that it is about, by its number in octal.
 #![tactic(auto)]
 
-mod sources;
-mod words;
-
-use pal8_asm::{AsmFault, Assembler};
-use pal8_pools::Pools;
-use sources::{Fault, Source};
-use std::alloc::Global;
+use pal8_asm::{AsmFault, Code, Place, assemble};
+use std::alloc::{AllocError, Global};
 use std::io::Read;
 use std::process::ExitCode;
-use words::{Core, NO_WORD, make_words};
+use word12::{CORE, Cell, Word};
 
-fn fault_of(fault: AsmFault) -> Fault {
-    match fault {
-        AsmFault::At(code, line) => Fault::At(code, line),
-        AsmFault::Memory => Fault::Memory,
-    }
+/// What a cell without a word has.
+const NO_WORD: u16 = 0o10000;
+
+fn no_words(alloc: Global, count: usize) -> Result<Vec<u16>, AllocError> {
+    let words = vec![in alloc; NO_WORD; count]?;
+    Ok(words)
 }
 
-/// Assembles a text.
-fn assemble(alloc: Global, text: &[u8]) -> Result<Core, Fault> {
-    let mut assembler = Assembler::new(alloc);
-    let last_line = match assembler.read(alloc, text) {
-        Ok(line) => line,
-        Err(fault) => return Err(fault_of(fault)),
-    };
-    let mut pools = Pools::new(alloc);
-    let pairs = match assembler.words(alloc, &mut pools) {
-        Ok(pairs) => pairs,
-        Err(fault) => return Err(fault_of(fault)),
-    };
-    let mut source = Source::new(alloc);
-    let _line = source.read(alloc, text)?;
-    make_words(alloc, &source, last_line)?;
-    let mut core = Core::new(alloc)?;
-    for pair in &pairs {
-        core.put(pair.0.index(), pair.1.get());
+/// The words of core.
+fn core_of(alloc: Global, pairs: &[(Cell, Word)]) -> Result<Vec<u16>, AllocError> {
+    let mut words = no_words(alloc, CORE)?;
+    for pair in pairs {
+        if let Some(place) = words.get_mut(pair.0.index()) {
+            *place = pair.1.get();
+        }
     }
-    for (cell, word) in pools.cells() {
-        core.put(cell.index(), word.get());
-    }
-    Ok(core)
+    Ok(words)
 }
 
 /// Prints the cells that have words.
@@ -60,6 +43,57 @@ fn print_core(rt: &mut HostRuntime, words: &[u16]) -> bool {
     true
 }
 
+fn letters_of(code: Code) -> &'static str {
+    match code {
+        Code::IC => "IC",
+        Code::SY => "SY",
+        Code::NU => "NU",
+        Code::UA(_) => "UA",
+        Code::DT => "DT",
+        Code::RD => "RD",
+        Code::IR => "IR",
+        Code::II => "II",
+        Code::FD => "FD",
+        Code::PG => "PG",
+        Code::PF => "PF",
+        Code::DZ => "DZ",
+        Code::PE | Code::PageClash(_) => "PE",
+        Code::ZE | Code::ZeroClash(_) => "ZE",
+        Code::PH => "PH",
+        Code::NE => "NE",
+        Code::NW => "NW",
+    }
+}
+
+/// What a fault is about: a name, or a cell.
+fn about(code: Code) -> Option<u64> {
+    match code {
+        Code::UA(name) => Some(name),
+        Code::PageClash(cell) | Code::ZeroClash(cell) => Some(cell.index() as u64),
+        _ => None,
+    }
+}
+
+fn print_fault(rt: &mut HostRuntime, code: Code, place: Place) -> bool {
+    let letters = letters_of(code);
+    let printed = match about(code) {
+        Some(number) => println!(rt;
+            "? 5 {} {} {} {:o}",
+            letters, place.line, place.start, number
+        ),
+        None => println!(rt; "? 5 {} {} {}", letters, place.line, place.start),
+    };
+    printed.is_ok()
+}
+
+fn status(is_done: bool) -> ExitCode {
+    if is_done {
+        ExitCode::SUCCESS
+    } else {
+        ExitCode::FAILURE
+    }
+}
+
 fn main(rt: HostRuntime) -> ExitCode {
     let mut rt = rt;
     let mut text = Vec::new(rt.alloc());
@@ -67,17 +101,11 @@ fn main(rt: HostRuntime) -> ExitCode {
         return ExitCode::FAILURE;
     }
     match assemble(rt.alloc(), &text) {
-        Ok(core) => {
-            if print_core(&mut rt, &core.words) {
-                ExitCode::SUCCESS
-            } else {
-                ExitCode::FAILURE
-            }
-        }
-        Err(Fault::At(code, line)) => match println!(rt; "? 5 {:?} {}", code, line) {
-            Ok(()) => ExitCode::SUCCESS,
+        Ok(pairs) => match core_of(rt.alloc(), &pairs) {
+            Ok(words) => status(print_core(&mut rt, &words)),
             Err(_) => ExitCode::FAILURE,
         },
-        Err(Fault::Memory) => ExitCode::FAILURE,
+        Err(AsmFault::At(code, place)) => status(print_fault(&mut rt, code, place)),
+        Err(AsmFault::Memory) => ExitCode::FAILURE,
     }
 }

@@ -3,14 +3,14 @@ use Rattle.std.proofs.Common.{◌≡◌, ℕ, ◌+◌, ◌-◌, ◌*◌, ◌<◌
 use Rattle.std.proofs.lemmas.Bool.{eqb-true, eqb-false}
 use Rattle.std.proofs.lemmas.Bool.Decides.{nat_tests}
 use Rattle.std.proofs.lemmas.List.{length-replicate, get_or-set_same, get_or-set_other}
-use Rattle.pal8_pools.specs.Asks.{Ask, IsAsked, pool_of, rank, cell_in, end, is_among}
+use Rattle.pal8_pools.specs.Asks.{Ask, IsAsked, count, pool_of, rank, cell_in, end, is_among}
 use Rattle.pal8_pools.specs.Values.{values_below, HoldsValues}
 use Rattle.pal8_pools.specs.Pooled.{GetsRoom, HasSizes, Holds, PoolTable, has_room, is_cell_of, with_punched, Answers}
 use Rattle.pal8_pools.specs.Steps.{Puts, Ranks, with_mark}
 use Rattle.pal8_pools.specs.declared.faults.PoolFault.{PoolFault}
 use Rattle.pal8_pools.specs.declared.faults.PoolFault.TheVariants.{Full, Memory}
 use Rattle.pal8_pools.proofs.AskLemmas.{cell_stays, same_number}
-use Rattle.pal8_pools.proofs.ValueLemmas.{pool_own}
+use Rattle.pal8_pools.proofs.ValueLemmas.{pool_own, values_length}
 
 -- ## Making
 
@@ -66,6 +66,13 @@ module _ (old : PoolTable) (values counts : List ℕ) (punched : List Bool) (is 
     },
     ap (λ (l : List ℕ). nat_lt 0 (length l)) counts_are ∙ ap (nat_lt 0) (length-replicate n 0) ∙ some_room n some,
   )
+
+-- the number of a page's values is that of the different ones asked of it
+pub counted : (table : PoolTable) (values counts : List ℕ) (punched : List Bool) → record { values = values; counts = counts; punched = punched } ≡ table
+    → (asks words : List Ask) → Holds table asks words → (f p : ℕ) → f < 8 → p < 32 → slice_index counts (32 * f + p) ≡ count asks f p
+counted table values counts punched is asks words holds f p f_small p_small =
+    let before : Holds (record { values = values; counts = counts; punched = punched }) asks words = subst (λ (t : PoolTable). Holds t asks words) (sym is) holds in
+    sym (values_length values (end f p) (slice_index counts (32 * f + p))) ∙ ap length (before.holds_values.pools f p f_small p_small)
 
 -- ## An ask
 

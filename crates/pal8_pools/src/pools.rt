@@ -1,5 +1,5 @@
 ghost use Rattle.std.specs.Prelude.{◌≡◌, ◌+◌, ◌-◌, ◌*◌, ◌<◌, ◌≤◌, ◌↔◌, ℕ, [], List, IfOk, length, replicate, true, false};
-ghost use Rattle.pal8_pools.specs.Asks.{Ask};
+ghost use Rattle.pal8_pools.specs.Asks.{Ask, count};
 ghost use Rattle.pal8_pools.specs.Cells.{ArePairs, IsTaken, pairs_left};
 ghost use Rattle.pal8_pools.specs.Pooled.{Answers, Holds, MakesRoom, has_room};
 ghost use Rattle.pal8_pools.specs.Steps.{Makes, Puts, with_mark};
@@ -89,6 +89,18 @@ impl Pools {
         }
         let number = cell.index();
         0o177 - number % 0o200 < usize::from(self.counts[number / 0o200])
+    }
+
+    /// How many different values are asked of a page (0 to 037) of a field (0 to 7). It takes no memory.
+    pub fn count(&self, field: u8, page: u8) -> usize
+        requires field { field < 8 }
+        requires page { page < 0o40 }
+        ensures { (asks words : List Ask) → Holds self.now asks words → result ≡ count asks field page }
+    {
+        if self.counts.is_empty() {
+            return 0;
+        }
+        usize::from(self.counts[0o40 * usize::from(field) + usize::from(page)])
     }
 
     /// The cells that punched words ask for, with their values, by rising cell.

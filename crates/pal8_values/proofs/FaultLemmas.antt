@@ -23,7 +23,7 @@ first_one (x ∷ others) a long first =
 -- what keeps a fault, keeps that of this
 pub keeps_fault : {A B : Type 0} (f : Result A ValueFault → Result B ValueFault) → ((e : ValueFault) → f (Err e) ≡ Err e) → (whole : Result A ValueFault)
     (fault : ValueFault) → IsFault whole fault → IsFault (f whole) fault
-keeps_fault f keeps whole UA is = ap f is ∙ keeps UA
+keeps_fault f keeps whole (UA name) is = ap f is ∙ keeps (UA name)
 keeps_fault f keeps whole PF is = ap f is ∙ keeps PF
 keeps_fault f keeps whole DZ is = ap f is ∙ keeps DZ
 keeps_fault f keeps whole IR is = ap f is ∙ keeps IR

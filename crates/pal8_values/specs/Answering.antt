@@ -1,16 +1,14 @@
 -- What the answer for a value comes to.
-use Rattle.std.specs.Prelude.{◌≡◌, ℕ, Option, Some, None, Result, Ok, Err, List, [], ◌∷◌}
+use Rattle.std.specs.Prelude.{◌≡◌, ℕ, Result, Ok, Err, List}
 use Rattle.pal8_pools.specs.Asks.{Ask}
 use Rattle.pal8_pools.specs.Pooled.{Holds, PoolTable}
-use Rattle.pal8_values.specs.Words.{Asked, Evaluation}
-use Rattle.pal8_values.specs.declared.sums.Sum.{Sum}
-use Rattle.pal8_values.specs.declared.frames.Frame.{Frame}
+use Rattle.pal8_values.specs.Words.{Asked}
 use Rattle.pal8_values.specs.declared.faults.ValueFault.{ValueFault}
 use Rattle.pal8_values.specs.declared.faults.ValueFault.TheVariants.{UA, PF, DZ, IR, II, PE, ZE, Memory}
 
 -- A fault is this one; want of memory may come in its place.
 abbrev pub IsFault : {A : Type 0} → Result A ValueFault → ValueFault → Type 0
-IsFault whole UA = whole ≡ Err UA
+IsFault whole (UA name) = whole ≡ Err (UA name)
 IsFault whole PF = whole ≡ Err PF
 IsFault whole DZ = whole ≡ Err DZ
 IsFault whole IR = whole ≡ Err IR

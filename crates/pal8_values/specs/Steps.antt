@@ -1,13 +1,12 @@
 -- What the small steps of an evaluation come to, for private clauses.
 use Rattle.pal8_values.specs.Answering.{IsFault}
-use Rattle.std.specs.Prelude.{◌≡◌, ℕ, Option, Some, None, Result, Ok, Err, List, [], ◌∷◌}
+use Rattle.std.specs.Prelude.{◌≡◌, Option, Some, None, Result, Ok, Err, List, [], ◌∷◌}
 use Rattle.pal8_pools.specs.Asks.{Ask}
 use Rattle.pal8_pools.specs.Pooled.{Holds, PoolTable}
-use Rattle.pal8_values.specs.Words.{Asked, Evaluation}
+use Rattle.pal8_values.specs.Words.{Evaluation}
 use Rattle.pal8_values.specs.declared.sums.Sum.{Sum}
 use Rattle.pal8_values.specs.declared.frames.Frame.{Frame}
 use Rattle.pal8_values.specs.declared.faults.ValueFault.{ValueFault}
-use Rattle.pal8_values.specs.declared.faults.ValueFault.TheVariants.{UA, PF, DZ, IR, II, PE, ZE, Memory}
 
 -- the innermost of frames is taken off, if there is one
 abbrev pub Pops : List Frame → Option Frame → List Frame → Type 0

@@ -41,9 +41,9 @@ with_value v s =
     if is_undivided s.sign v then Err DZ
     else Ok record s { total = joined s.sign s.total v }
 
-abbrev pub with_known : Option ℕ → Sum → Result Sum ValueFault
-with_known None s = Err UA
-with_known (Some v) s = with_value v s
+abbrev pub with_known : ℕ → Option ℕ → Sum → Result Sum ValueFault
+with_known name None s = Err (UA name)
+with_known name (Some v) s = with_value v s
 
 -- `.` is the place, if that isn't past 7777
 abbrev pub with_place : ℕ → Sum → Result Sum ValueFault
@@ -59,7 +59,7 @@ abbrev pub with_plain : Known → ℕ → Step → Sum → Result Sum ValueFault
 with_plain known location (step.Operation word) s = Ok record { is_reference = true; operation = word; is_indirect = false; total = s.total; sign = s.sign }
 with_plain known location step.Alone s = Ok (alone_by s.is_reference s)
 with_plain known location step.Indirect s = Ok record s { is_indirect = true }
-with_plain known location (step.Name name) s = with_known (known name) s
+with_plain known location (step.Name name) s = with_known name (known name) s
 with_plain known location (step.Number word) s = with_value word s
 with_plain known location step.Here s = with_place location s
 with_plain known location (step.Sign op) s = Ok record s { sign = op }

@@ -7,9 +7,9 @@ use thiserror::Error;
 /// Why steps have no value, numbered from 1.
 #[derive(Clone, Copy, PartialEq, Eq, Debug, Error)]
 pub enum ValueFault {
-    /// A name stands for nothing.
+    /// A name stands for nothing: this one, by the number that its six sixbit codes make.
     #[error("undefined name")]
-    UA,
+    UA(u64),
     /// `.` is past 7777.
     #[error("past 7777")]
     PF,

@@ -4,6 +4,7 @@
 
 mod faults;
 mod frames;
+pub mod laws;
 mod sums;
 mod words;
 

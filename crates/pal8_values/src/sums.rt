@@ -96,11 +96,11 @@ pub fn with_value(value: Word, sum: Sum) -> Result<Sum, ValueFault>
 
 /// A name more.
 fn with_name(symbols: &Symbols, name: Name, sum: Sum) -> Result<Sum, ValueFault>
-    ensures { Answers (with_known (value_of symbols.now name) sum) result }
+    ensures { Answers (with_known name (value_of symbols.now name) sum) result }
 {
     match symbols.value(name) {
         Some(value) => with_value(value, sum),
-        None => Err(ValueFault::UA),
+        None => Err(ValueFault::UA(name.number())),
     }
 }
 

@@ -1,4 +1,4 @@
-use Rattle.std.proofs.Common.{Ok, Err, subst}
+use Rattle.std.proofs.Common.{Err, subst}
 use Rattle.pal8_sym.specs.Symbols.{value_of}
 use Rattle.pal8_asm.specs.Steps.{Makes}
 use Rattle.pal8_asm.specs.Tapes.{with_entry}
@@ -6,9 +6,11 @@ use Rattle.pal8_asm.proofs.MakingLemmas.{entry_fails}
 use Rattle.pal8_asm.proofs.words.make_all.Goals as goal
 
 pub returns-in-Err : goal.returns-in-Err
-returns-in-Err c = λ made words holds.
-    let way = c.loop-heads.invariant.way made words holds in
+returns-in-Err c = λ whole making.
+    let way = c.loop-heads.invariant.way whole making in
     entry_fails (value_of c.args.symbols.now) _ c.loop-heads.heads.now c.head-item.result c.loop-heads.steps.now c.loop-heads.pools c.make_one.new.pools
+    c.loop-heads.cells c.make_one.new.cells c.loop-heads.clash c.make_one.new.clash
     c.loop-heads.pairs.items c.make_one.new.pairs.items c.in-Err.fault c.in-len1-up.len_at_least c.head-item.is way
-    (subst (λ l. Makes (with_entry (value_of c.args.symbols.now) (record { line = c.head-item.result.line; cell = c.head-item.result.cell; steps = l }) (Ok way.made)) (Err c.in-Err.fault) c.make_one.new.pools c.make_one.new.pairs.items)
-    c.split_at.ensures.front (c.in-Err.ensures {u = tt} way.made way.words way.holds))
+    (subst (λ l. Makes (with_entry (value_of c.args.symbols.now) (record { place = c.head-item.result.place; cell = c.head-item.result.cell; steps = l }) way.so_far) (Err c.in-Err.fault)
+    c.make_one.new.pools c.make_one.new.cells c.make_one.new.clash c.make_one.new.pairs.items)
+    c.split_at.ensures.front (c.in-Err.ensures {u = tt} way.so_far way.making))

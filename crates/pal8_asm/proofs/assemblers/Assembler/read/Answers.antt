@@ -4,12 +4,12 @@ use Rattle.pal8_asm.proofs.assemblers.Assembler.read.Goals as goal
 
 pub returns-in-Some : goal.returns-in-Some
 returns-in-Some c = λ begins.
-    reads_end (text_of c.args.text.now) c.in-Ok.end c.in-Some.line c.read_on.new.lexer c.read_on.new.self c.in-Some.is
+    reads_end (text_of c.args.text.now) c.in-Ok.end c.in-Some.place c.read_on.new.lexer c.read_on.new.at c.read_on.new.self c.in-Some.is
     (c.in-Ok.ensures {u = tt} (text_of c.args.text.now) (starts c.args.text.now c.new-lexer.result c.args.self.now c.new-lexer.ensures.read begins))
 
 pub returns : goal.returns
 returns c = λ begins.
-    text_is_over (text_of c.args.text.now) c.read_on.new.lexer c.read_on.new.self c.next_line.result
-    (reads_none (text_of c.args.text.now) c.in-Ok.end c.read_on.new.lexer c.read_on.new.self c.in-None.is
+    text_is_over (text_of c.args.text.now) c.read_on.new.lexer c.read_on.new.at c.read_on.new.self c.next_line-line.result
+    (reads_none (text_of c.args.text.now) c.in-Ok.end c.read_on.new.lexer c.read_on.new.at c.read_on.new.self c.in-None.is
     (c.in-Ok.ensures {u = tt} (text_of c.args.text.now) (starts c.args.text.now c.new-lexer.result c.args.self.now c.new-lexer.ensures.read begins)))
-    c.next_line.ensures
+    c.next_line-line.ensures

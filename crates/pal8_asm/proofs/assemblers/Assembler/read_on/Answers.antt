@@ -5,15 +5,15 @@ use Rattle.pal8_asm.proofs.assemblers.Assembler.read_on.Goals as goal
 pub returns-in-Err : goal.returns-in-Err
 returns-in-Err c = λ whole begins.
     let way = c.loop-rest.invariant whole begins in
-    way_fails c.statements_stay.ensures whole c.loop-rest.rest.now c.loop-rest.lexer c.take_first.new.lexer c.loop-rest.self c.take_first.new.self
-    c.in-len1-up.len_at_least way c.in-Err.fault (c.in-Err.ensures {u = tt} way.here way.taken)
+    way_fails whole c.loop-rest.rest.now c.loop-rest.lexer c.take_first.new.lexer c.loop-rest.at c.loop-rest.self c.take_first.new.self
+    c.in-len1-up.len_at_least way c.in-Err.fault (c.in-Err.ensures {u = tt} way.here way.counts way.taken)
 
 pub returns-in-Some : goal.returns-in-Some
 returns-in-Some c = λ whole begins.
     let way = c.loop-rest.invariant whole begins in
-    way_ends c.statements_stay.ensures whole c.loop-rest.rest.now c.loop-rest.lexer c.take_first.new.lexer c.loop-rest.self c.take_first.new.self
-    c.in-len1-up.len_at_least way c.in-Some.line c.in-Ok.end c.in-Some.is (c.in-Ok.ensures {u = tt} way.here way.taken)
+    way_ends whole c.loop-rest.rest.now c.loop-rest.lexer c.take_first.new.lexer c.loop-rest.at c.loop-rest.self c.take_first.new.self
+    c.in-len1-up.len_at_least way c.in-Some.place c.in-Ok.end c.in-Some.is (c.in-Ok.ensures {u = tt} way.here way.counts way.taken)
 
 pub returns : goal.returns
 returns c = λ whole begins.
-    way_is_over whole c.loop-rest.rest.now c.loop-rest.lexer c.loop-rest.self (omega (arith, c.in_default.len_below)) (c.loop-rest.invariant whole begins)
+    way_is_over whole c.loop-rest.rest.now c.loop-rest.lexer c.loop-rest.at c.loop-rest.self (omega (arith, c.in_default.len_below)) (c.loop-rest.invariant whole begins)

@@ -11,6 +11,6 @@ returns-in-Err c =
     (subst
     (λ a.
     TakesStatement
-    (with_next record { line = c.args.line; tokens = c.args.tokens.now; string = c.args.string.now; is_cut = c.args.is_cut; end = c.args.end } (Ok (left_in a)))
+    (with_next record { line = c.args.line; at = c.args.at; tokens = c.args.tokens.now; string = c.args.string.now; is_cut = c.args.is_cut; end = c.args.end } (Ok (left_in a)))
     (Err c.in-Err.fault) c.take_statement.new.symbols c.take_statement.new.entries)
     c.self.view_is (c.in-Err.ensures {u = tt}).takes)

@@ -13,4 +13,4 @@ pub returns : goal.returns
 returns c =
     one_more c.self.inside.heads.items c.reserve.new.self.items c.push_reserved.new.self.items c.self.inside.steps.items c.reserve-2.new.self.items c.put_steps.new.to.items
     c.args.steps.now (symbol_value c.args.symbols.now) _ c.reserve.ensures.items c.push_reserved.ensures.items c.reserve-2.ensures.items c.put_steps.ensures c.self.invariant refl
-    ∙ ap (λ l. l ++ record { line = c.args.line; cell = c.args.cell; steps = resolved (symbol_value c.args.symbols.now) c.args.steps.now } ∷ []) c.self.view_is
+    ∙ ap (λ l. l ++ record { place = c.args.place; cell = c.args.cell; steps = resolved (symbol_value c.args.symbols.now) c.args.steps.now } ∷ []) c.self.view_is

@@ -1,0 +1,173 @@
+-- Why the laws hold.
+use Rattle.std.proofs.Common.{◌≡◌, ℕ, ◌+◌, ◌<◌, nat_eq, arith, Bool, true, false, inl, inr, Option, Some, None, Result, Ok, Err, length, if◌then◌else◌, List, [], ◌∷◌, ◌++◌, refl, ap, subst, ◌∙◌}
+use Rattle.std.proofs.lemmas.List.{append-nil}
+use Rattle.std.proofs.lemmas.Bool.Decides.{nat_tests}
+use Rattle.pal_sym.specs.Values.{if_none}
+use Rattle.pal8_pools.specs.Asks.{cell_in}
+use Rattle.pal8_pools.specs.Cells.{ArePairs, IsIn, IsPair, RiseFrom}
+use Rattle.pal8_clash.specs.Clashes.{lowest_clash}
+use Rattle.pal8_clash.specs.Laws.{NoClashIsApart}
+use Rattle.pal8_values.specs.Sums.{Known}
+use Rattle.pal8_values.specs.Words.{Asked, word_value}
+use Rattle.pal8_lex.specs.declared.tokens.Token.{Token}
+use Rattle.pal8_grammar.specs.Bodies.{Phrase, said_by}
+use Rattle.pal8_grammar.specs.declared.bodies.Body.TheVariants as body
+use Rattle.pal8_grammar.specs.declared.faults.GrammarFault.{GrammarFault}
+use Rattle.pal8_grammar.specs.declared.steps.Step.{Step}
+use Rattle.pal8_asm.specs.Places.{Standing, stands, with_body_if, with_statement, with_tags}
+use Rattle.pal8_asm.specs.Sources.{Entry, Left, Passed, Statement, is_close, left_of, number, passed, with_next, with_phrase, with_said}
+use Rattle.pal8_asm.specs.Tapes.{Made, cleared, cleared_by, made_of, spot_of, with_entries, with_entry, with_word}
+use Rattle.pal8_asm.specs.Assembled.{has_words, judged, judged_by, made_by}
+use Rattle.pal8_asm.specs.Laws.{Apart, NoPoolNoChange, PlacesStay, ValueIsFound, meaning, passed_zero, read_zero, standing_in, zero_phrase, zero_said}
+use Rattle.pal8_asm.specs.declared.faults.Fault.{Fault}
+use Rattle.pal8_asm.specs.declared.faults.Code.{Code}
+use Rattle.pal8_asm.proofs.MakingLemmas.{free_by}
+
+-- ## No clash
+
+-- no fault of a clash is no clash among the words so far
+abbrev Free : Result Made Fault → Type 0
+Free (Err fault) = Unit {0}
+Free (Ok made) = made.clash ≡ None → lowest_clash made.asks made.words ≡ None
+
+word_is_free : (e : Entry) (made : Made) (r : Asked) → Free (with_word e made r)
+word_is_free e made (Err fault) = tt
+word_is_free e made (Ok (word, asks)) = free_by made.clash e.place _
+
+entry_is_free : (last : Known) (e : Entry) (r : Result Made Fault) → Free (with_entry last e r)
+entry_is_free last e (Err fault) = tt
+entry_is_free last e (Ok made) = word_is_free e made (word_value last (spot_of e.cell) e.steps made.asks)
+
+entries_are_free : (last : Known) (entries : List Entry) (r : Result Made Fault) → Free r → Free (with_entries last entries r)
+entries_are_free last [] r free = free
+entries_are_free last (e ∷ others) r free = entries_are_free last others (with_entry last e r) (entry_is_free last e r)
+
+made_is_free : (last : Known) (entries : List Entry) → Free (made_of last entries)
+made_is_free last entries = entries_are_free last entries _ (λ none. refl)
+
+abbrev made_in : Made → Result Made Fault → Made
+made_in other (Err fault) = other
+made_in other (Ok made) = made
+
+module _ (text : List ℕ) (made : Made) where
+  by_words : (m : Made) → lowest_clash m.asks m.words ≡ None → (has : Bool) → judged_by text m has ≡ Ok made → lowest_clash made.asks made.words ≡ None
+  by_words m none true is = subst (λ (x : Made). lowest_clash x.asks x.words ≡ None) (ap (made_in m) is) none
+  by_words m none false is = absurd cc
+
+  by_clash : (m : Made) (clash : Option Fault) → m.clash ≡ clash → Free (Ok m) → judged text (cleared_by m clash) ≡ Ok made → lowest_clash made.asks made.words ≡ None
+  by_clash m (Some fault) same free is = absurd cc
+  by_clash m None same free is = by_words m (free same) (has_words m.words) is
+
+  by_made : (r : Result Made Fault) → Free r → judged text (cleared r) ≡ Ok made → lowest_clash made.asks made.words ≡ None
+  by_made (Err fault) free is = absurd cc
+  by_made (Ok m) free is = by_clash m m.clash refl free is
+
+  by_left : (l : Passed) → made_by text l ≡ Ok made → lowest_clash made.asks made.words ≡ None
+  by_left (Err fault) is = absurd cc
+  by_left (Ok left) is = by_made (made_of (stands left.standing.kept) left.entries) (made_is_free (stands left.standing.kept) left.entries) is
+
+pub apart : NoClashIsApart → Apart
+apart law text made is c has = law made.words made.asks (by_left text made (left_of text) is) c has
+
+-- ## No pool
+
+none_asked : (c v : ℕ) → IsPair [] [] c v → ⊥
+none_asked c v pair = pair.is_asked
+
+no_pairs : (pool : List (ℕ × ℕ)) → ArePairs [] [] pool → pool ≡ []
+no_pairs [] are = refl
+no_pairs (pair ∷ others) are = absurd (none_asked pair.0 pair.1 ((are.each pair.0 pair.1).0 (inl (refl, refl))))
+
+pub no_pool_no_change : NoPoolNoChange
+no_pool_no_change text pairs whole none =
+    whole.are ∙ ap (λ l. whole.made.words ++ l) (no_pairs whole.pool (subst (λ a. ArePairs a a whole.pool) none whole.is_pool)) ∙ append-nil whole.made.words
+
+-- ## Pools' values
+
+same_number : (n : ℕ) → nat_eq n n ≡ true
+same_number n = grind (arith, nat_tests)
+
+other_number : (a b : ℕ) → b < a → nat_eq a b ≡ false
+other_number a b below = grind (arith, nat_tests)
+
+absent : (pairs : List (ℕ × ℕ)) (low c : ℕ) → RiseFrom low pairs → c < low → meaning pairs c ≡ None
+absent [] low c rise below = refl
+absent (pair ∷ later) low c rise below =
+    ap (λ o. if_none o (if nat_eq pair.0 c then Some pair.1 else None)) (absent later (pair.0 + 1) c rise.1 (omega (arith, rise.0, below)))
+    ∙ ap (λ t. if t then Some pair.1 else None) (other_number pair.0 c (omega (arith, rise.0, below)))
+
+there : (pairs : List (ℕ × ℕ)) (low c v : ℕ) → RiseFrom low pairs → IsIn c v pairs → meaning pairs c ≡ Some v
+there [] low c v rise is = absurd is
+there (pair ∷ later) low c v rise (inl same) =
+    ap (λ o. if_none o (if nat_eq pair.0 c then Some pair.1 else None)) (absent later (pair.0 + 1) c rise.1 (omega (arith, same.0)))
+    ∙ ap (λ n. if nat_eq n c then Some pair.1 else None) same.0 ∙ ap (λ t. if t then Some pair.1 else None) (same_number c) ∙ ap Some same.1
+there (pair ∷ later) low c v rise (inr is) =
+    ap (λ o. if_none o (if nat_eq pair.0 c then Some pair.1 else None)) (there later (pair.0 + 1) c v rise.1 is)
+
+after : (words pairs : List (ℕ × ℕ)) (c v : ℕ) → meaning pairs c ≡ Some v → meaning (words ++ pairs) c ≡ Some v
+after [] pairs c v is = is
+after (word ∷ words) pairs c v is = ap (λ o. if_none o (if nat_eq word.0 c then Some word.1 else None)) (after words pairs c v is)
+
+pub value_is_found : ValueIsFound
+value_is_found text pairs whole a is =
+    ap (λ l. meaning l (cell_in whole.made.asks a)) whole.are
+    ∙ after whole.made.words whole.pool (cell_in whole.made.asks a) a.value
+    (there whole.pool 0 (cell_in whole.made.asks a) a.value whole.is_pool.rise
+    ((whole.is_pool.each (cell_in whole.made.asks a) a.value).1 (record { ask = a; is_asked = is; has_cell = refl; has_value = refl })))
+
+-- ## Places
+
+word_steps : (steps steps' : List Step) (n : ℕ) (r : Result Standing Code) → with_body_if body.Word steps n r ≡ with_body_if body.Word steps' n r
+word_steps steps steps' n (Err fault) = refl
+word_steps steps steps' n (Ok standing) = refl
+
+same_statement : (tokens : List Token) (n : ℕ) (standing : Standing) (phrase : Phrase)
+    → with_statement tokens (zero_phrase phrase).0 (zero_phrase phrase).1 n standing ≡ with_statement tokens phrase.0 phrase.1 n standing
+same_statement tokens n standing (body.Nothing, steps) = refl
+same_statement tokens n standing (body.Origin, steps) = refl
+same_statement tokens n standing (body.Define name, steps) = refl
+same_statement tokens n standing (body.Decimal, steps) = refl
+same_statement tokens n standing (body.Octal, steps) = refl
+same_statement tokens n standing (body.Field, steps) = refl
+same_statement tokens n standing (body.NextPage, steps) = refl
+same_statement tokens n standing (body.Page, steps) = refl
+same_statement tokens n standing (body.Zeros, steps) = refl
+same_statement tokens n standing (body.Text, steps) = refl
+same_statement tokens n standing (body.Listing, steps) = refl
+same_statement tokens n standing (body.Word, steps) = word_steps (number 0) steps n (with_tags tokens (Ok standing))
+
+same_close : (test : Bool) (fault : Fault) (left left' : Left) → left'.standing ≡ left.standing
+    → standing_in (if test then Err fault else Ok left') ≡ standing_in (if test then Err fault else Ok left)
+same_close true fault left left' same = refl
+same_close false fault left left' same = ap Ok same
+
+abbrev standing_or : Standing → Result Standing Fault → Standing
+standing_or other (Err fault) = other
+standing_or other (Ok standing) = standing
+
+module _ (s : Statement) where
+  by_result : (phrase phrase' : Phrase) (left left' : Left) → left'.standing ≡ left.standing → (r : Result Standing Code)
+      → standing_in (with_phrase s phrase' left' r) ≡ standing_in (with_phrase s phrase left r)
+  by_result phrase phrase' left left' same (Err fault) = refl
+  by_result phrase phrase' left left' same (Ok standing) = same_close (is_close s.end) _ _ _ refl
+
+  by_said : (left left' : Left) → left'.standing ≡ left.standing → (r : Result Phrase GrammarFault)
+      → standing_in (with_said s left' (zero_said r)) ≡ standing_in (with_said s left r)
+  by_said left left' same (Err fault) = refl
+  by_said left left' same (Ok phrase) =
+      ap (λ st. standing_in (with_phrase s (zero_phrase phrase) left' (with_statement s.tokens (zero_phrase phrase).0 (zero_phrase phrase).1 (length s.string) st))) same
+      ∙ ap (λ r. standing_in (with_phrase s (zero_phrase phrase) left' r)) (same_statement s.tokens (length s.string) left.standing phrase)
+      ∙ by_result phrase (zero_phrase phrase) left left' same (with_statement s.tokens phrase.0 phrase.1 (length s.string) left.standing)
+
+  by_both : (other whole : Passed) → standing_in other ≡ standing_in whole → standing_in (read_zero s other) ≡ standing_in (with_next s whole)
+  by_both (Err f) (Err g) same = same
+  by_both (Err f) (Ok left) same = absurd cc
+  by_both (Ok left') (Err g) same = absurd cc
+  by_both (Ok left') (Ok left) same =
+      let standing : left'.standing ≡ left.standing = ap (standing_or left.standing) same in
+      ap (λ (st : Standing). standing_in (with_said s left' (zero_said (said_by st.position.radix s.tokens s.is_cut s.end)))) standing
+      ∙ by_said left left' standing (said_by left.standing.position.radix s.tokens s.is_cut s.end)
+
+pub places_stay : PlacesStay
+places_stay [] = refl
+places_stay (s ∷ older) = by_both s (passed_zero older) (passed older) (places_stay older)

@@ -1,0 +1,26 @@
+-- What holds of the asks of words.
+use Rattle.std.specs.Prelude.{◌≡◌, ℕ, ◌/◌, nat_eq, Bool, false, ◌&&◌, ◌||◌, Ok, Err, List, ◌++◌}
+use Rattle.word12.specs.declared.sizes.TheConstants.{PAGE}
+use Rattle.pal8_pools.specs.Asks.{Ask, asked_of}
+use Rattle.pal8_grammar.specs.declared.steps.Step.{Step}
+use Rattle.pal8_values.specs.Sums.{Known}
+use Rattle.pal8_values.specs.Words.{Asked, word_value}
+use Rattle.pal8_values.specs.declared.sums.Spot.{Spot}
+
+-- this is the page of a place, or page zero of its field
+abbrev pub is_near : Spot → ℕ → ℕ → Bool
+is_near spot f p = nat_eq spot.field f && (nat_eq (spot.location / PAGE) p || nat_eq 0 p)
+
+-- Nothing was asked but of the page of a place and of page zero of its field.
+pub record AsksNear (spot : Spot) (before after : List Ask) : Type 0 where
+  pub more : List Ask
+  pub are : after ≡ more ++ before
+  pub others : (f p : ℕ) → is_near spot f p ≡ false → asked_of after f p ≡ asked_of before f p
+
+abbrev pub GoesNear : Spot → List Ask → Asked → Type 0
+GoesNear spot before (Err fault) = Unit {0}
+GoesNear spot before (Ok (value, after)) = AsksNear spot before after
+
+-- a word asks the pool of its own page and that of page zero alone
+abbrev pub WordsAskNear : Type 0
+WordsAskNear = (known : Known) (spot : Spot) (steps : List Step) (asks : List Ask) → GoesNear spot asks (word_value known spot steps asks)
