@@ -1,5 +1,6 @@
 //! Sources in files of the host to a BIN tape and a listing, each written whole or not at all.
 
+use crate::pal8_assembling::assemble_pal8;
 use assemble8::{SourceFault, assemble_sources, fault_text, further_faults};
 use file_kind::{are_marked, is_text};
 use image_file8::{bytes_of, input_bytes, make_file, print_bytes, tell, tell_text, texts_of};
@@ -25,6 +26,9 @@ pub fn assemble_files<R: Files<File = File> + Input + Print + Eprint + AllocGlob
     form: &AssembleForm,
 ) -> Result<(), Ending> {
     refuse_clashes(rt, form)?;
+    if form.is_pal8 {
+        return assemble_pal8(rt, form);
+    }
     let texts = read_sources(rt, &form.sources)?;
     let sources = slices_of(rt.alloc(), &texts)?;
     let Some(list) = &form.list else {
@@ -46,7 +50,7 @@ pub fn assemble_files<R: Files<File = File> + Input + Print + Eprint + AllocGlob
 }
 
 /// Writes the tape to the file that gets it, or to standard output.
-fn write_tape<R: Files<File = File> + Print + Eprint + AllocGlobal>(
+pub(crate) fn write_tape<R: Files<File = File> + Print + Eprint + AllocGlobal>(
     rt: &R,
     form: &AssembleForm,
     tape: &[u8],
@@ -137,7 +141,7 @@ fn tell_faults<R: Eprint + AllocGlobal>(
 }
 
 /// Prints which of the sources are the frames of a text, with the top bits that they have on a volume.
-fn tell_top_bits<R: Eprint>(rt: &R, sources: &[&[u8]], names: &[&str]) {
+pub(crate) fn tell_top_bits<R: Eprint>(rt: &R, sources: &[&[u8]], names: &[&str]) {
     for (source, name) in sources.iter().zip(names) {
         if are_marked(source) && is_text(source) {
             tell(rt, Note::OnName(NameNote::TopBits, name));
@@ -182,8 +186,7 @@ fn read_sources<R: Files + Input + Eprint + AllocGlobal>(
 ) -> Result<Vec<Vec<u8>>, Ending> {
     let mut texts = Vec::new(rt.alloc());
     for name in names {
-        let bytes = read_source(rt, name)?;
-        add_text(&mut texts, with_line_feeds(rt.alloc(), &bytes)?)?;
+        add_text(&mut texts, read_source(rt, name)?)?;
     }
     Ok(texts)
 }
@@ -193,7 +196,18 @@ fn add_text(texts: &mut Vec<Vec<u8>>, text: Vec<u8>) -> Result<(), AllocError> {
     Ok(())
 }
 
-fn read_source<R: Files + Input + Eprint + AllocGlobal>(
+/// The bytes of a source, with LF at the end of each line.
+pub(crate) fn read_source<R: Files + Input + Eprint + AllocGlobal>(
+    rt: &R,
+    name: &str,
+) -> Result<Vec<u8>, Ending> {
+    let bytes = bytes_named(rt, name)?;
+    let text = with_line_feeds(rt.alloc(), &bytes)?;
+    Ok(text)
+}
+
+/// The bytes of a file, or of standard input.
+fn bytes_named<R: Files + Input + Eprint + AllocGlobal>(
     rt: &R,
     name: &str,
 ) -> Result<Vec<u8>, Ending> {

@@ -1,0 +1,4 @@
+pub mod Places
+pub mod Telling
+pub mod Answers
+pub mod Laws
