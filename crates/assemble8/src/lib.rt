@@ -34,5 +34,6 @@ pub use joins::Join;
 pub use names::{Names, names_of, value_by_number};
 pub use places::{first_bytes, line_behind};
 pub use reading::statement_ended;
+pub use showing::shown_line;
 pub use spelling::{name_text, put_spelling};
 pub use telling::{fault_text, put_marked_line, put_number, put_place};
