@@ -37,10 +37,11 @@ UNPROVED = ("target/unproved/pdp8/pdp8", "target/unproved/short_memory/short_mem
 RT_CI = ("rt", "ci")
 TEXTS: list[Words] = [("tests/check_definitions.py",), ("tests/check_headline.py",), ("tests/check_memory_claims.py",), ("tests/check_fault_texts.py",)]
 TEXTS += [("tests/check_links.py",), ("tests/check_octal_numbers.py",)]
-TEXTS += [("tests/model/check_pal8_rows.py",), ("tests/page/check_types.py",), ("tests/check_tools.py",), ("tests/check_gate.py",)]
+TEXTS += [("tests/page/check_types.py",), ("tests/check_tools.py",), ("tests/check_gate.py",)]
 TEXTS += [("tests/check_try_edits.py",), ("tests/try_defects.py",)]
 RUNS: list[Words] = [("tests/run_sessions.py",), ("tests/model/compare_scripts.py",), ("tests/model/compare_host_commands.py",), ("tests/model/compare_archives.py",)]
 RUNS += [("tests/check_terminal.py",), ("tests/check_killed_writers.py",), ("tests/calls/check_failing_calls.py",), ("tests/check_damaged_images.py",)]
+RUNS += [("tests/model/check_pal8_rows.py",)]
 # How many random cases the plain models are given where a contributor waits.
 FEW: dict[str, Words] = {"tests/model/compare_scripts.py": ("--scripts", "50"), "tests/model/compare_host_commands.py": ("--cases", "30"), "tests/model/compare_archives.py": ("--cases", "20")}
 

@@ -1,9 +1,13 @@
 #!/usr/bin/env python3
-"""check_pal8_rows.py: holds the plain model of PAL8 (pal8.py) to worked sources (pal8_rows.txt), each with the cells that have words or with its first
-fault. No program takes PAL8 yet. The last line is 'N passed, M failed'."""
+"""check_pal8_rows.py [--program FILE]: holds the plain model of PAL8 (pal8.py) to worked sources (pal8_rows.txt), each with the cells that have words or
+with its first fault; with --program the program `pdp8`, too, by `assemble --pal8` and by `tape` on what that wrote, but for conditions, which it
+doesn't take yet. The last line is 'N passed, M failed'."""
+import argparse
 import os
+import subprocess
 import sys
-from typing import Iterator
+import tempfile
+from typing import Iterator, Optional
 
 sys.dont_write_bytecode = True
 HERE = os.path.dirname(os.path.abspath(__file__))
@@ -29,15 +33,40 @@ def rows() -> Iterator[tuple[str, str, str]]:
         yield name, source, wanted
 
 
+def run(words: list[str], given: bytes) -> subprocess.CompletedProcess[bytes]:
+    return subprocess.run(words, input=given, capture_output=True, timeout=120)
+
+
+def program_answer(program: str, source: bytes) -> str:
+    """What the program says of a source: the lines of its tape, or the numbered line of its fault, which has four lines; or what is wrong."""
+    with tempfile.TemporaryDirectory() as folder:
+        with open(f"{folder}/s.pa", "wb") as file:
+            file.write(source)
+        ran = run([program, "assemble", "--pal8", f"{folder}/s.pa"], b"")
+    told = ran.stderr.decode("latin1").splitlines(keepends=True)
+    if ran.returncode == 0 and not told:
+        return run([program, "tape"], ran.stdout).stdout.decode("latin1")
+    if ran.returncode == 1 and not ran.stdout and len(told) == 4:
+        return told[3]
+    return f"status {ran.returncode}, {len(ran.stdout)} bytes of a tape\n{''.join(told)}"
+
+
 def main() -> int:
+    parser = argparse.ArgumentParser(usage=__doc__)
+    parser.add_argument("--program")
+    program: Optional[str] = parser.parse_args().program
     passed = failed = 0
-    for name, source, wanted in rows():
-        came = answer(source.encode("latin1"))
-        if came == wanted:
-            passed += 1
-        else:
-            failed += 1
-            print(f"{name}: wanted\n{wanted}came\n{came}", end="")
+    for name, text, wanted in rows():
+        source = text.encode("latin1")
+        answers = {"the model": answer(source)}
+        if program and "IF" not in text:
+            answers["the program"] = program_answer(os.path.abspath(program), source)
+        for who, came in answers.items():
+            if came == wanted:
+                passed += 1
+            else:
+                failed += 1
+                print(f"{name}: wanted\n{wanted}{who} came to\n{came}", end="")
     print(f"{passed} passed, {failed} failed")
     return 1 if failed or not passed else 0
 

@@ -13,6 +13,9 @@ WORDS = dict(
     IR="illegal reference", FD="bad field", PF="past 7777", NE="no $", NW="no word",
 )  # fmt: skip
 MOST_FURTHER = 20
+PAL8_NAMES = frozenset(
+    "PAGE ZBLOCK TEXT FILENA DEVICE RELOC ENPUNC NOPUNC EJECT XLIST IFDEF IFNDEF IFZERO IFNZRO EXPUNG FIXTAB FIXMRI".split()
+)  # fmt: skip
 
 
 @dataclass
@@ -176,13 +179,25 @@ def lines_told(fault: Fault, texts: list[bytes], names: list[str]) -> list[bytes
     return [head.encode(), shown(line), mark]
 
 
+def pal8_note(fault: Fault, line: bytes) -> list[bytes]:
+    """The note where a fault lies at a reserved name or a character of PAL8, by the line of its source from where its statement begins."""
+    sign = b""
+    if fault.code == "UA" and fault.name in PAL8_NAMES:
+        sign = fault.name.encode()
+    if fault.code == "IC":
+        foreign = re.search(rb"[^A-Z0-9 \t+\-,=*;./$]", line)
+        sign = foreign[0] if foreign and foreign[0] in b'()[]<>"!&^%' else b""
+    return [b"note: " + sign + b" is PAL8, the language of OS/8's assembler: assemble --pal8 takes a source of that"] if sign else []
+
+
 def assembled_host(texts: list[bytes], names: list[str], is_cross: bool) -> Told:
     sources = HostSources(texts)
     faults = sources.faults()
     if not faults:
         return Told(b"", bytes(tape_of(sources.pairs())), sources.listing(is_cross))
     first, *further = faults
-    lines = [*lines_told(first, texts, names), f"? 5 {first.code} {first.line}".encode()]
+    told = lines_told(first, texts, names)
+    lines = [*told, f"? 5 {first.code} {first.line}".encode(), *pal8_note(first, told[1][len(told[2]) - 1 :])]
     if further:
         lines.append(b"note: these words have a fault too:")
     for fault in further[:MOST_FURTHER]:

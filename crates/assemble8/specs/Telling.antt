@@ -6,6 +6,7 @@ use Rattle.pal_asm.specs.declared.faults.Code.TheVariants.{IC, SY, NU, UA, DT, R
 use Rattle.assemble8.specs.Places.{bytes_of}
 use Rattle.assemble8.specs.Spelling.{spelling}
 use Rattle.assemble8.specs.declared.faults.Fault.{Fault}
+use Rattle.assemble8.specs.declared.faults.Place.{Place}
 
 -- ## A line of a source
 
@@ -77,13 +78,21 @@ named (Some name) = codes " " ++ spelling name
 abbrev pub told : Fault → List ℕ
 told fault = letters_of fault.code ++ codes ": " ++ words_of fault.code ++ named fault.about
 
+-- `NAME:LINE:COLUMN: `
+abbrev pub located : List ℕ → Place → List ℕ
+located name place = name ++ codes ":" ++ decimal place.line ++ codes ":" ++ decimal place.column ++ codes ": "
+
 -- `NAME:LINE:COLUMN: CODE: WORDS`, with the name that the fault is about
 abbrev pub headline : List ℕ → Fault → List ℕ
-headline name fault = name ++ codes ":" ++ decimal fault.place.line ++ codes ":" ++ decimal fault.place.column ++ codes ": " ++ told fault ++ codes "\n"
+headline name fault = located name fault.place ++ told fault ++ codes "\n"
 
 -- a line with a caret below a column of it, from 1
 abbrev pub with_caret : List ℕ → ℕ → List ℕ
 with_caret line column = line ++ codes "\n" ++ blanks_below (take (column - 1) line) ++ codes "^\n"
+
+-- the line of a source that has a place, with a caret below its column
+abbrev pub marked_line : List ℕ → Place → List ℕ
+marked_line source place = with_caret (shown_line source place.line) place.column
 
 -- `? 5 CODE LINE`, as scripts are told it
 abbrev pub numbered : Fault → List ℕ
@@ -93,5 +102,4 @@ numbered fault = codes "? 5 " ++ letters_of fault.code ++ codes " " ++ decimal f
 -- the line that scripts are told
 abbrev pub fault_text : List (Bor (List ℕ)) → List (Bor (List ℕ)) → Fault → List ℕ
 fault_text sources names fault =
-    headline (bytes_of names fault.place.source) fault
-    ++ with_caret (shown_line (bytes_of sources fault.place.source) fault.place.line) fault.place.column ++ numbered fault
+    headline (bytes_of names fault.place.source) fault ++ marked_line (bytes_of sources fault.place.source) fault.place ++ numbered fault

@@ -60,7 +60,7 @@ pub(crate) fn bytes_of<'a>(sources: &[&'a [u8]], number: usize) -> &'a [u8]
 }
 
 /// So many bytes from the beginning of a text, or all of it.
-pub(crate) fn first_bytes(text: &[u8], count: usize) -> &[u8]
+pub fn first_bytes(text: &[u8], count: usize) -> &[u8]
     ensures { result.now ≡ take count text.now }
 {
     if count < text.len() {
@@ -69,8 +69,8 @@ pub(crate) fn first_bytes(text: &[u8], count: usize) -> &[u8]
     text
 }
 
-/// The line behind a text, from 1.
-fn line_behind(text: &[u8]) -> usize
+/// The line behind a text, from 1: LF ends a line (this project's profile).
+pub fn line_behind(text: &[u8]) -> usize
     ensures { result ≡ line_behind (text_of text.now) }
 {
     let mut line = 1;

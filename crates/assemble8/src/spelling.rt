@@ -19,8 +19,8 @@ pub fn name_text(name: u64) -> [u8; 6]
     ]
 }
 
-/// Puts the characters of a name, six at most.
-pub(crate) fn put_spelling(text: &mut Vec<u8>, name: u64) -> Result<(), AllocError>
+/// Puts the characters of a name, six at most, by the number that its sixbit codes make (this project's profile).
+pub fn put_spelling(text: &mut Vec<u8>, name: u64) -> Result<(), AllocError>
     ensures { OnOk result (text.new.items ≡ text.old.items ++ spelling name) }
 {
     let codes = codes_of(name);

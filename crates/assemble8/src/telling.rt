@@ -1,12 +1,12 @@
 //! Faults, as a compiler tells them.
 ghost use Rattle.std.specs.Prelude.{◌≡◌, ◌++◌, decimal, IfOk, OnOk};
 ghost use Rattle.assemble8.specs.Places.{bytes_of};
-ghost use Rattle.assemble8.specs.Telling.{letters_of, words_of, named, told, headline, with_caret, numbered, fault_text};
+ghost use Rattle.assemble8.specs.Telling.{letters_of, words_of, named, told, located, headline, with_caret, marked_line, numbered, fault_text};
 
-use crate::Fault;
 use crate::places::{bytes_of, first_bytes};
 use crate::showing::{put_below, shown_line};
 use crate::spelling::put_spelling;
+use crate::{Fault, Place};
 use pal_asm::Code;
 use std::alloc::{AllocError, Global};
 
@@ -25,10 +25,9 @@ pub fn fault_text(
     ensures { IfOk result (λ text. text.items ≡ fault_text sources.now names.now fault) }
 {
     let place = fault.place;
-    let line = shown_line(alloc, bytes_of(sources, place.source), place.line)?;
     let mut text = Vec::new(alloc);
     put_headline(&mut text, name_of(names, place.source), fault)?;
-    put_caret(&mut text, &line, place.column)?;
+    put_marked_line(alloc, &mut text, bytes_of(sources, place.source), place)?;
     put_numbered(&mut text, fault)?;
     Ok(text)
 }
@@ -53,15 +52,38 @@ fn name_of<'a>(names: &[&'a str], number: usize) -> &'a str
 fn put_headline(text: &mut Vec<u8>, name: &str, fault: Fault) -> Result<(), AllocError>
     ensures { OnOk result (text.new.items ≡ text.old.items ++ headline name.now fault) }
 {
-    text.extend_from_slice(name.as_bytes())?;
-    text.extend_from_slice(b":")?;
-    put_number(text, fault.place.line as u64)?;
-    text.extend_from_slice(b":")?;
-    put_number(text, fault.place.column as u64)?;
-    text.extend_from_slice(b": ")?;
+    put_place(text, name, fault.place)?;
     put_told(text, fault)?;
     text.extend_from_slice(b"\n")?;
     Ok(())
+}
+
+/// Puts `NAME:LINE:COLUMN: `: the name of a source, and the line and the column of a place of it, each from 1, as they stand before a fault
+/// (this project's profile).
+pub fn put_place(text: &mut Vec<u8>, name: &str, place: Place) -> Result<(), AllocError>
+    ensures { OnOk result (text.new.items ≡ text.old.items ++ located name.now place) }
+{
+    text.extend_from_slice(name.as_bytes())?;
+    text.extend_from_slice(b":")?;
+    put_number(text, place.line as u64)?;
+    text.extend_from_slice(b":")?;
+    put_number(text, place.column as u64)?;
+    text.extend_from_slice(b": ")?;
+    Ok(())
+}
+
+/// Puts the line of a source that has a place, and a caret below the column of the place, in a line of its own. A byte of the line that is
+/// neither printable ASCII nor a tab is shown as `?`, and no CR (this project's profile).
+pub fn put_marked_line(
+    alloc: Global,
+    text: &mut Vec<u8>,
+    source: &[u8],
+    place: Place,
+) -> Result<(), AllocError>
+    ensures { OnOk result (text.new.items ≡ text.old.items ++ marked_line source.now place) }
+{
+    let line = shown_line(alloc, source, place.line)?;
+    put_caret(text, &line, place.column)
 }
 
 /// Puts a fault by its letters and words, and behind them the name that it is about.

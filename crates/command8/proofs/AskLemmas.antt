@@ -115,16 +115,18 @@ pub asks_rim : (file member : Option Text) (form : RimForm) (rows : List Row) �
     → Seen verb.Rim task → AsksFor verb.Rim rows task → IsRimOf file member form task
 asks_rim file member form rows is how task (a_rim tape own) asks = (tape_in file member rows tape is asks.1, asks.2 ∙ how)
 
-abbrev told_assemble : List Row → List Text × Option Text × Option Text × Bool
-told_assemble rows = (values_of (codes "FILE") rows, first_of (codes "output") rows, first_of (codes "list") rows, is_set (codes "cross") rows)
+abbrev told_assemble : List Row → List Text × Option Text × Option Text × Bool × Bool
+told_assemble rows =
+    (values_of (codes "FILE") rows, first_of (codes "output") rows, first_of (codes "list") rows, is_set (codes "cross") rows, is_set (codes "pal8") rows)
 
-pub asks_assemble : (files : List Text) (output : Option Text) (rows : List Row) → told_assemble rows ≡ (files, output, None, false)
+pub asks_assemble : (files : List Text) (output : Option Text) (rows : List Row) → told_assemble rows ≡ (files, output, None, false, false)
     → (task : Task) → Seen verb.Assemble task → AsksFor verb.Assemble rows task → IsAssembleOf files output task
 asks_assemble files output rows is task (a_assemble form) asks = (
   sym asks.1.0 ∙ ap (λ p. p.0) is,
   sym asks.1.1 ∙ ap (λ p. p.1) is,
   no_value (λ file. file.bytes.items) form.list (sym (ap (λ p. p.2) is) ∙ asks.1.2),
   asks.1.3 ∙ ap (λ p. p.3) is,
+  asks.1.4 ∙ ap (λ p. p.4) is,
 )
 
 -- what is asked for, but for the tape and the start

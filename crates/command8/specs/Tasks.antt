@@ -77,6 +77,7 @@ IsAssembleForm values form =
     × (first_of (codes "output") values ≡ option_map (λ file. file.bytes.items) form.output)
     × (first_of (codes "list") values ≡ option_map (λ file. file.bytes.items) form.list)
     × (form.is_cross ≡ is_set (codes "cross") values)
+    × (form.is_pal8 ≡ is_set (codes "pal8") values)
 
 -- a tape: a file of the host, or the file of a volume where one is named
 abbrev pub IsTape : List Row → TapeForm → Type 0
@@ -440,10 +441,11 @@ IsCheckOf names layout is_all (Check form) = (map (λ image. image.bytes.items) 
     × (form.layout ≡ layout) × (form.is_all ≡ is_all)
 IsCheckOf names layout is_all task = ⊥
 
--- these sources alone, to this file
+-- these sources of PAL III alone, to this file
 abbrev pub IsAssembleOf : List Text → Option Text → Task → Type 0
 IsAssembleOf names output (Assemble form) = (map (λ file. file.bytes.items) form.sources.items ≡ names)
     × (option_map (λ file. file.bytes.items) form.output ≡ output) × (form.list ≡ None) × (form.is_cross ≡ false)
+    × (form.is_pal8 ≡ false)
 IsAssembleOf names output task = ⊥
 
 -- this file, and what it holds of a volume, from this cell, and nothing else

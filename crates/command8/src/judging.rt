@@ -236,7 +236,7 @@ fn unexpected_of<'a>(found: &ArgMatches<'a>) -> Option<&'a str>
     if has(found, "at") {
         return text_of(found, "NEW");
     }
-    if has(found, "as") {
+    if has(found, "as") || is_set(found, "pal8") {
         return word_at(found, "FILE", 1);
     }
     None

@@ -186,6 +186,8 @@ pub const PAIRS: &[Pair] = &[
     ("tape", "into"),
     ("bin", "into"),
     ("as", "text-of"),
+    ("list", "pal8"),
+    ("cross", "pal8"),
     ("look", "keep"),
     ("look", "wait"),
     ("new", "wait"),
@@ -220,6 +222,7 @@ pub const ASSEMBLE: &[Argument] = rows! {
     "output" 'o' option Kind::One(Form::Text), "TAPE", "The file that gets the tape, in place of standard output";
     "list" 'l' option Kind::One(Form::Text), "LISTING", "Write a listing to the file LISTING too";
     "cross" flag Kind::Flag, "", "Put a table of cross references after the listing; it needs --list";
+    "pal8" flag Kind::Flag, "", "Take the one source FILE as PAL8, the language of OS/8's assembler";
 };
 
 pub const TELETYPE: &[Argument] = rows! {

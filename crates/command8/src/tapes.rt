@@ -116,6 +116,7 @@ pub fn assemble(alloc: Global, found: &ArgMatches<'_>) -> Result<Task, AllocErro
         output,
         list,
         is_cross: flag(found, Verb::Assemble, "cross"),
+        is_pal8: flag(found, Verb::Assemble, "pal8"),
     }))
 }
 

@@ -47,6 +47,7 @@ name_text named.TopBits name = codes "note: " ++ name ++ codes " has the frames 
 name_text named.OverSource name = codes "error: " ++ name ++ codes " is a source, and would be written over\n"
 name_text named.OnePlace name = codes "error: the tape and the listing can't both be written to " ++ name ++ codes "\n"
 name_text named.BadExtensions name = codes "error: invalid value '" ++ name ++ codes "' for '--text-of <LIST>': no extensions of 1 or 2 capital letters or digits with commas between\n"
+name_text named.Pal8 name = codes "note: " ++ name ++ codes " is PAL8, the language of OS/8's assembler: assemble --pal8 takes a source of that\n"
 name_text named.Hint name = codes "note: " ++ name ++ codes "\n"
 
 -- where a text has a byte that may not stand in one

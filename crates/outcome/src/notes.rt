@@ -102,6 +102,9 @@ pub enum NameNote {
     /// This is no list of extensions.
     BadExtensions,
 
+    /// A source of PAL III has this name or character of PAL8.
+    Pal8,
+
     /// What may help, in words of its own.
     Hint,
 }
@@ -266,6 +269,10 @@ fn write_on_name<W: fmt::Write>(
         NameNote::BadExtensions => write!(
             f,
             "error: invalid value '{name}' for '--text-of <LIST>': no extensions of 1 or 2 capital letters or digits with commas between\n"
+        ),
+        NameNote::Pal8 => write!(
+            f,
+            "note: {name} is PAL8, the language of OS/8's assembler: assemble --pal8 takes a source of that\n"
         ),
         NameNote::Hint => write!(f, "note: {name}\n"),
     }

@@ -1,9 +1,11 @@
 //! Sources in files of the host to a BIN tape and a listing, each written whole or not at all.
 
-use assemble8::{SourceFault, assemble_sources, fault_text, further_faults};
+use crate::pal8_assembling::assemble_pal8;
+use assemble8::{Fault, SourceFault, assemble_sources, fault_text, further_faults};
 use file_kind::{are_marked, is_text};
 use image_file8::{bytes_of, input_bytes, make_file, print_bytes, tell, tell_text, texts_of};
 use outcome::{Content, Ending, NameNote, Note, PlainNote};
+use pal8_tape::sign_text;
 use report8::with_line_feeds;
 use script8::SessionFault;
 use source_listing::{ListingForm, list_sources};
@@ -25,6 +27,9 @@ pub fn assemble_files<R: Files<File = File> + Input + Print + Eprint + AllocGlob
     form: &AssembleForm,
 ) -> Result<(), Ending> {
     refuse_clashes(rt, form)?;
+    if form.is_pal8 {
+        return assemble_pal8(rt, form);
+    }
     let texts = read_sources(rt, &form.sources)?;
     let sources = slices_of(rt.alloc(), &texts)?;
     let Some(list) = &form.list else {
@@ -46,7 +51,7 @@ pub fn assemble_files<R: Files<File = File> + Input + Print + Eprint + AllocGlob
 }
 
 /// Writes the tape to the file that gets it, or to standard output.
-fn write_tape<R: Files<File = File> + Print + Eprint + AllocGlobal>(
+pub(crate) fn write_tape<R: Files<File = File> + Print + Eprint + AllocGlobal>(
     rt: &R,
     form: &AssembleForm,
     tape: &[u8],
@@ -131,18 +136,37 @@ fn tell_faults<R: Eprint + AllocGlobal>(
             let names = texts_of(rt.alloc(), &form.sources)?;
             tell_top_bits(rt, sources, &names);
             tell_text(rt, &fault_text(rt.alloc(), sources, &names, first)?);
+            tell_sign(rt, sources, first)?;
             tell_further_faults(rt, sources, &names)
         }
     }
 }
 
 /// Prints which of the sources are the frames of a text, with the top bits that they have on a volume.
-fn tell_top_bits<R: Eprint>(rt: &R, sources: &[&[u8]], names: &[&str]) {
+pub(crate) fn tell_top_bits<R: Eprint>(rt: &R, sources: &[&[u8]], names: &[&str]) {
     for (source, name) in sources.iter().zip(names) {
         if are_marked(source) && is_text(source) {
             tell(rt, Note::OnName(NameNote::TopBits, name));
         }
     }
+}
+
+/// Prints at which word of PAL8 a source of PAL III has its fault, if it has it at one.
+fn tell_sign<R: Eprint + AllocGlobal>(
+    rt: &R,
+    sources: &[&[u8]],
+    fault: Fault,
+) -> Result<(), AllocError> {
+    let Some(source) = sources.get(fault.place.source) else {
+        return Ok(());
+    };
+    let sign = sign_text(rt.alloc(), source, fault)?;
+    if let Ok(sign) = str::from_utf8(&sign) {
+        if !sign.is_empty() {
+            tell(rt, Note::OnName(NameNote::Pal8, sign));
+        }
+    }
+    Ok(())
 }
 
 /// Tells the words with a fault behind the first, if that is one of a word.
@@ -182,8 +206,7 @@ fn read_sources<R: Files + Input + Eprint + AllocGlobal>(
 ) -> Result<Vec<Vec<u8>>, Ending> {
     let mut texts = Vec::new(rt.alloc());
     for name in names {
-        let bytes = read_source(rt, name)?;
-        add_text(&mut texts, with_line_feeds(rt.alloc(), &bytes)?)?;
+        add_text(&mut texts, read_source(rt, name)?)?;
     }
     Ok(texts)
 }
@@ -193,7 +216,18 @@ fn add_text(texts: &mut Vec<Vec<u8>>, text: Vec<u8>) -> Result<(), AllocError> {
     Ok(())
 }
 
-fn read_source<R: Files + Input + Eprint + AllocGlobal>(
+/// The bytes of a source, with LF at the end of each line.
+pub(crate) fn read_source<R: Files + Input + Eprint + AllocGlobal>(
+    rt: &R,
+    name: &str,
+) -> Result<Vec<u8>, Ending> {
+    let bytes = bytes_named(rt, name)?;
+    let text = with_line_feeds(rt.alloc(), &bytes)?;
+    Ok(text)
+}
+
+/// The bytes of a file, or of standard input.
+fn bytes_named<R: Files + Input + Eprint + AllocGlobal>(
     rt: &R,
     name: &str,
 ) -> Result<Vec<u8>, Ending> {

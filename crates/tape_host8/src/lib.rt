@@ -4,6 +4,7 @@
 
 mod assembling;
 mod listings;
+mod pal8_assembling;
 mod sources;
 mod tapes;
 mod teletypes;

@@ -38,7 +38,7 @@ pub struct RunForm {
     pub is_strict: bool,
 }
 
-/// How files of the host are assembled (PAL III manual).
+/// How files of the host are assembled (PAL III manual; PAL8 in this project's profile).
 #[derive(Drop)]
 pub struct AssembleForm {
     /// The names of the 1 to 8 sources, in their order; `-` is standard input, and stands once at most.
@@ -52,6 +52,9 @@ pub struct AssembleForm {
 
     /// Whether a table of cross references goes behind the listing; there is a listing then.
     pub is_cross: bool,
+
+    /// Whether the source is PAL8; there is one source then, and no listing.
+    pub is_pal8: bool,
 }
 
 /// What a source is written of (PAL III manual, and this project's reading of a program's flow).

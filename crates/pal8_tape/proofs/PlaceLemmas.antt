@@ -1,0 +1,28 @@
+-- The column behind a text.
+use Rattle.std.proofs.Common.{◌≡◌, ℕ, ◌+◌, ◌≤◌, ◌<◌, nat_eq, Bool, true, false, if◌then◌else◌, length, take, get_or, suc, List, [], ◌∷◌, ◌++◌, refl, sym, ap, ◌∙◌, arith}
+use Rattle.std.proofs.Math.Seq.{take-suc}
+use Rattle.pal_lex.specs.Text.{text_from, text_of}
+use Rattle.pal8_tape.specs.Places.{column_behind, column_with}
+
+grown : (text bytes : List ℕ) (b : ℕ) → text_from text (bytes ++ b ∷ []) ≡ b ∷ text_from text bytes
+grown text [] b = refl
+grown text (x ∷ bytes) b = grown (x ∷ text) bytes b
+
+-- a byte more
+next_byte : (bytes : List ℕ) (n b : ℕ) → n < length bytes → b ≡ get_or bytes n 0 → text_of (take (n + 1) bytes) ≡ b ∷ text_of (take n bytes)
+next_byte bytes n b inside is =
+    let next : n + 1 ≡ suc n = omega arith in
+    ap (λ k. text_of (take k bytes)) next ∙ ap text_of (take-suc bytes n 0 inside) ∙ grown [] (take n bytes) (get_or bytes n 0)
+    ∙ ap (λ c. c ∷ text_of (take n bytes)) (sym is)
+
+pub column_more : (bytes : List ℕ) (n b : ℕ) → n < length bytes → b ≡ get_or bytes n 0
+    → column_behind (text_of (take (n + 1) bytes)) ≡ column_with b (column_behind (text_of (take n bytes)))
+column_more bytes n b inside is = ap column_behind (next_byte bytes n b inside is)
+
+bound_by : (line cr : Bool) (column n : ℕ) → column ≤ n + 1 → (if line then 1 else (if cr then column else column + 1)) ≤ n + 1 + 1
+bound_by true cr column n bound = omega arith
+bound_by false true column n bound = omega (arith, bound)
+bound_by false false column n bound = omega (arith, bound)
+
+pub column_bound : (b column n : ℕ) → column ≤ n + 1 → column_with b column ≤ n + 1 + 1
+column_bound b column n bound = bound_by (nat_eq b 0o12) (nat_eq b 0o15) column n bound

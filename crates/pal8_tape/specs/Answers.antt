@@ -1,0 +1,27 @@
+-- What a source of the host is answered (PAL8, the assembler of OS/8, in this project's profile).
+use Rattle.std.specs.Prelude.{◌≡◌, ℕ, Ok, Err, List, ◌++◌}
+use Rattle.bin_tape.specs.Writing.{tape_of}
+use Rattle.pal_lex.specs.Text.{text_of}
+use Rattle.pal8_asm.specs.Assembled.{assembled}
+use Rattle.pal8_asm.specs.Assembling.{IsAssembled}
+use Rattle.pal8_asm.specs.declared.faults.Fault as asm
+use Rattle.pal8_tape.specs.Places.{place_of}
+use Rattle.pal8_tape.specs.declared.faults.Fault.{Fault}
+use Rattle.pal8_tape.specs.declared.faults.SourceFault.{SourceFault}
+use Rattle.pal8_tape.specs.declared.faults.SourceFault.TheVariants.{At, Memory}
+
+-- The source has no fault, and these are the frames of the tape of its words with their cells, in its order, and then of the cells of its
+-- pools with their values, by rising cell.
+pub record IsTape (source frames : List ℕ) : Type 0 where
+  pub pairs : List (ℕ × ℕ)
+  pub are_all : IsAssembled (assembled (text_of source)) pairs
+  pub are : frames ≡ tape_of pairs
+
+-- a fault of a source, where each statement has its line and its first byte
+abbrev pub with_place : List ℕ → asm.Fault → Fault
+with_place source fault = record { code = fault.code; line = fault.place.line; place = place_of source fault.place.start }
+
+-- the first fault of the source, with its place; or memory ran out
+abbrev pub IsTold : List ℕ → SourceFault → Type 0
+IsTold source (At fault) = (met : asm.Fault) × (assembled (text_of source) ≡ Err met) × (fault ≡ with_place source met)
+IsTold source Memory = Unit {0}

@@ -1,0 +1,5 @@
+pub mod Places
+pub mod Telling
+pub mod Answers
+pub mod Laws
+pub mod Signs

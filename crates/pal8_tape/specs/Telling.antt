@@ -1,0 +1,87 @@
+-- The text of a fault, as a compiler tells it (this project's profile of PAL8).
+use Rattle.std.specs.Prelude.{ℕ, codes, decimal, List, [], ◌++◌}
+use Rattle.word12.specs.Octal.{octal5}
+use Rattle.pal8_asm.specs.declared.faults.Code.{Code}
+use Rattle.pal8_asm.specs.declared.faults.Code.TheVariants.{IC, SY, NU, UA, DT, RD, IR, II, FD, PG, PF, DZ, PE, ZE, PageClash, ZeroClash, PH, NE, NW}
+use Rattle.assemble8.specs.Spelling.{spelling}
+use Rattle.assemble8.specs.Telling.{located, marked_line}
+use Rattle.pal8_tape.specs.declared.faults.Fault.{Fault}
+
+-- the two letters of a fault
+abbrev pub letters_of : Code → List ℕ
+letters_of IC = codes "IC"
+letters_of SY = codes "SY"
+letters_of NU = codes "NU"
+letters_of (UA name) = codes "UA"
+letters_of DT = codes "DT"
+letters_of RD = codes "RD"
+letters_of IR = codes "IR"
+letters_of II = codes "II"
+letters_of FD = codes "FD"
+letters_of PG = codes "PG"
+letters_of PF = codes "PF"
+letters_of DZ = codes "DZ"
+letters_of PE = codes "PE"
+letters_of ZE = codes "ZE"
+letters_of (PageClash cell) = codes "PE"
+letters_of (ZeroClash cell) = codes "ZE"
+letters_of PH = codes "PH"
+letters_of NE = codes "NE"
+letters_of NW = codes "NW"
+
+-- the words of a fault
+abbrev pub words_of : Code → List ℕ
+words_of IC = codes "illegal character"
+words_of SY = codes "bad statement"
+words_of NU = codes "bad number"
+words_of (UA name) = codes "undefined name"
+words_of DT = codes "duplicate tag"
+words_of RD = codes "redefinition"
+words_of IR = codes "illegal reference"
+words_of II = codes "illegal indirect"
+words_of FD = codes "bad field"
+words_of PG = codes "page above 37"
+words_of PF = codes "past 7777"
+words_of DZ = codes "division by zero"
+words_of PE = codes "page exceeded"
+words_of ZE = codes "page zero exceeded"
+words_of (PageClash cell) = codes "page exceeded"
+words_of (ZeroClash cell) = codes "page zero exceeded"
+words_of PH = codes "unmatched bracket"
+words_of NE = codes "no $"
+words_of NW = codes "no word"
+
+-- the name or the cell that a fault is about: the name that stands for nothing, or the cell that is a word's and a pool's
+abbrev pub about : Code → List ℕ
+about IC = []
+about SY = []
+about NU = []
+about (UA name) = codes " " ++ spelling name
+about DT = []
+about RD = []
+about IR = []
+about II = []
+about FD = []
+about PG = []
+about PF = []
+about DZ = []
+about PE = []
+about ZE = []
+about (PageClash cell) = codes " at " ++ octal5 cell
+about (ZeroClash cell) = codes " at " ++ octal5 cell
+about PH = []
+about NE = []
+about NW = []
+
+-- `CODE: WORDS`, and behind it what the fault is about
+abbrev pub told : Code → List ℕ
+told code = letters_of code ++ codes ": " ++ words_of code ++ about code ++ codes "\n"
+
+-- `? 5 CODE LINE`, as scripts are told it
+abbrev pub numbered : Fault → List ℕ
+numbered fault = codes "? 5 " ++ letters_of fault.code ++ codes " " ++ decimal fault.line ++ codes "\n"
+
+-- the text of a fault of a source with this name: the fault with its place, its line with a caret below where the statement begins, and the
+-- line that scripts are told
+abbrev pub fault_text : List ℕ → List ℕ → Fault → List ℕ
+fault_text source name fault = located name fault.place ++ told fault.code ++ marked_line source fault.place ++ numbered fault

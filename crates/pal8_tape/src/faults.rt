@@ -1,0 +1,37 @@
+ghost use Rattle.std.specs.Prelude.{◌≡◌};
+ghost use Rattle.pal8_tape.specs.declared.faults.SourceFault.TheVariants.{Memory};
+
+use assemble8::Place;
+use pal8_asm::Code;
+use std::alloc::AllocError;
+use thiserror::Error;
+
+/// A fault of a source.
+#[derive(Clone, Copy, PartialEq, Eq, Debug)]
+pub struct Fault {
+    /// What is wrong; of UA with the name, and of a word on a pool's cell with the cell.
+    pub code: Code,
+    /// The line, as scripts are told it: 1 and up, or 2^64 - 1 where it would be more.
+    pub line: u64,
+    /// Where the statement begins that has it.
+    pub place: Place,
+}
+
+/// Why a source isn't assembled.
+#[derive(Clone, Copy, PartialEq, Eq, Debug, Error)]
+pub enum SourceFault {
+    /// The first fault of the source, with its place. The text leaves the source to who knows its name.
+    #[error("{code} in line {line}, column {column}", code = .0.code, line = .0.place.line, column = .0.place.column)]
+    At(Fault),
+
+    #[error("out of memory")]
+    Memory,
+}
+
+impl From<AllocError> for SourceFault {
+    ghost from_gives = { λ _ fault. fault ≡ Memory };
+
+    fn from(_error: AllocError) -> SourceFault {
+        SourceFault::Memory
+    }
+}

@@ -1,0 +1,90 @@
+//! Faults, as a compiler tells them.
+ghost use Rattle.std.specs.Prelude.{◌≡◌, ◌++◌, IfOk, OnOk};
+ghost use Rattle.word12.specs.Octal.{octal5};
+ghost use Rattle.pal8_tape.specs.Telling.{about, told, numbered, fault_text};
+ghost use Rattle.std.specs.Prelude.{codes};
+
+use crate::Fault;
+use crate::codes::{letters_of, words_of};
+use assemble8::{put_marked_line, put_number, put_place, put_spelling};
+use pal8_asm::Code;
+use std::alloc::{AllocError, Global};
+use word12::Cell;
+
+/// The text of a fault of a source with this name, four lines that LF ends: the fault behind the name of the source and its place there, UA
+/// with the undefined name by the six characters that count, and a word on a pool's cell with the cell; the line of the source; a caret below
+/// the column; and the fault as scripts are told it.
+///
+/// In the line of the source a byte that is neither printable ASCII nor a tab is shown as `?`, and no CR stands in it (this project's
+/// profile).
+pub fn fault_text(
+    alloc: Global,
+    source: &[u8],
+    name: &str,
+    fault: Fault,
+) -> Result<Vec<u8>, AllocError>
+    ensures { IfOk result (λ text. text.items ≡ fault_text source.now name.now fault) }
+{
+    let mut text = Vec::new(alloc);
+    put_place(&mut text, name, fault.place)?;
+    put_told(&mut text, fault.code)?;
+    put_marked_line(alloc, &mut text, source, fault.place)?;
+    put_numbered(&mut text, fault)?;
+    Ok(text)
+}
+
+/// Puts a fault by its letters and words, and behind them what it is about.
+fn put_told(text: &mut Vec<u8>, code: Code) -> Result<(), AllocError>
+    ensures { OnOk result (text.new.items ≡ text.old.items ++ told code) }
+{
+    let again = code;
+    let last = code;
+    text.extend_from_slice(letters_of(code))?;
+    text.extend_from_slice(b": ")?;
+    text.extend_from_slice(words_of(again))?;
+    put_about(text, last)?;
+    text.extend_from_slice(b"\n")?;
+    Ok(())
+}
+
+/// Puts the name or the cell that a fault is about.
+fn put_about(text: &mut Vec<u8>, code: Code) -> Result<(), AllocError>
+    ensures { OnOk result (text.new.items ≡ text.old.items ++ about code) }
+{
+    match code {
+        Code::UA(name) => {
+            text.extend_from_slice(b" ")?;
+            put_spelling(text, name)?;
+            Ok(())
+        }
+        Code::PageClash(cell) => put_cell(text, cell),
+        Code::ZeroClash(cell) => put_cell(text, cell),
+        Code::IC | Code::SY | Code::NU | Code::DT | Code::RD | Code::IR | Code::II | Code::FD => {
+            Ok(())
+        }
+        Code::PG | Code::PF | Code::DZ | Code::PE | Code::ZE | Code::PH | Code::NE | Code::NW => {
+            Ok(())
+        }
+    }
+}
+
+/// Puts a cell in octal.
+fn put_cell(text: &mut Vec<u8>, cell: Cell) -> Result<(), AllocError>
+    ensures { OnOk result (text.new.items ≡ text.old.items ++ codes " at " ++ octal5 cell) }
+{
+    text.extend_from_slice(b" at ")?;
+    text.extend_from_slice(&cell.octal5())?;
+    Ok(())
+}
+
+/// Puts a fault as scripts are told it.
+fn put_numbered(text: &mut Vec<u8>, fault: Fault) -> Result<(), AllocError>
+    ensures { OnOk result (text.new.items ≡ text.old.items ++ numbered fault) }
+{
+    text.extend_from_slice(b"? 5 ")?;
+    text.extend_from_slice(letters_of(fault.code))?;
+    text.extend_from_slice(b" ")?;
+    put_number(text, fault.line)?;
+    text.extend_from_slice(b"\n")?;
+    Ok(())
+}
