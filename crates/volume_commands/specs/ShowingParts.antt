@@ -5,7 +5,6 @@ use Rattle.hosts.specs.Event.{Event}
 use Rattle.char_pack.specs.Packing.{packed}
 use Rattle.core_image.specs.Converted.{IsBinOf}
 use Rattle.core_image.specs.declared.faults.CoreFault.{CoreFault}
-use Rattle.archive8.specs.Asking.{Wanted}
 use Rattle.archive8.specs.Getting.{Gets}
 use Rattle.char_pack.specs.declared.forms.GetForm.TheVariants.{Frames}
 use Rattle.many8.specs.Raw.{GetsBlocks}

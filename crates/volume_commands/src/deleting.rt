@@ -1,11 +1,11 @@
 //! The command that takes files out of the volume in an image file.
-ghost use Rattle.std.specs.Prelude.{◌≡◌, ◌++◌, map, length, slice_get, OnOk, OnErr, IfErr, Some};
+ghost use Rattle.std.specs.Prelude.{◌≡◌, ◌++◌, map, OnOk, OnErr, IfErr, Some};
 ghost use Rattle.archive8.specs.Asking.{asked_for};
 ghost use Rattle.script8.specs.declared.faults.SessionFault.TheVariants.{Memory};
 ghost use Rattle.outcome.specs.declared.endings.Ending.TheVariants.{Fault};
 ghost use Rattle.volume_commands.specs.Answers.{AreLines};
 ghost use Rattle.volume_commands.specs.Deleting as spec;
-ghost use Rattle.volume_commands.specs.Deleting.{Deletes, DeletesAsked, RefusesFile, TakesOut, TellsRefused, one_of_several};
+ghost use Rattle.volume_commands.specs.Deleting.{Deletes, DeletesAsked, TakesOut, TellsRefused, one_of_several};
 ghost use Rattle.volume_commands.specs.DeleteSteps.{IsNotTaken};
 
 use crate::asking::files_meant;
