@@ -11,6 +11,7 @@ mod ending;
 mod faults;
 mod images;
 mod inputs;
+pub mod laws;
 mod making;
 mod notes;
 mod printing;
