@@ -2,10 +2,6 @@
 //! that they call; here image files are read and written, and what a command prints is printed.
 #![tactic(auto)]
 
-mod archives;
-mod changes;
 mod checks;
 
-pub use archives::get_bin;
-pub use changes::{copy_file, delete_files};
 pub use checks::check_images;

@@ -5,8 +5,8 @@ use crate::runs::run_image;
 use command8::{TaskFault, task};
 use hosts::Host;
 use image_file8::{tell, texts_of};
-use image_host8::{check_images, copy_file, delete_files, get_bin};
-use many_host8::{get_blocks, get_files, put_files};
+use image_host8::check_images;
+use many_host8::{get_files, put_files};
 use outcome::{Content, Ending, Note, PlainNote, ending_of_output, gives_data, no_memory_line};
 use script8::SessionFault;
 use std::alloc::AllocError;
@@ -22,8 +22,8 @@ use tape_host8::{
 };
 use task8::Task;
 use volume_commands::{
-    Rooms, asked_of, create_image, create_tape, end, get_file, list_files, list_places, put_file,
-    rename_file, squeeze_files,
+    Rooms, asked_of, copy_file, create_image, create_tape, delete_files, end, get_bin, get_blocks,
+    get_file, list_files, list_places, put_file, rename_file, squeeze_files,
 };
 
 /// How many times a second a command is tried again whose image another program holds.
@@ -95,12 +95,14 @@ where
         Task::List(image) => list_files(host, alloc, &image),
         Task::ListLong(image) => list_places(host, alloc, &image),
         Task::Get(image, file, form) => get_file(host, alloc, &image, file, form),
-        Task::GetBin(image, file) => get_bin(rt, &image, file),
+        Task::GetBin(image, file) => get_bin(host, alloc, &image, file),
         Task::GetMany(form) => get_files(rt, &form),
-        Task::GetBlocks(form) => get_blocks(rt, &form),
+        Task::GetBlocks(form) => get_blocks(host, alloc, &form),
         Task::Put(form) => wait_for_image!(rt, form.image.wait, put_file(host, alloc, &form)),
         Task::PutMany(form) => put_files(rt, &form),
-        Task::Delete(form) => delete_files(rt, form),
+        Task::Delete(form) => {
+            wait_for_image!(rt, form.image.wait, delete_files(host, alloc, &form))
+        }
         Task::Rename(image, file, new) => {
             let file = asked_of(file);
             wait_for_image!(
@@ -109,7 +111,7 @@ where
                 rename_file(host, alloc, &image, &file, &new)
             )
         }
-        Task::Copy(form) => copy_file(rt, form),
+        Task::Copy(form) => wait_for_image!(rt, form.to.wait, copy_file(host, alloc, &form)),
         Task::Squeeze(image) => wait_for_image!(rt, image.wait, squeeze_files(host, alloc, &image)),
         Task::Check(form) => check_images(rt, form),
     }

@@ -1,6 +1,11 @@
 pub mod AnswerSteps
 pub mod Answers
+pub mod Asking
 pub mod Changing
+pub mod CopySteps
+pub mod Copying
+pub mod DeleteSteps
+pub mod Deleting
 pub mod Ending
 pub mod Faults
 pub mod Making
@@ -12,4 +17,5 @@ pub mod Reading
 pub mod ReadingSteps
 pub mod Saving
 pub mod Showing
+pub mod ShowingParts
 pub mod Work

@@ -1,18 +1,14 @@
 //! What calls on the bytes of an image answer, as a command takes it.
-ghost use Rattle.std.specs.Prelude.{◌≡◌, length};
-ghost use Rattle.archive8.specs.Asking.{asked_for};
 ghost use Rattle.report8.specs.Program as report;
 ghost use Rattle.volume_commands.specs.Answers.{AreLines};
 ghost use Rattle.volume_commands.specs.AnswerSteps.{IsTaken};
-ghost use Rattle.volume_commands.specs.Showing.{wanted_file};
 
 use crate::notes::refuse_image;
-use archive8::{ArchiveFault, Asked};
+use archive8::ArchiveFault;
 use hosts::Host;
 use outcome::Ending;
 use report8::{ProgramLine, put_program};
 use std::alloc::Global;
-use task8::FileForm;
 
 /// What a call on an image of so many bytes answers. Where it or a file of it is refused, what may help is printed.
 pub(crate) fn answer_of<H: Host, T: Drop>(
@@ -35,14 +31,4 @@ pub(crate) fn program_line(alloc: Global, line: &ProgramLine) -> Result<Vec<u8>,
     let mut text = Vec::new(alloc);
     put_program(line, &mut text)?;
     Ok(text)
-}
-
-/// The file that is meant by an argument.
-pub fn asked_of(file: FileForm) -> Asked
-    ensures { asked_for result ≡ wanted_file file }
-{
-    match file {
-        FileForm::Name(name) => Asked::Name(name),
-        FileForm::At(place) => Asked::At(place),
-    }
 }

@@ -2,12 +2,16 @@
 #![tactic(auto)]
 
 mod answers;
+mod asking;
 mod changes;
+mod copying;
 mod creating;
+mod deleting;
 mod ending;
 mod faults;
 mod images;
 mod inputs;
+pub mod laws;
 mod making;
 mod notes;
 mod printing;
@@ -15,10 +19,13 @@ mod putting;
 mod reading;
 mod saving;
 mod showing;
+mod showing_parts;
 
-pub use answers::asked_of;
+pub use asking::asked_of;
 pub use changes::{rename_file, squeeze_files};
+pub use copying::copy_file;
 pub use creating::{create_image, create_tape};
+pub use deleting::delete_files;
 pub use ending::{Rooms, end};
 pub use images::Image;
 pub use making::{make_file, make_first};
@@ -27,3 +34,4 @@ pub use printing::{print, store};
 pub use putting::put_file;
 pub use reading::{ImagePlace, look_at};
 pub use showing::{get_file, list_files, list_places};
+pub use showing_parts::{get_bin, get_blocks};

@@ -7,7 +7,8 @@ ghost use Rattle.archive8.specs.LongListing.{ListsLong};
 ghost use Rattle.volume_commands.specs.Answers.{Answers};
 ghost use Rattle.volume_commands.specs.Showing.{Shows, wanted_file};
 
-use crate::answers::{answer_of, asked_of};
+use crate::answers::answer_of;
+use crate::asking::asked_of;
 use crate::printing::print;
 use crate::reading::look_at;
 use archive8::{Asked, GetForm, get, list, list_long};
@@ -64,7 +65,7 @@ pub fn get_file<H: Host>(
     print(host, &given)
 }
 
-fn given_of<H: Host>(
+pub(crate) fn given_of<H: Host>(
     host: &mut H,
     alloc: Global,
     image: &[u8],

@@ -1,0 +1,80 @@
+//! Which files of a volume the words of a command line mean.
+ghost use Rattle.std.specs.Prelude.{◌≡◌, [], ◌∷◌, ◌++◌, map, OnOk};
+ghost use Rattle.archive8.specs.Asking.{OfName, AtBlock, asked_for};
+ghost use Rattle.volume_commands.specs.Asking.{MeansFile, MeansFiles};
+ghost use Rattle.volume_commands.specs.Showing.{wanted_file};
+
+use archive8::Asked;
+use outcome::Ending;
+use std::alloc::{AllocError, Global};
+use task8::{DeleteForm, FileForm};
+
+/// The file that is meant by an argument.
+pub fn asked_of(file: FileForm) -> Asked
+    ensures { asked_for result ≡ wanted_file file }
+{
+    match file {
+        FileForm::Name(name) => Asked::Name(name),
+        FileForm::At(place) => Asked::At(place),
+    }
+}
+
+/// The file that is meant by an argument, which stays as it is.
+pub(crate) fn asked_by(alloc: Global, file: &FileForm) -> Result<Asked, Ending>
+    ensures { MeansFile file.now result }
+{
+    match file {
+        FileForm::Name(name) => {
+            let text = String::from_str(alloc, name.as_str())?;
+            Ok(Asked::Name(text))
+        }
+        FileForm::At(place) => Ok(Asked::At(*place)),
+    }
+}
+
+/// The files of some names, and then those of some first blocks.
+pub(crate) fn files_meant(alloc: Global, form: &DeleteForm) -> Result<Vec<Asked>, Ending>
+    ensures { MeansFiles form.now result }
+{
+    let mut files = Vec::new(alloc);
+    add_names(alloc, &form.names, &mut files)?;
+    add_places(&form.places, &mut files)?;
+    Ok(files)
+}
+
+fn add_names(alloc: Global, names: &[String], files: &mut Vec<Asked>) -> Result<(), AllocError>
+    ensures { OnOk result (map asked_for files.new.items ≡ map asked_for files.old.items ++ map (λ name. OfName name.bytes.items) names.now) }
+{
+    let mut rest = names;
+    while let [name, others @ ..] = rest {
+        add_name(alloc, name.as_str(), files)?;
+        rest = others;
+    }
+    Ok(())
+}
+
+fn add_name(alloc: Global, name: &str, files: &mut Vec<Asked>) -> Result<(), AllocError>
+    ensures { OnOk result (map asked_for files.new.items ≡ map asked_for files.old.items ++ OfName name.now ∷ []) }
+{
+    let text = String::from_str(alloc, name)?;
+    files.push(Asked::Name(text))?;
+    Ok(())
+}
+
+fn add_places(places: &[usize], files: &mut Vec<Asked>) -> Result<(), AllocError>
+    ensures { OnOk result (map asked_for files.new.items ≡ map asked_for files.old.items ++ map AtBlock places.now) }
+{
+    let mut rest = places;
+    while let [place, others @ ..] = rest {
+        add_place(*place, files)?;
+        rest = others;
+    }
+    Ok(())
+}
+
+fn add_place(place: usize, files: &mut Vec<Asked>) -> Result<(), AllocError>
+    ensures { OnOk result (map asked_for files.new.items ≡ map asked_for files.old.items ++ AtBlock place ∷ []) }
+{
+    files.push(Asked::At(place))?;
+    Ok(())
+}

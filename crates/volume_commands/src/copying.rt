@@ -1,0 +1,178 @@
+//! The command that copies a file of the volume in an image file to the volume in another, or under a new name in the same one.
+ghost use Rattle.std.specs.Prelude.{◌≡◌, false, option_copied};
+ghost use Rattle.archive8.specs.Asking.{asked_for};
+ghost use Rattle.volume_commands.specs.Copying as spec;
+ghost use Rattle.volume_commands.specs.Copying.{Copies, CopiesFrom, CopiesInto, MakesCopy};
+ghost use Rattle.volume_commands.specs.CopySteps.{IsNotCopied, IsOneRefused};
+
+use crate::asking::asked_by;
+use crate::images::Image;
+use crate::notes::{refuse_image, tell_note};
+use crate::printing::store;
+use crate::putting::line_of;
+use crate::reading::look_at;
+use archive8::{ArchiveFault, Asked, CopyFault, NewImage, copy};
+use disk8::Layout;
+use hosts::Host;
+use outcome::{Ending, NameNote, Note};
+use script8::SessionFault;
+use std::alloc::Global;
+use task8::{CopyForm, ImageForm};
+
+/// Copies a file of the volume in an image file to the volume in another, or under a new name in the same one, and tells of it.
+pub fn copy_file<H: Host>(host: &mut H, alloc: Global, form: &CopyForm) -> Result<(), Ending>
+    ensures { Copies form.now (H.history host.old) result (H.history host.new) }
+{
+    let file = asked_by(alloc, &form.file)?;
+    let image = Image::open(host, alloc, &form.to)?;
+    copy_to(host, alloc, form, &file, image)
+}
+
+/// Copies it to the volume in an image.
+fn copy_to<H: Host>(
+    host: &mut H,
+    alloc: Global,
+    form: &CopyForm,
+    file: &Asked,
+    image: Image,
+) -> Result<(), Ending>
+    ensures { CopiesFrom (spec.is_one_image form.now.image form.now.to) form.now (asked_for file.now) image (H.history host.old) result (H.history host.new) }
+{
+    if is_one_image(&form.image, &form.to) {
+        return copy_within(host, alloc, form, file, image);
+    }
+    copy_between(host, alloc, form, file, image)
+}
+
+/// Copies it within one image.
+fn copy_within<H: Host>(
+    host: &mut H,
+    alloc: Global,
+    form: &CopyForm,
+    file: &Asked,
+    image: Image,
+) -> Result<(), Ending>
+    ensures { CopiesInto form.now (asked_for file.now) image image.bytes.items (H.history host.old) result (H.history host.new) }
+{
+    let new = image_with(host, alloc, form, file, &image.bytes, &image)?;
+    let line = line_of(alloc, &new)?;
+    store(host, alloc, image, &new.bytes, &line)
+}
+
+/// Copies it from another image file, which is read.
+fn copy_between<H: Host>(
+    host: &mut H,
+    alloc: Global,
+    form: &CopyForm,
+    file: &Asked,
+    image: Image,
+) -> Result<(), Ending>
+    ensures { CopiesFrom false form.now (asked_for file.now) image (H.history host.old) result (H.history host.new) }
+{
+    let from = look_at(host, alloc, &form.image)?;
+    let new = image_with(host, alloc, form, file, &from, &image)?;
+    let line = line_of(alloc, &new)?;
+    store(host, alloc, image, &new.bytes, &line)
+}
+
+/// The image with the copy.
+fn image_with<H: Host>(
+    host: &mut H,
+    alloc: Global,
+    form: &CopyForm,
+    file: &Asked,
+    from: &[u8],
+    image: &Image,
+) -> Result<NewImage, Ending>
+    ensures { MakesCopy form.now (asked_for file.now) from.now image.now.bytes.items (H.history host.old) result (H.history host.new) }
+{
+    let name = new_name(form);
+    match copy(alloc, from, file, &image.bytes, name) {
+        Ok(new) => Ok(new),
+        Err(fault) => Err(refuse_copy(host, alloc, form, from.len(), image.bytes.len(), fault)),
+    }
+}
+
+/// How the command ends of which an image is refused, the one of so many bytes or the other of so many. Which it is, is printed.
+fn refuse_copy<H: Host>(
+    host: &mut H,
+    alloc: Global,
+    form: &CopyForm,
+    from: usize,
+    to: usize,
+    fault: CopyFault,
+) -> Ending
+    ensures { IsNotCopied form.now fault from to (H.history host.old) result (H.history host.new) }
+{
+    match fault {
+        CopyFault::From(fault) => refuse_one(host, alloc, form.image.file.as_str(), from, fault),
+        CopyFault::To(fault) => refuse_one(host, alloc, form.to.file.as_str(), to, fault),
+    }
+}
+
+/// How the command ends of which the image in this file is refused, or a file of it.
+fn refuse_one<H: Host>(
+    host: &mut H,
+    alloc: Global,
+    name: &str,
+    size: usize,
+    fault: ArchiveFault,
+) -> Ending
+    ensures { IsOneRefused name.now fault size (H.history host.old) result (H.history host.new) }
+{
+    if is_want_of(&fault) {
+        return refuse_image(host, size, fault);
+    }
+    match tell_note(host, alloc, Note::OnName(NameNote::Refuses, name)) {
+        Ok(()) => refuse_image(host, size, fault),
+        Err(error) => Ending::from(error),
+    }
+}
+
+/// Whether memory is wanted.
+fn is_want_of(fault: &ArchiveFault) -> bool
+    ensures { result ≡ spec.is_want_of fault.now }
+{
+    match fault {
+        ArchiveFault::Image(_) | ArchiveFault::Directory(_) => false,
+        ArchiveFault::Refused(why) => is_want(*why),
+    }
+}
+
+fn is_want(why: SessionFault) -> bool
+    ensures { result ≡ spec.is_want why }
+{
+    match why {
+        SessionFault::Memory => true,
+        _ => false,
+    }
+}
+
+/// Whether two images are one: their files have one name, and they lie in the same place.
+fn is_one_image(one: &ImageForm, other: &ImageForm) -> bool
+    ensures { result ≡ spec.is_one_image one.now other.now }
+{
+    one.file == other.file && is_one_layout(one.layout, other.layout)
+}
+
+fn is_one_layout(one: Option<Layout>, other: Option<Layout>) -> bool
+    ensures { result ≡ spec.is_one_layout one other }
+{
+    match one {
+        None => other.is_none(),
+        Some(one) => match other {
+            None => false,
+            Some(other) => one == other,
+        },
+    }
+}
+
+/// The name that the copy gets, if it is another one.
+fn new_name(form: &CopyForm) -> Option<&[u8]>
+    ensures { option_copied result ≡ spec.new_name form.now }
+{
+    match &form.new {
+        Some(name) => Some(name.as_bytes()),
+        None => None,
+    }
+}

@@ -1,0 +1,135 @@
+//! The command that takes files out of the volume in an image file.
+ghost use Rattle.std.specs.Prelude.{◌≡◌, ◌++◌, map, OnOk, OnErr, IfErr, Some};
+ghost use Rattle.archive8.specs.Asking.{asked_for};
+ghost use Rattle.script8.specs.declared.faults.SessionFault.TheVariants.{Memory};
+ghost use Rattle.outcome.specs.declared.endings.Ending.TheVariants.{Fault};
+ghost use Rattle.volume_commands.specs.Answers.{AreLines};
+ghost use Rattle.volume_commands.specs.Deleting as spec;
+ghost use Rattle.volume_commands.specs.Deleting.{Deletes, DeletesAsked, TakesOut, TellsRefused, one_of_several};
+ghost use Rattle.volume_commands.specs.DeleteSteps.{IsNotTaken};
+
+use crate::asking::files_meant;
+use crate::images::Image;
+use crate::notes::{refuse_image, tell_note};
+use crate::printing::store;
+use archive8::{Asked, DeleteFault, DeletedImage, delete};
+use hosts::Host;
+use os8_dir::Name;
+use outcome::{Ending, NameNote, Note};
+use script8::{LineReply, Reply, SessionFault, put_reply};
+use std::alloc::{AllocError, Global};
+use task8::{DeleteForm, ImageForm};
+
+/// Takes files out of the volume in an image file, all or none, and tells of each.
+pub fn delete_files<H: Host>(host: &mut H, alloc: Global, form: &DeleteForm) -> Result<(), Ending>
+    ensures { Deletes form.now (H.history host.old) result (H.history host.new) }
+{
+    let files = files_meant(alloc, form)?;
+    delete_asked(host, alloc, &form.image, &files)
+}
+
+/// Takes these files out.
+fn delete_asked<H: Host>(
+    host: &mut H,
+    alloc: Global,
+    form: &ImageForm,
+    files: &[Asked],
+) -> Result<(), Ending>
+    ensures { DeletesAsked (map asked_for files.now) form.now (H.history host.old) result (H.history host.new) }
+{
+    let image = Image::open(host, alloc, form)?;
+    let new = image_without(host, alloc, &image.bytes, files)?;
+    let lines = deleted_lines(alloc, &new.names)?;
+    store(host, alloc, image, &new.bytes, &lines)
+}
+
+/// The image without these files.
+fn image_without<H: Host>(
+    host: &mut H,
+    alloc: Global,
+    image: &[u8],
+    files: &[Asked],
+) -> Result<DeletedImage, Ending>
+    ensures { TakesOut (map asked_for files.now) image.now (H.history host.old) result (H.history host.new) }
+{
+    match delete(alloc, image, files) {
+        Ok(new) => Ok(new),
+        Err(fault) => Err(refuse_file(host, alloc, files, image.len(), fault)),
+    }
+}
+
+/// How the command ends of which a file is refused, or its image of so many bytes. What may help is printed.
+fn refuse_file<H: Host>(
+    host: &mut H,
+    alloc: Global,
+    files: &[Asked],
+    size: usize,
+    fault: DeleteFault,
+) -> Ending
+    ensures { IsNotTaken (map asked_for files.now) fault size (H.history host.old) result (H.history host.new) }
+{
+    match fault {
+        DeleteFault::Archive(fault) => refuse_image(host, size, fault),
+        DeleteFault::Name(place, fault) => match tell_refused(host, alloc, files, place) {
+            Ok(()) => Ending::Fault(SessionFault::File(fault)),
+            Err(error) => Ending::from(error),
+        },
+    }
+}
+
+/// Prints which of several files is refused, by its place among them, counted from 0.
+fn tell_refused<H: Host>(
+    host: &mut H,
+    alloc: Global,
+    files: &[Asked],
+    place: usize,
+) -> Result<(), AllocError>
+    ensures told { OnOk result (TellsRefused (one_of_several (map asked_for files.now) place) (H.history host.old) (H.history host.new)) }
+    ensures wanted { OnErr result (H.history host.new ≡ H.history host.old) }
+{
+    if files.len() < 2 {
+        return Ok(());
+    }
+    match files.get(place) {
+        Some(file) => tell_file(host, alloc, file),
+        None => Ok(()),
+    }
+}
+
+/// Prints that a file is refused.
+fn tell_file<H: Host>(host: &mut H, alloc: Global, file: &Asked) -> Result<(), AllocError>
+    ensures told { OnOk result (TellsRefused (Some (asked_for file.now)) (H.history host.old) (H.history host.new)) }
+    ensures wanted { OnErr result (H.history host.new ≡ H.history host.old) }
+{
+    match file {
+        Asked::Name(name) => tell_note(
+            host,
+            alloc,
+            Note::OnName(NameNote::NotDeleted, name.as_str()),
+        ),
+        Asked::At(block) => tell_note(host, alloc, Note::OnBlock(*block)),
+    }
+}
+
+/// The lines of files that were taken out.
+fn deleted_lines(alloc: Global, names: &[Name]) -> Result<Vec<u8>, Ending>
+    ensures { AreLines (spec.deleted_lines names.now) result }
+{
+    let mut lines = Vec::new(alloc);
+    put_lines(names, &mut lines)?;
+    Ok(lines)
+}
+
+/// Appends the lines of files that were taken out.
+fn put_lines(names: &[Name], lines: &mut Vec<u8>) -> Result<(), Ending>
+    ensures lines { OnOk result (lines.new.items ≡ lines.old.items ++ spec.deleted_lines names.now) }
+    ensures memory { IfErr result (λ ending. ending ≡ Fault Memory) }
+{
+    let mut rest = names;
+    while let [name, others @ ..] = rest {
+        let deleted = Reply::Line(LineReply::Deleted(*name));
+        put_reply(None, &Ok(deleted), lines)?;
+        rest = others;
+    }
+    Ok(())
+}

@@ -1,0 +1,79 @@
+//! The commands that print blocks of an image, or the BIN tape of a core image on its volume. No file changes.
+ghost use Rattle.volume_commands.specs.ShowingParts.{GivesBlocks, GivesTape, PrintsTape, ShowsBlocks, ShowsTape};
+
+use crate::answers::program_line;
+use crate::asking::asked_of;
+use crate::ending::tell_line;
+use crate::notes::refuse_image;
+use crate::printing::print;
+use crate::reading::look_at;
+use crate::showing::given_of;
+use archive8::GetForm;
+use hosts::Host;
+use many8::{BlocksFault, blocks_of};
+use outcome::Ending;
+use report8::{ProgramLine, core_tape};
+use std::alloc::Global;
+use task8::{BlocksForm, FileForm, ImageForm};
+use word12::Cell;
+
+/// Writes blocks of an image file, whatever its directory says.
+pub fn get_blocks<H: Host>(host: &mut H, alloc: Global, form: &BlocksForm) -> Result<(), Ending>
+    ensures { ShowsBlocks form.now (H.history host.old) result (H.history host.new) }
+{
+    let image = look_at(host, alloc, &form.image)?;
+    let given = given_blocks(host, alloc, form, &image)?;
+    print(host, &given)
+}
+
+fn given_blocks<H: Host>(
+    host: &mut H,
+    alloc: Global,
+    form: &BlocksForm,
+    image: &[u8],
+) -> Result<Vec<u8>, Ending>
+    ensures { GivesBlocks form.now image.now (H.history host.old) result (H.history host.new) }
+{
+    match blocks_of(alloc, image, form.first, form.count, form.form) {
+        Ok(given) => Ok(given),
+        Err(fault) => match fault {
+            BlocksFault::Archive(fault) => Err(refuse_image(host, image.len(), fault)),
+            BlocksFault::NoBlocks(has) => Err(Ending::Line(ProgramLine::OnlyBlocks(has))),
+        },
+    }
+}
+
+/// Writes the BIN tape of a core image on the volume in an image file, and then prints on standard error where its program starts.
+pub fn get_bin<H: Host>(
+    host: &mut H,
+    alloc: Global,
+    image: &ImageForm,
+    file: FileForm,
+) -> Result<(), Ending>
+    ensures { ShowsTape file image.now (H.history host.old) result (H.history host.new) }
+{
+    let asked = asked_of(file);
+    let bytes = look_at(host, alloc, image)?;
+    let frames = given_of(host, alloc, &bytes, &asked, GetForm::Frames)?;
+    let bin = tape_of(alloc, &frames)?;
+    print_tape(host, alloc, bin)
+}
+
+/// The BIN tape of a core image, and the cell where its program starts.
+fn tape_of(alloc: Global, frames: &[u8]) -> Result<(Vec<u8>, Cell), Ending>
+    ensures { GivesTape frames.now result }
+{
+    let bin = core_tape(alloc, frames)?;
+    Ok(bin)
+}
+
+/// Prints a tape, and then where its program starts.
+fn print_tape<H: Host>(host: &mut H, alloc: Global, bin: (Vec<u8>, Cell)) -> Result<(), Ending>
+    ensures { PrintsTape bin (H.history host.old) result (H.history host.new) }
+{
+    let (tape, start) = bin;
+    let line = program_line(alloc, &ProgramLine::Start(start))?;
+    print(host, &tape)?;
+    tell_line(host, &line);
+    Ok(())
+}
