@@ -2,9 +2,11 @@
 # cpu.sh SEED: runs programs of up to 100,000,000 steps on this processor and on SIMH's pdp8, unthrottled, in one run: the six of
 # bench/cpu/, and those that bench/draw_programs.py draws from the seed, which is any word. Each is run by scripts of the program
 # `pdp8`, its words deposited and GO 1000000 again and again, without a break, with 64 breaks in another field and with 64 in the
-# program's own, which are never met, and by the debugger's go alone. Both load the same tape; both must end in the same registers.
+# program's own, which are never met, and by the debugger's go alone. A program that prints is run by RUN 00200 1000000 in place of GO:
+# after START the printer is as slow as DONE makes it, and a script without DONE would wait for it without end. Each RUN begins at 00200
+# again, and the counters in core go on. Both load the same tape. Each script must halt, and the go alone must end in SIMH's registers.
 # Prints the processor seconds of each less those of a program that stops at once, how many times as fast as SIMH each is, and the
-# instructions of the host for a step by GO (valgrind). Then, for each kind of program, the geometric means, the least and its name.
+# instructions of the host for a step by GO or RUN (valgrind). Then, for each kind of program, the geometric means, the least and its name.
 # Takes simh, palbart and valgrind from Debian's packages where they are missing.
 set -eu
 top=$(cd "$(dirname "${BASH_SOURCE[0]}")/.." && pwd)
@@ -26,19 +28,35 @@ run_simh() { "$simh" "$1.sim" </dev/null; }
 # 64 breaks from this cell on.
 breaks() { for k in $(seq 0 63); do printf 'BREAK %05o ON\n' $((8#$1 + k)); done; }
 
-# The instructions of the host for each of 1000000 steps by GO.
+# The programs that print.
+printers=' interrupts talker tls '
+prints() { [[ $printers == *" $1 "* ]]; }
+
+# The lines that run a program until it halts: as many RUNs as it takes, since one more would run it again, or GOs, of which those after
+# the halt do nothing.
+lines() {
+    local count=400
+    if prints "$1"; then
+        count=$({ deposits "$1"; yes 'RUN 00200 1000000' | head -n $count; } | "$program" run V | awk '/^STEPS/ { n++ } / HALT / && !first { first = n } END { print first }')
+        yes 'RUN 00200 1000000' | head -n "${count:?$1 does not halt}"
+    else
+        yes 'GO 1000000' | head -n $count
+    fi
+}
+
+# The instructions of the host for each of 1000000 steps by GO or RUN.
 host() {
     local steps=1000000 start whole
     deposits "$1" >"$1.start"
     start=$(instructions run V <"$1.start")
-    whole=$({ cat "$1.start"; echo "GO $steps"; } | instructions run V)
+    whole=$({ cat "$1.start"; if prints "$1"; then echo "RUN 00200 $steps"; else echo "GO $steps"; fi; } | instructions run V)
     awk -v n=$((whole - start)) -v steps=$steps 'BEGIN { printf "%.1f", n / steps }'
 }
 
 for source in *.pal; do
     name=${source%.pal}
     printf 'deposit tto time 1\nload %s.bin\ngo 200\nex ac\nex l\nex pc\nquit\n' "$name" >"$name.sim"
-    { deposits "$name"; yes 'GO 1000000' | head -n 400; echo REGISTERS; } >"$name.go"
+    { deposits "$name"; lines "$name"; echo REGISTERS; } >"$name.go"
     { breaks 70000; cat "$name.go"; } >"$name.breaks"
     { breaks 07000; cat "$name.go"; } >"$name.near"
 done
@@ -49,8 +67,10 @@ while read -r kind names; do
         want=$(run_simh "$name" | tr -d '\0\r' | awk '/(AC|L|PC):\t/ { printf "%s%s", gap, $NF; gap = " " }')
         got=$(run_ours "$name")
         [ "$want" = "$got" ] || { echo "$name: simh ends with $want, we with $got" >&2; exit 1; }
+        state=$(run_script "$name.go" | tail -n 1)
+        [[ $state == *'"run":false'* ]] || { echo "$name: its script does not halt" >&2; exit 1; }
         for with in breaks near; do
-            [ "$(run_script "$name.go" | tail -n 1)" = "$(run_script "$name.$with" | tail -n 1)" ] || { echo "$name: with breaks we end otherwise" >&2; exit 1; }
+            [ "$state" = "$(run_script "$name.$with" | tail -n 1)" ] || { echo "$name: with breaks we end otherwise" >&2; exit 1; }
         done
         read -r a b c d e <<<"$(alternate 3 "run_script $name.go >/dev/null" "run_script $name.breaks >/dev/null" "run_script $name.near >/dev/null" "run_ours $name >/dev/null" "run_simh $name >/dev/null")"
         awk -v name="$name" -v kind="$kind" -v host="$(host "$name")" -v a="$a" -v b="$b" -v c="$c" -v d="$d" -v e="$e" -v idle_go="$idle_go" -v idle_breaks="$idle_breaks" -v idle_near="$idle_near" -v idle_ours="$idle_ours" -v idle_simh="$idle_simh" \

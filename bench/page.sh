@@ -1,9 +1,10 @@
 #!/usr/bin/env bash
-# Makes the page and runs it in headless Chromium: prints how many steps a second it makes by lines GO 1000000 of a script, and the part of
-# the native program's rate that is reached; how many pictures a second there are while the machine and the Teletype run at full speed; how
-# long an image of 4095 blocks takes to be shown; how long the page takes to begin; and how large its folder is.
+# Makes the page of the proved program, as ./prove or ./check has built it, and runs it in headless Chromium: prints how many steps a second
+# it makes by lines GO 1000000 of a script, and the part of the native program's rate that is reached; how many pictures a second there are
+# while the machine and the Teletype run at full speed; how long an image of 4095 blocks takes to be shown; how long the page takes to begin;
+# and how large its folder is.
 set -eu
 top=$(cd "$(dirname "${BASH_SOURCE[0]}")/.." && pwd)
 cd "$top"
-./page >&2
+./page --proved >&2
 exec node tests/page/speeds.mjs crates/pdp8/out/pdp8 target/page

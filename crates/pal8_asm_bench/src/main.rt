@@ -75,8 +75,9 @@ fn about(code: Code) -> Option<u64> {
 }
 
 fn print_fault(rt: &mut HostRuntime, code: Code, place: Place) -> bool {
+    let again = code;
     let letters = letters_of(code);
-    let printed = match about(code) {
+    let printed = match about(again) {
         Some(number) => println!(rt;
             "? 5 {} {} {} {:o}",
             letters, place.line, place.start, number

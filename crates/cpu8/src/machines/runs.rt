@@ -185,7 +185,7 @@ impl Machine {
         ensures quiet { AreQuiet quick breaks.now self.old result }
         ensures unasked { quick ≡ true → asks ≡ true → AreUnasked self.old result }
     {
-        let mut processor = self.processor.settled();
+        let mut processor = self.processor.with_settled_state();
         let steps = processor.run_quietly::<false>(&mut self.core, n, quick, asks, breaks);
         self.processor = processor;
         steps
@@ -201,7 +201,7 @@ impl Machine {
         ensures state { self.new ≡ after quick result self.old }
         ensures quiet { AreQuiet quick breaks.now self.old result }
     {
-        let mut processor = self.processor.settled();
+        let mut processor = self.processor.with_settled_state();
         let steps = processor.run_quietly::<true>(&mut self.core, n, quick, false, breaks);
         self.processor = processor;
         steps
@@ -219,7 +219,7 @@ impl Machine {
         ensures unasked { AreUnasked self.old result }
         ensures counts { AddsFetches result self.old counts.old counts.new }
     {
-        let mut processor = self.processor.settled();
+        let mut processor = self.processor.with_settled_state();
         let steps = processor.run_counting(&mut self.core, n, counts);
         self.processor = processor;
         steps

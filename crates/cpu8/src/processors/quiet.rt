@@ -1,8 +1,14 @@
-//! Steps with no look at the Teletype: what a run mostly makes, on a processor of its own that the compiler keeps in
-//! registers. So every function here is inlined, and what is rare is left to the other steps. The larger ones have the
-//! parameters MINDS, whether breaks are minded, COUNTS, whether fetches are counted, and TRANSFERS, whether IOTs are among
-//! the steps, so that each stands in the program once for each of the four loops, and not once for all, which would not be
-//! inlined.
+//! The quick loops: steps that need no look at the Teletype. Most steps of a run are such.
+//!
+//! A loop works on a copy of the processor, which the compiler keeps in registers of the host. For that every function here
+//! is inlined. What comes seldom is left to the plain step.
+//!
+//! A step jumps by the five leading bits of its word, and an operate once more by its whole word. The code that each jump
+//! comes to is compiled for those bits, so that it tests them no more.
+//!
+//! There are four loops: without breaks, with breaks, with counts, and with IOTs. The compiler inlines what is called once, so
+//! a large function stands in the program once for each loop. Its parameters tell them apart: MINDS, whether breaks are
+//! minded; COUNTS, whether fetches are counted; TRANSFERS, whether IOTs are among the steps.
 
 ghost use Rattle.std.specs.Prelude.{◌≡◌, ◌<◌, ◌≤◌, ◌/◌, true, false, nat_eq, length};
 ghost use Rattle.word12.specs.declared.sizes.TheConstants.{CORE};
@@ -21,7 +27,8 @@ use crate::decoding::{
 use core_load::Core;
 use word12::{Cell, FIELD, Word};
 
-/// Does an instruction of this word, each of those that are listed by code of its own.
+/// Does an instruction by a method, whose code is compiled for each word of the list by itself. Another word is done as the
+/// `else` says.
 macro_rules! each_for_itself {
     ($processor:ident, $does:ident, $core:ident, $word:ident: $($one:literal)*; else $other:expr) => {
         match $word.get() {
@@ -31,8 +38,8 @@ macro_rules! each_for_itself {
     };
 }
 
-/// Does a reference to memory by code of its own for each five leading bits that are listed, and another instruction as its arm
-/// says.
+/// Does a reference to memory, whose code is compiled for each of the five leading bits of the list. Another instruction is done
+/// as its arm says.
 macro_rules! refer_or_else {
     ($processor:ident, $core:ident, $word:ident: $($bits:literal)*; $($other:pat => $does:expr,)*) => {
         match $word.get() / 0o200 {
@@ -61,9 +68,9 @@ impl Processor {
         self.instruction_buffer == self.instruction_field && !self.waiting && !self.held_off
     }
 
-    /// The processor as it is, told to the compiler as settled.
+    /// The same processor, with what is settled written as constants, so that the compiler knows it.
     #[inline(always)]
-    pub(crate) fn settled(self) -> Processor
+    pub(crate) fn with_settled_state(self) -> Processor
         requires { is_settled self ≡ true }
         ensures { result ≡ self }
     {
@@ -75,9 +82,9 @@ impl Processor {
         }
     }
 
-    /// Makes up to n steps as long as they are quiet, no break is ahead and, if it asks, none is a KSF that finds the
-    /// keyboard flag clear. None of them leaves the instruction field, so breaks of other fields need not be minded. Unless
-    /// it asks, the last may be any IOT that prints nothing.
+    /// Makes up to n steps, and answers how many. It ends where a step is not quiet, and where a break is ahead. If it asks, it
+    /// also ends at a KSF that finds the keyboard flag clear; else the last step may be any IOT that prints nothing. No step
+    /// leaves the instruction field, so breaks of other fields need not be minded.
     #[inline(always)]
     pub(crate) fn run_quietly<const MINDS: bool>(
         &mut self,
@@ -96,22 +103,22 @@ impl Processor {
         ensures unasked { quick ≡ true → asks ≡ true → AreUnasked (with_core self.old core.old) result }
     {
         let _quick = quick;
-        for made in 0..n {
+        for steps in 0..n {
             if !self.step_quietly::<MINDS, false, false>(core, asks) {
                 if !asks && self.end_by_transfer(core) {
-                    return made + 1;
+                    return steps + 1;
                 }
-                return made;
+                return steps;
             }
             if self.is_at_break::<MINDS>(breaks) {
-                return made + 1;
+                return steps + 1;
             }
         }
         n
     }
 
-    /// Makes up to n steps as long as they are quiet and none is a KSF that finds the keyboard flag clear, and counts for
-    /// each cell how often its word was fetched.
+    /// Makes up to n steps, and answers how many. It ends where a step is not quiet, and at a KSF that finds the keyboard flag
+    /// clear. For each cell it counts how often its word was fetched.
     #[inline(always)]
     pub(crate) fn run_counting(&mut self, core: &mut Core, n: usize, counts: &mut [u64]) -> usize
         requires quiet { is_quiet true self.old ≡ true }
@@ -122,18 +129,19 @@ impl Processor {
         ensures unasked { AreUnasked (with_core self.old core.old) result }
         ensures counts { AddsFetches result (with_core self.old core.old) counts.old counts.new }
     {
-        for made in 0..n {
+        for steps in 0..n {
             let cell = self.next_cell();
             if !self.step_quietly::<false, true, false>(core, true) {
-                return made;
+                return steps;
             }
             counts[cell.index()] += 1;
         }
         n
     }
 
-    /// Makes up to n steps as long as they are quiet and no break is ahead, with IOTs among them. It is a loop beside the others, so
-    /// that what an IOT changes is constant in those. A break is looked for before each step, since the cell is then known.
+    /// Makes up to n steps, IOTs among them, and answers how many. It ends where a step is not quiet, and where a break is ahead.
+    /// It stands beside the other loops, so that what an IOT changes is constant in those. A break is looked for before each
+    /// step, since the cell is then known.
     #[inline(always)]
     pub(crate) fn run_with_transfers(
         &mut self,
@@ -148,18 +156,18 @@ impl Processor {
         ensures quiet { AreQuiet quick breaks.now (with_core self.old core.old) result }
     {
         let _quick = quick;
-        for made in 0..n {
+        for steps in 0..n {
             if is_break(breaks, self.next_cell()) {
-                return made;
+                return steps;
             }
             if !self.step_quietly::<false, false, true>(core, false) {
-                return made;
+                return steps;
             }
         }
         n
     }
 
-    /// Whether the next instruction is an IOT: a step makes it sooner than a run that may end before it or behind it.
+    /// Whether the next instruction is an IOT. The plain step makes it sooner than a run that may end before or after it.
     #[inline(always)]
     pub(crate) fn finds_transfer(&self, core: &Core) -> bool
         ensures { result ≡ nat_eq (fetched (with_core self.now core.now) / 0o1000) 6 }
@@ -183,7 +191,7 @@ impl Processor {
         !self.teletype.keyboard_flag() && is_ksf(core.get(self.next_cell()))
     }
 
-    /// Whether the next instruction is at a break, where none of its field has one or each is told of.
+    /// Whether the next instruction is at a break. Where breaks are not minded, its field has none.
     #[inline(always)]
     fn is_at_break<const MINDS: bool>(&self, breaks: &[bool]) -> bool
         requires { AreMinded breaks.now self.now.instruction_field MINDS }
@@ -193,7 +201,8 @@ impl Processor {
         if MINDS { breaks[cell] } else { false }
     }
 
-    /// The next instruction, if it is one that is done here. If it asks, a KSF that finds the keyboard flag clear is none.
+    /// Does the next instruction, if it is one of this loop, and answers whether it was. If it asks, a KSF that finds the keyboard
+    /// flag clear is none.
     #[inline(always)]
     fn step_quietly<const MINDS: bool, const COUNTS: bool, const TRANSFERS: bool>(
         &mut self,
@@ -212,7 +221,7 @@ impl Processor {
                 if asks && self.finds_no_key(core) {
                     return false;
                 }
-                return self.make_transfer::<TRANSFERS>(core, leading(0o30, word));
+                return self.make_transfer::<TRANSFERS>(core, word);
             },
             0o31 => return self.make_other_transfer::<TRANSFERS>(core, leading(0o31, word)),
             0o32 => return self.make_other_transfer::<TRANSFERS>(core, leading(0o32, word)),
@@ -222,7 +231,7 @@ impl Processor {
         true
     }
 
-    /// A reference to memory. Each is compiled for its five leading bits.
+    /// A reference to memory.
     #[tactic(auto, unfolding(crate::specs::Step::executed))]
     #[inline(always)]
     fn refer(&mut self, core: &mut Core, word: Word)
@@ -241,25 +250,28 @@ impl Processor {
         }
     }
 
-    /// An IOT of the words 6000 to 6177, if it is one that is done in this loop. In the loop with IOTs those of interrupts and of the
-    /// Teletype that print nothing have code of their own. It is called at one place, so that it is inlined.
+    /// An IOT of the words 6000 to 6177, if it is one of this loop. In the loop with IOTs those of interrupts and of the Teletype
+    /// that print nothing have code of their own, and in the others KSF and TSF.
     #[inline(always)]
     fn make_transfer<const TRANSFERS: bool>(&mut self, core: &Core, word: Word) -> bool
-        requires { word / 0o1000 ≡ 6 }
+        requires { word / 0o200 ≡ 0o30 }
         ensures { DoneOrNot TRANSFERS (with_core self.old core.now) word result (with_core self.new core.now) }
     {
         if !TRANSFERS {
-            return self.transfer_quietly(core, word);
+            return each_for_itself! { self, transfer_quietly, core, word:
+                0o6031 0o6041;
+                else self.transfer_quietly(core, leading(0o30, word))
+            };
         }
-        each_for_itself! { self, transfer_on, core, word:
+        each_for_itself! { self, transfer_and_go_on, core, word:
             0o6001 0o6002
             0o6030 0o6031 0o6032 0o6033 0o6034 0o6035 0o6036 0o6037
             0o6040 0o6041 0o6042 0o6043;
-            else self.transfer_on(core, word)
+            else self.transfer_and_go_on(core, leading(0o30, word))
         }
     }
 
-    /// An IOT of another word, if it is one that is done in this loop.
+    /// An IOT of another word, if it is one of this loop.
     #[inline(always)]
     fn make_other_transfer<const TRANSFERS: bool>(&mut self, core: &Core, word: Word) -> bool
         requires { word / 0o1000 ≡ 6 }
@@ -268,10 +280,10 @@ impl Processor {
         if !TRANSFERS {
             return self.transfer_quietly(core, word);
         }
-        self.transfer_on(core, word)
+        self.transfer_and_go_on(core, word)
     }
 
-    /// KSF, TSF, CDF, RDF or RIF; the other IOTs are not done here.
+    /// KSF, TSF, CDF, RDF, RIF, or pulse 1 of a device that is not there. Other IOTs are left.
     #[tactic(auto, unfolding(crate::specs::Step::executed))]
     #[inline(always)]
     fn transfer_quietly(&mut self, core: &Core, word: Word) -> bool
@@ -329,8 +341,8 @@ impl Processor {
         true
     }
 
-    /// The next instruction, if it is an IOT that is done in the loop with IOTs. It ends a run, so that what it changes stays
-    /// constant in the loop.
+    /// Does the next instruction, if it is an IOT of the loop with IOTs, and answers whether it was. A run ends with it, so that
+    /// what it changes is constant in the loop.
     #[inline(always)]
     fn end_by_transfer(&mut self, core: &Core) -> bool
         ensures { GoesOrNot (with_core self.old core.now) (fetched (with_core self.old core.now)) result (with_core self.new core.now) }
@@ -339,13 +351,13 @@ impl Processor {
         if word.get() / 0o1000 != 6 {
             return false;
         }
-        self.transfer_on(core, word)
+        self.transfer_and_go_on(core, word)
     }
 
-    /// An IOT that prints nothing, and is no ION while an interrupt is requested: so the machine stays quiet.
+    /// An IOT after which the machine is still quiet: it prints nothing, and is no ION while an interrupt is requested.
     #[tactic(auto, unfolding(crate::specs::Step::executed))]
     #[inline(always)]
-    fn transfer_on(&mut self, core: &Core, word: Word) -> bool
+    fn transfer_and_go_on(&mut self, core: &Core, word: Word) -> bool
         requires { word / 0o1000 ≡ 6 }
         ensures { GoesOrNot (with_core self.old core.now) word result (with_core self.new core.now) }
     {
@@ -369,7 +381,7 @@ impl Processor {
         true
     }
 
-    /// An operate instruction that goes on: all of group 1 that are assigned, a row for each choice of CLA, CLL, CMA and CML, and
+    /// An operate instruction, if it goes on: all of group 1 that are assigned, a line for two choices of CLA, CLL, CMA and CML, and
     /// all of group 2 without HLT.
     #[inline(always)]
     fn operate_quietly<const MINDS: bool, const COUNTS: bool, const TRANSFERS: bool>(
@@ -380,7 +392,7 @@ impl Processor {
         requires { 7 ≤ word / 0o1000 }
         ensures { DoesOrNot (with_core self.old core.now) word result (with_core self.new core.now) }
     {
-        each_for_itself! { self, operate_on, core, word:
+        each_for_itself! { self, operate_and_go_on, core, word:
             0o7000 0o7001 0o7004 0o7005 0o7006 0o7007 0o7010 0o7011 0o7012 0o7013
             0o7020 0o7021 0o7024 0o7025 0o7026 0o7027 0o7030 0o7031 0o7032 0o7033
             0o7040 0o7041 0o7044 0o7045 0o7046 0o7047 0o7050 0o7051 0o7052 0o7053
@@ -413,7 +425,7 @@ impl Processor {
     /// An operate instruction that goes on.
     #[tactic(auto, unfolding(crate::specs::Step::executed))]
     #[inline(always)]
-    fn operate_on(&mut self, core: &Core, word: Word)
+    fn operate_and_go_on(&mut self, core: &Core, word: Word)
         requires operates { 7 ≤ word / 0o1000 }
         requires goes_on { operates_on word ≡ true }
         ensures { Does (with_core self.old core.now) word (with_core self.new core.now) }

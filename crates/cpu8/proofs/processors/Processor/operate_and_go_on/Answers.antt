@@ -1,6 +1,6 @@
 use Rattle.std.proofs.Common.{rules}
 use Rattle.cpu8.specs.Step.{executed}
-use Rattle.cpu8.proofs.processors.Processor.operate_on.Goals as goal
+use Rattle.cpu8.proofs.processors.Processor.operate_and_go_on.Goals as goal
 
 pub returns-then-has : goal.returns-then-has
 unfolding executed
