@@ -34,6 +34,14 @@ pub fn put_block(
     put_rows(text, words, form, ROWS)
 }
 
+/// Appends the lines of 256 words, as `put_block` does.
+pub fn put_words(text: &mut Vec<u8>, words: &[Word], form: DumpForm) -> Result<(), AllocError>
+    requires { length words.now ≡ BLOCK }
+    ensures { OnOk result (text.new.items ≡ text.old.items ++ rows form words.now ROWS) }
+{
+    put_rows(text, words, form, ROWS)
+}
+
 /// Appends the first lines of words, so many of them.
 fn put_rows(
     text: &mut Vec<u8>,

@@ -4,4 +4,4 @@
 mod dumping;
 mod rows;
 
-pub use dumping::{DumpForm, put_block};
+pub use dumping::{DumpForm, put_block, put_words};

@@ -1,0 +1,66 @@
+-- The list of a volume's files with their dates (this project's profile; the dates are those of OS/8).
+use Rattle.std.specs.Prelude.{◌≡◌, ℕ, decimal, nat_eq, nat_le, ◌&&◌, if◌then◌else◌, Option, Some, None, Result, Ok, Err, List, [], ◌∷◌, ◌++◌, take}
+use Rattle.std.specs.Global.{Vec}
+use Rattle.os8_dates.specs.Dates.{date_in, last_year}
+use Rattle.os8_dates.specs.Spelling.{spelled_date}
+use Rattle.os8_dates.specs.declared.dates.Date.{Date}
+use Rattle.os8_dates.specs.declared.years.TheConstants.{LAST_YEAR, LEAST_LAST}
+use Rattle.volume_image.specs.Image.{IsImageOf, block_word}
+use Rattle.os8_dir.specs.Entries.{Listed}
+use Rattle.os8_dir.specs.Found.{Placed, files_at, free_blocks}
+use Rattle.os8_dir.specs.Reading.{directory_of}
+use Rattle.script8.specs.Replies.{free_line}
+use Rattle.script8.specs.Shown.{shown}
+use Rattle.archive8.specs.declared.faults.ArchiveFault.{ArchiveFault}
+use Rattle.archive8.specs.LongListing.{information_text}
+use Rattle.archive8.specs.Opening.{IsUnopened}
+
+-- ## The eight years
+
+-- the last of them: the year that is given, or else that of the word at 07777, which a system disk has as the last word of its block 0
+abbrev pub last_of : Option ℕ → ℕ → ℕ
+last_of None word = last_year word
+last_of (Some year) word = if nat_le LEAST_LAST year && nat_le year LAST_YEAR then year else last_year word
+
+abbrev pub last_in : Option ℕ → List (List ℕ) → ℕ
+last_in year blocks = last_of year (block_word blocks 0 255)
+
+-- ## The lines
+
+-- the day that a word means, after a blank
+abbrev pub date_or_none : Option Date → List ℕ
+date_or_none None = []
+date_or_none (Some date) = 0o40 ∷ spelled_date date
+
+abbrev pub date_of_word : ℕ → ℕ → List ℕ
+date_of_word last word = date_or_none (date_in last word)
+
+-- that of the first of some information words
+abbrev pub date_text : ℕ → List ℕ → List ℕ
+date_text last [] = []
+date_text last (word ∷ words) = date_of_word last word
+
+-- the line of a file: its name, how many blocks it has, its first block, so many information words, and its date
+abbrev pub dated_line : ℕ → ℕ → Placed → List ℕ
+dated_line last info f =
+    shown f.name ++ 0o40 ∷ decimal f.size ++ 0o40 ∷ decimal f.place ++ information_text (take info f.info) ++ date_text last (take info f.info) ++ 0o12 ∷ []
+
+abbrev pub lines_of_files : ℕ → ℕ → List Placed → List ℕ
+lines_of_files last info [] = []
+lines_of_files last info (f ∷ files) = dated_line last info f ++ lines_of_files last info files
+
+-- the lines of the files of a directory in order of their blocks, and the line of the free blocks
+abbrev pub dated_lines : ℕ → Listed → List ℕ
+dated_lines last d = lines_of_files last d.info (files_at d.first d.entries) ++ free_line (free_blocks d.entries)
+
+pub record IsDatedList (year : Option ℕ) (image text : List ℕ) : Type 0 where
+  pub blocks : List (List ℕ)
+  pub is_image : IsImageOf image blocks
+  pub directory : Listed
+  pub read : directory_of blocks ≡ Ok directory
+  pub lines : text ≡ dated_lines (last_in year blocks) directory
+
+-- the list of an image, which is refused as a plain list is
+abbrev pub ListsDates : Option ℕ → List ℕ → Result (Vec ℕ) ArchiveFault → Type 0
+ListsDates year image (Ok text) = IsDatedList year image text.items
+ListsDates year image (Err fault) = IsUnopened image fault

@@ -1,0 +1,17 @@
+//! The commands on archives, over any host: blocks that are shown, a word that is patched, files with their dates, the index of many volumes,
+//! and what a damaged volume still holds.
+//!
+//! In each contract an image is the list of its bytes.
+#![tactic(auto)]
+
+mod dated_lists;
+mod dumps;
+mod lines;
+mod owners;
+mod patches;
+mod refusals;
+mod years;
+
+pub use dated_lists::list_dates;
+pub use dumps::dump_blocks;
+pub use patches::{WordPatch, patch_word};

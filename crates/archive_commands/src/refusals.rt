@@ -1,0 +1,16 @@
+//! Refusals whose lines are of archives alone.
+ghost use Rattle.archive_commands.specs.Refusing.{EndsWith};
+
+use hosts::Host;
+use outcome::Ending;
+use volume_commands::print;
+
+/// How a command ends that is refused with this line, which is printed.
+pub fn refuse_with<H: Host>(host: &mut H, line: &[u8]) -> Ending
+    ensures { EndsWith line.now (H.history host.old) result (H.history host.new) }
+{
+    match print(host, line) {
+        Ok(()) => Ending::Failure,
+        Err(ending) => ending,
+    }
+}
