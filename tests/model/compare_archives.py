@@ -121,7 +121,9 @@ class Case:
             return self.differs(["squeeze", image, *where], b"", self.keeper.squeeze(image))
         if kind == "list":
             return self.differs(["list", image, *where], b"", self.keeper.list_short(image))
-        return self.differs(["list", image, "--long", *where], b"", self.keeper.list_long(image))
+        last = random.choice([None, random.randrange(1977, 10000)])
+        year = [] if last is None else ["--year", str(last)]
+        return self.differs(["list", image, "--long", *year, *where], b"", self.keeper.list_long(image, last or 1977))
 
     def get_many(self) -> str:
         """Gets files to a folder, of which one may hold a file of the name, and looks at them."""

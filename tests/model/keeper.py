@@ -1,5 +1,6 @@
 """What the commands that work on the files of an image answer and leave, by their definitions: a volume is a map of files, and runs of blocks."""
 from __future__ import annotations
+import datetime
 import fnmatch
 import re
 from dataclasses import dataclass, replace
@@ -24,6 +25,17 @@ Asked = Union[bytes, int]
 def typed_name(typed: bytes) -> Optional[Name]:
     """The name that is typed on a command line, where small letters are taken for capitals."""
     return parsed_name(typed.upper())
+
+
+def day_of(info: tuple[int, ...], last: int) -> list[str]:
+    """The day that the first information word means among the eight years up to a last one: four bits of month, five of day, three of year."""
+    if not info:
+        return []
+    year = next(it for it in range(last, last - 8, -1) if (it - 1970) % 8 == info[0] % 8)
+    try:
+        return [datetime.date(year, info[0] >> 8, info[0] >> 3 & 31).isoformat()]
+    except ValueError:
+        return []
 
 
 def asked_text(asked: Asked) -> str:
@@ -163,11 +175,12 @@ class Keeper:
         lines = [f"{shown_name(name)} {file.blocks}" + ("" if can_be_typed(name) else f" AT {places[name]}") for name, file in sorted(volume.files.items())]
         return [*lines, f"FREE {volume.capacity - volume.used}"], 0
 
-    def list_long(self, image: str) -> Answer:
+    def list_long(self, image: str, last: int) -> Answer:
         volume, place, lines = self.volumes[image], self.volumes[image].first, []
         for name, blocks in volume.runs:
             if name is not None:
-                lines.append(" ".join([shown_name(name), str(blocks), str(place), *(octal(it, 4) for it in volume.files[name].info)]))
+                info = volume.files[name].info
+                lines.append(" ".join([shown_name(name), str(blocks), str(place), *(octal(it, 4) for it in info), *day_of(info, last)]))
             place += blocks
         return [*lines, f"FREE {volume.capacity - volume.used}"], 0
 

@@ -19,9 +19,9 @@ use Rattle.task8.specs.declared.tasks.Task.{Task}
 use Rattle.word12.specs.Octal.{octal_from}
 use Rattle.word12.specs.declared.sizes.TheConstants.{MOST_BLOCKS}
 use Rattle.command8.specs.declared.table.Verb.TheVariants as verb
-use Rattle.command8.specs.Found.{capitals, cell_of, digits_from, is_set, layout_of, name_in, names_in, number_in, number_of, octal_to, place_of, values_of, volume_of, wait_of, within, word_of}
+use Rattle.command8.specs.Found.{capitals, cell_of, digits_from, is_set, layout_of, name_in, names_in, number_in, number_of, octal_to, place_of, values_of, volume_of, wait_of, within, word_of, year_of}
 use Rattle.command8.specs.Refusals.{blocks_word, puts_many}
-use Rattle.command8.specs.Tasks.{AsksFor, IsAssembleOf, IsAt, IsCheckOf, IsCopyOf, IsCreateOf, IsCreateTapeOf, IsDeleteOf, IsFile, IsGetBinOf, IsGetBlocksOf, IsGetManyOf, IsGetOf, IsChanged, IsImageOf, IsSeen, IsListLongOf, IsListOf, IsNamed, IsPlain, IsProfileOf, IsPutManyOf, IsPutOf, IsRenameOf, IsRimOf, IsRunOf, IsSourceOf, IsSqueezeOf, IsTape, IsTapeAt, IsTapeIn, IsTapeOf, IsTapeOrInput, IsTeletypeOf, IsTraceForm, IsTraceFormOf, IsTraceOf, IsVolume, after, get_form, put_form, rim_form, saving_of}
+use Rattle.command8.specs.Tasks.{AsksFor, IsAssembleOf, IsAt, IsCheckOf, IsCopyOf, IsCreateOf, IsCreateTapeOf, IsDeleteOf, IsFile, IsGetBinOf, IsGetBlocksOf, IsGetManyOf, IsGetOf, IsChanged, IsImageOf, IsSeen, IsListLongOf, IsListOf, IsNamed, IsPlain, IsProfileOf, IsPutManyOf, IsPutOf, IsRenameOf, IsRimOf, IsRunOf, IsSourceOf, IsSqueezeOf, IsTape, IsTapeAt, IsTapeIn, IsTapeOf, IsTapeOrInput, IsTeletypeOf, IsTraceForm, IsTraceFormOf, IsTraceOf, IsVolume, after, get_form, given_info, info_or, put_form, rim_form, saving_of}
 use Rattle.command8.proofs.EnteredLemmas.{Seen, a_assemble, a_check, a_copy, a_create, a_create_tape, a_delete, a_get, a_get_bin, a_get_blocks, a_get_many, a_list, a_list_long, a_profile, a_put, a_put_many, a_rename, a_rim, a_run, a_source, a_squeeze, a_tape, a_teletype, a_trace}
 use Rattle.command8.proofs.NumberLemmas.{none_some}
 use Rattle.command8.proofs.UseLemmas.{IsNoOption}
@@ -202,12 +202,12 @@ told_list rows = (first_of (codes "IMAGE") rows, layout_of (codes "volume") (cod
 pub asks_list : (image : Text) (layout : Option Layout) (rows : List Row) → told_list rows ≡ (Some image, layout, false) → (task : Task) → Seen verb.List task
     → AsksFor verb.List rows task → IsListOf image layout task
 asks_list image layout rows is task (a_list own) asks = image_is image layout rows own (ap (λ p. p.0) is) (ap (λ p. p.1) is) asks.1
-asks_list image layout rows is task (a_list_long own) asks = absurd (true≢false (sym asks.2 ∙ ap (λ p. p.2) is))
+asks_list image layout rows is task (a_list_long own year) asks = absurd (true≢false (sym asks.2 ∙ ap (λ p. p.2) is))
 
-pub asks_list_long : (image : Text) (layout : Option Layout) (rows : List Row) → told_list rows ≡ (Some image, layout, true) → (task : Task) → Seen verb.List task
+pub asks_list_long : (image : Text) (layout : Option Layout) (rows : List Row) → told_list rows ≡ (Some image, layout, true) → year_of rows ≡ None → (task : Task) → Seen verb.List task
     → AsksFor verb.List rows task → IsListLongOf image layout task
-asks_list_long image layout rows is task (a_list own) asks = absurd (true≢false (sym (ap (λ p. p.2) is) ∙ asks.2))
-asks_list_long image layout rows is task (a_list_long own) asks = image_is image layout rows own (ap (λ p. p.0) is) (ap (λ p. p.1) is) asks.1
+asks_list_long image layout rows is none task (a_list own) asks = absurd (true≢false (sym (ap (λ p. p.2) is) ∙ asks.2))
+asks_list_long image layout rows is none task (a_list_long own year) asks = (image_is image layout rows own (ap (λ p. p.0) is) (ap (λ p. p.1) is) asks.1, asks.3 ∙ none)
 
 abbrev told_check : List Row → List Text × Option Layout × Bool
 told_check rows = (values_of (codes "IMAGE") rows, layout_of (codes "volume") (codes "dectape") rows, is_set (codes "all") rows)
@@ -363,7 +363,7 @@ told_put rows = (
 
 pub asks_put : (image file member : Text) (form : PutForm) (info : Option (List ℕ)) (rows : List Row)
     → told_put rows ≡ (Some image, None, Some file, Some member, false, false, 0) → put_form rows ≡ form
-    → ((given : Option (List ℕ)) → option_map (map word_of) (all_of (codes "info") rows) ≡ option_map (map (λ word. Some word)) given → given ≡ info)
+    → ((given : Option (List ℕ)) → info_or (first_of (codes "date") rows) (given_info rows) ≡ option_map (map (λ word. Some word)) given → given ≡ info)
     → (task : Task) → Seen verb.Put task → AsksFor verb.Put rows task → IsPutOf image file member form info task
 asks_put image file member form info rows is how info_is task (a_put own) asks = (
   changed_is image None 0 rows own.image (ap (λ p. p.0) is) (ap (λ p. p.1) is) (ap (λ p. p.6) is) asks.2.0,
@@ -385,16 +385,17 @@ one_info text word read (Some words) is =
     ap Some (one_number word words (ap (λ o. o ∷ []) (sym read) ∙ some_eq (word_of text ∷ []) (map (λ word. Some word) words) is))
 
 -- whether texts are told, and the information words
-abbrev told_files : List Row → List Text × Bool × List Text × Option (List Text)
+abbrev told_files : List Row → List Text × Bool × List Text × Option (List Text) × Option Text
 told_files rows = (
   values_of (codes "FILE") rows,
   is_set (codes "text") rows,
   names_in (codes "text-of") rows,
   all_of (codes "info") rows,
+  first_of (codes "date") rows,
 )
 
 pub asks_put_many : (image first : Text) (files : List Text) (rows : List Row) → told_put rows ≡ (Some image, None, Some first, None, true, false, 0)
-    → told_files rows ≡ (files, false, [], None) → (task : Task) → Seen verb.Put task → AsksFor verb.Put rows task → IsPutManyOf image files task
+    → told_files rows ≡ (files, false, [], None, None) → (task : Task) → Seen verb.Put task → AsksFor verb.Put rows task → IsPutManyOf image files task
 asks_put_many image first files rows is many task (a_put own) asks = absurd (true≢false (sym (ap (λ p. p.4) is) ∙ asks.1))
 asks_put_many image first files rows is many task (a_put_many form) asks = (
   changed_is image None 0 rows form.image (ap (λ p. p.0) is) (ap (λ p. p.1) is) (ap (λ p. p.6) is) asks.2.0,
@@ -403,7 +404,7 @@ asks_put_many image first files rows is many task (a_put_many form) asks = (
   sym asks.2.2.1 ∙ ap (λ p. p.2) many,
   asks.2.3 ∙ ap (λ p. p.5) is,
   no_value (λ words. words.items) form.info
-      (sym (no_info (option_map (λ words. words.items) form.info) (sym (ap (λ p. option_map (map word_of) p.3) many) ∙ asks.2.4))),
+      (sym (no_info (option_map (λ words. words.items) form.info) (sym (ap (λ p. info_or p.4 (option_map (map word_of) p.3)) many) ∙ asks.2.4))),
 )
 
 abbrev told_delete : List Row → Option Text × Option Layout × List Text × ℕ

@@ -31,7 +31,7 @@ pub data Seen : Verb → Task → Type 0 where
   a_create : (image : _) (blocks : _) → Seen verb.Create (task.Create image blocks)
   a_create_tape : (image : _) → Seen verb.Create (task.CreateTape image)
   a_list : (image : _) → Seen verb.List (task.List image)
-  a_list_long : (image : _) → Seen verb.List (task.ListLong image)
+  a_list_long : (image : _) (year : _) → Seen verb.List (task.ListLong image year)
   a_get : (image : _) (file : _) (form : _) → Seen verb.Get (task.Get image file form)
   a_get_bin : (image : _) (file : _) → Seen verb.Get (task.GetBin image file)
   a_get_many : (form : _) → Seen verb.Get (task.GetMany form)
@@ -43,6 +43,8 @@ pub data Seen : Verb → Task → Type 0 where
   a_copy : (form : _) → Seen verb.Copy (task.Copy form)
   a_squeeze : (image : _) → Seen verb.Squeeze (task.Squeeze image)
   a_check : (form : _) → Seen verb.Check (task.Check form)
+  a_dump : (form : _) → Seen verb.Dump (task.Dump form)
+  a_patch : (form : _) → Seen verb.Patch (task.Patch form)
 
 seen_as : (which : Verb) (rows : List Row) (task : Task) → AsksFor which rows task → Seen which task
 seen_as which rows (task.Tape tape) asks = subst (λ w. Seen w (task.Tape tape)) (sym asks.0) (a_tape tape)
@@ -56,7 +58,7 @@ seen_as which rows (task.Run image form) asks = subst (λ w. Seen w (task.Run im
 seen_as which rows (task.Create image blocks) asks = subst (λ w. Seen w (task.Create image blocks)) (sym asks.0) (a_create image blocks)
 seen_as which rows (task.CreateTape image) asks = subst (λ w. Seen w (task.CreateTape image)) (sym asks.0) (a_create_tape image)
 seen_as which rows (task.List image) asks = subst (λ w. Seen w (task.List image)) (sym asks.0) (a_list image)
-seen_as which rows (task.ListLong image) asks = subst (λ w. Seen w (task.ListLong image)) (sym asks.0) (a_list_long image)
+seen_as which rows (task.ListLong image year) asks = subst (λ w. Seen w (task.ListLong image year)) (sym asks.0) (a_list_long image year)
 seen_as which rows (task.Get image file form) asks = subst (λ w. Seen w (task.Get image file form)) (sym asks.0) (a_get image file form)
 seen_as which rows (task.GetBin image file) asks = subst (λ w. Seen w (task.GetBin image file)) (sym asks.0) (a_get_bin image file)
 seen_as which rows (task.GetMany form) asks = subst (λ w. Seen w (task.GetMany form)) (sym asks.0) (a_get_many form)
@@ -68,6 +70,8 @@ seen_as which rows (task.Rename image file new) asks = subst (λ w. Seen w (task
 seen_as which rows (task.Copy form) asks = subst (λ w. Seen w (task.Copy form)) (sym asks.0) (a_copy form)
 seen_as which rows (task.Squeeze image) asks = subst (λ w. Seen w (task.Squeeze image)) (sym asks.0) (a_squeeze image)
 seen_as which rows (task.Check form) asks = subst (λ w. Seen w (task.Check form)) (sym asks.0) (a_check form)
+seen_as which rows (task.Dump form) asks = subst (λ w. Seen w (task.Dump form)) (sym asks.0) (a_dump form)
+seen_as which rows (task.Patch form) asks = subst (λ w. Seen w (task.Patch form)) (sym asks.0) (a_patch form)
 
 abbrev no_entry : Entry
 no_entry = record { verb = verb.Tape; word = []; usage = [] }

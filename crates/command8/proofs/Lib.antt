@@ -10,3 +10,4 @@ mod EnterLemmas
 mod UseLemmas
 mod EnteredLemmas
 mod AskLemmas
+mod InfoLemmas

@@ -10,7 +10,7 @@ use Rattle.clap.specs.Lexer.{usize_max}
 use Rattle.clap.specs.Walk.{Row, Rule, Text, arg_by_id, rows_after}
 use Rattle.clap.specs.Simple.{Shape, filled, filled_from, help_rule, index_after, with_index}
 use Rattle.command8.specs.declared.table.Kind.{Kind}
-use Rattle.command8.specs.declared.table.Kind.TheVariants.{Word, Words, Size, Flag, One, Many, Count}
+use Rattle.command8.specs.declared.table.Kind.TheVariants.{Word, Value, Words, Size, Flag, One, Many, Count}
 use Rattle.command8.specs.Tables.{Argument, Entry, are_distinct, kind_rule, leaf_shape, lettered, most_steps, rows_for, rule_for, rules_for}
 use Rattle.command8.specs.TableSteps.{can_be_required, fits, ids_of, is_fit, is_sound}
 use Rattle.command8.specs.FoundSteps.{AllHold, HasSomeWhere, HasWhere, IsTaken}
@@ -77,9 +77,11 @@ some_not_all most fits = grind (arith, nat_tests)
 takes_some : (i : ℕ) (id : Text) (letter : Option ℕ) (required : Bool) (kind : Kind) → is_fit kind letter ≡ true → can_be_required kind ≡ true
     → TakesSome (built_rule i id letter kind required)
 takes_some i id None required Word fits can = (refl, refl)
+takes_some i id None required (Value form) fits can = (refl, refl)
 takes_some i id None required (Words most) fits can = (rw (some_not_all most fits) refl, refl)
 takes_some i id None required Size fits can = (refl, refl)
 takes_some i id (Some letter) required Word fits can = absurd (true≢false (sym fits))
+takes_some i id (Some letter) required (Value form) fits can = absurd (true≢false (sym fits))
 takes_some i id (Some letter) required (Words most) fits can = absurd (true≢false (sym (both _ _ fits).1))
 takes_some i id (Some letter) required Size fits can = absurd (true≢false (sym fits))
 takes_some i id letter required (One form) fits can = (refl, refl)
@@ -90,6 +92,7 @@ takes_some i id letter required (Many form) fits can = absurd (true≢false (sym
 part_of : (c : List Rule) (i : ℕ) (id : Text) (letter : Option ℕ) (required : Bool) (kind : Kind) → is_fit kind letter ≡ true
     → arg_by_id c id ≡ Some (built_rule i id letter kind required) → IsPart c (built_rule i id letter kind required)
 part_of c i id None required Word fits own = a_word (record { placed = refl; some = (refl, refl); bare = refl; own = own })
+part_of c i id None required (Value form) fits own = a_word (record { placed = refl; some = (refl, refl); bare = refl; own = own })
 part_of c i id None required (Words most) fits own = a_word (record {
   placed = refl;
   some = (rw (some_not_all most fits) refl, refl);
@@ -98,6 +101,7 @@ part_of c i id None required (Words most) fits own = a_word (record {
 })
 part_of c i id None required Size fits own = a_word (record { placed = refl; some = (refl, refl); bare = refl; own = own })
 part_of c i id (Some letter) required Word fits own = absurd (true≢false (sym fits))
+part_of c i id (Some letter) required (Value form) fits own = absurd (true≢false (sym fits))
 part_of c i id (Some letter) required (Words most) fits own = absurd (true≢false (sym (both _ _ fits).1))
 part_of c i id (Some letter) required Size fits own = absurd (true≢false (sym fits))
 part_of c i id letter required Flag fits own = a_flag (record { bare = refl; set = refl; own = own })
@@ -161,6 +165,7 @@ row_holds s leaf i id letter required kind fits can own words none =
     taken : (kind : Kind) (letter : Option ℕ) → is_fit kind letter ≡ true → arg_by_id s.rules id ≡ Some (built_rule i id letter kind required)
         → IsTaken kind id (rows_after s.rules [] words)
     taken Word letter fits own = tt
+    taken (Value form) letter fits own = tt
     taken (Words most) None fits own =
         up_to most (find (λ x. bytes_eq x.id id) (rows_after s.rules [] words))
         (λ r is. (fit s leaf (built_rule i id None (Words most) required) own (rw (some_not_all most fits) refl) words none r is).0)

@@ -1,14 +1,16 @@
 -- What is read of the values that `clap` found for the arguments of a subcommand.
-use Rattle.std.specs.Prelude.{◌≡◌, ◌+◌, ◌-◌, ◌*◌, ◌&&◌, ◌||◌, Bool, true, false, if◌then◌else◌, ℕ, map, nat_eq, nat_le, nat_lt, codes, is_some, length, List, [], ◌∷◌, Option, None, Some, option_and_then, option_map, slice_get, unwrap_or}
+use Rattle.std.specs.Prelude.{◌≡◌, ◌+◌, ◌-◌, ◌*◌, ◌&&◌, ◌||◌, Bool, true, false, if◌then◌else◌, ℕ, map, nat_eq, nat_le, nat_lt, codes, is_some, length, List, [], ◌∷◌, Option, None, Some, drop, option_and_then, option_map, slice_get, take, unwrap_or}
 use Rattle.std.specs.Option.{option_map_or}
 use Rattle.std.specs.Str.{bytes_eq, str_to_ascii_uppercase}
 use Rattle.std.specs.Str.Parse.{digits_value, without_leading_plus}
 use Rattle.clap.specs.Words.{Row, Text, all_of, first_of}
 use Rattle.command8.specs.declared.table.Kind.{Kind}
-use Rattle.command8.specs.declared.table.Kind.TheVariants.{One, Many}
+use Rattle.command8.specs.declared.table.Kind.TheVariants.{Value, One, Many}
 use Rattle.command8.specs.declared.table.Form.{Form}
-use Rattle.command8.specs.declared.table.Form.TheVariants.{Text as a_text, Cell, Octal, Volume, Block, Seconds}
+use Rattle.command8.specs.declared.table.Form.TheVariants.{Text as a_text, Cell, Octal, Volume, Block, Seconds, Span, Index, Bits, Date, Year}
 use Rattle.word12.specs.Octal.{octal_of}
+use Rattle.os8_dates.specs.Dates.{word_of as word_of_date}
+use Rattle.os8_dates.specs.Spelling.{parsed_date}
 use Rattle.word12.specs.declared.sizes.TheConstants.{MOST_BLOCKS}
 use Rattle.disk8.specs.declared.layouts.Layout.{Layout}
 use Rattle.disk8.specs.declared.layouts.Layout.TheVariants.{First, Second, Dectape}
@@ -84,6 +86,41 @@ cell_of (field ∷ next ∷ rest) = if nat_eq next 0o72 then cell_at field rest 
 abbrev pub place_of : Text → Option ℕ
 place_of text = number_in 0 MOST_BLOCKS text
 
+-- a word with the sixteen bits that it may have in an image: 0 to 177777
+abbrev pub with_top_bit : Text → Option ℕ
+with_top_bit [] = None
+with_top_bit (digit ∷ digits) =
+    if nat_le 0o60 digit && nat_lt digit 0o62 then option_map (λ low. 0o100000 * (digit - 0o60) + low) (octal_to 0o77777 digits) else None
+
+abbrev pub bits_of : Text → Option ℕ
+bits_of text = if nat_eq (length text) 6 then with_top_bit text else octal_to 0o77777 text
+
+-- what stands before the first hyphen
+abbrev pub before_hyphen : Text → Text
+before_hyphen [] = []
+before_hyphen (byte ∷ rest) = if nat_eq byte 0o55 then [] else byte ∷ before_hyphen rest
+
+abbrev pub up_to : ℕ → Option ℕ → Option (ℕ × ℕ)
+up_to first None = None
+up_to first (Some last) = if nat_le first last then Some (first, last) else None
+
+abbrev pub span_from : Option ℕ → Text → Option (ℕ × ℕ)
+span_from None rest = None
+span_from (Some first) [] = Some (first, first)
+span_from (Some first) (hyphen ∷ last) = up_to first (place_of last)
+
+-- blocks of a volume, the first and the last: one, or two numbers with a hyphen between
+abbrev pub span_of : Text → Option (ℕ × ℕ)
+span_of text = span_from (place_of (take (length (before_hyphen text)) text)) (drop (length (before_hyphen text)) text)
+
+-- the word of a date from 1970 on, as 1974-03-12
+abbrev pub date_word : Text → Option ℕ
+date_word text = option_and_then word_of_date (parsed_date text)
+
+-- the last of eight years, if it is given
+abbrev pub year_of : List Row → Option ℕ
+year_of values = option_and_then (number_in 1977 9999) (first_of (codes "year") values)
+
 -- how many seconds are waited for a held image, none where it is not said
 abbrev pub wait_of : List Row → ℕ
 wait_of values = unwrap_or (option_and_then (number_in 0 3600) (first_of (codes "wait") values)) 0
@@ -112,6 +149,7 @@ layout_of volume dectape values = if is_set dectape values then Some Dectape els
 -- ## The forms of values
 
 abbrev pub form_of : Kind → Form
+form_of (Value form) = form
 form_of (One form) = form
 form_of (Many form) = form
 form_of kind = a_text
@@ -123,6 +161,11 @@ passes Octal text = is_some (word_of text)
 passes Volume text = bytes_eq text (codes "1") || bytes_eq text (codes "2")
 passes Block text = is_some (place_of text)
 passes Seconds text = is_some (number_in 0 3600 text)
+passes Span text = is_some (span_of text)
+passes Index text = is_some (number_in 0 255 text)
+passes Bits text = is_some (bits_of text)
+passes Date text = is_some (date_word text)
+passes Year text = is_some (number_in 1977 9999 text)
 
 -- the first of the values that is none of a form
 abbrev pub first_not : Form → List Text → Option Text

@@ -10,7 +10,7 @@ use Rattle.command8.specs.declared.refusals.Refusal.TheVariants as refusal
 use Rattle.command8.specs.declared.refusals.What.{What}
 use Rattle.command8.specs.declared.refusals.What.TheVariants as what
 use Rattle.command8.specs.declared.table.Form.{Form}
-use Rattle.command8.specs.declared.table.Form.TheVariants.{Text as a_text, Cell, Octal, Volume, Block, Seconds}
+use Rattle.command8.specs.declared.table.Form.TheVariants.{Text as a_text, Cell, Octal, Volume, Block, Seconds, Span, Index, Bits, Date, Year}
 use Rattle.command8.specs.declared.table.Kind.{Kind}
 use Rattle.command8.specs.declared.table.Kind.TheVariants as kind
 use Rattle.command8.specs.declared.table.Verb.{Verb}
@@ -157,6 +157,11 @@ why Octal = codes "not a word, 0 to 7777 in octal"
 why Volume = codes "not 1 or 2"
 why Block = codes "not a block, 0 to 4095"
 why Seconds = codes "not a number of seconds, 0 to 3600"
+why Span = codes "not a block, 0 to 4095, nor two with a hyphen between, the lower first"
+why Index = codes "not a number of a word, 0 to 255"
+why Bits = codes "not a word of an image, 0 to 177777 in octal"
+why Date = codes "not a date from 1970 on, as 1974-03-12"
+why Year = codes "not a year, 1977 to 9999"
 
 -- the argument, what is wrong with the value, and the value
 abbrev pub Bad : Type 0

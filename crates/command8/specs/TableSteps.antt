@@ -9,7 +9,7 @@ use Rattle.clap.specs.declared.builder.action.ArgAction.TheVariants.{Append}
 use Rattle.command8.specs.declared.table.ArgumentOf.{ArgumentOf}
 use Rattle.command8.specs.declared.table.EntryOf.{EntryOf}
 use Rattle.command8.specs.declared.table.Kind.{Kind}
-use Rattle.command8.specs.declared.table.Kind.TheVariants.{Word, Words, Size, Flag, One, Many}
+use Rattle.command8.specs.declared.table.Kind.TheVariants.{Word, Value, Words, Size, Flag, One, Many}
 use Rattle.command8.specs.declared.table.Form.TheVariants.{Text as a_text, Block}
 use Rattle.command8.specs.Tables.{Argument, Entry, are_distinct, rows_for}
 
@@ -50,6 +50,7 @@ fits kind = true
 -- what stands in its place has no letter
 abbrev pub may_have_letter : Kind → Bool
 may_have_letter Word = false
+may_have_letter (Value form) = false
 may_have_letter (Words most) = false
 may_have_letter Size = false
 may_have_letter kind = true
@@ -97,4 +98,5 @@ has_text kind = takes_texts kind
 abbrev pub takes_block : Option Kind → Bool
 takes_block (Some (One Block)) = true
 takes_block (Some (Many Block)) = true
+takes_block (Some (Value Block)) = true
 takes_block kind = false

@@ -13,10 +13,10 @@ use Rattle.word12.specs.declared.sizes.TheConstants.{MOST_BLOCKS}
 use Rattle.clap.specs.declared.builder.action.ArgAction.{ArgAction}
 use Rattle.clap.specs.declared.builder.action.ArgAction.TheVariants.{Append, SetTrue}
 use Rattle.command8.specs.declared.table.Kind.{Kind}
-use Rattle.command8.specs.declared.table.Kind.TheVariants.{Word, Words, Size, Flag, Many, Count}
+use Rattle.command8.specs.declared.table.Kind.TheVariants.{Word, Value, Words, Size, Flag, Many, Count}
 use Rattle.command8.specs.declared.table.ArgumentOf.{ArgumentOf}
 use Rattle.command8.specs.declared.table.EntryOf.{EntryOf}
-use Rattle.command8.specs.declared.table.TheConstants.{COMMANDS, PAIRS, TAPE, RIM, SOURCE, ASSEMBLE, TELETYPE, TRACE, RUN, CREATE, LIST, GET, PUT, DELETE, RENAME, COPY, SQUEEZE, CHECK}
+use Rattle.command8.specs.declared.table.TheConstants.{COMMANDS, PAIRS, TAPE, RIM, SOURCE, ASSEMBLE, TELETYPE, TRACE, RUN, CREATE, LIST, GET, PUT, DELETE, RENAME, COPY, SQUEEZE, CHECK, DUMP, PATCH}
 use Rattle.command8.specs.declared.table.Verb.{Verb}
 use Rattle.command8.specs.declared.table.Verb.TheVariants as verb
 
@@ -75,6 +75,8 @@ rows_for verb.Rename = map declared_row RENAME.now
 rows_for verb.Copy = map declared_row COPY.now
 rows_for verb.Squeeze = map declared_row SQUEEZE.now
 rows_for verb.Check = map declared_row CHECK.now
+rows_for verb.Dump = map declared_row DUMP.now
+rows_for verb.Patch = map declared_row PATCH.now
 
 -- the subcommands
 abbrev pub table : List Entry
@@ -90,6 +92,7 @@ pairs = map declared_pair PAIRS.now
 
 abbrev pub kind_long : Text → Kind → Option Text
 kind_long id Word = None
+kind_long id (Value form) = None
 kind_long id (Words most) = None
 kind_long id Size = None
 kind_long id kind = Some id
@@ -105,6 +108,7 @@ kind_range kind = None
 
 abbrev pub kind_names : Kind → ℕ
 kind_names Word = 0
+kind_names (Value form) = 0
 kind_names (Words most) = 0
 kind_names Size = 0
 kind_names Flag = 0

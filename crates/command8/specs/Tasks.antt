@@ -1,6 +1,6 @@
 -- What a command line asks of the program. The words are read as the library `clap` reads them: its own definitions
 -- say which words a command takes, what they come to, and the kinds of error that others meet.
-use Rattle.std.specs.Prelude.{◌≡◌, ◌≢◌, ◌≤◌, ◌+◌, ⊤, Bool, true, false, if◌then◌else◌, ℕ, codes, List, [], ◌∷◌, Option, None, Some, Result, Ok, Err, is_some, length, map, option_map}
+use Rattle.std.specs.Prelude.{◌≡◌, ◌≢◌, ◌≤◌, ◌<◌, ◌+◌, ⊤, Bool, true, false, if◌then◌else◌, ℕ, codes, List, [], ◌∷◌, Option, None, Some, Result, Ok, Err, is_some, length, map, option_and_then, option_map}
 use Rattle.clap.specs.Words.{Row, Text, all_of, first_of, fault_of, kind_of, one_of, subcommand_of, takes, IsAmong}
 use Rattle.clap.specs.declared.error.Error.{Error}
 use Rattle.clap.specs.declared.error.kind.ErrorKind.TheVariants.{OutOfMemory}
@@ -11,6 +11,8 @@ use Rattle.char_pack.specs.declared.forms.PutForm.TheVariants as put_as
 use Rattle.word12.specs.declared.sizes.TheConstants.{MOST_BLOCKS}
 use Rattle.disk8.specs.declared.layouts.Layout.{Layout}
 use Rattle.disk8.specs.declared.layouts.Layout.TheVariants.{First, Second, Dectape}
+use Rattle.task8.specs.declared.archives.BlockSpan.{BlockSpan}
+use Rattle.task8.specs.declared.archives.PatchForm.{PatchForm}
 use Rattle.task8.specs.declared.forms.BlocksForm.{BlocksForm}
 use Rattle.task8.specs.declared.forms.CheckForm.{CheckForm}
 use Rattle.task8.specs.declared.forms.CopyForm.{CopyForm}
@@ -35,14 +37,14 @@ use Rattle.task8.specs.declared.tasks.SourceForm.{SourceForm}
 use Rattle.task8.specs.declared.tasks.Saving.{Saving}
 use Rattle.task8.specs.declared.tasks.Saving.TheVariants.{AtEnd, Never, Always}
 use Rattle.task8.specs.declared.tasks.Task.{Task}
-use Rattle.task8.specs.declared.tasks.Task.TheVariants.{Tape, Rim, Source, Run, Create, CreateTape, ListLong, Get, GetBin, GetMany, GetBlocks, Put, PutMany, Delete, Rename, Copy, Squeeze, Check, Assemble, Teletype, Trace, Profile}
+use Rattle.task8.specs.declared.tasks.Task.TheVariants.{Tape, Rim, Source, Run, Create, CreateTape, ListLong, Get, GetBin, GetMany, GetBlocks, Put, PutMany, Delete, Rename, Copy, Squeeze, Check, Dump, Patch, Assemble, Teletype, Trace, Profile}
 use Rattle.task8.specs.declared.tasks.Task.TheVariants as task
 use Rattle.command8.specs.declared.faults.TaskFault.{TaskFault}
 use Rattle.command8.specs.declared.faults.TaskFault.TheVariants.{Words, Memory, Refused}
 use Rattle.command8.specs.declared.refusals.Refusal.{Refusal}
 use Rattle.command8.specs.declared.table.Verb.{Verb}
 use Rattle.command8.specs.declared.table.Verb.TheVariants as verb
-use Rattle.command8.specs.Found.{IsReadAs, cell_of, has, is_limit, is_set, layout_of, name_in, names_in, number_in, number_of, place_of, values_of, wait_of, word_of}
+use Rattle.command8.specs.Found.{IsReadAs, bits_of, cell_of, date_word, has, is_limit, is_set, layout_of, name_in, names_in, number_in, number_of, place_of, span_of, values_of, wait_of, word_of, year_of}
 use Rattle.command8.specs.Refusals.{blocks_word, input_count, puts_many, refusal_of, said}
 use Rattle.command8.specs.Tables.{Entry, entry_named, pdp8}
 
@@ -145,9 +147,18 @@ abbrev pub AreTexts : List Row → TextsForm → Type 0
 AreTexts values texts = (texts.is_usual ≡ is_set (codes "text") values)
     × (names_in (codes "text-of") values ≡ map (λ text. text.bytes.items) texts.extensions.items)
 
+-- the information words that are given themselves
+abbrev pub given_info : List Row → Option (List (Option ℕ))
+given_info values = option_map (map word_of) (all_of (codes "info") values)
+
+-- the word of a date, else those words
+abbrev pub info_or : Option Text → Option (List (Option ℕ)) → Option (List (Option ℕ))
+info_or None words = words
+info_or (Some date) words = Some (date_word date ∷ [])
+
 -- the information words, if any is given
 abbrev pub IsInfo : List Row → Option (List ℕ) → Type 0
-IsInfo values info = option_map (map word_of) (all_of (codes "info") values)
+IsInfo values info = info_or (first_of (codes "date") values) (given_info values)
     ≡ option_map (map (λ word. Some word)) info
 
 -- files are got so
@@ -199,6 +210,21 @@ abbrev pub IsCreateForm : List Row → CreateForm → Type 0
 IsCreateForm values form = (first_of (codes "IMAGE") values ≡ Some form.file.bytes.items)
     × (form.is_new ≡ is_set (codes "new") values) × (form.wait ≡ wait_of values)
 
+-- ## The blocks of volumes
+
+-- blocks are shown so
+abbrev pub IsBlockSpan : List Row → BlockSpan → Type 0
+IsBlockSpan values form = IsSeen values form.image × (form.span ≡ option_and_then span_of (first_of (codes "BLOCK") values))
+    × (form.is_sixbit ≡ is_set (codes "sixbit") values)
+
+-- a word is patched so
+abbrev pub IsPatchForm : List Row → PatchForm → Type 0
+IsPatchForm values form = IsChanged values form.image
+    × (option_and_then place_of (first_of (codes "BLOCK") values) ≡ Some form.block)
+    × (option_and_then (number_in 0 255) (first_of (codes "WORD") values) ≡ Some form.number)
+    × (option_and_then bits_of (first_of (codes "OLD") values) ≡ Some form.old)
+    × (option_and_then word_of (first_of (codes "NEW") values) ≡ Some form.new)
+
 -- ## The task
 
 -- one file is to be got
@@ -216,7 +242,8 @@ AsksFor which values (Create form blocks) = (which ≡ verb.Create) × IsCreateF
 AsksFor which values (CreateTape form) = (which ≡ verb.Create) × IsCreateForm values form
     × (is_set (codes "dectape") values ≡ true)
 AsksFor which values (task.List image) = (which ≡ verb.List) × IsSeen values image × (is_set (codes "long") values ≡ false)
-AsksFor which values (ListLong image) = (which ≡ verb.List) × IsSeen values image × (is_set (codes "long") values ≡ true)
+AsksFor which values (ListLong image year) = (which ≡ verb.List) × IsSeen values image × (is_set (codes "long") values ≡ true)
+    × (year ≡ year_of values)
 AsksFor which values (Get image file form) = (which ≡ verb.Get) × GetsOne values × IsSeen values image
     × IsFile values file × (form ≡ get_form values) × (is_set (codes "bin") values ≡ false)
 AsksFor which values (GetBin image file) = (which ≡ verb.Get) × GetsOne values × IsSeen values image
@@ -233,6 +260,8 @@ AsksFor which values (Rename image file new) = (which ≡ verb.Rename) × IsChan
 AsksFor which values (Copy form) = (which ≡ verb.Copy) × IsCopyForm values form
 AsksFor which values (Squeeze image) = (which ≡ verb.Squeeze) × IsChanged values image
 AsksFor which values (Check form) = (which ≡ verb.Check) × IsCheckForm values form
+AsksFor which values (Dump form) = (which ≡ verb.Dump) × IsBlockSpan values form
+AsksFor which values (Patch form) = (which ≡ verb.Patch) × IsPatchForm values form
 AsksFor which values (Assemble form) = (which ≡ verb.Assemble) × IsAssembleForm values form
 AsksFor which values (Teletype form) = (which ≡ verb.Teletype) × IsTeletypeForm values form
 AsksFor which values (Trace form) = (which ≡ verb.Trace) × IsTraceForm values form
@@ -257,13 +286,14 @@ Refuses None line refusal = ⊥
 Refuses (Some met) line refusal = RefusesOf (entry_named met.0) met.1 line refusal
 
 -- a new volume has 8 to 4095 blocks; blocks 0 to 4094 and their number are 1 to 4095; at least one file is put or taken out; 1
--- to 4095 volumes are checked; there are 1 to 8 sources, one of them at most standard input, and a listing where there are cross
+-- to 4095 volumes are checked; a word of a block has a number below 256; there are 1 to 8 sources, one of them at most standard input, and a listing where there are cross
 -- references; a limit of instructions is 1 up
 abbrev pub HasFitBlocks : Task → Type 0
 HasFitBlocks (Create form blocks) = (8 ≤ blocks) × (blocks ≤ MOST_BLOCKS)
 HasFitBlocks (GetBlocks form) = (form.first ≤ 4094) × (1 ≤ form.count) × (form.count ≤ MOST_BLOCKS)
 HasFitBlocks (PutMany form) = 1 ≤ length form.files.items
 HasFitBlocks (Delete form) = 1 ≤ length form.names.items + length form.places.items
+HasFitBlocks (Patch form) = form.number < 256
 HasFitBlocks (Check form) = (1 ≤ length form.images.items) × (length form.images.items ≤ MOST_BLOCKS)
 HasFitBlocks (Assemble form) = (1 ≤ length form.sources.items) × (length form.sources.items ≤ 8)
     × (input_count (map (λ file. file.bytes.items) form.sources.items) ≤ 1)
@@ -377,7 +407,7 @@ IsListOf name layout (task.List image) = IsImageOf name layout image
 IsListOf name layout task = ⊥
 
 abbrev pub IsListLongOf : Text → Option Layout → Task → Type 0
-IsListLongOf name layout (ListLong image) = IsImageOf name layout image
+IsListLongOf name layout (ListLong image year) = IsImageOf name layout image × (year ≡ None)
 IsListLongOf name layout task = ⊥
 
 -- of a volume that is its file, as the rest of these

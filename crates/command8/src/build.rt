@@ -46,6 +46,7 @@ fn of_kind<'a>(alloc: Global, id: &'a str, kind: Kind, value: &'a str) -> Arg<'a
 {
     match kind {
         Kind::Word => Arg::new(alloc, id),
+        Kind::Value(_) => Arg::new(alloc, id),
         Kind::Words(most) => Arg::new(alloc, id).num_args(1..=most),
         Kind::Size => with_size(alloc, id),
         Kind::Flag => Arg::new(alloc, id).long(id).action(ArgAction::SetTrue),

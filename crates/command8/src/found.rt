@@ -1,5 +1,5 @@
 //! What `clap` found for an argument, by the kind of argument. A reader asks for the kind that the subcommand's table gives the argument.
-ghost use Rattle.std.specs.Prelude.{◌≡◌, ◌≤◌, [], codes, true, map, option_map, slice_get, unwrap_or, IfOk, IfSome, Some};
+ghost use Rattle.std.specs.Prelude.{◌≡◌, ◌≤◌, [], codes, true, map, option_and_then, option_map, slice_get, unwrap_or, IfOk, IfSome, Some};
 ghost use Rattle.clap.specs.Words.{first_of, found_of, one_of, rows_of};
 ghost use Rattle.word12.specs.declared.sizes.TheConstants.{MOST_BLOCKS};
 ghost use Rattle.command8.specs.Found.{IsReadAs, is_limit, number_of, place_of};
@@ -10,7 +10,7 @@ ghost use Rattle.command8.specs.declared.table.Form.TheVariants as form;
 ghost use Rattle.command8.specs.declared.table.Kind.TheVariants as kind;
 ghost use Rattle.command8.specs.Found as spec;
 
-use crate::numbers::{cell_in, number_in, word_in};
+use crate::numbers::{cell_in, date_in, number_in, span_in, word_in};
 use crate::table::Verb;
 use clap::ArgMatches;
 use disk8::Layout;
@@ -285,6 +285,55 @@ pub fn block_of(found: &ArgMatches<'_>, _verb: Verb, id: &str) -> Option<usize>
             None => unreachable!(),
         },
         None => None,
+    }
+}
+
+/// The blocks of an argument, the first and the last, if it was given.
+pub fn span_of(found: &ArgMatches<'_>, _verb: Verb, id: &str) -> Option<(usize, usize)>
+    requires { kind_at id.now (rows_for _verb) ≡ Some (kind.Value form.Span) }
+    ensures { result ≡ option_and_then spec.span_of (first_of id.now (rows_of (found_of found.now))) }
+{
+    match text_of(found, id) {
+        Some(text) => span_in(text.as_bytes()),
+        None => None,
+    }
+}
+
+/// The last of eight years, if it was given.
+pub fn year_of(found: &ArgMatches<'_>, _verb: Verb) -> Option<usize>
+    requires { kind_at (codes "year") (rows_for _verb) ≡ Some (kind.One form.Year) }
+    ensures { result ≡ spec.year_of (rows_of (found_of found.now)) }
+{
+    match text_of(found, "year") {
+        Some(text) => number_in(text.as_bytes(), 1977, 9999),
+        None => None,
+    }
+}
+
+/// The word of a date, if it was given.
+pub fn date_of(found: &ArgMatches<'_>, _verb: Verb) -> Option<Word>
+    requires kind { kind_at (codes "date") (rows_for _verb) ≡ Some (kind.One form.Date) }
+    requires well { IsWell form.Date (codes "date") (rows_of (found_of found.now)) }
+    ensures { option_map spec.date_word (first_of (codes "date") (rows_of (found_of found.now)))
+        ≡ option_map (λ word. Some word) result }
+{
+    match text_of(found, "date") {
+        Some(text) => match date_in(text.as_bytes()) {
+            Some(word) => Some(word),
+            None => unreachable!(),
+        },
+        None => None,
+    }
+}
+
+/// The text of an argument that was given.
+pub fn text_given<'a>(found: &ArgMatches<'a>, id: &str) -> &'a str
+    requires { Has id.now (rows_of (found_of found.now)) }
+    ensures { first_of id.now (rows_of (found_of found.now)) ≡ Some result.now }
+{
+    match text_of(found, id) {
+        Some(text) => text,
+        None => unreachable!(),
     }
 }
 

@@ -11,7 +11,7 @@ ghost use Rattle.command8.specs.TaskSteps.{IsRefusedBy};
 use crate::TaskFault;
 use crate::found::{has, is_set, text_of, texts_in, word_at};
 use crate::missing::missing_of;
-use crate::numbers::{cell_in, number_in, word_in};
+use crate::numbers::{bits_in, cell_in, date_in, number_in, span_in, word_in};
 use crate::refusals::Refusal;
 use crate::table::{Argument, Entry, Form, Kind, Pair, Verb, arguments_of, pairs};
 use clap::ArgMatches;
@@ -115,8 +115,13 @@ fn is_given(found: &ArgMatches<'_>, id: &str, kind: Kind) -> bool
 {
     match kind {
         Kind::Flag => is_set(found, id),
-        Kind::Word | Kind::Words(_) | Kind::Size | Kind::One(_) | Kind::Many(_) | Kind::Count =>
-            has(found, id),
+        Kind::Word
+        | Kind::Value(_)
+        | Kind::Words(_)
+        | Kind::Size
+        | Kind::One(_)
+        | Kind::Many(_)
+        | Kind::Count => has(found, id),
     }
 }
 
@@ -168,6 +173,11 @@ fn is_of(form: Form, text: &str) -> bool
         Form::Volume => text == "1" || text == "2",
         Form::Block => number_in(text.as_bytes(), 0, MOST_BLOCKS).is_some(),
         Form::Seconds => number_in(text.as_bytes(), 0, 3600).is_some(),
+        Form::Span => span_in(text.as_bytes()).is_some(),
+        Form::Index => number_in(text.as_bytes(), 0, 255).is_some(),
+        Form::Bits => bits_in(text.as_bytes()).is_some(),
+        Form::Date => date_in(text.as_bytes()).is_some(),
+        Form::Year => number_in(text.as_bytes(), 1977, 9999).is_some(),
     }
 }
 
@@ -176,6 +186,7 @@ fn form_of(kind: Kind) -> Form
     ensures { result ≡ form_of kind }
 {
     match kind {
+        Kind::Value(form) => form,
         Kind::One(form) => form,
         Kind::Many(form) => form,
         Kind::Word | Kind::Words(_) | Kind::Size | Kind::Flag | Kind::Count => Form::Text,
@@ -193,6 +204,11 @@ fn why(form: Form) -> &'static str
         Form::Volume => "not 1 or 2",
         Form::Block => "not a block, 0 to 4095",
         Form::Seconds => "not a number of seconds, 0 to 3600",
+        Form::Span => "not a block, 0 to 4095, nor two with a hyphen between, the lower first",
+        Form::Index => "not a number of a word, 0 to 255",
+        Form::Bits => "not a word of an image, 0 to 177777 in octal",
+        Form::Date => "not a date from 1970 on, as 1974-03-12",
+        Form::Year => "not a year, 1977 to 9999",
     }
 }
 

@@ -228,5 +228,5 @@ pub fn excluded_arguments()
         ∷ (codes "blocks", codes "all") ∷ (codes "blocks", codes "force") ∷ (codes "blocks", codes "text-of")
         ∷ (codes "blocks", codes "tape") ∷ (codes "blocks", codes "bin") ∷ (codes "tape", codes "into")
         ∷ (codes "bin", codes "into") ∷ (codes "as", codes "text-of") ∷ (codes "look", codes "keep")
-        ∷ (codes "look", codes "wait") ∷ (codes "new", codes "wait") ∷ [] }
+        ∷ (codes "look", codes "wait") ∷ (codes "new", codes "wait") ∷ (codes "info", codes "date") ∷ [] }
 {}

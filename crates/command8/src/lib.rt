@@ -2,6 +2,7 @@
 //! done here.
 #![tactic(auto)]
 
+mod archives;
 mod build;
 mod faults;
 mod files;

@@ -6,11 +6,11 @@ ghost use Rattle.command8.specs.FoundSteps.{IsWell};
 ghost use Rattle.command8.specs.Found as spec;
 ghost use Rattle.command8.specs.Tables.{rows_for};
 ghost use Rattle.command8.specs.TableSteps.{kind_at};
-ghost use Rattle.command8.specs.Tasks.{IsInfo};
+ghost use Rattle.command8.specs.Tasks.{IsInfo, given_info};
 ghost use Rattle.command8.specs.declared.table.Form.TheVariants as form;
 ghost use Rattle.command8.specs.declared.table.Kind.TheVariants as kind;
 
-use crate::found::texts_in;
+use crate::found::{date_of, texts_in};
 use crate::numbers::{cell_in, number_in, word_in};
 use crate::table::Verb;
 use clap::ArgMatches;
@@ -95,16 +95,39 @@ fn put_block(blocks: &mut Vec<usize>, block: usize) -> Result<(), AllocError>
     Ok(())
 }
 
-/// The information words, if any is given.
+/// The information words, if any is given: that of a date, or those that are given themselves.
 pub fn info_of(
+    alloc: Global,
+    found: &ArgMatches<'_>,
+    verb: Verb,
+) -> Result<Option<Vec<Word>>, AllocError>
+    requires kind { kind_at (codes "info") (rows_for verb) ≡ Some (kind.Many form.Octal) }
+    requires well { IsWell form.Octal (codes "info") (rows_of (found_of found.now)) }
+    requires date { kind_at (codes "date") (rows_for verb) ≡ Some (kind.One form.Date) }
+    requires well_date { IsWell form.Date (codes "date") (rows_of (found_of found.now)) }
+    ensures { IfOk result (λ info.
+        IsInfo (rows_of (found_of found.now)) (option_map (λ words. words.items) info)) }
+{
+    match date_of(found, verb) {
+        Some(word) => {
+            let mut words = Vec::new(alloc);
+            put_word(&mut words, word)?;
+            Ok(Some(words))
+        }
+        None => given_info(alloc, found, verb),
+    }
+}
+
+/// The information words that are given themselves.
+fn given_info(
     alloc: Global,
     found: &ArgMatches<'_>,
     _verb: Verb,
 ) -> Result<Option<Vec<Word>>, AllocError>
     requires kind { kind_at (codes "info") (rows_for _verb) ≡ Some (kind.Many form.Octal) }
     requires well { IsWell form.Octal (codes "info") (rows_of (found_of found.now)) }
-    ensures { IfOk result (λ info.
-        IsInfo (rows_of (found_of found.now)) (option_map (λ words. words.items) info)) }
+    ensures { IfOk result (λ info. given_info (rows_of (found_of found.now))
+        ≡ option_map (map (λ word. Some word)) (option_map (λ words. words.items) info)) }
 {
     match found.get_strs("info") {
         Some(texts) => {

@@ -1,9 +1,10 @@
 //! Decimal and octal numbers of few digits.
 ghost use Rattle.std.specs.Prelude.{◌≡◌, ◌≤◌, true, is_some, IfSome, Some, length};
-ghost use Rattle.command8.specs.Found.{digits_from, number_of_digits};
+ghost use Rattle.command8.specs.Found.{before_hyphen, digits_from, number_of_digits};
 ghost use Rattle.command8.specs.Found as spec;
 
-use word12::{Cell, Word, octal};
+use os8_dates::{date_word, parse_date};
+use word12::{Cell, MOST_BLOCKS, Word, octal};
 
 /// A decimal number of 1 to 4 digits, if it is within these limits.
 pub fn number_in(digits: &[u8], least: usize, most: usize) -> Option<usize>
@@ -101,4 +102,75 @@ fn octal_to(digits: &[u8], most: u32) -> Option<u32>
         Some(number) if number <= most => Some(number),
         _ => None,
     }
+}
+
+/// A word with the sixteen bits that it may have in an image: an octal number up to 177777.
+pub fn bits_in(text: &[u8]) -> Option<u16>
+    ensures { result ≡ spec.bits_of text.now }
+{
+    if text.len() == 6 {
+        return with_top_bit(text);
+    }
+    match octal_to(text, 0o77777) {
+        Some(number) => Some(number as u16),
+        None => None,
+    }
+}
+
+/// An octal number of a digit 0 or 1 and up to five more.
+fn with_top_bit(text: &[u8]) -> Option<u16>
+    ensures { result ≡ spec.with_top_bit text.now }
+{
+    match text {
+        [digit, digits @ ..] if *digit >= b'0' && *digit < b'2' => match octal_to(digits, 0o77777) {
+            Some(low) => Some(0o100000 * u16::from(*digit - b'0') + low as u16),
+            None => None,
+        },
+        _ => None,
+    }
+}
+
+/// The word of a date from 1970 on.
+pub fn date_in(text: &[u8]) -> Option<Word>
+    ensures { result ≡ spec.date_word text.now }
+{
+    match parse_date(text) {
+        Some(date) => date_word(date),
+        None => None,
+    }
+}
+
+/// Blocks of a volume, the first and the last: one, or two numbers with a hyphen between.
+pub fn span_in(text: &[u8]) -> Option<(usize, usize)>
+    ensures { result ≡ spec.span_of text.now }
+{
+    let (front, rest) = text.split_at(hyphen_in(text));
+    span_from(number_in(front, 0, MOST_BLOCKS), rest)
+}
+
+/// A block, and the last one, which a hyphen and its number may give.
+fn span_from(first: Option<usize>, rest: &[u8]) -> Option<(usize, usize)>
+    ensures { result ≡ spec.span_from first rest.now }
+{
+    let first = first?;
+    match rest {
+        [] => Some((first, first)),
+        [_, digits @ ..] => match number_in(digits, 0, MOST_BLOCKS) {
+            Some(last) if first <= last => Some((first, last)),
+            _ => None,
+        },
+    }
+}
+
+/// The place of the first hyphen, or the length of a text with none.
+fn hyphen_in(text: &[u8]) -> usize
+    ensures place { result ≡ length (before_hyphen text.now) }
+    ensures range { result ≤ length text.now }
+{
+    for (place, byte) in text.iter().enumerate() {
+        if *byte == b'-' {
+            return place;
+        }
+    }
+    text.len()
 }

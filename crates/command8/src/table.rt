@@ -26,6 +26,21 @@ pub enum Form {
 
     /// A number of seconds, 0 to 3600.
     Seconds,
+
+    /// A block, or the first and the last of several with `-` between.
+    Span,
+
+    /// The number of a word in its block, 0 to 255.
+    Index,
+
+    /// A word with all sixteen bits that it may have in an image: an octal number up to 177777.
+    Bits,
+
+    /// A date from 1970 on, as 1974-03-12.
+    Date,
+
+    /// The last of eight years, 1977 to 9999.
+    Year,
 }
 
 /// What an argument takes.
@@ -33,6 +48,9 @@ pub enum Form {
 pub enum Kind {
     /// A text in its place.
     Word,
+
+    /// A value of a form in its place.
+    Value(Form),
 
     /// 1 to so many texts in one place.
     Words(usize),
@@ -73,6 +91,8 @@ pub enum Verb {
     Copy,
     Squeeze,
     Check,
+    Dump,
+    Patch,
 }
 
 /// An argument of a subcommand, with texts of the type `T`.
@@ -169,6 +189,8 @@ pub const COMMANDS: &[Entry] = entries! {
     Verb::Copy, "copy", "Usage: pdp8 copy [OPTIONS] <IMAGE> [NAME] [TO] [NEW]";
     Verb::Squeeze, "squeeze", "Usage: pdp8 squeeze [OPTIONS] <IMAGE>";
     Verb::Check, "check", "Usage: pdp8 check [OPTIONS] <IMAGE>...";
+    Verb::Dump, "dump", "Usage: pdp8 dump [OPTIONS] <IMAGE> [BLOCK]";
+    Verb::Patch, "patch", "Usage: pdp8 patch [OPTIONS] <IMAGE> <BLOCK> <WORD> <OLD> <NEW>";
 };
 
 /// The arguments that exclude each other, in whatever subcommand they are.
@@ -191,6 +213,7 @@ pub const PAIRS: &[Pair] = &[
     ("look", "keep"),
     ("look", "wait"),
     ("new", "wait"),
+    ("info", "date"),
 ];
 
 pub const TAPE: &[Argument] = rows! {
@@ -269,7 +292,8 @@ pub const CREATE: &[Argument] = rows! {
 
 pub const LIST: &[Argument] = rows! {
     "IMAGE" must Kind::Word, "", "The file that holds the volume";
-    "long" 'l' flag Kind::Flag, "", "Show where each file lies, and its information words, in octal";
+    "long" 'l' flag Kind::Flag, "", "Show where each file lies, its information words, in octal, and its date";
+    "year" option Kind::One(Form::Year), "N", "The last of the eight years that dates mean, 1977 to 9999; else the one that block 0 gives";
     "volume" 'v' option Kind::One(Form::Volume), "N", "The volume of an RK05 disk, 1 or 2, where IMAGE is the file of one";
     "dectape" flag Kind::Flag, "", "IMAGE is the file of a DECtape, of 129 words a block";
 };
@@ -297,6 +321,7 @@ pub const PUT: &[Argument] = rows! {
     "text-of" option Kind::Many(Form::Text), "LIST", "Extensions of files that are texts, as PA,TX; it may be given several times";
     "files" flag Kind::Flag, "", "Changes nothing: FILE are files of this system";
     "info" option Kind::Many(Form::Octal), "WWWW", "An information word of the file, in octal; it may be given several times";
+    "date" option Kind::One(Form::Date), "DATE", "The date of the file, as 1974-03-12, which is its first information word";
     "as" option Kind::One(Form::Text), "NAME", "The name on the volume of the one file that is put";
     "empty" flag Kind::Flag, "", "Let a file of no byte replace one that has words";
     "volume" 'v' option Kind::One(Form::Volume), "N", "The volume of an RK05 disk, 1 or 2, where IMAGE is the file of one";
@@ -350,6 +375,25 @@ pub const CHECK: &[Argument] = rows! {
     "dectape" flag Kind::Flag, "", "IMAGE is the file of a DECtape, of 129 words a block";
 };
 
+pub const DUMP: &[Argument] = rows! {
+    "IMAGE" must Kind::Word, "", "The file that holds the volume";
+    "BLOCK" may Kind::Value(Form::Span), "", "A block, 0 to 4095, or the first and the last of several, as 7-9; else all";
+    "sixbit" flag Kind::Flag, "", "Show the two characters of each word in sixbit; else three of each two words, as a text has them";
+    "volume" 'v' option Kind::One(Form::Volume), "N", "The volume of an RK05 disk, 1 or 2, where IMAGE is the file of one";
+    "dectape" flag Kind::Flag, "", "IMAGE is the file of a DECtape, of 129 words a block";
+};
+
+pub const PATCH: &[Argument] = rows! {
+    "IMAGE" must Kind::Word, "", "The file that holds the volume";
+    "BLOCK" must Kind::Value(Form::Block), "", "The block of the word, 0 to 4095";
+    "WORD" must Kind::Value(Form::Index), "", "The number of the word in its block, 0 to 255";
+    "OLD" must Kind::Value(Form::Bits), "", "The word that stands there, in octal, with more than four digits where it has more than twelve bits";
+    "NEW" must Kind::Value(Form::Octal), "", "The word that is put there, in octal";
+    "volume" 'v' option Kind::One(Form::Volume), "N", "The volume of an RK05 disk, 1 or 2, where IMAGE is the file of one";
+    "dectape" flag Kind::Flag, "", "IMAGE is the file of a DECtape, of 129 words a block";
+    "wait" option Kind::One(Form::Seconds), "SECONDS", "Wait so long while another program holds the image, 0 to 3600 seconds; else not at all";
+};
+
 /// The arguments of a subcommand.
 pub fn arguments_of(verb: Verb) -> &'static [Argument]
     ensures { map row_of result.now ≡ rows_for verb }
@@ -372,6 +416,8 @@ pub fn arguments_of(verb: Verb) -> &'static [Argument]
         Verb::Copy => COPY,
         Verb::Squeeze => SQUEEZE,
         Verb::Check => CHECK,
+        Verb::Dump => DUMP,
+        Verb::Patch => PATCH,
     }
 }
 

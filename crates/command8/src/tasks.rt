@@ -7,6 +7,7 @@ ghost use Rattle.command8.specs.Tasks.{Answers, IsPastClap};
 ghost use Rattle.command8.specs.TaskSteps.{Gives, GivesMet, HasMet, IsAskedBy, IsWhole, Needs};
 
 use crate::TaskFault;
+use crate::archives::{dump, patch};
 use crate::build::command_line;
 use crate::files::{copy, delete, get, put, rename};
 use crate::judging::judged;
@@ -92,5 +93,7 @@ fn asked_by(alloc: Global, verb: Verb, found: &ArgMatches<'_>) -> Result<Task, A
         Verb::Copy => copy(alloc, found),
         Verb::Squeeze => Ok(Task::Squeeze(changed_image(alloc, found, Verb::Squeeze)?)),
         Verb::Check => check(alloc, found),
+        Verb::Dump => dump(alloc, found),
+        Verb::Patch => patch(alloc, found),
     }
 }

@@ -32,6 +32,10 @@ Whole archives:
   squeeze   Move the files of a volume together
   check     Show what a volume's directory says
 
+Damaged volumes:
+  dump      Show the words of a volume's blocks
+  patch     Put a word of an image in place of another
+
 Help:
   help      Print this message, or the help of a command
 
@@ -87,6 +91,8 @@ pub fn about_of(verb: Verb) -> &'static str {
         Verb::Copy => "Copy a file from volume to volume",
         Verb::Squeeze => "Move the files of a volume together",
         Verb::Check => "Show what a volume's directory says",
+        Verb::Dump => "Show the words of a volume's blocks",
+        Verb::Patch => "Put a word of an image in place of another",
     }
 }
 
@@ -121,7 +127,7 @@ pub fn long_about_of(verb: Verb) -> &'static str {
             "Writes an empty OS/8 volume of BLOCKS blocks of 512 bytes to the file IMAGE, in place of any{n}file of that name, and prints CREATED and the number of blocks. With --dectape the file is that of a{n}DECtape of 1474 blocks of 129 words."
         }
         Verb::List => {
-            "Prints a line NAME n for each file of the OS/8 volume in the file IMAGE, in name order, with its{n}length in blocks, and a line FREE n for the blocks of no file. With --long the files are in the{n}order of the directory, each with its first block and its information words after it. IMAGE may be{n}the file of a disk of two volumes or of a DECtape, as --volume and --dectape say. The image is not{n}written."
+            "Prints a line NAME n for each file of the OS/8 volume in the file IMAGE, in name order, with its{n}length in blocks, and a line FREE n for the blocks of no file. With --long the files are in the{n}order of the directory, each with its first block, its information words and its date after it. IMAGE{n}may be the file of a disk of two volumes or of a DECtape, as --volume and --dectape say. The image is{n}not written."
         }
         Verb::Get => {
             "Writes the file NAME of the OS/8 volume in the file IMAGE to standard output: its words, three bytes{n}for two. With --into the files NAME, or with --all all files, go to files of their names{n}in FOLDER; a pattern, as '*.PA', stands for each name that it fits. With --blocks the arguments after{n}IMAGE are the number of a block and how many are written, whatever the directory says. The line of a{n}fault goes to standard error. The image is not written."
@@ -143,6 +149,12 @@ pub fn long_about_of(verb: Verb) -> &'static str {
         }
         Verb::Check => {
             "Accepts or refuses the OS/8 volume in the file IMAGE, and prints its blocks, the segments of its{n}directory, each file and empty with its first block and its length, and the blocks that the{n}directory does not cover. With --all it goes on after a fault, and shows each. Of several images{n}each line begins with the image's name, and a summary comes last. No image is written."
+        }
+        Verb::Dump => {
+            "Prints the words of blocks of the OS/8 volume in the file IMAGE, whatever its directory says: a line{n}BLOCK n with the file that has the block, if there is one, then eight words a line in octal, with{n}their characters beside. A word with more than twelve bits is shown by its low twelve, after a line{n}BAD WORD with its number and all of its bits. The image is not written."
+        }
+        Verb::Patch => {
+            "Puts the word NEW in place of the word OLD in a block of the OS/8 volume in the file IMAGE, by its{n}number from 0, and prints PATCHED and what it did. Where another word than OLD stands there nothing is{n}written. The volume may be damaged, and each other byte of the file stays as it is."
         }
     }
 }
@@ -192,5 +204,9 @@ pub fn examples_of(verb: Verb) -> &'static str {
         }
         Verb::Squeeze => "Examples:\n  pdp8 squeeze disk.img\n  pdp8 squeeze disk.rk05 -v 1",
         Verb::Check => "Examples:\n  pdp8 check disk.img\n  pdp8 check -a *.img",
+        Verb::Dump => "Examples:\n  pdp8 dump disk.img 1-6 --sixbit\n  pdp8 dump disk.rk05 70 -v 2",
+        Verb::Patch => {
+            "Examples:\n  pdp8 patch disk.img 1 2 7 0\n  pdp8 patch disk.rk05 70 12 103421 3421 -v 2"
+        }
     }
 }

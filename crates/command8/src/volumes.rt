@@ -12,7 +12,7 @@ ghost use Rattle.command8.specs.declared.table.Form.TheVariants as form;
 ghost use Rattle.command8.specs.declared.table.Kind.TheVariants as kind;
 ghost use Rattle.command8.specs.declared.table.Verb.TheVariants as verb;
 
-use crate::found::{flag, layout_of, size_of, value_of, values_of, wait_of};
+use crate::found::{flag, layout_of, size_of, value_of, values_of, wait_of, year_of};
 use crate::table::Verb;
 use clap::ArgMatches;
 use std::alloc::{AllocError, Global};
@@ -106,7 +106,7 @@ pub fn list(alloc: Global, found: &ArgMatches<'_>) -> Result<Task, AllocError>
 {
     let image = image_of(alloc, found, Verb::List)?;
     if flag(found, Verb::List, "long") {
-        return Ok(Task::ListLong(image));
+        return Ok(Task::ListLong(image, year_of(found, Verb::List)));
     }
     Ok(Task::List(image))
 }

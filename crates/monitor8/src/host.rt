@@ -2,6 +2,7 @@
 //! is printed.
 
 use crate::runs::run_image;
+use archive_commands::{WordPatch, dump_blocks, list_dates, patch_word};
 use command8::{TaskFault, task};
 use hosts::Host;
 use image_file8::{tell, texts_of};
@@ -23,7 +24,7 @@ use tape_host8::{
 use task8::Task;
 use volume_commands::{
     Rooms, asked_of, copy_file, create_image, create_tape, delete_files, end, get_bin, get_blocks,
-    get_file, list_files, list_places, put_file, rename_file, squeeze_files,
+    get_file, list_files, put_file, rename_file, squeeze_files,
 };
 
 /// How many times a second a command is tried again whose image another program holds.
@@ -93,7 +94,7 @@ where
         ),
         Task::CreateTape(form) => wait_for_image!(rt, form.wait, create_tape(host, alloc, &form)),
         Task::List(image) => list_files(host, alloc, &image),
-        Task::ListLong(image) => list_places(host, alloc, &image),
+        Task::ListLong(image, year) => list_dates(host, alloc, &image, year),
         Task::Get(image, file, form) => get_file(host, alloc, &image, file, form),
         Task::GetBin(image, file) => get_bin(host, alloc, &image, file),
         Task::GetMany(form) => get_files(rt, &form),
@@ -114,6 +115,20 @@ where
         Task::Copy(form) => wait_for_image!(rt, form.to.wait, copy_file(host, alloc, &form)),
         Task::Squeeze(image) => wait_for_image!(rt, image.wait, squeeze_files(host, alloc, &image)),
         Task::Check(form) => check_images(rt, form),
+        Task::Dump(form) => dump_blocks(host, alloc, &form.image, form.span, form.is_sixbit),
+        Task::Patch(form) => {
+            let wanted = WordPatch {
+                block: form.block,
+                number: form.number,
+                old: form.old,
+                new: form.new,
+            };
+            wait_for_image!(
+                rt,
+                form.image.wait,
+                patch_word(host, alloc, &form.image, &wanted)
+            )
+        }
     }
 }
 

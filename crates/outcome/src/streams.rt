@@ -24,7 +24,7 @@ pub fn gives_data(task: &Task) -> bool
         | Task::Create(..)
         | Task::CreateTape(_)
         | Task::List(_)
-        | Task::ListLong(_)
+        | Task::ListLong(..)
         | Task::GetMany(_)
         | Task::Put(_)
         | Task::PutMany(_)
@@ -32,6 +32,8 @@ pub fn gives_data(task: &Task) -> bool
         | Task::Rename(..)
         | Task::Copy(_)
         | Task::Squeeze(_)
-        | Task::Check(_) => false,
+        | Task::Check(_)
+        | Task::Dump(_)
+        | Task::Patch(_) => false,
     }
 }

@@ -1,9 +1,11 @@
 //! What can be asked of the program: the tasks, as the words of a command line tell them. No words are read here, and no task is done.
 #![tactic(auto)]
 
+mod archives;
 mod forms;
 mod tasks;
 
+pub use archives::{BlockSpan, PatchForm};
 pub use forms::{
     BlocksForm, CheckForm, CopyForm, CreateForm, DeleteForm, FileForm, GetManyForm, ImageForm,
     PutManyForm, PutOneForm, TapeForm, TextsForm,

@@ -1,4 +1,5 @@
 //! The tasks, and the forms of those that run scripts, sources and tapes.
+use crate::archives::{BlockSpan, PatchForm};
 use crate::forms::{
     BlocksForm, CheckForm, CopyForm, CreateForm, DeleteForm, FileForm, GetManyForm, ImageForm,
     PutManyForm, PutOneForm, TapeForm,
@@ -132,8 +133,9 @@ pub enum Task {
     /// List the files of this volume.
     List(ImageForm),
 
-    /// List them in the order of the directory, with their first blocks and their information words.
-    ListLong(ImageForm),
+    /// List them in the order of the directory, with their first blocks, their information words and their dates, which mean the eight years
+    /// up to this last one, 1977 to 9999, if it is given.
+    ListLong(ImageForm, Option<usize>),
 
     /// Write what the file has, on this volume.
     Get(ImageForm, FileForm, GetForm),
@@ -167,6 +169,12 @@ pub enum Task {
 
     /// Tell of volumes, their directories and where their files lie.
     Check(CheckForm),
+
+    /// Show blocks of a volume.
+    Dump(BlockSpan),
+
+    /// Put a word of an image in place of another.
+    Patch(PatchForm),
 
     /// Assemble sources to a BIN tape.
     Assemble(AssembleForm),

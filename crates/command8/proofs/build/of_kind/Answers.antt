@@ -16,6 +16,11 @@ pub returns-in-Word : goal.returns-in-Word
 returns-in-Word c =
     of_it c.new.result c.args.id.now c.args.kind _ c.in-Word.is (fresh c.new.result c.args.id.now c.new.ensures.rule c.new.ensures.optional.1)
 
+pub returns-in-Value : goal.returns-in-Value
+returns-in-Value c =
+    of_it c.new-in-Value.result c.args.id.now c.args.kind _ c.in-Value.is
+    (fresh c.new-in-Value.result c.args.id.now c.new-in-Value.ensures.rule c.new-in-Value.ensures.optional.1)
+
 pub returns-in-Words : goal.returns-in-Words
 returns-in-Words c =
     let new = fresh c.new-in-Words.result c.args.id.now c.new-in-Words.ensures.rule c.new-in-Words.ensures.optional.1 in

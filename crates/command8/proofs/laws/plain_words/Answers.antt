@@ -154,7 +154,7 @@ returns-clause-list_long c = λ name image image_is.
     let uses = a_word (codes "list") (codes "IMAGE") image ∷ a_flag (codes "list") (codes "long") ∷ [] in
     let rows = found_by (codes "list") uses in
     entered_as (codes "list") uses (IsListLongOf image None) refl refl (record { pass = (no_option image image_is, record { found = refl; passes = refl; no_end = refl }, (record { read = refl; found = refl; takes_value = refl }, refl, tt)); settles = refl; defaults = refl; valid = refl }) name
-    (λ task seen asks. asks_list_long image None rows refl task seen asks.1)
+    (λ task seen asks. asks_list_long image None rows refl refl task seen asks.1)
 
 pub returns-clause-list_volume : goal.returns-clause-list_volume
 returns-clause-list_volume c = λ name image text layout image_is is.

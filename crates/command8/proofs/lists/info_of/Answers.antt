@@ -1,23 +1,19 @@
-use Rattle.std.proofs.Common.{◌∙◌, ap, sym, map, option_map, []}
-use Rattle.std.proofs.Common.{codes, Some}
-use Rattle.std.specs.Prelude.{unwrap_or}
-use Rattle.clap.proofs.WalkLemmas.{raw_values-rows}
-use Rattle.clap.specs.Words.{found_of}
-use Rattle.command8.specs.Found.{first_not, word_of}
-use Rattle.command8.specs.declared.table.Form.TheVariants.{Octal}
+use Rattle.std.proofs.Common.{◌∙◌, ap, codes, map, option_map, Some}
+use Rattle.std.proofs.lemmas.Result.{IfOk-weaker}
+use Rattle.clap.specs.Words.{first_of, found_of, rows_of}
+use Rattle.command8.specs.Tasks.{given_info}
+use Rattle.command8.proofs.InfoLemmas.{info-dated, info-given}
 use Rattle.command8.proofs.lists.info_of.Goals as goal
 
-pub words_in-requires : goal.words_in-requires
-words_in-requires c =
-    let some = ap (option_map (λ s. map (λ v. v.now) s.now)) (sym c.in-Some.is) ∙ (c.get_strs.ensures ∙ raw_values-rows (found_of c.args.found.now) (codes "info")) in
-    ap (λ o. first_not Octal (unwrap_or o [])) some ∙ c.requires.well
-
-pub returns-in_ok-words-in-Some : goal.returns-in_ok-words-in-Some
-returns-in_ok-words-in-Some c =
-    let some = ap (option_map (λ s. map (λ v. v.now) s.now)) (sym c.in-Some.is) ∙ (c.get_strs.ensures ∙ raw_values-rows (found_of c.args.found.now) (codes "info")) in
-    ap (option_map (map word_of)) (sym some) ∙ ap Some c.in_ok-words-in-Some.ensures
+pub returns-in_ok-put_word-in-Some : goal.returns-in_ok-put_word-in-Some
+returns-in_ok-put_word-in-Some c =
+    let rows = rows_of (found_of c.args.found.now) in
+    info-dated (first_of (codes "date") rows) (given_info rows) c.in-Some.word c.put_word.new.words.items (c.date_of.ensures ∙ ap (option_map (λ word. Some word)) c.in-Some.is)
+    (rw c.new-words.ensures.items at c.in_ok-put_word-in-Some.ensures)
 
 pub returns-in-None : goal.returns-in-None
 returns-in-None c =
-    let none = ap (option_map (λ s. map (λ v. v.now) s.now)) (sym c.in-None.is) ∙ (c.get_strs.ensures ∙ raw_values-rows (found_of c.args.found.now) (codes "info")) in
-    ap (option_map (map word_of)) (sym none)
+    let rows = rows_of (found_of c.args.found.now) in
+    IfOk-weaker c.given_info.result _ _
+    (λ info same. info-given (first_of (codes "date") rows) (given_info rows) (option_map (map (λ word. Some word)) (option_map (λ words. words.items) info)) (c.date_of.ensures ∙ ap (option_map (λ word. Some word)) c.in-None.is) same)
+    c.given_info.ensures

@@ -1,0 +1,89 @@
+//! What is asked of the blocks of a volume.
+ghost use Rattle.std.specs.Prelude.{◌≡◌, ◌≤◌, codes, option_and_then, IfOk, Some};
+ghost use Rattle.clap.specs.Words.{first_of, found_of, rows_of};
+ghost use Rattle.command8.specs.Found as spec;
+ghost use Rattle.command8.specs.FoundSteps.{Has, IsWell};
+ghost use Rattle.command8.specs.TaskSteps.{IsAskedBy, Needs};
+ghost use Rattle.command8.specs.declared.table.Form.TheVariants as form;
+ghost use Rattle.command8.specs.declared.table.Verb.TheVariants as verb;
+
+use crate::found::{flag, span_of, text_given};
+use crate::numbers::{bits_in, number_of, word_in};
+use crate::table::Verb;
+use crate::volumes::{changed_image, image_of};
+use clap::ArgMatches;
+use std::alloc::{AllocError, Global};
+use task8::{BlockSpan, PatchForm, Task};
+use word12::{MOST_BLOCKS, Word};
+
+/// The blocks that are to be shown.
+pub fn dump(alloc: Global, found: &ArgMatches<'_>) -> Result<Task, AllocError>
+    requires { Needs verb.Dump (rows_of (found_of found.now)) }
+    ensures { IfOk result (IsAskedBy verb.Dump (rows_of (found_of found.now))) }
+{
+    let image = image_of(alloc, found, Verb::Dump)?;
+    Ok(Task::Dump(BlockSpan {
+        image,
+        span: span_of(found, Verb::Dump, "BLOCK"),
+        is_sixbit: flag(found, Verb::Dump, "sixbit"),
+    }))
+}
+
+/// The word that is to be put in place of another.
+pub fn patch(alloc: Global, found: &ArgMatches<'_>) -> Result<Task, AllocError>
+    requires { Needs verb.Patch (rows_of (found_of found.now)) }
+    ensures { IfOk result (IsAskedBy verb.Patch (rows_of (found_of found.now))) }
+{
+    let image = changed_image(alloc, found, Verb::Patch)?;
+    let form = PatchForm {
+        image,
+        block: block_given(found),
+        number: number_given(found),
+        old: old_given(found),
+        new: new_given(found),
+    };
+    Ok(Task::Patch(form))
+}
+
+/// The block of the word.
+fn block_given(found: &ArgMatches<'_>) -> usize
+    requires given { Has (codes "BLOCK") (rows_of (found_of found.now)) }
+    requires well { IsWell form.Block (codes "BLOCK") (rows_of (found_of found.now)) }
+    ensures { option_and_then spec.place_of (first_of (codes "BLOCK") (rows_of (found_of found.now))) ≡ Some result }
+{
+    number_of(text_given(found, "BLOCK").as_bytes(), 0, MOST_BLOCKS)
+}
+
+/// The number of the word in its block.
+fn number_given(found: &ArgMatches<'_>) -> usize
+    requires given { Has (codes "WORD") (rows_of (found_of found.now)) }
+    requires well { IsWell form.Index (codes "WORD") (rows_of (found_of found.now)) }
+    ensures value { option_and_then (spec.number_in 0 255) (first_of (codes "WORD") (rows_of (found_of found.now))) ≡ Some result }
+    ensures range { result ≤ 255 }
+{
+    number_of(text_given(found, "WORD").as_bytes(), 0, 255)
+}
+
+/// The word that stands there.
+fn old_given(found: &ArgMatches<'_>) -> u16
+    requires given { Has (codes "OLD") (rows_of (found_of found.now)) }
+    requires well { IsWell form.Bits (codes "OLD") (rows_of (found_of found.now)) }
+    ensures { option_and_then spec.bits_of (first_of (codes "OLD") (rows_of (found_of found.now))) ≡ Some result }
+{
+    match bits_in(text_given(found, "OLD").as_bytes()) {
+        Some(bits) => bits,
+        None => unreachable!(),
+    }
+}
+
+/// The word that is put there.
+fn new_given(found: &ArgMatches<'_>) -> Word
+    requires given { Has (codes "NEW") (rows_of (found_of found.now)) }
+    requires well { IsWell form.Octal (codes "NEW") (rows_of (found_of found.now)) }
+    ensures { option_and_then spec.word_of (first_of (codes "NEW") (rows_of (found_of found.now))) ≡ Some result }
+{
+    match word_in(text_given(found, "NEW").as_bytes()) {
+        Some(word) => word,
+        None => unreachable!(),
+    }
+}
