@@ -23,7 +23,7 @@ last_of None word = last_year word
 last_of (Some year) word = if nat_le LEAST_LAST year && nat_le year LAST_YEAR then year else last_year word
 
 abbrev pub last_in : Option ℕ → List (List ℕ) → ℕ
-last_in year blocks = last_of year (block_word blocks 0 255)
+last_in year blocks = last_of year (block_word blocks 0 0o377)
 
 -- ## The lines
 

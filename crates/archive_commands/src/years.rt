@@ -16,7 +16,7 @@ pub fn last_in(year: Option<usize>, volume: &MemoryVolume) -> u16
     ensures most { result ≤ LAST_YEAR }
 {
     let words = volume.block(0);
-    last_of(year, words[255])
+    last_of(year, words[0o377])
 }
 
 /// The year that is given, or else that of a word.

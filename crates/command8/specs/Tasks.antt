@@ -221,7 +221,7 @@ IsBlockSpan values form = IsSeen values form.image × (form.span ≡ option_and_
 abbrev pub IsPatchForm : List Row → PatchForm → Type 0
 IsPatchForm values form = IsChanged values form.image
     × (option_and_then place_of (first_of (codes "BLOCK") values) ≡ Some form.block)
-    × (option_and_then (number_in 0 255) (first_of (codes "WORD") values) ≡ Some form.number)
+    × (option_and_then (number_in 0 0o377) (first_of (codes "WORD") values) ≡ Some form.number)
     × (option_and_then bits_of (first_of (codes "OLD") values) ≡ Some form.old)
     × (option_and_then word_of (first_of (codes "NEW") values) ≡ Some form.new)
 
@@ -293,7 +293,7 @@ HasFitBlocks (Create form blocks) = (8 ≤ blocks) × (blocks ≤ MOST_BLOCKS)
 HasFitBlocks (GetBlocks form) = (form.first ≤ 4094) × (1 ≤ form.count) × (form.count ≤ MOST_BLOCKS)
 HasFitBlocks (PutMany form) = 1 ≤ length form.files.items
 HasFitBlocks (Delete form) = 1 ≤ length form.names.items + length form.places.items
-HasFitBlocks (Patch form) = form.number < 256
+HasFitBlocks (Patch form) = form.number < 0o400
 HasFitBlocks (Check form) = (1 ≤ length form.images.items) × (length form.images.items ≤ MOST_BLOCKS)
 HasFitBlocks (Assemble form) = (1 ≤ length form.sources.items) × (length form.sources.items ≤ 8)
     × (input_count (map (λ file. file.bytes.items) form.sources.items) ≤ 1)

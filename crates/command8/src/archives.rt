@@ -58,10 +58,10 @@ fn block_given(found: &ArgMatches<'_>) -> usize
 fn number_given(found: &ArgMatches<'_>) -> usize
     requires given { Has (codes "WORD") (rows_of (found_of found.now)) }
     requires well { IsWell form.Index (codes "WORD") (rows_of (found_of found.now)) }
-    ensures value { option_and_then (spec.number_in 0 255) (first_of (codes "WORD") (rows_of (found_of found.now))) ≡ Some result }
-    ensures range { result ≤ 255 }
+    ensures value { option_and_then (spec.number_in 0 0o377) (first_of (codes "WORD") (rows_of (found_of found.now))) ≡ Some result }
+    ensures range { result ≤ 0o377 }
 {
-    number_of(text_given(found, "WORD").as_bytes(), 0, 255)
+    number_of(text_given(found, "WORD").as_bytes(), 0, 0o377)
 }
 
 /// The word that stands there.

@@ -174,7 +174,7 @@ fn is_of(form: Form, text: &str) -> bool
         Form::Block => number_in(text.as_bytes(), 0, MOST_BLOCKS).is_some(),
         Form::Seconds => number_in(text.as_bytes(), 0, 3600).is_some(),
         Form::Span => span_in(text.as_bytes()).is_some(),
-        Form::Index => number_in(text.as_bytes(), 0, 255).is_some(),
+        Form::Index => number_in(text.as_bytes(), 0, 0o377).is_some(),
         Form::Bits => bits_in(text.as_bytes()).is_some(),
         Form::Date => date_in(text.as_bytes()).is_some(),
         Form::Year => number_in(text.as_bytes(), 1977, 9999).is_some(),

@@ -9,7 +9,7 @@ use Rattle.command8.proofs.archives.number_given.Goals as goal
 pub number_of-requires : goal.number_of-requires
 number_of-requires c =
     let well = first_is_of Index (codes "WORD") (rows_of (found_of c.args.found.now)) c.text_given.result.now c.requires.well c.text_given.ensures in
-    ap (λ text. is_some ((number_in 0 255) text)) c.as_bytes.ensures.value ∙ well
+    ap (λ text. is_some ((number_in 0 0o377) text)) c.as_bytes.ensures.value ∙ well
 
 pub returns-clause-value : goal.returns-clause-value
-returns-clause-value c = ap (option_and_then (number_in 0 255)) c.text_given.ensures ∙ (ap (number_in 0 255) (sym c.as_bytes.ensures.value) ∙ c.number_of.ensures.value)
+returns-clause-value c = ap (option_and_then (number_in 0 0o377)) c.text_given.ensures ∙ (ap (number_in 0 0o377) (sym c.as_bytes.ensures.value) ∙ c.number_of.ensures.value)
