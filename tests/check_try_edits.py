@@ -12,6 +12,8 @@ import tempfile
 from typing import Iterator
 
 TOP = os.path.dirname(os.path.dirname(os.path.abspath(__file__)))
+sys.path.insert(0, TOP)
+from tests.stand_ins import write
 SOURCE = """/// The next number.
 pub fn next(n: u8) -> u8
     ensures { result.now ≡ n + 1 }
@@ -48,13 +50,6 @@ ROWS: list[tuple[str, list[str], tuple[int, str], str, str]] = [
     ("a text that is not there", ["file: src/lib.rt", "old: n * 1", "new: n"], REFUSED, "0 passed, 1 failed", "an old text is in src/lib.rt 0 times"),
     ("no change", ["file: src/lib.rt"], REFUSED, "0 passed, 1 failed", "BAD EDIT: it changes nothing"),
 ]
-
-
-def write(path: str, text: str) -> None:
-    os.makedirs(os.path.dirname(path), exist_ok=True)
-    with open(path, "w", encoding="utf-8") as file:
-        file.write(text)
-    os.chmod(path, 0o755)
 
 
 class Tree:
