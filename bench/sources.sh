@@ -17,3 +17,21 @@ source_of() {
         printf "$\n"
     }' | sed 's/$/\r/'
 }
+
+# A PAL8 source of so many lines of words, in pages of 80 words, each page in the next, and 30 of them in each field. Every second word has a
+# literal or a link. What a page asks for hangs on its field and page alone, so that a page that is come back to asks for the same.
+literals_of() {
+    awk -v lines="$1" 'BEGIN {
+        for (i = 0; i < lines; i++) {
+            page = int(i / 80) % 240
+            word = i % 80
+            if (word == 0 && page % 30 == 0) printf "FIELD %d\n", int(page / 30)
+            else if (word == 0) printf "PAGE\n"
+            if (word % 4 == 0) printf "\tTAD (%o\t/ a literal\n", (word / 4 + page) % 16
+            else if (word % 4 == 2) printf "\tDCA T%04d\n", (page * 40 + word % 16) % 2000
+            else if (word % 2 == 1 && i < 4000) printf "T%04d,\tCLA CLL\n", int(i / 2)
+            else printf "\tISZ 22\n"
+        }
+        printf "$\n"
+    }' | sed 's/$/\r/'
+}

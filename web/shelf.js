@@ -4,6 +4,8 @@ import { canLive } from './program.js';
 
 // What is on the disk, with the tape of each.
 const TEXTS = ['hello', 'guess', 'sort', 'lights'];
+// What else runs at one click, or by a link.
+const MORE = ['guess8'];
 
 export class Shelf {
     /** @param {Page} page */
@@ -30,7 +32,7 @@ export class Shelf {
     /** @param {string} name */
     async run(name) {
         if (name === 'disk') return this.#disk();
-        if (!TEXTS.includes(name) || (!canLive && (name === 'sort' || name === 'lights'))) return;
+        if (![...TEXTS, ...MORE].includes(name) || (!canLive && (name === 'sort' || name === 'lights'))) return;
         const { source, teletype, tabs } = this.page;
         if (!await source.takeExample(`${name}.pa`) || !await source.assemble()) return;
         if (name === 'sort' || name === 'lights') return this.#atPanel(name);

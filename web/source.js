@@ -5,6 +5,8 @@ import { Texts } from './texts.js';
 import { Listing } from './listing.js';
 
 const TAPE = '.source.bin', LISTING = '.source.lst';
+// The examples that are written in PAL8.
+const PAL8 = ['guess8.pa'];
 // How long no key is struck before the text is looked at for faults, in milliseconds.
 const QUIET = 400;
 
@@ -24,11 +26,11 @@ export class Source {
         this.listing = new Listing(page, this);
         this.texts.addEventListener('open', ({ detail }) => this.#opens(detail));
         $('source-name').value = this.texts.name;
-        $('further').value = this.#furtherOf(this.texts.name);
+        this.#showOwn();
         $('text').value = page.store.notes.get('text') ?? '';
         this.#restore();
         for (const id of ids('source-keys', 'text-keys')) rove($(id));
-        for (const id of ids('further', 'source-name')) $(id).addEventListener('change', () => this.#goesOn());
+        for (const id of ids('further', 'dialect', 'source-name')) $(id).addEventListener('change', () => this.#keepOwn());
         $('text').addEventListener('input', () => this.#edited());
         $('text').addEventListener('scroll', () => { $('gutter').scrollTop = $('text').scrollTop; });
         $('text').addEventListener('keydown', event => this.#key(event));
@@ -56,7 +58,7 @@ export class Source {
     // Another tab has left the text to this one: it is kept, as this tab has it.
     #claimed() {
         const { store } = this.page;
-        const own = [...store.notes.keys()].filter(it => it === 'text' || it === 'source-name' || /^(text|further) /.test(it));
+        const own = [...store.notes.keys()].filter(it => it === 'text' || it === 'source-name' || /^(text|further|dialect) /.test(it));
         if (this.follows) for (const it of own) store.note(it, store.notes.get(it));
         this.#tellClaim();
     }
@@ -65,7 +67,7 @@ export class Source {
     #tellClaim() {
         this.follows = !this.page.claims.has('text');
         $('text').readOnly = $('source-name').readOnly = $('further').readOnly = this.follows;
-        for (const id of ids('source-file', 'example', 'texts', 'text-new', 'text-drop')) $(id).disabled = this.follows;
+        for (const id of ids('source-file', 'example', 'texts', 'text-new', 'text-drop', 'dialect')) $(id).disabled = this.follows;
         $('text-follows').textContent = this.follows ? 'Another tab has the text. Here it is only looked at, and follows that tab. It can be '
             + 'changed here once that tab is closed.' : '';
         $('text-follows').hidden = !this.follows;
@@ -76,7 +78,7 @@ export class Source {
     #followed(note) {
         const value = this.page.store.notes.get(note) ?? '';
         if (note === 'source-name') this.texts.follow();
-        $('further').value = this.#furtherOf(this.texts.name);
+        this.#showOwn();
         if (note !== 'text' || value === $('text').value) return;
         $('text').value = value;
         this.#changed();
@@ -93,20 +95,33 @@ export class Source {
         return [{ name: this.#name, text: $('text').value }, ...names.map(name => ({ name, text: /** @type {string | undefined} */ (notes.get(`text ${name}`)) }))];
     }
 
+    get #isPal8() { return $('dialect').value === 'PAL8'; }
+
+    // The word that chooses the dialect of the text, if it isn't PAL III.
+    get #dialect() { return this.#isPal8 ? ['--pal8'] : []; }
+
     // All that the tape is assembled of.
-    get #whole() { return this.parts.map(it => it.text).join('\f'); }
+    get #whole() { return [...this.#dialect, ...this.parts.map(it => it.text)].join('\f'); }
 
     // Whether the text has changed since the tape was assembled of it.
     get isOld() { return this.tape !== null && this.assembled !== this.#whole; }
 
-    /** @param {string} name @returns {string} */
-    #furtherOf(name) { return this.page.store.notes.get(`further ${name}`) ?? ''; }
+    // Shows what is kept with the open text: those that it goes on in, and its dialect.
+    #showOwn() {
+        const { notes } = this.page.store;
+        $('further').value = notes.get(`further ${this.texts.name}`) ?? '';
+        $('dialect').value = notes.get(`dialect ${this.texts.name}`) ?? 'PAL III';
+    }
 
-    // The open text goes on in others, by their names; that is kept with it.
-    #goesOn() {
-        const { store } = this.page, key = `further ${this.texts.name}`, names = $('further').value;
-        if (names !== '' || store.notes.has(key)) store.note(key, names);
+    // Keeps with the open text the names of those that it goes on in, and its dialect.
+    #keepOwn() {
+        const { store } = this.page;
+        for (const [what, value, usual] of [['further', $('further').value, ''], ['dialect', $('dialect').value, 'PAL III']]) {
+            const key = `${what} ${this.texts.name}`;
+            if (value !== usual || store.notes.has(key)) store.note(key, value);
+        }
         this.#changed();
+        this.#lookSoon();
     }
 
     // Lays the texts as files for the program. Their names, null where one of the texts isn't there.
@@ -140,7 +155,7 @@ export class Source {
     /** @param {string} text */
     #opens(text) {
         $('text').value = text;
-        $('further').value = this.#furtherOf(this.texts.name);
+        this.#showOwn();
         $('text').scrollTop = 0;
         tell('source-status', '');
         this.#changed();
@@ -159,6 +174,10 @@ export class Source {
     #edited() {
         this.page.store.note('text', $('text').value);
         this.#changed();
+        this.#lookSoon();
+    }
+
+    #lookSoon() {
         clearTimeout(this.looking);
         this.looking = window.setTimeout(() => this.#look(), QUIET);
     }
@@ -169,7 +188,7 @@ export class Source {
         if (this.follows || $('text').value.trim() === '' || whole === this.assembled || programs.isAsked) return;
         const paths = this.#laid('look');
         if (!paths) return;
-        const { status, said } = await programs.ask(['assemble', ...paths, '--output', '.look.bin']);
+        const { status, said } = await programs.ask(['assemble', ...this.#dialect, ...paths, '--output', '.look.bin']);
         for (const it of [...paths, '.look.bin']) store.remove(it);
         if (whole === this.#whole && whole !== this.assembled) this.#tellFaults(status === 0 ? '' : said, false);
     }
@@ -239,16 +258,24 @@ export class Source {
         this.#buttons();
         const paths = this.#laid('source');
         if (!paths) return false;
-        const { status, said } = await programs.ask(['assemble', ...paths, '--output', TAPE, '--list', LISTING, '--cross']);
+        const listing = this.#isPal8 ? [] : ['--list', LISTING, '--cross'];
+        const { status, said } = await programs.ask(['assemble', ...this.#dialect, ...paths, '--output', TAPE, ...listing]);
         this.assembled = text;
         this.#show(store.files.get(LISTING));
         store.note('tape', status === 0 ? { text, tape: this.tape, listing: store.files.get(LISTING) } : null);
         this.#tellFaults(status === 0 ? '' : said);
-        tell('source-status', status === 0 ? `assembled: a tape of ${this.tape?.length} frames` : said.split('\n').find(it => it.startsWith('? ')) ?? said, status !== 0);
+        tell('source-status', status === 0 ? `assembled: a tape of ${this.tape?.length} frames${this.#isPal8 ? '; PAL8 has no listing yet' : ''}` : this.#refusal(said), status !== 0);
         this.#buttons();
         this.#age();
         store.dispatchEvent(new Event('tape'));
         return status === 0;
+    }
+
+    // The refusal's line of what the program says, and a hint where that names the other dialect.
+    /** @param {string} said */
+    #refusal(said) {
+        const hint = said.includes('assemble --pal8') ? '. It reads like PAL8: choose that dialect.' : '';
+        return (said.split('\n').find(it => it.startsWith('? ')) ?? said) + hint;
     }
 
     // Splits what `--list` writes: the lines, and behind the last empty line the symbols.
@@ -358,6 +385,11 @@ export class Source {
     /** @param {string} name */
     async takeExample(name) {
         const answer = await fetch(`examples/${name}`);
-        return answer.ok && await this.take(name, await answer.text());
+        if (!answer.ok || !await this.take(name, await answer.text())) return false;
+        if (PAL8.includes(name)) {
+            $('dialect').value = 'PAL8';
+            this.#keepOwn();
+        }
+        return true;
     }
 }

@@ -317,6 +317,39 @@ await run('undone', {
         await page.click('#assemble');
         await isTold(page, 'source-status', 'There is no text NONE');
     },
+    'a text has its dialect, which is kept with it': async (page, url) => {
+        const text = '*200\n\tTAD (5\n\tDCA A\n\tHLT\n*400\nA,\tTEXT /AB/\n$\n', words = [text, ONE];
+        ['pal8.pa', 'one.pa'].forEach((it, k) => writeFileSync(file(it), words[k]));
+        native(['assemble', '--pal8', 'pal8.pa', '--output', 'pal8.bin']);
+        native(['assemble', 'one.pa', '--output', 'one.bin']);
+        await page.go(url);
+        await setSource(page, ONE);
+        await page.fill('#source-name', 'ONE');
+        await page.key('Tab');
+        await page.click('#text-new');
+        await setSource(page, text);
+        await page.fill('#source-name', 'EIGHT');
+        await page.key('Tab');
+        await page.click('#assemble');
+        await isTold(page, 'source-status', '? 5 IC 2. It reads like PAL8');
+        await page.choose('#dialect', 'PAL8');
+        await isTold(page, 'faults', '');
+        await page.click('#assemble');
+        await isTold(page, 'source-status', 'assembled');
+        same(readFileSync(file('pal8.bin')), (await page.home('#tape-home')).bytes, 'the tape');
+        await page.choose('#texts', 'ONE');
+        same('PAL III', await page.look(`document.getElementById('dialect').value`), 'the dialect of the other text');
+        await page.click('#assemble');
+        await isTold(page, 'source-status', 'assembled');
+        same(readFileSync(file('one.bin')), (await page.home('#tape-home')).bytes, 'the tape of the other text');
+        await page.choose('#texts', 'EIGHT');
+        await page.look('geivottu.store.settled()');
+        await page.go(`${url}?again`);
+        await pane(page, 'source');
+        same('PAL8', await page.look(`document.getElementById('dialect').value`), 'the dialect after a reload');
+        await page.choose('#dialect', 'PAL III');
+        await page.until(`document.getElementById('faults').textContent.includes('IC')`);
+    },
     'faults show as one types, and the tape stays': async (page, url) => {
         await page.go(url);
         await setSource(page, ONE);
