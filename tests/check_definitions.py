@@ -1,12 +1,13 @@
 #!/usr/bin/env python3
-"""check_definitions.py: docs/DEFINITIONS.md lists every definition of specs/ that a public clause cites, by the crates from the lowest on, each with the
-comment that stands above it; and no file of specs/ has both what public clauses unfold to and what only private clauses cite.
+"""check_definitions.py: writes target/definitions.md, which lists every definition of specs/ that a public clause cites, by the crates from the
+lowest on, each with the comment that stands above it.
 
-A public clause is a `requires` or `ensures` of a function, or an `impl Model`, that a crate's root shows. With --write the page is
-written; else it is compared with the sources, and the last line is 'N passed, M failed', the page being one.
+A public clause is a `requires` or `ensures` of a function, or an `impl Model`, that a crate's root shows. It fails where the page lacks one
+of them, where a file of them has no words above it, and where a file of specs/ has both what public clauses unfold to and what only private
+clauses cite. The last line is 'N passed, M failed'.
 """
-import difflib
 import os
+import re
 import sys
 from typing import Iterator
 
@@ -18,12 +19,11 @@ from build.crates import Crates
 from tests.definitions import closure
 from tests.rattle_sources import definition_files, definitions
 
-PAGE = f"{TOP}/docs/DEFINITIONS.md"
+PAGE = f"{TOP}/target/definitions.md"
 HEAD = """# The definitions
 
 What the contracts of public functions cite, by the crates from the lowest on: {count} definitions in {files} files of `specs/`. Each is told in
-the words that stand above it there. [HEADLINE.md](HEADLINE.md) lists what the contracts of a session unfold to. `tests/check_definitions.py --write` writes
-this page, and the gate compares it with the sources.
+the words that stand above it there. headline.md beside this page lists what the contracts of a session unfold to. The gate writes both.
 """
 
 
@@ -62,24 +62,34 @@ def mixed(wanted: Cited) -> list[tuple[str, str, str]]:
     return found
 
 
-def main(words: list[str]) -> int:
+def unlisted(wanted: Cited) -> Iterator[str]:
+    """The definitions that the page lacks, and its files that have no words above them."""
+    with open(PAGE, encoding="utf-8") as text:
+        page, listed, at = text.read(), set[tuple[str, str, str]](), ("", "")
+    for line in page.split("\n"):
+        if file := re.match(r"- \[.*\]\(\.\./crates/(\w+)/specs/(.+)\.antt\): (.*)", line):
+            at = (file[1], file[2])
+            if not file[3]:
+                yield f"crates/{file[1]}/specs/{file[2]}.antt begins with no words that say what it defines"
+        elif row := re.match(r"  - `([^`]+)`", line):
+            listed.add((*at, row[1]))
+    for crate, module, name in sorted({*wanted}):
+        if (crate, module.replace(".", "/"), name) not in listed:
+            yield f"the page lacks {name} of {crate}/specs/{module.replace('.', '/')}.antt"
+
+
+def main() -> int:
     wanted = all_cited()
-    lines = list(page(wanted))
-    if words == ["--write"]:
-        with open(PAGE, "w", encoding="utf-8") as written:
-            written.write("\n".join(lines) + "\n")
-        return 0
-    there: list[str] = []
-    if os.path.exists(PAGE):
-        with open(PAGE, encoding="utf-8") as kept:
-            there = kept.read().split("\n")[:-1]
-    faults = list(difflib.unified_diff(there, lines, "docs/DEFINITIONS.md", "the sources", "", "", 0, ""))
+    os.makedirs(os.path.dirname(PAGE), exist_ok=True)
+    with open(PAGE, "w", encoding="utf-8") as written:
+        written.write("\n".join(page(wanted)) + "\n")
+    faults = [*unlisted(wanted)]
     faults += ["no public clause cites a definition"] * (not wanted)
     faults += [f"only private clauses cite these of {crate}/specs/{file}.antt: {names}" for crate, file, names in mixed(wanted)]
-    print(*faults, f"the definitions: {len(wanted)} are cited by public clauses", sep="\n")
+    print(*faults, f"the definitions: {len(wanted)} are cited by public clauses, and listed in target/definitions.md", sep="\n")
     print(f"{int(not faults)} passed, {int(bool(faults))} failed")
     return 1 if faults else 0
 
 
 if __name__ == "__main__":
-    sys.exit(main(sys.argv[1:]))
+    sys.exit(main())

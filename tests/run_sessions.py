@@ -28,7 +28,7 @@ OWN = f"{TOP}/crates/pdp8/out/pdp8"
 Session = list[tuple[int, str, str]]
 MARK = "=== a command has ended ==="
 # the texts that have no session
-BARE = {f"{TOP}/docs/{name}.md" for name in ("ARCHITECTURE", "DECISIONS", "DEFINITIONS", "GATE", "GLOSSARY", "MACHINE", "PAGE", "PAGE_TESTS", "VOLUME")}
+BARE = {f"{TOP}/docs/{name}.md" for name in ("ARCHITECTURE", "DECISIONS", "GATE", "GLOSSARY", "MACHINE", "PAGE", "PAGE_TESTS", "VOLUME")}
 
 
 def sessions(path: str) -> list[Session]:
