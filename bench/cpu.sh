@@ -1,16 +1,21 @@
 #!/usr/bin/env bash
-# cpu.sh SEED: runs programs of up to 100,000,000 steps on this processor and on SIMH's pdp8, unthrottled, in one run: the six of
+# cpu.sh SEED [short]: runs programs of up to 100,000,000 steps on this processor and on SIMH's pdp8, unthrottled, in one run: the six of
 # bench/cpu/, and those that bench/draw_programs.py draws from the seed, which is any word. Each is run by scripts of the program
 # `pdp8`, its words deposited and GO 1000000 again and again, without a break, with 64 breaks in another field and with 64 in the
 # program's own, which are never met, and by the debugger's go alone. A program that prints is run by RUN 00200 1000000 in place of GO:
 # after START the printer is as slow as DONE makes it, and a script without DONE would wait for it without end. Each RUN begins at 00200
 # again, and the counters in core go on. Both load the same tape. Each script must halt, and the go alone must end in SIMH's registers.
-# Prints the processor seconds of each less those of a program that stops at once, how many times as fast as SIMH each is, and the
-# instructions of the host for a step by GO or RUN (valgrind). Then, for each kind of program, the geometric means, the least and its name.
+# Prints the processor seconds of each less those of a program that stops at once, the least of three alternate runs, how many times as fast as
+# SIMH each is, and the instructions of the host for a step by GO or RUN (valgrind). With `short` the programs are a third as long and run ten
+# times, which finds quiet moments of a machine that others use too. Then, for each kind of program, the geometric means, the least and its name.
 # Takes simh, palbart and valgrind from Debian's packages where they are missing.
 set -eu
 top=$(cd "$(dirname "${BASH_SOURCE[0]}")/.." && pwd)
 seed=${1:?the seed that programs are drawn from}
+is_short=${2:+yes}
+often=${is_short:+10}
+often=${often:-3}
+rounds=${is_short:+100}
 . "$top/bench/seconds.sh"
 . "$top/bench/programs.sh"
 dpkg -s simh valgrind >/dev/null 2>&1 || { apt-get update && apt-get install -y simh valgrind; } >&2
@@ -60,7 +65,7 @@ for source in *.pal; do
     { breaks 70000; cat "$name.go"; } >"$name.breaks"
     { breaks 07000; cat "$name.go"; } >"$name.near"
 done
-read -r idle_go idle_breaks idle_near idle_ours idle_simh <<<"$(alternate 3 'run_script stop.go >/dev/null' 'run_script stop.breaks >/dev/null' 'run_script stop.near >/dev/null' 'run_ours stop >/dev/null' 'run_simh stop >/dev/null')"
+read -r idle_go idle_breaks idle_near idle_ours idle_simh <<<"$(alternate $often 'run_script stop.go >/dev/null' 'run_script stop.breaks >/dev/null' 'run_script stop.near >/dev/null' 'run_ours stop >/dev/null' 'run_simh stop >/dev/null')"
 printf '%-12s %7s %7s %7s %7s %7s %6s %6s %6s %6s %6s\n' program GO breaks near alone simh GO breaks near alone host
 while read -r kind names; do
     for name in $names; do
@@ -72,7 +77,7 @@ while read -r kind names; do
         for with in breaks near; do
             [ "$state" = "$(run_script "$name.$with" | tail -n 1)" ] || { echo "$name: with breaks we end otherwise" >&2; exit 1; }
         done
-        read -r a b c d e <<<"$(alternate 3 "run_script $name.go >/dev/null" "run_script $name.breaks >/dev/null" "run_script $name.near >/dev/null" "run_ours $name >/dev/null" "run_simh $name >/dev/null")"
+        read -r a b c d e <<<"$(alternate $often "run_script $name.go >/dev/null" "run_script $name.breaks >/dev/null" "run_script $name.near >/dev/null" "run_ours $name >/dev/null" "run_simh $name >/dev/null")"
         awk -v name="$name" -v kind="$kind" -v host="$(host "$name")" -v a="$a" -v b="$b" -v c="$c" -v d="$d" -v e="$e" -v idle_go="$idle_go" -v idle_breaks="$idle_breaks" -v idle_near="$idle_near" -v idle_ours="$idle_ours" -v idle_simh="$idle_simh" \
             'BEGIN { a -= idle_go; b -= idle_breaks; c -= idle_near; d -= idle_ours; e -= idle_simh
                      printf "%-12s %7.3f %7.3f %7.3f %7.3f %7.3f %6.2f %6.2f %6.2f %6.2f %6.1f %s\n", name, a, b, c, d, e, e / a, e / b, e / c, e / d, host, kind }'
