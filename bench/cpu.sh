@@ -65,7 +65,7 @@ for source in *.pal; do
     { breaks 70000; cat "$name.go"; } >"$name.breaks"
     { breaks 07000; cat "$name.go"; } >"$name.near"
 done
-read -r idle_go idle_breaks idle_near idle_ours idle_simh <<<"$(alternate $often 'run_script stop.go >/dev/null' 'run_script stop.breaks >/dev/null' 'run_script stop.near >/dev/null' 'run_ours stop >/dev/null' 'run_simh stop >/dev/null')"
+read -r idle_go idle_breaks idle_near idle_ours idle_simh <<<"$(alternate "$often" 'run_script stop.go >/dev/null' 'run_script stop.breaks >/dev/null' 'run_script stop.near >/dev/null' 'run_ours stop >/dev/null' 'run_simh stop >/dev/null')"
 printf '%-12s %7s %7s %7s %7s %7s %6s %6s %6s %6s %6s\n' program GO breaks near alone simh GO breaks near alone host
 while read -r kind names; do
     for name in $names; do
@@ -77,7 +77,7 @@ while read -r kind names; do
         for with in breaks near; do
             [ "$state" = "$(run_script "$name.$with" | tail -n 1)" ] || { echo "$name: with breaks we end otherwise" >&2; exit 1; }
         done
-        read -r a b c d e <<<"$(alternate $often "run_script $name.go >/dev/null" "run_script $name.breaks >/dev/null" "run_script $name.near >/dev/null" "run_ours $name >/dev/null" "run_simh $name >/dev/null")"
+        read -r a b c d e <<<"$(alternate "$often" "run_script $name.go >/dev/null" "run_script $name.breaks >/dev/null" "run_script $name.near >/dev/null" "run_ours $name >/dev/null" "run_simh $name >/dev/null")"
         awk -v name="$name" -v kind="$kind" -v host="$(host "$name")" -v a="$a" -v b="$b" -v c="$c" -v d="$d" -v e="$e" -v idle_go="$idle_go" -v idle_breaks="$idle_breaks" -v idle_near="$idle_near" -v idle_ours="$idle_ours" -v idle_simh="$idle_simh" \
             'BEGIN { a -= idle_go; b -= idle_breaks; c -= idle_near; d -= idle_ours; e -= idle_simh
                      printf "%-12s %7.3f %7.3f %7.3f %7.3f %7.3f %6.2f %6.2f %6.2f %6.2f %6.1f %s\n", name, a, b, c, d, e, e / a, e / b, e / c, e / d, host, kind }'
