@@ -134,6 +134,16 @@ same_statement tokens n standing (body.Page, steps) = refl
 same_statement tokens n standing (body.Zeros, steps) = refl
 same_statement tokens n standing (body.Text, steps) = refl
 same_statement tokens n standing (body.Listing, steps) = refl
+same_statement tokens n standing (body.IfZero, steps) = refl
+same_statement tokens n standing (body.IfNotZero, steps) = refl
+same_statement tokens n standing (body.IfDefined name, steps) = refl
+same_statement tokens n standing (body.IfUndefined name, steps) = refl
+same_statement tokens n standing (body.NoPunch, steps) = refl
+same_statement tokens n standing (body.Punch, steps) = refl
+same_statement tokens n standing (body.Relocate, steps) = refl
+same_statement tokens n standing (body.Unrelocate, steps) = refl
+same_statement tokens n standing (body.FileName, steps) = refl
+same_statement tokens n standing (body.Device, steps) = refl
 same_statement tokens n standing (body.Word, steps) = word_steps (number 0) steps n (with_tags tokens (Ok standing))
 
 same_close : (test : Bool) (fault : Fault) (left left' : Left) → left'.standing ≡ left.standing

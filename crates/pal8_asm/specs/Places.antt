@@ -138,6 +138,16 @@ with_valued body.Page s v = moved s (with_page v s.position)
 with_valued body.Zeros s v = moved s (with_size v s.position)
 with_valued body.Text s v = Ok s
 with_valued body.Listing s v = Ok s
+with_valued body.IfZero s v = Ok s
+with_valued body.IfNotZero s v = Ok s
+with_valued (body.IfDefined name) s v = Ok s
+with_valued (body.IfUndefined name) s v = Ok s
+with_valued body.NoPunch s v = Ok s
+with_valued body.Punch s v = Ok s
+with_valued body.Relocate s v = Ok s
+with_valued body.Unrelocate s v = Ok s
+with_valued body.FileName s v = Ok s
+with_valued body.Device s v = Ok s
 with_valued body.Word s v = Ok s
 
 abbrev pub with_value_of : Body → Standing → Result ℕ Code → Result Standing Code
@@ -162,6 +172,16 @@ with_body body.Page steps length s = with_value_of body.Page s (value_at s steps
 with_body body.Zeros steps length s = with_value_of body.Zeros s (value_at s steps)
 with_body body.Text steps length s = moved s (with_size (text_size length) s.position)
 with_body body.Listing steps length s = Ok s
+with_body body.IfZero steps length s = Ok s
+with_body body.IfNotZero steps length s = Ok s
+with_body (body.IfDefined name) steps length s = Ok s
+with_body (body.IfUndefined name) steps length s = Ok s
+with_body body.NoPunch steps length s = Ok s
+with_body body.Punch steps length s = Ok s
+with_body body.Relocate steps length s = Ok s
+with_body body.Unrelocate steps length s = Ok s
+with_body body.FileName steps length s = Ok s
+with_body body.Device steps length s = Ok s
 with_body body.Word steps length s = moved s (with_size 1 s.position)
 
 abbrev pub with_body_if : Body → List Step → ℕ → Result Standing Code → Result Standing Code

@@ -128,6 +128,16 @@ words_in body.Page kept steps string size = []
 words_in body.Zeros kept steps string size = replicate size (number 0)
 words_in body.Text kept steps string size = text_words string
 words_in body.Listing kept steps string size = []
+words_in body.IfZero kept steps string size = []
+words_in body.IfNotZero kept steps string size = []
+words_in (body.IfDefined name) kept steps string size = []
+words_in (body.IfUndefined name) kept steps string size = []
+words_in body.NoPunch kept steps string size = []
+words_in body.Punch kept steps string size = []
+words_in body.Relocate kept steps string size = []
+words_in body.Unrelocate kept steps string size = []
+words_in body.FileName kept steps string size = []
+words_in body.Device kept steps string size = []
 words_in body.Word kept steps string size = resolved kept steps ∷ []
 
 -- words from an address on, after others (no word that has a fault is kept, so none is past 7777)

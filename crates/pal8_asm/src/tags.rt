@@ -118,6 +118,9 @@ fn pass_valued(
         Body::Zeros => with_size(usize::from(value.get()), position),
         Body::Nothing | Body::Decimal | Body::Octal | Body::NextPage => Ok(position),
         Body::Text | Body::Listing | Body::Word => Ok(position),
+        Body::IfZero | Body::IfNotZero | Body::IfDefined(_) | Body::IfUndefined(_) => Ok(position),
+        Body::NoPunch | Body::Punch | Body::Relocate | Body::Unrelocate => Ok(position),
+        Body::FileName | Body::Device => Ok(position),
     }
 }
 
@@ -174,6 +177,9 @@ fn pass_body(
         Body::Text => with_size(length / 2 + 1, position),
         Body::Word => with_size(1, position),
         Body::Nothing | Body::Listing => Ok(position),
+        Body::IfZero | Body::IfNotZero | Body::IfDefined(_) | Body::IfUndefined(_) => Ok(position),
+        Body::NoPunch | Body::Punch | Body::Relocate | Body::Unrelocate => Ok(position),
+        Body::FileName | Body::Device => Ok(position),
     }
 }
 

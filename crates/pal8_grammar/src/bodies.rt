@@ -33,6 +33,26 @@ pub enum Body {
     Text,
     /// `EJECT` or `XLIST`.
     Listing,
+    /// `IFZERO` and an expression.
+    IfZero,
+    /// `IFNZRO` and an expression.
+    IfNotZero,
+    /// `IFDEF` and a name.
+    IfDefined(Name),
+    /// `IFNDEF` and a name.
+    IfUndefined(Name),
+    /// `NOPUNCH`
+    NoPunch,
+    /// `ENPUNCH`
+    Punch,
+    /// `RELOC` and an expression.
+    Relocate,
+    /// `RELOC` alone.
+    Unrelocate,
+    /// `FILENAME` and a file's name, which reads as four words.
+    FileName,
+    /// `DEVICE` and a device's name, which reads as two words.
+    Device,
     /// A value.
     Word,
 }
